@@ -1,0 +1,3 @@
+mod Amounts
+mod Decimals
+mod Remainders

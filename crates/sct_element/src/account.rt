@@ -1,0 +1,124 @@
+//! Accounts by their international numbers.
+ghost use Rattle.std.specs.Prelude.{◌≡◌, ◌<◌, ◌≤◌, ◌++◌, ◌==◌, ◌%◌, ◌&&◌, ◌||◌, ℕ, List, IsTrue, IsAscii, Some, None, MatchOption, length, nat_le, flat_map, drop, take};
+ghost use Rattle.std.specs.Bool.{OnTrue};
+ghost use Rattle.std.specs.Char.{is_ascii_uppercase, is_ascii_digit, is_ascii_alphanumeric};
+ghost use Rattle.std.specs.Int.Digits.{number_from_digits_after};
+ghost use Rattle.std.specs.List.{list_all};
+ghost use Rattle.sct_element.specs.Account.{digits_of_char, account_number, capitals, is_account_shaped, is_iban, written_iban};
+ghost use Rattle.sct_element.specs.Settles.{iban_settles};
+ghost use Rattle.sct_element.specs.declared.faults.ElementFault.TheVariants.{BadIban};
+
+use crate::checked::{Checked, Rule, are_digits, push_byte};
+use crate::faults::ElementFault;
+use arrayvec::ArrayString;
+
+/// An international bank account number (ISO 13616) of 5 to 34 characters: two capitals, two digits, then letters and
+/// digits, whose number leaves 1 modulo 97 (ISO 7064). It is kept in capitals. National lengths are not asked.
+/// A text that is none is refused 2 (BadIban).
+pub type Iban = Checked<IbanRule, 34>;
+
+/// The rule of [`Iban`].
+pub struct IbanRule;
+
+impl Rule<34> for IbanRule {
+    ghost written = { written_iban };
+
+    ghost fault = { BadIban };
+
+    #[tactic(auto, unfolding(crate::specs::Account::written_iban))]
+    fn keep(text: &str) -> Option<ArrayString<34>> {
+        if !is_shaped(text.as_bytes()) {
+            return None;
+        }
+        let number = in_capitals(text.as_bytes());
+        if remainder_of(number.as_bytes()) == 1 {
+            Some(number)
+        } else {
+            None
+        }
+    }
+
+    fn refusal() -> ElementFault {
+        ElementFault::BadIban
+    }
+
+    ghost settles = { iban_settles };
+}
+
+fn are_capitals(bytes: &[u8]) -> bool
+    ensures { result ≡ list_all is_ascii_uppercase bytes.now }
+{
+    bytes.iter().all(|byte| byte.is_ascii_uppercase())
+}
+
+fn are_letters_or_digits(bytes: &[u8]) -> bool
+    ensures { result ≡ list_all is_ascii_alphanumeric bytes.now }
+{
+    bytes.iter().all(|byte| byte.is_ascii_alphanumeric())
+}
+
+fn is_sized(len: usize) -> bool
+    ensures { result ≡ (nat_le 5 len && nat_le len 34) }
+{
+    5 <= len && len <= 34
+}
+
+fn is_shaped(bytes: &[u8]) -> bool
+    ensures shaped { result ≡ is_account_shaped bytes.now }
+    ensures ascii { OnTrue result (IsAscii bytes.now) }
+    ensures sized { OnTrue result ((4 ≤ length bytes.now) × (length bytes.now ≤ 34)) }
+{
+    is_sized(bytes.len())
+        && are_capitals(&bytes[..2])
+        && are_digits(&bytes[2..4])
+        && are_letters_or_digits(&bytes[4..])
+}
+
+/// The text of these bytes with its small letters as capitals.
+fn in_capitals(bytes: &[u8]) -> ArrayString<34>
+    requires ascii { IsAscii bytes.now }
+    requires sized { length bytes.now ≤ 34 }
+    ensures { result.bytes ≡ capitals bytes.now }
+{
+    let mut capitals = ArrayString::new();
+    for byte in bytes {
+        push_byte(&mut capitals, byte.to_ascii_uppercase());
+    }
+    capitals
+}
+
+/// The remainder modulo 97 of the number whose digits begin with those that left `remainder`, and go on with those of
+/// `byte`.
+fn after_char(remainder: u64, byte: u8) -> u64
+    requires { remainder < 97 }
+    ensures below { result < 97 }
+    ensures goes_on { (rest : List ℕ) → number_from_digits_after 10 result rest % 97 ≡ number_from_digits_after 10 remainder (digits_of_char byte ++ rest) % 97 }
+{
+    if byte.is_ascii_digit() {
+        (remainder * 10 + u64::from(byte - b'0')) % 97
+    } else {
+        let number = u64::from(byte.saturating_sub(55));
+        ((remainder * 10 + number / 10) * 10 + number % 10) % 97
+    }
+}
+
+/// The same, going on with all of `bytes`.
+fn after_chars(mut remainder: u64, bytes: &[u8]) -> u64
+    requires { remainder < 97 }
+    ensures below { result < 97 }
+    ensures goes_on { (rest : List ℕ) → number_from_digits_after 10 result rest % 97 ≡ number_from_digits_after 10 remainder (flat_map digits_of_char bytes.now ++ rest) % 97 }
+{
+    for byte in bytes {
+        remainder = after_char(remainder, *byte);
+    }
+    remainder
+}
+
+/// What an account's number leaves modulo 97.
+fn remainder_of(bytes: &[u8]) -> u64
+    requires { 4 ≤ length bytes.now }
+    ensures { result ≡ account_number bytes.now % 97 }
+{
+    let (front, back) = bytes.split_at(4);
+    after_chars(after_chars(0, back), front)
+}

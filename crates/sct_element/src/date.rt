@@ -1,0 +1,45 @@
+//! Dates.
+ghost use Rattle.std.specs.Prelude.{◌≡◌, ◌&&◌, ◌==◌, ◌≤◌, IsTrue, MatchOption, length, take, drop, slice_index};
+ghost use Rattle.std.specs.List.{list_all};
+ghost use Rattle.std.specs.Char.{is_ascii_digit};
+ghost use Rattle.sct_element.specs.Date.{is_day, written_day};
+ghost use Rattle.sct_element.specs.Settles.{day_settles};
+ghost use Rattle.sct_element.specs.declared.faults.ElementFault.TheVariants.{BadDay};
+
+use crate::checked::{Checked, Rule, are_digits, kept_where};
+use crate::faults::ElementFault;
+use arrayvec::ArrayString;
+
+/// A date (ISODate) of the form `YYYY-MM-DD`. No calendar is asked. A text that is none is refused 5 (BadDay).
+pub type Day = Checked<DayRule, 10>;
+
+/// The rule of [`Day`].
+pub struct DayRule;
+
+impl Rule<10> for DayRule {
+    ghost written = { written_day };
+
+    ghost fault = { BadDay };
+
+    #[tactic(auto, unfolding(crate::specs::Date::written_day))]
+    fn keep(text: &str) -> Option<ArrayString<10>> {
+        kept_where(is_day(text.as_bytes()), text)
+    }
+
+    fn refusal() -> ElementFault {
+        ElementFault::BadDay
+    }
+
+    ghost settles = { day_settles };
+}
+
+fn is_day(bytes: &[u8]) -> bool
+    ensures { result ≡ is_day bytes.now }
+{
+    bytes.len() == 10
+        && are_digits(&bytes[..4])
+        && bytes[4] == b'-'
+        && are_digits(&bytes[5..7])
+        && bytes[7] == b'-'
+        && are_digits(&bytes[8..])
+}

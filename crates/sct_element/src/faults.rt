@@ -1,0 +1,56 @@
+//! Why a text is no element.
+ghost use Rattle.std.specs.Prelude.{◌≡◌};
+ghost use Rattle.sct_element.specs.Faults.{element_fault_number};
+
+use thiserror::Error;
+
+/// A text that is not read as an element, by the element's type. Its number is told beside the key that holds it.
+#[derive(Clone, Copy, Debug, PartialEq, Eq, Error)]
+pub enum ElementFault {
+    /// 1: no business identifier code (ISO 9362).
+    #[error("no BIC")]
+    BadBic,
+    /// 2: no international bank account number (ISO 13616).
+    #[error("no IBAN")]
+    BadIban,
+    /// 3: no identification of 1 to 35 characters.
+    #[error("no identification")]
+    BadId,
+    /// 4: no amount from 0.01 to 999999999.99.
+    #[error("no amount")]
+    BadAmount,
+    /// 5: no date of the form YYYY-MM-DD.
+    #[error("no date")]
+    BadDay,
+    /// 6: no name of 1 to 70 characters, or no remittance information of 1 to 140.
+    #[error("no text of the allowed length")]
+    BadText,
+    /// 7: no time stamp of 1 to 35 characters.
+    #[error("no time stamp")]
+    BadStamp,
+    /// 8: a name or remittance information could not be kept for want of memory.
+    #[error("out of memory")]
+    Memory,
+    /// 9: no code of 1 to 4 capitals and digits.
+    #[error("no code")]
+    BadCode,
+}
+
+impl ElementFault {
+    /// The fault's number, 1 to 9.
+    pub fn number(self) -> u8
+        ensures { result ≡ element_fault_number self }
+    {
+        match self {
+            ElementFault::BadBic => 1,
+            ElementFault::BadIban => 2,
+            ElementFault::BadId => 3,
+            ElementFault::BadAmount => 4,
+            ElementFault::BadDay => 5,
+            ElementFault::BadText => 6,
+            ElementFault::BadStamp => 7,
+            ElementFault::Memory => 8,
+            ElementFault::BadCode => 9,
+        }
+    }
+}

@@ -1,0 +1,143 @@
+//! Identifications, time stamps and codes: texts of a few characters, kept as they are read.
+ghost use Rattle.std.specs.Prelude.{◌≡◌, ◌&&◌, ◌||◌, ◌==◌, ◌-◌, drop, zip, length, nat_le, codes};
+ghost use Rattle.std.specs.List.{list_all, list_any};
+ghost use Rattle.sct_element.specs.Text.{is_capital_or_digit};
+ghost use Rattle.sct_element.specs.Identification.{is_sepa_character, is_short_text, is_identification, is_code, has_double_slash, written_identification, written_stamp, written_code};
+ghost use Rattle.sct_element.specs.declared.faults.ElementFault.TheVariants.{BadId, BadStamp, BadCode};
+ghost use Rattle.sct_element.specs.Settles.{identification_settles, stamp_settles, code_settles};
+
+use crate::checked::{Checked, Rule, kept_where};
+use crate::faults::ElementFault;
+use arrayvec::ArrayString;
+
+/// An identification (Max35Text in the SEPA character set, EPC217-08): 1 to 35 characters of
+/// ``a-z A-Z 0-9 / - ? : ( ) . , ' +`` and the space, with no slash at either end and no two in a row.
+/// A text that is none is refused 3 (BadId).
+pub type Id35 = Checked<IdentificationRule, 35>;
+
+/// A time stamp: 1 to 35 characters of the same set, slashes anywhere. A text that is none is refused 7 (BadStamp).
+pub type Stamp = Checked<StampRule, 35>;
+
+/// A code: 1 to 4 characters of `A-Z` and `0-9`. A text that is none is refused 9 (BadCode).
+pub type Code4 = Checked<CodeRule, 4>;
+
+/// The rule of [`Id35`].
+pub struct IdentificationRule;
+
+/// The rule of [`Stamp`].
+pub struct StampRule;
+
+/// The rule of [`Code4`].
+pub struct CodeRule;
+
+impl Rule<35> for IdentificationRule {
+    ghost written = { written_identification };
+
+    ghost fault = { BadId };
+
+    #[tactic(auto, unfolding(crate::specs::Identification::written_identification))]
+    fn keep(text: &str) -> Option<ArrayString<35>> {
+        kept_where(is_identification(text.as_bytes()), text)
+    }
+
+    fn refusal() -> ElementFault {
+        ElementFault::BadId
+    }
+
+    ghost settles = { identification_settles };
+}
+
+impl Rule<35> for StampRule {
+    ghost written = { written_stamp };
+
+    ghost fault = { BadStamp };
+
+    #[tactic(auto, unfolding(crate::specs::Identification::written_stamp))]
+    fn keep(text: &str) -> Option<ArrayString<35>> {
+        kept_where(is_short_text(text.as_bytes()), text)
+    }
+
+    fn refusal() -> ElementFault {
+        ElementFault::BadStamp
+    }
+
+    ghost settles = { stamp_settles };
+}
+
+impl Rule<4> for CodeRule {
+    ghost written = { written_code };
+
+    ghost fault = { BadCode };
+
+    #[tactic(auto, unfolding(crate::specs::Identification::written_code))]
+    fn keep(text: &str) -> Option<ArrayString<4>> {
+        kept_where(is_code(text.as_bytes()), text)
+    }
+
+    fn refusal() -> ElementFault {
+        ElementFault::BadCode
+    }
+
+    ghost settles = { code_settles };
+}
+
+/// Whether the byte is `A-Z` or `0-9`.
+pub fn is_capital_or_digit(byte: u8) -> bool
+    ensures { result ≡ is_capital_or_digit byte }
+{
+    byte.is_ascii_uppercase() || byte.is_ascii_digit()
+}
+
+fn is_sepa_character(byte: u8) -> bool
+    ensures { result ≡ is_sepa_character byte }
+{
+    byte.is_ascii_alphanumeric() || b"/-?:().,'+ ".contains(&byte)
+}
+
+fn are_sepa_characters(bytes: &[u8]) -> bool
+    ensures { result ≡ list_all is_sepa_character bytes.now }
+{
+    bytes.iter().all(|byte| is_sepa_character(*byte))
+}
+
+fn is_within(len: usize, most: usize) -> bool
+    ensures { result ≡ (nat_le 1 len && nat_le len most) }
+{
+    1 <= len && len <= most
+}
+
+fn is_short_text(bytes: &[u8]) -> bool
+    ensures { result ≡ is_short_text bytes.now }
+{
+    is_within(bytes.len(), 35) && are_sepa_characters(bytes)
+}
+
+fn has_double_slash(bytes: &[u8]) -> bool
+    ensures { result ≡ has_double_slash bytes.now }
+{
+    bytes
+        .iter()
+        .zip(bytes.iter().skip(1))
+        .any(|(left, right)| *left == b'/' && *right == b'/')
+}
+
+fn is_identification(bytes: &[u8]) -> bool
+    ensures { result ≡ is_identification bytes.now }
+{
+    is_short_text(bytes)
+        && bytes[0] != b'/'
+        && bytes[bytes.len() - 1] != b'/'
+        && !has_double_slash(bytes)
+}
+
+fn are_capitals_or_digits(bytes: &[u8]) -> bool
+    ensures { result ≡ list_all is_capital_or_digit bytes.now }
+{
+    bytes.iter().all(|byte| is_capital_or_digit(*byte))
+}
+
+fn is_code(bytes: &[u8]) -> bool
+    ensures { result ≡ is_code bytes.now }
+{
+    is_within(bytes.len(), 4) && are_capitals_or_digits(bytes)
+}

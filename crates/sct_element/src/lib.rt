@@ -1,0 +1,25 @@
+//! The checked texts of interbank messages: each is read once, and is right from then on.
+//!
+//! A text is read by the `read` of its type, which answers the written form or the type's own fault. The written form is
+//! what `text` gives, what two values are compared by, and what is read as the same value again.
+#![tactic(auto)]
+
+mod account;
+mod bank;
+mod checked;
+mod date;
+mod faults;
+mod identification;
+mod money;
+mod party;
+#[cfg(test)]
+mod tests;
+
+pub use account::{Iban, IbanRule};
+pub use bank::{Bic, BicRule};
+pub use checked::{Checked, Rule};
+pub use date::{Day, DayRule};
+pub use faults::ElementFault;
+pub use identification::{Code4, CodeRule, Id35, IdentificationRule, Stamp, StampRule};
+pub use money::Amount;
+pub use party::{FreeText, Name, Remittance};

@@ -1,0 +1,46 @@
+-- A written object has texts alone.
+use Rattle.std.proofs.Common.{◌≡◌, ◌∙◌, ap, refl, arith, ℕ, Bool, true, false, List, [], ◌∷◌, Some, None, Ordering, Less, Equal, Greater, nat_cmp}
+use Rattle.std.specs.Prelude.{◌||◌}
+use Rattle.std.specs.Ordering.{match_ordering}
+use Rattle.std.specs.Cmp.Lexicographic.{slice_cmp}
+use Rattle.serde_json.specs.Data.{Data, string, Members, no_members, member, put, members_depth}
+use Rattle.serde_json.specs.Written.{has_float, members_have_float}
+use Rattle.sct_message.specs.declared.draft.Draft.{Draft}
+use Rattle.sct_message.specs.declared.draft.Draft.TheVariants.{CreditTransfer, StatusReport}
+use Rattle.sct_json.specs.Keys.{key_text}
+use Rattle.sct_json.specs.Writing.{Row, with_text, with_rows, with_elements, written_object, head_rows, original_rows, transfer_rows, report_rows, with_head, with_original}
+
+-- no member is a float, and none has members of its own
+abbrev pub IsFlat : Members → Type 0
+IsFlat ms = (members_have_float ms ≡ false) × (members_depth ms ≡ 0)
+
+neither : (a b : Bool) → (a || b) ≡ false → (a ≡ false) × (b ≡ false)
+neither true b e = cc
+neither false b e = (refl, e)
+
+both_not : (a b : Bool) → a ≡ false → b ≡ false → (a || b) ≡ false
+both_not a b p q = rw (p, q) refl
+
+flat_at : (o : Ordering) (k l s : List ℕ) (e : Data) (ms : Members) → IsFlat (member l e ms) → IsFlat (put k (string s) ms)
+    → IsFlat (match_ordering o (member k (string s) (member l e ms)) (member l (string s) ms) (member l e (put k (string s) ms)))
+flat_at Less k l s e ms flat later = (flat.0, omega (arith, flat.1))
+flat_at Equal k l s e ms flat later = ((neither _ _ flat.0).1, omega (arith, flat.1))
+flat_at Greater k l s e ms flat later = (both_not _ _ (neither _ _ flat.0).0 later.0, omega (arith, flat.1, later.1))
+
+flat_put : (k s : List ℕ) (ms : Members) → IsFlat ms → IsFlat (put k (string s) ms)
+flat_put k s no_members flat = (refl, refl)
+flat_put k s (member l e ms) flat = flat_at (slice_cmp nat_cmp k l) k l s e ms flat (flat_put k s ms ((neither _ _ flat.0).1, omega (arith, flat.1)))
+
+flat_rows : (rs : List Row) (ms : Members) → IsFlat ms → IsFlat (with_rows rs ms)
+flat_rows [] ms flat = flat
+flat_rows ((k, None) ∷ rs) ms flat = flat_rows rs ms flat
+flat_rows ((k, Some s) ∷ rs) ms flat = flat_rows rs (put (key_text k) (string s) ms) (flat_put (key_text k) s ms flat)
+
+pub flat_written : (m : Draft) → IsFlat (with_elements m no_members)
+flat_written (CreditTransfer m) = flat_rows (transfer_rows m) (with_head m.head no_members) (flat_rows (head_rows m.head) no_members (refl, refl))
+flat_written (StatusReport m) =
+    flat_rows (report_rows m) (with_original m.original (with_head m.head no_members))
+    (flat_rows (original_rows m.original) (with_head m.head no_members) (flat_rows (head_rows m.head) no_members (refl, refl)))
+
+pub no_float_written : (m : Draft) → has_float (written_object m) ≡ false
+no_float_written m = (flat_written m).0

@@ -1,0 +1,4 @@
+pub mod Bytes
+pub mod Extra
+pub mod Flat
+pub mod Forms

@@ -1,0 +1,97 @@
+-- The JSON form of a message, as a relation between an object and the message. It names no order of reading.
+use Rattle.std.specs.Prelude.{◌≡◌, ℕ, List, Option, Some, None, IsTrue, IsUtf8}
+use Rattle.std.specs.List.{list_all}
+use Rattle.serde_json.specs.Data.{Data, string, object, Members}
+use Rattle.serde_json.specs.Read.{read}
+use Rattle.serde_json.specs.Find.{get}
+use Rattle.sct_element.specs.Account.{written_iban}
+use Rattle.sct_element.specs.Bank.{written_bic}
+use Rattle.sct_element.specs.Date.{written_day}
+use Rattle.sct_element.specs.Identification.{written_identification, written_stamp, written_code}
+use Rattle.sct_element.specs.Money.{cents_of}
+use Rattle.sct_message.specs.declared.kinds.Kind.{Kind}
+use Rattle.sct_message.specs.declared.draft.Head.{Head}
+use Rattle.sct_message.specs.declared.draft.Original.{Original}
+use Rattle.sct_message.specs.declared.draft.CreditTransfer.{CreditTransfer as Transfer}
+use Rattle.sct_message.specs.declared.draft.StatusReport.{StatusReport as Report}
+use Rattle.sct_message.specs.declared.draft.Draft.{Draft}
+use Rattle.sct_message.specs.declared.draft.Draft.TheVariants.{CreditTransfer, StatusReport}
+use Rattle.sct_message.specs.Drafts.{kind_of}
+use Rattle.sct_message.specs.Rules.{FollowsRules}
+use Rattle.sct_json.specs.declared.keys.Key.{Key}
+use Rattle.sct_json.specs.declared.keys.Key.TheVariants as key
+use Rattle.sct_json.specs.Keys.{key_text, is_key_of}
+use Rattle.sct_json.specs.Reading.{name_of, remittance_of, names_of}
+
+-- The key's value is a text, which is read as the element.
+abbrev pub Holds : {X : Type 0} → (List ℕ → Option X) → Key → Data → X → Type 0
+Holds reads k d x = (s : List ℕ) × (get (key_text k) d ≡ Some (string s)) × (reads s ≡ Some x)
+
+-- The key is absent exactly where the element is, and else its text is read as the element.
+abbrev pub MayHold : {X : Type 0} → (List ℕ → Option X) → Key → Data → Option X → Type 0
+MayHold reads k d None = get (key_text k) d ≡ None
+MayHold reads k d (Some x) = Holds reads k d x
+
+-- The object holds the head.
+pub record HoldsHead (d : Data) (m : Head) : Type 0 where
+  pub message_name : Holds written_identification key.MsgNmId d m.message_name
+  pub message_id : Holds written_identification key.MsgId d m.message_id
+  pub creation_time : Holds written_stamp key.CreDtTm d m.creation_time
+  pub instructing_agent : Holds written_bic key.InstgAgt d m.instructing_agent
+  pub instructed_agent : MayHold written_bic key.InstdAgt d m.instructed_agent
+
+-- The object holds what names the original message.
+pub record HoldsOriginal (d : Data) (m : Original) : Type 0 where
+  pub message_id : Holds written_identification key.OrgnlMsgId d m.message_id
+  pub message_name : Holds written_identification key.OrgnlMsgNmId d m.message_name
+  pub end_to_end_id : MayHold written_identification key.OrgnlEndToEndId d m.end_to_end_id
+  pub transaction_id : Holds written_identification key.OrgnlTxId d m.transaction_id
+
+-- The object holds the elements of a pacs.008.
+pub record HoldsTransfer (d : Data) (m : Transfer) : Type 0 where
+  pub head : HoldsHead d m.head
+  pub settlement_date : Holds written_day key.IntrBkSttlmDt d m.settlement_date
+  pub service_level : Holds written_code key.SvcLvl d m.service_level
+  pub local_instrument : Holds written_code key.LclInstrm d m.local_instrument
+  pub instruction_id : MayHold written_identification key.InstrId d m.instruction_id
+  pub end_to_end_id : Holds written_identification key.EndToEndId d m.end_to_end_id
+  pub transaction_id : Holds written_identification key.TxId d m.transaction_id
+  pub settlement_amount : Holds cents_of key.IntrBkSttlmAmt d m.settlement_amount
+  pub currency : Holds written_code key.Ccy d m.currency
+  pub charge_bearer : Holds written_code key.ChrgBr d m.charge_bearer
+  pub acceptance_time : MayHold written_stamp key.AccptncDtTm d m.acceptance_time
+  pub debtor : Holds name_of key.Dbtr d m.debtor
+  pub debtor_account : Holds written_iban key.DbtrAcct d m.debtor_account
+  pub debtor_agent : Holds written_bic key.DbtrAgt d m.debtor_agent
+  pub creditor_agent : Holds written_bic key.CdtrAgt d m.creditor_agent
+  pub creditor : Holds name_of key.Cdtr d m.creditor
+  pub creditor_account : Holds written_iban key.CdtrAcct d m.creditor_account
+  pub remittance : MayHold remittance_of key.Ustrd d m.remittance
+
+-- The object holds the elements of a pacs.002.
+pub record HoldsReport (d : Data) (m : Report) : Type 0 where
+  pub head : HoldsHead d m.head
+  pub original : HoldsOriginal d m.original
+  pub status : Holds written_code key.TxSts d m.status
+  pub reason : MayHold written_code key.Rsn d m.reason
+  pub debtor_agent : Holds written_bic key.DbtrAgt d m.debtor_agent
+
+abbrev pub HoldsElements : Data → Draft → Type 0
+HoldsElements d (CreditTransfer m) = HoldsTransfer d m
+HoldsElements d (StatusReport m) = HoldsReport d m
+
+-- The value is an object with keys of the kind alone.
+abbrev pub HasKeysOf : Kind → Data → Type 0
+HasKeysOf kind d = (ms : Members) × (d ≡ object ms) × IsTrue (list_all (is_key_of kind) (names_of ms))
+
+-- An object is a form of a message where its keys are keys of the message's kind, each element is what its key's text is
+-- read as, absent keys are exactly the absent elements, and the elements follow the rules of the kind.
+pub record IsFormOf (d : Data) (m : Draft) : Type 0 where
+  pub keys : HasKeysOf (kind_of m) d
+  pub elements : HoldsElements d m
+  pub rules : FollowsRules m
+
+-- The bytes are a text, and the text is JSON for the value.
+pub record StandsFor (bytes : List ℕ) (d : Data) : Type 0 where
+  pub text : IsUtf8 bytes
+  pub value : read bytes ≡ Some d

@@ -1,0 +1,61 @@
+-- The keys of the JSON form (short names of ISO 20022), and those of each kind.
+use Rattle.std.specs.Prelude.{ℕ, List, [], ◌∷◌, ◌||◌, Bool, codes}
+use Rattle.std.specs.List.{list_any}
+use Rattle.sct_message.specs.declared.kinds.Kind.{Kind}
+use Rattle.sct_message.specs.declared.kinds.Kind.TheVariants.{Pacs002, Pacs008}
+use Rattle.sct_message.specs.Kinds.{is_text}
+use Rattle.sct_json.specs.declared.keys.Key.{Key}
+use Rattle.sct_json.specs.declared.keys.Key.TheVariants.{MsgNmId, MsgId, CreDtTm, InstgAgt, InstdAgt, IntrBkSttlmDt, SvcLvl, LclInstrm, InstrId, EndToEndId, TxId, IntrBkSttlmAmt, Ccy, ChrgBr, AccptncDtTm, Dbtr, DbtrAcct, DbtrAgt, CdtrAgt, Cdtr, CdtrAcct, Ustrd, OrgnlMsgId, OrgnlMsgNmId, OrgnlEndToEndId, OrgnlTxId, TxSts, Rsn}
+
+abbrev pub key_text : Key → List ℕ
+key_text MsgNmId = codes "MsgNmId"
+key_text MsgId = codes "MsgId"
+key_text CreDtTm = codes "CreDtTm"
+key_text InstgAgt = codes "InstgAgt"
+key_text InstdAgt = codes "InstdAgt"
+key_text IntrBkSttlmDt = codes "IntrBkSttlmDt"
+key_text SvcLvl = codes "SvcLvl"
+key_text LclInstrm = codes "LclInstrm"
+key_text InstrId = codes "InstrId"
+key_text EndToEndId = codes "EndToEndId"
+key_text TxId = codes "TxId"
+key_text IntrBkSttlmAmt = codes "IntrBkSttlmAmt"
+key_text Ccy = codes "Ccy"
+key_text ChrgBr = codes "ChrgBr"
+key_text AccptncDtTm = codes "AccptncDtTm"
+key_text Dbtr = codes "Dbtr"
+key_text DbtrAcct = codes "DbtrAcct"
+key_text DbtrAgt = codes "DbtrAgt"
+key_text CdtrAgt = codes "CdtrAgt"
+key_text Cdtr = codes "Cdtr"
+key_text CdtrAcct = codes "CdtrAcct"
+key_text Ustrd = codes "Ustrd"
+key_text OrgnlMsgId = codes "OrgnlMsgId"
+key_text OrgnlMsgNmId = codes "OrgnlMsgNmId"
+key_text OrgnlEndToEndId = codes "OrgnlEndToEndId"
+key_text OrgnlTxId = codes "OrgnlTxId"
+key_text TxSts = codes "TxSts"
+key_text Rsn = codes "Rsn"
+
+-- the keys that every message has
+abbrev pub head_keys : List Key
+head_keys = MsgNmId ∷ MsgId ∷ CreDtTm ∷ InstgAgt ∷ InstdAgt ∷ []
+
+-- the keys that name the message and the transfer that a later message is about
+abbrev pub original_keys : List Key
+original_keys = OrgnlMsgId ∷ OrgnlMsgNmId ∷ OrgnlEndToEndId ∷ OrgnlTxId ∷ []
+
+abbrev pub transfer_keys : List Key
+transfer_keys = IntrBkSttlmDt ∷ SvcLvl ∷ LclInstrm ∷ InstrId ∷ EndToEndId ∷ TxId ∷ IntrBkSttlmAmt ∷ Ccy ∷ ChrgBr ∷ AccptncDtTm ∷ Dbtr ∷ DbtrAcct ∷ DbtrAgt ∷ CdtrAgt ∷ Cdtr ∷ CdtrAcct ∷ Ustrd ∷ []
+
+abbrev pub report_keys : List Key
+report_keys = TxSts ∷ Rsn ∷ DbtrAgt ∷ []
+
+-- a name is the text of one of these keys
+unfoldable pub is_among : List Key → List ℕ → Bool
+is_among keys name = list_any (λ key. is_text name (key_text key)) keys
+
+-- the keys that a message of a kind may have
+abbrev pub is_key_of : Kind → List ℕ → Bool
+is_key_of Pacs008 name = is_among head_keys name || is_among transfer_keys name
+is_key_of Pacs002 name = is_among head_keys name || is_among original_keys name || is_among report_keys name

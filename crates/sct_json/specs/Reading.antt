@@ -1,0 +1,183 @@
+-- What an object is read as: the message of which it is a form, or the first reason why it is a form of none.
+use Rattle.std.specs.Prelude.{◌≡◌, ℕ, List, [], ◌∷◌, Bool, not, if◌then◌else◌, Option, Some, None, option_map, option_and_then, find, Result, Ok, Err, ok_or, ⊤}
+use Rattle.std.specs.Str.{is_utf8}
+use Rattle.serde_json.specs.Data.{Data, Members, no_members, member}
+use Rattle.serde_json.specs.Read.{read}
+use Rattle.serde_json.specs.Find.{get, as_str, as_object}
+use Rattle.sct_element.specs.declared.faults.ElementFault.{ElementFault}
+use Rattle.sct_element.specs.declared.faults.ElementFault.TheVariants as element
+use Rattle.sct_element.specs.Text.{where_read}
+use Rattle.sct_element.specs.Account.{written_iban}
+use Rattle.sct_element.specs.Bank.{written_bic}
+use Rattle.sct_element.specs.Date.{written_day}
+use Rattle.sct_element.specs.Identification.{written_identification, written_stamp, written_code}
+use Rattle.sct_element.specs.Money.{cents_of}
+use Rattle.sct_element.specs.Party.{has_characters}
+use Rattle.sct_message.specs.declared.kinds.Kind.{Kind}
+use Rattle.sct_message.specs.declared.kinds.Kind.TheVariants.{Pacs002, Pacs008}
+use Rattle.sct_message.specs.declared.draft.Head.{Head}
+use Rattle.sct_message.specs.declared.draft.Original.{Original}
+use Rattle.sct_message.specs.declared.draft.CreditTransfer.{CreditTransfer as Transfer}
+use Rattle.sct_message.specs.declared.draft.StatusReport.{StatusReport as Report}
+use Rattle.sct_message.specs.declared.draft.Draft.{Draft}
+use Rattle.sct_message.specs.declared.draft.Draft.TheVariants.{CreditTransfer, StatusReport}
+use Rattle.sct_message.specs.declared.rules.RuleFault.{RuleFault}
+use Rattle.sct_message.specs.Kinds.{kind_named}
+use Rattle.sct_message.specs.Rules.{first_broken_rule}
+use Rattle.sct_json.specs.declared.keys.Key.{Key}
+use Rattle.sct_json.specs.declared.keys.Key.TheVariants as key
+use Rattle.sct_json.specs.declared.faults.JsonFault.{JsonFault}
+use Rattle.sct_json.specs.declared.faults.JsonFault.TheVariants as fault
+use Rattle.sct_json.specs.Keys.{key_text, is_key_of}
+
+-- a step that may refuse, and the next one
+infixl 10 ◌>>=◌
+abbrev pub ◌>>=◌ : {X Y : Type 0} → Result X JsonFault → (X → Result Y JsonFault) → Result Y JsonFault
+(Ok x) >>= f = f x
+(Err e) >>= f = Err e
+
+-- What a function of the code answered is what is read, but for want of memory.
+abbrev pub Fails : {X : Type 0} → JsonFault → Result X JsonFault → Type 0
+Fails fault.Memory read = Unit {0}
+Fails e read = read ≡ Err e
+
+abbrev pub Gives : {X : Type 0} → Result X JsonFault → Result X JsonFault → Type 0
+Gives (Ok x) read = read ≡ Ok x
+Gives (Err e) read = Fails e read
+
+-- A text read as an element, or the fault of the element's type, but for want of memory.
+abbrev pub ReadsElement : {X : Type 0} → Option X → ElementFault → Result X ElementFault → Type 0
+ReadsElement found refusal (Ok x) = found ≡ Some x
+ReadsElement found refusal (Err element.Memory) = Unit {0}
+ReadsElement found refusal (Err e) = (found ≡ None) × (e ≡ refusal)
+
+-- a name and remittance information are read as they stand
+abbrev pub name_of : List ℕ → Option (List ℕ)
+name_of s = where_read (has_characters 70 s) s
+
+abbrev pub remittance_of : List ℕ → Option (List ℕ)
+remittance_of s = where_read (has_characters 140 s) s
+
+-- ---- one key
+
+-- the element that a key's text is read as
+abbrev pub text_as : {X : Type 0} → (List ℕ → Option X) → ElementFault → Key → Option (List ℕ) → Result X JsonFault
+text_as reads refusal k None = Err (fault.NotText k)
+text_as reads refusal k (Some s) = ok_or (reads s) (fault.Element k refusal)
+
+abbrev pub value_as : {X : Type 0} → (List ℕ → Option X) → ElementFault → Key → Data → Result X JsonFault
+value_as reads refusal k d = text_as reads refusal k (as_str d)
+
+abbrev pub required_as : {X : Type 0} → (List ℕ → Option X) → ElementFault → Key → Option Data → Result X JsonFault
+required_as reads refusal k None = Err (fault.Missing k)
+required_as reads refusal k (Some d) = value_as reads refusal k d
+
+abbrev pub optional_as : {X : Type 0} → (List ℕ → Option X) → ElementFault → Key → Option Data → Result (Option X) JsonFault
+optional_as reads refusal k None = Ok None
+optional_as reads refusal k (Some d) = value_as reads refusal k d >>= λ x. Ok (Some x)
+
+-- a key that each message of the kind has: absent, no text, no element, or an element
+unfoldable pub required : {X : Type 0} → (List ℕ → Option X) → ElementFault → Key → Data → Result X JsonFault
+required reads refusal k d = required_as reads refusal k (get (key_text k) d)
+
+-- a key that may be absent
+unfoldable pub optional : {X : Type 0} → (List ℕ → Option X) → ElementFault → Key → Data → Result (Option X) JsonFault
+optional reads refusal k d = optional_as reads refusal k (get (key_text k) d)
+
+-- ---- the key tables, each key in its order
+
+-- what every message begins with
+unfoldable pub head_in : Data → Result Head JsonFault
+head_in d = do
+  message_name ← required written_identification element.BadId key.MsgNmId d
+  message_id ← required written_identification element.BadId key.MsgId d
+  creation_time ← required written_stamp element.BadStamp key.CreDtTm d
+  instructing_agent ← required written_bic element.BadBic key.InstgAgt d
+  instructed_agent ← optional written_bic element.BadBic key.InstdAgt d
+  Ok (record { message_name = message_name; message_id = message_id; creation_time = creation_time; instructing_agent = instructing_agent; instructed_agent = instructed_agent })
+
+-- the transfer that a later message is about
+unfoldable pub original_in : Data → Result Original JsonFault
+original_in d = do
+  message_id ← required written_identification element.BadId key.OrgnlMsgId d
+  message_name ← required written_identification element.BadId key.OrgnlMsgNmId d
+  end_to_end_id ← optional written_identification element.BadId key.OrgnlEndToEndId d
+  transaction_id ← required written_identification element.BadId key.OrgnlTxId d
+  Ok (record { message_id = message_id; message_name = message_name; end_to_end_id = end_to_end_id; transaction_id = transaction_id })
+
+-- pacs.008
+unfoldable pub credit_transfer_in : Data → Result Transfer JsonFault
+credit_transfer_in d = do
+  head ← head_in d
+  settlement_date ← required written_day element.BadDay key.IntrBkSttlmDt d
+  service_level ← required written_code element.BadCode key.SvcLvl d
+  local_instrument ← required written_code element.BadCode key.LclInstrm d
+  instruction_id ← optional written_identification element.BadId key.InstrId d
+  end_to_end_id ← required written_identification element.BadId key.EndToEndId d
+  transaction_id ← required written_identification element.BadId key.TxId d
+  settlement_amount ← required cents_of element.BadAmount key.IntrBkSttlmAmt d
+  currency ← required written_code element.BadCode key.Ccy d
+  charge_bearer ← required written_code element.BadCode key.ChrgBr d
+  acceptance_time ← optional written_stamp element.BadStamp key.AccptncDtTm d
+  debtor ← required name_of element.BadText key.Dbtr d
+  debtor_account ← required written_iban element.BadIban key.DbtrAcct d
+  debtor_agent ← required written_bic element.BadBic key.DbtrAgt d
+  creditor_agent ← required written_bic element.BadBic key.CdtrAgt d
+  creditor ← required name_of element.BadText key.Cdtr d
+  creditor_account ← required written_iban element.BadIban key.CdtrAcct d
+  remittance ← optional remittance_of element.BadText key.Ustrd d
+  Ok (record { head = head; settlement_date = settlement_date; service_level = service_level; local_instrument = local_instrument; instruction_id = instruction_id; end_to_end_id = end_to_end_id; transaction_id = transaction_id; settlement_amount = settlement_amount; currency = currency; charge_bearer = charge_bearer; acceptance_time = acceptance_time; debtor = debtor; debtor_account = debtor_account; debtor_agent = debtor_agent; creditor_agent = creditor_agent; creditor = creditor; creditor_account = creditor_account; remittance = remittance })
+
+-- pacs.002
+unfoldable pub status_report_in : Data → Result Report JsonFault
+status_report_in d = do
+  head ← head_in d
+  original ← original_in d
+  status ← required written_code element.BadCode key.TxSts d
+  reason ← optional written_code element.BadCode key.Rsn d
+  debtor_agent ← required written_bic element.BadBic key.DbtrAgt d
+  Ok (record { head = head; original = original; status = status; reason = reason; debtor_agent = debtor_agent })
+
+abbrev pub draft_in : Kind → Data → Result Draft JsonFault
+draft_in Pacs008 d = credit_transfer_in d >>= λ m. Ok (CreditTransfer m)
+draft_in Pacs002 d = status_report_in d >>= λ m. Ok (StatusReport m)
+
+-- ---- the whole object
+
+-- the names of the members, in the order of the members, which is that of the names' bytes
+abbrev pub names_of : Members → List (List ℕ)
+names_of no_members = []
+names_of (member k d ms) = k ∷ names_of ms
+
+-- the first name that is no key of the kind
+abbrev pub first_extra : Kind → Members → Option (List ℕ)
+first_extra kind ms = find (λ name. not (is_key_of kind name)) (names_of ms)
+
+-- the kind that the text at MsgNmId names
+abbrev pub kind_in : Data → Option Kind
+kind_in d = option_and_then kind_named (option_and_then as_str (get (key_text key.MsgNmId) d))
+
+abbrev pub passes_unless : Option (List ℕ) → Result ⊤ JsonFault
+passes_unless None = Ok tt
+passes_unless (Some name) = Err (fault.Extra name)
+
+abbrev pub follows_unless : Option RuleFault → Draft → Result Draft JsonFault
+follows_unless None m = Ok m
+follows_unless (Some broken) m = Err (fault.Rule broken)
+
+-- an object, a kind, the kind's keys in their order, no other key, and then the rules
+unfoldable pub object_in : Data → Result Draft JsonFault
+object_in d = do
+  members ← ok_or (as_object d) fault.NotObject
+  kind ← ok_or (kind_in d) fault.UnknownKind
+  elements ← draft_in kind d
+  alone ← passes_unless (first_extra kind members)
+  follows_unless (first_broken_rule elements) elements
+
+abbrev pub value_in : Option Data → Result Draft JsonFault
+value_in None = Err fault.NotJson
+value_in (Some d) = object_in d
+
+-- the bytes of a text that is JSON
+unfoldable pub message_in : List ℕ → Result Draft JsonFault
+message_in bytes = if is_utf8 bytes then value_in (read bytes) else Err fault.NotJson

@@ -1,0 +1,67 @@
+-- The written form of a message: one line with no spaces, its keys in the order of their bytes, absent elements left out.
+use Rattle.std.specs.Prelude.{ℕ, List, [], ◌∷◌, ◌++◌, Option, Some, None, option_map}
+use Rattle.serde_json.specs.Data.{Data, string, object, Members, no_members, put}
+use Rattle.serde_json.specs.Written.{compact_text}
+use Rattle.sct_element.specs.Money.{amount_text}
+use Rattle.sct_message.specs.declared.draft.Head.{Head}
+use Rattle.sct_message.specs.declared.draft.Original.{Original}
+use Rattle.sct_message.specs.declared.draft.CreditTransfer.{CreditTransfer as Transfer}
+use Rattle.sct_message.specs.declared.draft.StatusReport.{StatusReport as Report}
+use Rattle.sct_message.specs.declared.draft.Draft.{Draft}
+use Rattle.sct_message.specs.declared.draft.Draft.TheVariants.{CreditTransfer, StatusReport}
+use Rattle.sct_json.specs.declared.keys.Key.{Key}
+use Rattle.sct_json.specs.declared.keys.Key.TheVariants as key
+use Rattle.sct_json.specs.Keys.{key_text}
+
+-- a key and the written form of its element; none where it is absent
+abbrev pub Row : Type 0
+Row = Key × Option (List ℕ)
+
+-- the members with a text at a key; an absent element has no member
+abbrev pub with_text : Key → Option (List ℕ) → Members → Members
+with_text k None ms = ms
+with_text k (Some s) ms = put (key_text k) (string s) ms
+
+abbrev pub with_rows : List Row → Members → Members
+with_rows [] ms = ms
+with_rows (r ∷ rs) ms = with_rows rs (with_text r.0 r.1 ms)
+
+-- the head
+abbrev pub head_rows : Head → List Row
+head_rows m = (key.MsgNmId, Some m.message_name) ∷ (key.MsgId, Some m.message_id) ∷ (key.CreDtTm, Some m.creation_time) ∷ (key.InstgAgt, Some m.instructing_agent) ∷ (key.InstdAgt, m.instructed_agent) ∷ []
+
+-- the transfer that a later message is about
+abbrev pub original_rows : Original → List Row
+original_rows m = (key.OrgnlMsgId, Some m.message_id) ∷ (key.OrgnlMsgNmId, Some m.message_name) ∷ (key.OrgnlEndToEndId, m.end_to_end_id) ∷ (key.OrgnlTxId, Some m.transaction_id) ∷ []
+
+-- pacs.008, without its head
+abbrev pub transfer_rows : Transfer → List Row
+transfer_rows m = (key.IntrBkSttlmDt, Some m.settlement_date) ∷ (key.SvcLvl, Some m.service_level) ∷ (key.LclInstrm, Some m.local_instrument) ∷ (key.InstrId, m.instruction_id) ∷ (key.EndToEndId, Some m.end_to_end_id) ∷ (key.TxId, Some m.transaction_id) ∷ (key.IntrBkSttlmAmt, Some (amount_text m.settlement_amount)) ∷ (key.Ccy, Some m.currency) ∷ (key.ChrgBr, Some m.charge_bearer) ∷ (key.AccptncDtTm, m.acceptance_time) ∷ (key.Dbtr, Some m.debtor) ∷ (key.DbtrAcct, Some m.debtor_account) ∷ (key.DbtrAgt, Some m.debtor_agent) ∷ (key.CdtrAgt, Some m.creditor_agent) ∷ (key.Cdtr, Some m.creditor) ∷ (key.CdtrAcct, Some m.creditor_account) ∷ (key.Ustrd, m.remittance) ∷ []
+
+-- pacs.002, without its head and its original message
+abbrev pub report_rows : Report → List Row
+report_rows m = (key.TxSts, Some m.status) ∷ (key.Rsn, m.reason) ∷ (key.DbtrAgt, Some m.debtor_agent) ∷ []
+
+-- the members that a part puts beside others
+abbrev pub with_head : Head → Members → Members
+with_head m ms = with_rows (head_rows m) ms
+
+abbrev pub with_original : Original → Members → Members
+with_original m ms = with_rows (original_rows m) ms
+
+abbrev pub with_transfer : Transfer → Members → Members
+with_transfer m ms = with_rows (transfer_rows m) (with_head m.head ms)
+
+abbrev pub with_report : Report → Members → Members
+with_report m ms = with_rows (report_rows m) (with_original m.original (with_head m.head ms))
+
+abbrev pub with_elements : Draft → Members → Members
+with_elements (CreditTransfer m) ms = with_transfer m ms
+with_elements (StatusReport m) ms = with_report m ms
+
+-- the object that is written for a message, and its text
+abbrev pub written_object : Draft → Data
+written_object m = object (with_elements m no_members)
+
+unfoldable pub written_text : Draft → List ℕ
+written_text m = compact_text (written_object m)

@@ -1,0 +1,63 @@
+//! pacs.008: a transfer.
+ghost use Rattle.std.specs.Prelude.{◌≡◌, OnOk};
+ghost use Rattle.sct_message.specs.declared.kinds.Kind.TheVariants.{Pacs008};
+ghost use Rattle.sct_json.specs.Keys.{is_key_of};
+ghost use Rattle.serde_json.specs.View.{view, members_view};
+ghost use Rattle.sct_json.specs.Reading.{Gives, credit_transfer_in};
+ghost use Rattle.sct_json.specs.Writing.{with_transfer};
+
+use crate::faults::JsonFault;
+use crate::keys::{Key, is_among};
+use crate::members::{optional, put, put_optional, required};
+use crate::tables::{has_key, own_key, put_member, put_table, read_member, read_table};
+use crate::head;
+use sct_message::CreditTransfer;
+use serde_json::{Map, Value};
+use std::alloc::{AllocError, Global};
+
+/// The keys of a pacs.008, in their order.
+macro_rules! credit_transfer_table {
+    ($walk:ident! { $($context:tt)* }) => {
+        $walk! { [$($context)*] CreditTransfer {
+            head: part head,
+            settlement_date: required IntrBkSttlmDt,
+            service_level: required SvcLvl,
+            local_instrument: required LclInstrm,
+            instruction_id: optional InstrId,
+            end_to_end_id: required EndToEndId,
+            transaction_id: required TxId,
+            settlement_amount: required IntrBkSttlmAmt,
+            currency: required Ccy,
+            charge_bearer: required ChrgBr,
+            acceptance_time: optional AccptncDtTm,
+            debtor: required Dbtr,
+            debtor_account: required DbtrAcct,
+            debtor_agent: required DbtrAgt,
+            creditor_agent: required CdtrAgt,
+            creditor: required Cdtr,
+            creditor_account: required CdtrAcct,
+            remittance: optional Ustrd,
+        } }
+    };
+}
+
+#[tactic(auto, unfolding(crate::specs::Reading::credit_transfer_in))]
+pub(crate) fn read(alloc: Global, object: &Value) -> Result<CreditTransfer, JsonFault>
+    ensures { Gives result (credit_transfer_in (view object.now)) }
+{
+    credit_transfer_table!(read_table! { alloc, object })
+}
+
+/// Whether a name is one of these keys.
+pub(crate) fn is_key(name: &str) -> bool
+    ensures { result ≡ is_key_of Pacs008 name.now }
+{
+    credit_transfer_table!(has_key! { name })
+}
+
+/// Puts the elements into an object, each at its key.
+pub(crate) fn put_all(alloc: Global, transfer: &CreditTransfer, object: &mut Map<String, Value>) -> Result<(), AllocError>
+    ensures { OnOk result (members_view object.new.entries ≡ with_transfer transfer.now (members_view object.old.entries)) }
+{
+    credit_transfer_table!(put_table! { alloc, transfer, object })
+}

@@ -1,0 +1,48 @@
+//! What every message begins with.
+ghost use Rattle.std.specs.Prelude.{◌≡◌, OnOk};
+ghost use Rattle.sct_json.specs.Keys.{head_keys, is_among};
+ghost use Rattle.serde_json.specs.View.{view, members_view};
+ghost use Rattle.sct_json.specs.Reading.{Gives, head_in};
+ghost use Rattle.sct_json.specs.Writing.{with_head};
+
+use crate::faults::JsonFault;
+use crate::keys::{Key, is_among};
+use crate::members::{optional, put, put_optional, required};
+use crate::tables::{has_key, own_key, put_member, put_table, read_member, read_table};
+use sct_message::Head;
+use serde_json::{Map, Value};
+use std::alloc::{AllocError, Global};
+
+/// The keys of the head, in their order.
+macro_rules! head_table {
+    ($walk:ident! { $($context:tt)* }) => {
+        $walk! { [$($context)*] Head {
+            message_name: required MsgNmId,
+            message_id: required MsgId,
+            creation_time: required CreDtTm,
+            instructing_agent: required InstgAgt,
+            instructed_agent: optional InstdAgt,
+        } }
+    };
+}
+
+#[tactic(auto, unfolding(crate::specs::Reading::head_in))]
+pub(crate) fn read(alloc: Global, object: &Value) -> Result<Head, JsonFault>
+    ensures { Gives result (head_in (view object.now)) }
+{
+    head_table!(read_table! { alloc, object })
+}
+
+/// Whether a name is one of these keys.
+pub(crate) fn is_key(name: &str) -> bool
+    ensures { result ≡ is_among head_keys name.now }
+{
+    head_table!(has_key! { name })
+}
+
+/// Puts the elements into an object, each at its key.
+pub(crate) fn put_all(alloc: Global, head: &Head, object: &mut Map<String, Value>) -> Result<(), AllocError>
+    ensures { OnOk result (members_view object.new.entries ≡ with_head head.now (members_view object.old.entries)) }
+{
+    head_table!(put_table! { alloc, head, object })
+}

@@ -1,0 +1,26 @@
+//! The JSON form of interbank messages: one flat object to one message, and one written text for each message.
+//!
+//! [`read_message`] takes the bytes of one JSON object and answers the message of which it is a form, or the first
+//! reason why it is a form of none. [`write_message`] answers the one written form of a message.
+#![tactic(auto)]
+
+mod credit_transfer;
+mod elements;
+mod faults;
+mod head;
+mod keys;
+mod laws;
+mod members;
+mod original;
+mod reading;
+mod status_report;
+mod tables;
+mod writing;
+
+pub use faults::{ExtraKey, JsonFault};
+pub use keys::Key;
+pub use laws::{
+    an_object_is_a_form_of_one_message, an_object_is_read_where_it_is_a_form, bytes_are_read_where_they_stand_for_a_form,
+};
+pub use reading::read_message;
+pub use writing::write_message;

@@ -1,0 +1,70 @@
+//! One key of an object: read as an element, and written.
+ghost use Rattle.std.specs.Prelude.{◌≡◌, Some, OnOk, option_map};
+ghost use Rattle.serde_json.specs.View.{view, members_view};
+ghost use Rattle.sct_json.specs.Reading.{Gives, required, optional, value_as};
+ghost use Rattle.sct_json.specs.Writing.{with_text};
+
+use crate::elements::Element;
+use crate::faults::JsonFault;
+use crate::keys::Key;
+use sct_element::ElementFault;
+use serde_json::{Map, Value};
+use std::alloc::{AllocError, Global};
+
+/// The element that a key's value is read as.
+fn value_as<E: Element>(alloc: Global, key: Key, value: &Value) -> Result<E, JsonFault>
+    ensures { Gives result (value_as E.reads E.refusal key (view value.now)) }
+{
+    let text = match value.as_str() {
+        Some(text) => text,
+        None => return Err(JsonFault::NotText(key)),
+    };
+    match E::read_element(alloc, text) {
+        Ok(element) => Ok(element),
+        Err(ElementFault::Memory) => Err(JsonFault::Memory),
+        Err(fault) => Err(JsonFault::Element(key, fault)),
+    }
+}
+
+/// The element at a key that each message of the kind has.
+#[tactic(auto, unfolding(crate::specs::Reading::required))]
+pub(crate) fn required<E: Element>(alloc: Global, key: Key, object: &Value) -> Result<E, JsonFault>
+    ensures { Gives result (required E.reads E.refusal key (view object.now)) }
+{
+    match object.get(key.text()) {
+        Some(value) => value_as(alloc, key, value),
+        None => Err(JsonFault::Missing(key)),
+    }
+}
+
+/// The element at a key that may be absent.
+#[tactic(auto, unfolding(crate::specs::Reading::optional))]
+pub(crate) fn optional<E: Element>(alloc: Global, key: Key, object: &Value) -> Result<Option<E>, JsonFault>
+    ensures { Gives result (optional E.reads E.refusal key (view object.now)) }
+{
+    match object.get(key.text()) {
+        Some(value) => {
+            let element = value_as(alloc, key, value)?;
+            Ok(Some(element))
+        }
+        None => Ok(None),
+    }
+}
+
+/// Puts an element at its key.
+pub(crate) fn put<E: Element>(alloc: Global, key: Key, element: &E, object: &mut Map<String, Value>) -> Result<(), AllocError>
+    ensures { OnOk result (members_view object.new.entries ≡ with_text key (Some (E.written element.now)) (members_view object.old.entries)) }
+{
+    let value = element.to_value(alloc)?;
+    serde_json::put(object, alloc, key.text(), value)
+}
+
+/// Puts an element at its key, or nothing where it is absent.
+pub(crate) fn put_optional<E: Element>(alloc: Global, key: Key, element: &Option<E>, object: &mut Map<String, Value>) -> Result<(), AllocError>
+    ensures { OnOk result (members_view object.new.entries ≡ with_text key (option_map E.written element.now) (members_view object.old.entries)) }
+{
+    match element {
+        Some(element) => put(alloc, key, element, object),
+        None => Ok(()),
+    }
+}

@@ -1,0 +1,47 @@
+//! The transfer that a later message is about.
+ghost use Rattle.std.specs.Prelude.{◌≡◌, OnOk};
+ghost use Rattle.sct_json.specs.Keys.{original_keys, is_among};
+ghost use Rattle.serde_json.specs.View.{view, members_view};
+ghost use Rattle.sct_json.specs.Reading.{Gives, original_in};
+ghost use Rattle.sct_json.specs.Writing.{with_original};
+
+use crate::faults::JsonFault;
+use crate::keys::{Key, is_among};
+use crate::members::{optional, put, put_optional, required};
+use crate::tables::{has_key, own_key, put_member, put_table, read_member, read_table};
+use sct_message::Original;
+use serde_json::{Map, Value};
+use std::alloc::{AllocError, Global};
+
+/// The keys of the original message, in their order.
+macro_rules! original_table {
+    ($walk:ident! { $($context:tt)* }) => {
+        $walk! { [$($context)*] Original {
+            message_id: required OrgnlMsgId,
+            message_name: required OrgnlMsgNmId,
+            end_to_end_id: optional OrgnlEndToEndId,
+            transaction_id: required OrgnlTxId,
+        } }
+    };
+}
+
+#[tactic(auto, unfolding(crate::specs::Reading::original_in))]
+pub(crate) fn read(alloc: Global, object: &Value) -> Result<Original, JsonFault>
+    ensures { Gives result (original_in (view object.now)) }
+{
+    original_table!(read_table! { alloc, object })
+}
+
+/// Whether a name is one of these keys.
+pub(crate) fn is_key(name: &str) -> bool
+    ensures { result ≡ is_among original_keys name.now }
+{
+    original_table!(has_key! { name })
+}
+
+/// Puts the elements into an object, each at its key.
+pub(crate) fn put_all(alloc: Global, original: &Original, object: &mut Map<String, Value>) -> Result<(), AllocError>
+    ensures { OnOk result (members_view object.new.entries ≡ with_original original.now (members_view object.old.entries)) }
+{
+    original_table!(put_table! { alloc, original, object })
+}

@@ -1,0 +1,93 @@
+//! From the bytes of an object to its message.
+ghost use Rattle.std.specs.Prelude.{◌≡◌, find, not, option_map, string_bytes};
+ghost use Rattle.std.specs.Option.{option_copied};
+ghost use Rattle.std.specs.BTreeMap.{keys};
+ghost use Rattle.serde_json.specs.View.{view, members_view};
+ghost use Rattle.sct_json.specs.Keys.{is_key_of};
+ghost use Rattle.sct_json.specs.Reading.{Gives, draft_in, kind_in, first_extra, passes_unless, object_in, message_in};
+
+use crate::faults::{ExtraKey, JsonFault};
+use crate::keys::Key;
+use crate::{credit_transfer, status_report};
+use sct_message::{Draft, Kind, Message};
+use serde_json::{Map, Value};
+use std::alloc::Global;
+
+/// The kind that the text at `MsgNmId` names.
+fn kind_in(object: &Value) -> Option<Kind>
+    ensures { result ≡ kind_in (view object.now) }
+{
+    let name = object.get(Key::MsgNmId.text())?.as_str()?;
+    Kind::of_name(name)
+}
+
+/// The elements of a message of a kind.
+fn read_draft(alloc: Global, kind: Kind, object: &Value) -> Result<Draft, JsonFault>
+    ensures { Gives result (draft_in kind (view object.now)) }
+{
+    match kind {
+        Kind::Pacs008 => Ok(Draft::CreditTransfer(credit_transfer::read(alloc, object)?)),
+        Kind::Pacs002 => Ok(Draft::StatusReport(status_report::read(alloc, object)?)),
+    }
+}
+
+/// Whether a name is a key of a kind.
+fn is_key_of(kind: Kind, name: &str) -> bool
+    ensures { result ≡ is_key_of kind name.now }
+{
+    match kind {
+        Kind::Pacs008 => credit_transfer::is_key(name),
+        Kind::Pacs002 => status_report::is_key(name),
+    }
+}
+
+/// The first name of an object, in the order of the names' bytes, that is no key of a kind.
+fn first_other(kind: Kind, object: &Map<String, Value>) -> Option<&String>
+    ensures { option_copied result ≡ find (λ name. not (is_key_of kind (string_bytes name))) (keys object.now) }
+{
+    object.keys().find(|name| !is_key_of(kind, name.as_str()))
+}
+
+/// Refuses an object with a key that is none of its kind.
+fn refuse_extra(alloc: Global, kind: Kind, object: &Map<String, Value>) -> Result<(), JsonFault>
+    ensures { Gives result (passes_unless (first_extra kind (members_view object.now.entries))) }
+{
+    match first_other(kind, object) {
+        None => Ok(()),
+        Some(name) => match ExtraKey::of(alloc, name.as_str()) {
+            Ok(extra) => Err(JsonFault::Extra(extra)),
+            Err(_) => Err(JsonFault::Memory),
+        },
+    }
+}
+
+/// The message of which an object is a form.
+#[tactic(auto, unfolding(crate::specs::Reading::object_in))]
+fn read_object(alloc: Global, object: &Value) -> Result<Message, JsonFault>
+    ensures { Gives result (object_in (view object.now)) }
+{
+    let Some(members) = object.as_object() else {
+        return Err(JsonFault::NotObject);
+    };
+    let Some(kind) = kind_in(object) else {
+        return Err(JsonFault::UnknownKind);
+    };
+    let draft = read_draft(alloc, kind, object)?;
+    refuse_extra(alloc, kind, members)?;
+    match Message::of(draft) {
+        Ok(message) => Ok(message),
+        Err(fault) => Err(JsonFault::Rule(fault)),
+    }
+}
+
+/// Reads the bytes of one JSON object as the message of which it is a form, or answers the first reason why it is a form
+/// of none. Of two equal keys the last counts. Only `JsonFault::Memory` says nothing of the bytes.
+pub fn read_message(alloc: Global, bytes: &[u8]) -> Result<Message, JsonFault>
+    ensures { Gives result (message_in bytes.now) }
+{
+    match Value::from_slice(alloc, bytes) {
+        Ok(value) => read_object(alloc, &value),
+        Err(error) if error.is_memory() => Err(JsonFault::Memory),
+        Err(_) => Err(JsonFault::NotJson),
+    }
+}

@@ -1,0 +1,70 @@
+//! The walks over key tables.
+//!
+//! A key table is a macro that names its fields in their order, each with its form and its key, and hands them to a
+//! walk: `required` and `optional` keys, and a `part`, whose keys stand in a module of their own.
+
+/// Reads an object by a key table: the record of its elements, or the first fault in the order of the table.
+macro_rules! read_table {
+    ([$alloc:ident, $object:ident] $name:ident { $($field:ident: $form:ident $key:ident,)* }) => {{
+        $(let $field = read_member!($form, $alloc, $object, $key);)*
+        Ok($name { $($field),* })
+    }};
+}
+
+macro_rules! read_member {
+    (required, $alloc:ident, $object:ident, $key:ident) => {
+        required($alloc, Key::$key, $object)?
+    };
+    (optional, $alloc:ident, $object:ident, $key:ident) => {
+        optional($alloc, Key::$key, $object)?
+    };
+    (part, $alloc:ident, $object:ident, $part:ident) => {
+        $part::read($alloc, $object)?
+    };
+}
+
+/// Whether a name is a key of a table: of its parts, or of its own keys.
+macro_rules! has_key {
+    ([$name:ident] $record:ident { $($field:ident: $form:ident $key:ident,)* }) => {
+        own_key!($name, [] $($form $key,)*)
+    };
+}
+
+macro_rules! own_key {
+    ($name:ident, [$($own:ident)*]) => {
+        is_among(&[$(Key::$own),*], $name)
+    };
+    ($name:ident, [$($own:ident)*] part $part:ident, $($rest:tt)*) => {
+        $part::is_key($name) || own_key!($name, [$($own)*] $($rest)*)
+    };
+    ($name:ident, [$($own:ident)*] $form:ident $key:ident, $($rest:tt)*) => {
+        own_key!($name, [$($own)* $key] $($rest)*)
+    };
+}
+
+/// Puts the elements of a record into an object, each at its key.
+macro_rules! put_table {
+    ([$alloc:ident, $record:ident, $object:ident] $name:ident { $($field:ident: $form:ident $key:ident,)* }) => {{
+        $(put_member!($form, $alloc, $record, $field, $object, $key);)*
+        Ok(())
+    }};
+}
+
+macro_rules! put_member {
+    (required, $alloc:ident, $record:ident, $field:ident, $object:ident, $key:ident) => {
+        put($alloc, Key::$key, &$record.$field, $object)?
+    };
+    (optional, $alloc:ident, $record:ident, $field:ident, $object:ident, $key:ident) => {
+        put_optional($alloc, Key::$key, &$record.$field, $object)?
+    };
+    (part, $alloc:ident, $record:ident, $field:ident, $object:ident, $part:ident) => {
+        $part::put_all($alloc, &$record.$field, $object)?
+    };
+}
+
+pub(crate) use has_key;
+pub(crate) use own_key;
+pub(crate) use put_member;
+pub(crate) use put_table;
+pub(crate) use read_member;
+pub(crate) use read_table;

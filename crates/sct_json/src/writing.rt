@@ -1,0 +1,50 @@
+//! From a message to its written form.
+ghost use Rattle.std.specs.Prelude.{◌≡◌, OnOk, IfOk, IfErr};
+ghost use Rattle.serde_json.specs.View.{view, members_view};
+ghost use Rattle.sct_json.specs.Writing.{with_elements, written_object, written_text};
+
+use crate::faults::JsonFault;
+use crate::{credit_transfer, status_report};
+use sct_message::{Draft, Message};
+use serde_json::{Map, Value};
+use std::alloc::{AllocError, Global};
+
+/// Puts the elements of a message into an object, each at its key.
+fn put_elements(alloc: Global, draft: &Draft, object: &mut Map<String, Value>) -> Result<(), AllocError>
+    ensures { OnOk result (members_view object.new.entries ≡ with_elements draft.now (members_view object.old.entries)) }
+{
+    match draft {
+        Draft::CreditTransfer(transfer) => credit_transfer::put_all(alloc, transfer, object),
+        Draft::StatusReport(report) => status_report::put_all(alloc, report, object),
+    }
+}
+
+/// The object of a message.
+fn object_of(alloc: Global, draft: &Draft) -> Result<Value, AllocError>
+    ensures { IfOk result (λ value. view value ≡ written_object draft.now) }
+{
+    let mut members = Map::new(alloc);
+    put_elements(alloc, draft, &mut members)?;
+    Ok(Value::Object(members))
+}
+
+/// The text of that object.
+#[tactic(auto, using(crate::proofs::Flat::no_float_written), unfolding(crate::specs::Writing::written_text))]
+fn text_of(alloc: Global, draft: &Draft) -> Result<Vec<u8>, AllocError>
+    ensures { IfOk result (λ text. text.items ≡ written_text draft.now) }
+{
+    let object = object_of(alloc, draft)?;
+    object.to_vec(alloc)
+}
+
+/// Writes the one written form of a message: one line with no spaces, its keys in the order of their bytes, each element
+/// in its written form, absent elements left out. It fails for want of memory alone.
+pub fn write_message(alloc: Global, message: &Message) -> Result<Vec<u8>, JsonFault>
+    ensures written { IfOk result (λ text. text.items ≡ written_text message.now) }
+    ensures memory { IfErr result (λ fault. fault ≡ JsonFault.Memory) }
+{
+    match text_of(alloc, message.draft()) {
+        Ok(text) => Ok(text),
+        Err(_) => Err(JsonFault::Memory),
+    }
+}

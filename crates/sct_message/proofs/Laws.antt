@@ -1,0 +1,95 @@
+-- No rule is broken exactly where all rules hold.
+use Rattle.std.proofs.Common.{◌≡◌, sym, subst, refl, inl, inr, ℕ, Bool, true, false, List, Option, Some, None, if◌then◌else◌}
+use Rattle.std.specs.Prelude.{◌&&◌, ◌⊎◌, ◌↔◌, not, is_some, is_none, IsSome, IsNone, codes}
+use Rattle.std.specs.Cmp.Lexicographic.{bytes_decides}
+use Rattle.sct_message.specs.declared.draft.CreditTransfer.{CreditTransfer as Transfer}
+use Rattle.sct_message.specs.declared.draft.StatusReport.{StatusReport as Report}
+use Rattle.sct_message.specs.declared.draft.Draft.{Draft}
+use Rattle.sct_message.specs.declared.draft.Draft.TheVariants.{CreditTransfer, StatusReport}
+use Rattle.sct_message.specs.declared.rules.RuleFault.{RuleFault}
+use Rattle.sct_message.specs.Kinds.{is_text}
+use Rattle.sct_message.specs.Rules.{FollowsRules, FollowsRulesOfKind, TransferFollowsRules, ReportFollowsRules, broken_in_transfer, broken_in_report, broken_in_kind, first_broken_rule}
+
+-- a rule that is kept is passed over
+kept_then : (b : Bool) (f : RuleFault) (rest : Option RuleFault) → ((if not b then Some f else rest) ≡ None) ↔ ((b ≡ true) × (rest ≡ None))
+kept_then true f rest = (λ e. (refl, e), λ p. p.1)
+kept_then false f rest = (λ e. cc, λ p. cc)
+
+-- a fault that is not met is passed over
+unmet_then : (b : Bool) (f : RuleFault) (rest : Option RuleFault) → ((if b then Some f else rest) ≡ None) ↔ ((b ≡ false) × (rest ≡ None))
+unmet_then true f rest = (λ e. cc, λ p. cc)
+unmet_then false f rest = (λ e. (refl, e), λ p. p.1)
+
+same_text : (s t : List ℕ) → is_text s t ≡ true → s ≡ t
+same_text s t e = (bytes_decides s t).0 e
+
+text_same : (s t : List ℕ) → s ≡ t → is_text s t ≡ true
+text_same s t e = (bytes_decides s t).1 e
+
+transfer_rules : (d : Transfer) → (broken_in_transfer d ≡ None) ↔ TransferFollowsRules d
+unfolding broken_in_transfer
+transfer_rules d = (
+  λ e.
+      let one = (kept_then _ _ _).0 e in
+      let two = (kept_then _ _ _).0 one.1 in
+      let three = (kept_then _ _ _).0 two.1 in
+      let four = (kept_then _ _ _).0 three.1 in
+      record {
+        currency = same_text _ _ one.0;
+        service = same_text _ _ two.0;
+        instrument = same_text _ _ three.0;
+        charges = same_text _ _ four.0;
+      },
+  λ r. (kept_then _ _ _).1 (text_same _ _ r.currency, (kept_then _ _ _).1 (text_same _ _ r.service, (kept_then _ _ _).1 (text_same _ _ r.instrument, (kept_then _ _ _).1 (text_same _ _ r.charges, refl)))),
+)
+
+abbrev Confirms : List ℕ → Option (List ℕ) → Type 0
+Confirms status reason = ((status ≡ codes "ACCP") × IsNone reason) ⊎ ((status ≡ codes "RJCT") × IsSome reason)
+
+-- what is left once the status is one of the two, a rejection has a reason, and a confirmation has none
+confirms_by : (status : List ℕ) (reason : Option (List ℕ)) (accepted rejected : Bool) → is_text status (codes "ACCP") ≡ accepted → is_text status (codes "RJCT") ≡ rejected
+    → (not accepted && not rejected) ≡ false → (rejected && is_none reason) ≡ false → (accepted && is_some reason) ≡ false → Confirms status reason
+confirms_by status reason true rejected a r one two three = inl (same_text _ _ a, three)
+confirms_by status None false true a r one two three = cc
+confirms_by status (Some code) false true a r one two three = inr (same_text _ _ r, refl)
+confirms_by status reason false false a r one two three = cc
+
+none_is_no_some : (reason : Option (List ℕ)) → is_some reason ≡ true → is_none reason ≡ false
+none_is_no_some None e = cc
+none_is_no_some (Some code) e = refl
+
+abbrev Passed : List ℕ → Option (List ℕ) → Type 0
+Passed status reason = ((not (is_text status (codes "ACCP")) && not (is_text status (codes "RJCT"))) ≡ false)
+    × ((is_text status (codes "RJCT") && is_none reason) ≡ false) × ((is_text status (codes "ACCP") && is_some reason) ≡ false)
+
+passed_by : (status : List ℕ) (reason : Option (List ℕ)) → Confirms status reason → Passed status reason
+passed_by status reason (inl p) = subst (λ (s : List ℕ). Passed s reason) (sym p.0) (refl, refl, p.1)
+passed_by status reason (inr p) = subst (λ (s : List ℕ). Passed s reason) (sym p.0) (refl, none_is_no_some reason p.1, refl)
+
+report_rules : (d : Report) → (broken_in_report d ≡ None) ↔ ReportFollowsRules d
+unfolding broken_in_report
+report_rules d = (
+  λ e.
+      let one = (unmet_then _ _ _).0 e in
+      let two = (unmet_then _ _ _).0 one.1 in
+      let three = (unmet_then _ _ _).0 two.1 in
+      let four = (kept_then _ _ _).0 three.1 in
+      record {
+        confirms = confirms_by d.status d.reason _ _ refl refl one.0 two.0 three.0;
+        about = four.0;
+      },
+  λ r.
+      let passed : Passed d.status d.reason = passed_by d.status d.reason r.confirms in
+      (unmet_then _ _ _).1 (passed.0, (unmet_then _ _ _).1 (passed.1, (unmet_then _ _ _).1 (passed.2, (kept_then _ _ _).1 (r.about, refl)))),
+)
+
+kind_rules : (d : Draft) → (broken_in_kind d ≡ None) ↔ FollowsRulesOfKind d
+kind_rules (CreditTransfer d) = transfer_rules d
+kind_rules (StatusReport d) = report_rules d
+
+pub all_rules : (d : Draft) → (first_broken_rule d ≡ None) ↔ FollowsRules d
+unfolding first_broken_rule
+all_rules d = (
+  λ e. let named = (kept_then _ _ _).0 e in (named.0, (kind_rules d).0 named.1),
+  λ r. (kept_then _ _ _).1 (r.0, (kind_rules d).1 r.1),
+)

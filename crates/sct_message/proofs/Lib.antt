@@ -1,0 +1,4 @@
+pub mod AscendingLemmas
+mod Laws
+pub mod Members
+mod Names

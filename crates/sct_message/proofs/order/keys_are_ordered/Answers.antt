@@ -1,0 +1,28 @@
+use Rattle.std.proofs.Common.{refl}
+use Rattle.sct_message.specs.declared.kinds.Kind.TheVariants.{Pacs002, Pacs008}
+use Rattle.sct_message.specs.OrderLaws.{identity_total, transfer_total, identities_same, transfers_same, identity_ties, transfer_ties}
+use Rattle.sct_message.proofs.order.keys_are_ordered.Goals as goal
+
+pub returns-clause-kinds : goal.returns-clause-kinds
+returns-clause-kinds c = elim [ Pacs002 ↦ elim [ Pacs002 ↦ refl | Pacs008 ↦ refl ] | Pacs008 ↦ elim [ Pacs002 ↦ refl | Pacs008 ↦ refl ] ]
+
+pub returns-clause-kinds_equal : goal.returns-clause-kinds_equal
+returns-clause-kinds_equal c = elim [ Pacs002 ↦ elim [ Pacs002 ↦ refl | Pacs008 ↦ refl ] | Pacs008 ↦ elim [ Pacs002 ↦ refl | Pacs008 ↦ refl ] ]
+
+pub returns-clause-identities_equal : goal.returns-clause-identities_equal
+returns-clause-identities_equal c = λ i j. identity_ties _ i j (returns-clause-kinds_equal c i.kind j.kind)
+
+pub returns-clause-transfers_equal : goal.returns-clause-transfers_equal
+returns-clause-transfers_equal c = transfer_ties
+
+pub returns-clause-identities_total : goal.returns-clause-identities_total
+returns-clause-identities_total c = identity_total
+
+pub returns-clause-transfers_total : goal.returns-clause-transfers_total
+returns-clause-transfers_total c = transfer_total
+
+pub returns-clause-identities_same : goal.returns-clause-identities_same
+returns-clause-identities_same c = identities_same
+
+pub returns-clause-transfers_same : goal.returns-clause-transfers_same
+returns-clause-transfers_same c = transfers_same

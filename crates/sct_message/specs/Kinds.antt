@@ -1,0 +1,27 @@
+-- The kinds of interbank messages (ISO 20022), and their names.
+use Rattle.std.specs.Prelude.{ℕ, ◌&&◌, ◌||◌, ◌==◌, List, [], ◌∷◌, length, take, drop, slice_index, nat_eq, Bool, Option, find, codes}
+use Rattle.std.specs.Char.{is_ascii_digit}
+use Rattle.std.specs.Cmp.Lexicographic.{pointwise}
+use Rattle.std.specs.List.{list_all}
+use Rattle.sct_message.specs.declared.kinds.Kind.{Kind}
+use Rattle.sct_message.specs.declared.kinds.Kind.TheVariants.{Pacs002, Pacs008}
+
+abbrev pub kind_text : Kind → List ℕ
+kind_text Pacs002 = codes "pacs.002"
+kind_text Pacs008 = codes "pacs.008"
+
+-- the two texts are the same
+abbrev pub is_text : List ℕ → List ℕ → Bool
+is_text s t = pointwise nat_eq s t
+
+-- a point, three digits, a point and two digits
+abbrev pub is_version : List ℕ → Bool
+is_version s = (length s == 7) && (slice_index s 0 == 46) && list_all is_ascii_digit (take 3 (drop 1 s)) && (slice_index s 4 == 46) && list_all is_ascii_digit (drop 5 s)
+
+-- the kind alone, or the kind followed by a version
+abbrev pub is_name_of : Kind → List ℕ → Bool
+is_name_of kind s = is_text (take 8 s) (kind_text kind) && (length (drop 8 s) == 0 || is_version (drop 8 s))
+
+-- the kind of which a text is a name
+abbrev pub kind_named : List ℕ → Option Kind
+kind_named s = find (λ kind. is_name_of kind s) (Pacs002 ∷ Pacs008 ∷ [])

@@ -1,0 +1,7 @@
+pub mod Ascending
+pub mod Drafts
+pub mod Keys
+pub mod Kinds
+pub mod Order
+pub mod OrderLaws
+pub mod Rules

@@ -1,0 +1,61 @@
+//! The keys by which messages are filed.
+ghost use Rattle.std.specs.Prelude.{◌≡◌};
+
+use crate::kinds::Kind;
+use sct_element::{Bic, Id35};
+
+/// What a sender must give to one message only: two differing messages of one identity contradict each other.
+/// Ordered by sender, kind and message identification.
+#[derive(Debug, Drop, PartialEq, Eq, PartialOrd, Ord, Hash)]
+pub struct Identity {
+    /// InstgAgt.
+    pub sender: Bic,
+    /// The message's kind.
+    pub kind: Kind,
+    /// MsgId.
+    pub msg_id: Id35,
+}
+
+/// A transfer: its originator bank and the identification that this bank gave it.
+/// Ordered by bank and then by identification.
+#[derive(Debug, Drop, PartialEq, Eq, PartialOrd, Ord, Hash)]
+pub struct TransferKey {
+    /// DbtrAgt.
+    pub debtor_agent: Bic,
+    /// TxId, in the other kinds OrgnlTxId.
+    pub tx: Id35,
+}
+
+/// The recall of a transfer. Ordered by transfer and then by identification.
+#[derive(Debug, Drop, PartialEq, Eq, PartialOrd, Ord, Hash)]
+pub struct RecallKey {
+    /// The transfer that is recalled.
+    pub transfer: TransferKey,
+    /// CxlId of a camt.056, in the other kinds OrgnlCxlId.
+    pub cxl: Id35,
+}
+
+impl Identity {
+    /// The same identity once more. It takes no memory.
+    pub fn copy(&self) -> Self
+        ensures { result ≡ self.now }
+    {
+        Identity {
+            sender: self.sender.copy(),
+            kind: self.kind,
+            msg_id: self.msg_id.copy(),
+        }
+    }
+}
+
+impl TransferKey {
+    /// The same key once more. It takes no memory.
+    pub fn copy(&self) -> Self
+        ensures { result ≡ self.now }
+    {
+        TransferKey {
+            debtor_agent: self.debtor_agent.copy(),
+            tx: self.tx.copy(),
+        }
+    }
+}

@@ -1,0 +1,72 @@
+//! The kinds of messages, and the names by which a message says its kind.
+ghost use Rattle.std.specs.Prelude.{◌≡◌, ◌&&◌, ◌||◌, ◌==◌, length, take, drop, slice_index, nat_eq};
+ghost use Rattle.std.specs.Cmp.Lexicographic.{pointwise};
+ghost use Rattle.std.specs.Char.{is_ascii_digit};
+ghost use Rattle.std.specs.List.{list_all};
+ghost use Rattle.sct_message.specs.Kinds.{kind_text, is_version, is_name_of, kind_named};
+
+/// A kind of message (ISO 20022), ordered by its text.
+#[derive(Clone, Copy, Debug, PartialEq, Eq, PartialOrd, Ord, Hash)]
+pub enum Kind {
+    /// pacs.002, FIToFIPaymentStatusReport: confirms a transfer, or rejects it with a reason.
+    Pacs002,
+    /// pacs.008, FIToFICustomerCreditTransfer: carries a transfer.
+    Pacs008,
+}
+
+impl Kind {
+    /// Every kind.
+    pub const ALL: [Kind; 2] = [Kind::Pacs002, Kind::Pacs008];
+
+    /// The kind's text, as `pacs.008`.
+    pub fn text(self) -> &'static str
+        ensures { result.now ≡ kind_text self }
+    {
+        match self {
+            Kind::Pacs002 => "pacs.002",
+            Kind::Pacs008 => "pacs.008",
+        }
+    }
+
+    /// Whether a text names this kind: the kind alone, or with a version behind it, as `pacs.008.001.08`.
+    #[tactic(auto, using(crate::proofs::Names::too_short))]
+    pub fn is_named(self, name: &str) -> bool
+        ensures { result ≡ is_name_of self name.now }
+    {
+        let bytes = name.as_bytes();
+        if bytes.len() < 8 {
+            return false;
+        }
+        let (kind, version) = bytes.split_at(8);
+        kind == self.text().as_bytes() && (version.is_empty() || is_version(version))
+    }
+
+    /// The kind that a text names.
+    pub fn of_name(name: &str) -> Option<Kind>
+        ensures { result ≡ kind_named name.now }
+    {
+        if Kind::Pacs002.is_named(name) {
+            Some(Kind::Pacs002)
+        } else if Kind::Pacs008.is_named(name) {
+            Some(Kind::Pacs008)
+        } else {
+            None
+        }
+    }
+}
+
+fn are_digits(bytes: &[u8]) -> bool
+    ensures { result ≡ list_all is_ascii_digit bytes.now }
+{
+    bytes.iter().all(|byte| byte.is_ascii_digit())
+}
+
+fn is_version(bytes: &[u8]) -> bool
+    ensures { result ≡ is_version bytes.now }
+{
+    bytes.len() == 7
+        && bytes[0] == b'.'
+        && are_digits(&bytes[1..4])
+        && bytes[4] == b'.'
+        && are_digits(&bytes[5..])
+}

@@ -1,0 +1,20 @@
+//! Interbank messages of the SEPA Instant Credit Transfer scheme: their kinds, their elements, the rules of each kind,
+//! and the keys by which they are filed.
+#![tactic(auto)]
+
+mod draft;
+mod keys;
+mod kinds;
+mod messages;
+mod order;
+mod rules;
+
+pub use draft::{CreditTransfer, Draft, Head, Original, StatusReport};
+pub use keys::{Identity, RecallKey, TransferKey};
+pub use kinds::Kind;
+pub use messages::Message;
+pub use order::{keys_are_ordered, order_is_total};
+pub use rules::{RuleFault, all_rules_hold_where_none_is_broken};
+
+#[cfg(test)]
+mod tests;

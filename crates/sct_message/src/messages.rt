@@ -1,0 +1,161 @@
+//! A message: elements for which the rules of its kind hold.
+ghost use Rattle.std.specs.Prelude.{◌≡◌, ◌↔◌, Option, Some, None, Ok, Err, IsTrue, MatchOption, refl};
+ghost use Rattle.std.specs.Ordering.{eq_by_cmp};
+ghost use Rattle.std.specs.Cmp.{partial_equiv_from_equiv, eq_by_cmp_equiv, po};
+ghost use Rattle.sct_message.specs.Drafts.{kind_of};
+
+use crate::draft::Draft;
+use crate::keys::{Identity, RecallKey, TransferKey};
+use crate::kinds::Kind;
+use crate::order::order;
+use crate::rules::{RuleFault, first_broken_rule};
+use std::cmp::Ordering;
+use std::marker::Model;
+
+/// A message of one of the kinds, whose elements follow the rules of that kind. None of its calls takes memory.
+#[derive(Debug, Drop)]
+pub struct Message {
+    draft: Draft,
+}
+
+impl Model for Message {
+    ghost use Rattle.std.specs.Prelude.{◌≡◌, None};
+    ghost use Rattle.sct_message.specs.declared.draft.Draft.{Draft as Elements};
+    ghost use Rattle.sct_message.specs.Rules.{first_broken_rule};
+
+    ghost Value = { Elements };
+
+    ghost view = { λ m. m.draft };
+
+    ghost invariant = { λ m. first_broken_rule m.draft ≡ None };
+
+    ghost inverse = { λ d. record { draft = d } };
+}
+
+impl Message {
+    ghost use Rattle.sct_message.specs.Rules.{first_broken_rule};
+    ghost use Rattle.sct_message.specs.Keys.{identity_of, transfer_of, recall_of};
+
+    /// A message of these elements, or the first rule by number that they break (10 to 21); then they are dropped.
+    pub fn of(draft: Draft) -> Result<Message, RuleFault>
+        ensures { MatchOption (first_broken_rule draft) (result ≡ Ok draft) (λ fault. result ≡ Err fault) }
+    {
+        match first_broken_rule(&draft) {
+            Some(fault) => Err(fault),
+            None => Ok(Message { draft }),
+        }
+    }
+
+    /// The elements.
+    pub fn draft(&self) -> &Draft
+        ensures elements { result.now ≡ self.now }
+        ensures rules { first_broken_rule result.now ≡ None }
+    {
+        &self.draft
+    }
+
+    /// The kind.
+    pub fn kind(&self) -> Kind
+        ensures { result ≡ kind_of self.now }
+    {
+        self.draft.kind()
+    }
+
+    /// The sender, the kind and the message identification.
+    pub fn identity(&self) -> Identity
+        ensures { result ≡ identity_of self.now }
+    {
+        let head = self.draft.head();
+        Identity {
+            sender: head.instructing_agent.copy(),
+            kind: self.draft.kind(),
+            msg_id: head.message_id.copy(),
+        }
+    }
+
+    /// The transfer that the message is, or is about.
+    pub fn transfer(&self) -> TransferKey
+        ensures { result ≡ transfer_of self.now }
+    {
+        TransferKey {
+            debtor_agent: self.draft.debtor_agent().copy(),
+            tx: self.draft.transaction_id().copy(),
+        }
+    }
+
+    /// The recall that the message is about: none for the kinds that stand so far.
+    pub fn recall(&self) -> Option<RecallKey>
+        ensures { result ≡ recall_of self.now }
+    {
+        None
+    }
+}
+
+impl Message {
+    ghost use Rattle.sct_message.specs.Order.{message_order as order_of};
+
+    /// Compares by sender, kind and message identification, and then by the elements in the order of the kind's key
+    /// table, an absent one first. It answers Equal exactly where all elements are the same.
+    pub fn order(&self, other: &Message) -> Ordering
+        ensures { result ≡ order_of self.now other.now }
+    {
+        order(&self.draft, &other.draft)
+    }
+
+    /// Whether all elements are the same, MsgNmId as it was written included.
+    #[tactic(auto, using(crate::specs::OrderLaws::message_same, crate::specs::OrderLaws::message_itself))]
+    pub fn same(&self, other: &Message) -> bool
+        ensures { IsTrue result ↔ (self.now ≡ other.now) }
+    {
+        self.order(other) == Ordering::Equal
+    }
+}
+
+impl PartialEq for Message {
+    ghost use Rattle.sct_message.specs.Order.{message_order as order_of};
+    ghost use Rattle.sct_message.specs.OrderLaws.{message_total};
+
+    ghost eq = { eq_by_cmp order_of };
+
+    ghost laws = { partial_equiv_from_equiv (eq_by_cmp_equiv message_total) };
+
+    fn eq(&self, other: &Self) -> bool {
+        self.order(other).is_eq()
+    }
+}
+
+impl Eq for Message {
+    ghost use Rattle.sct_message.specs.OrderLaws.{message_total};
+
+    ghost laws = { eq_by_cmp_equiv message_total };
+}
+
+impl PartialOrd for Message {
+    ghost use Rattle.sct_message.specs.Order.{message_order as order_of};
+    ghost use Rattle.sct_message.specs.OrderLaws.{message_total};
+
+    ghost partial_cmp = { λ a b. Some (order_of a b) };
+
+    ghost laws = { po message_total (λ a b. refl) };
+
+    fn partial_cmp(&self, other: &Self) -> Option<Ordering> {
+        Some(self.order(other))
+    }
+}
+
+impl Ord for Message {
+    ghost use Rattle.sct_message.specs.Order.{message_order as order_of};
+    ghost use Rattle.sct_message.specs.OrderLaws.{message_total};
+
+    ghost cmp = { order_of };
+
+    ghost total = { message_total };
+
+    ghost matches_partial_cmp = { λ a b. refl };
+
+    ghost matches_eq = { λ a b. refl };
+
+    fn cmp(&self, other: &Self) -> Ordering {
+        self.order(other)
+    }
+}

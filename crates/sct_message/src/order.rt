@@ -1,0 +1,100 @@
+//! The order of messages.
+ghost use Rattle.std.specs.Prelude.{◌≡◌, ◌↔◌};
+ghost use Rattle.std.specs.Cmp.{IsTotalOrder};
+ghost use Rattle.sct_message.specs.Drafts.{kind_of};
+ghost use Rattle.sct_message.specs.Kinds.{kind_text};
+ghost use Rattle.sct_message.specs.Order.{text_order, elements_order, elements_of, message_order, kind_order, identity_order, transfer_order, recall_order, same_identity, same_transfer};
+ghost use Rattle.std.specs.Ordering.{eq_by_cmp};
+ghost use Rattle.std.specs.FinSet.{IsAntisymmetric};
+ghost use Rattle.sct_message.specs.declared.kinds.Kind.{Kind as KindOf};
+ghost use Rattle.sct_message.specs.declared.keys.Identity.{Identity as IdentityOf};
+ghost use Rattle.sct_message.specs.declared.keys.TransferKey.{TransferKey as TransferOf};
+ghost use Rattle.sct_message.specs.declared.keys.RecallKey.{RecallKey as RecallOf};
+ghost use Rattle.sct_message.specs.declared.draft.Draft.{Draft as Elements};
+ghost use Rattle.sct_message.specs.declared.draft.Draft.TheVariants as draft;
+
+use crate::draft::{CreditTransfer, Draft, StatusReport};
+use crate::keys::{Identity, RecallKey, TransferKey};
+use crate::kinds::Kind;
+use std::cmp::Ordering;
+
+fn transfer_order(left: &CreditTransfer, right: &CreditTransfer) -> Ordering
+    ensures { result ≡ elements_order (elements_of (draft.CreditTransfer left.now)) (elements_of (draft.CreditTransfer right.now)) }
+{
+    left.cmp(right)
+}
+
+fn report_order(left: &StatusReport, right: &StatusReport) -> Ordering
+    ensures { result ≡ elements_order (elements_of (draft.StatusReport left.now)) (elements_of (draft.StatusReport right.now)) }
+{
+    left.cmp(right)
+}
+
+/// The order of two messages' elements, where they are of one kind.
+fn elements_order(left: &Draft, right: &Draft) -> Ordering
+    requires { kind_of left.now ≡ kind_of right.now }
+    ensures { result ≡ elements_order (elements_of left.now) (elements_of right.now) }
+{
+    match left {
+        Draft::CreditTransfer(left) => match right {
+            Draft::CreditTransfer(right) => transfer_order(left, right),
+            _ => unreachable!(),
+        },
+        Draft::StatusReport(left) => match right {
+            Draft::StatusReport(right) => report_order(left, right),
+            _ => unreachable!(),
+        },
+    }
+}
+
+/// The order of two messages' kinds, which is that of the kinds' texts.
+fn kind_order(left: Kind, right: Kind) -> Ordering
+    ensures order { result ≡ text_order (kind_text left) (kind_text right) }
+    ensures same { result ≡ Ordering.Equal → left ≡ right }
+{
+    left.cmp(&right)
+}
+
+/// The order of two messages.
+#[tactic(auto, unfolding(crate::specs::Order::message_order))]
+pub(crate) fn order(left: &Draft, right: &Draft) -> Ordering
+    ensures { result ≡ message_order left.now right.now }
+{
+    let by_sender = left
+        .head()
+        .instructing_agent
+        .cmp(&right.head().instructing_agent);
+    if by_sender != Ordering::Equal {
+        return by_sender;
+    }
+    let by_kind = kind_order(left.kind(), right.kind());
+    if by_kind != Ordering::Equal {
+        return by_kind;
+    }
+    let by_id = left.head().message_id.cmp(&right.head().message_id);
+    if by_id != Ordering::Equal {
+        return by_id;
+    }
+    elements_order(left, right)
+}
+
+/// Keys are totally ordered, kinds by their text, and keys come out equal only where all their parts are the same.
+pub fn keys_are_ordered()
+    ensures kinds { (j k : KindOf) → ⟦<Kind as Ord>⟧.cmp j k ≡ text_order (kind_text j) (kind_text k) }
+    ensures identities { (i j : IdentityOf) → ⟦<Identity as Ord>⟧.cmp i j ≡ identity_order i j }
+    ensures transfers { (s t : TransferOf) → ⟦<TransferKey as Ord>⟧.cmp s t ≡ transfer_order s t }
+    ensures recalls { (q r : RecallOf) → ⟦<RecallKey as Ord>⟧.cmp q r ≡ recall_order q r }
+    ensures kinds_equal { (j k : KindOf) → ⟦<Kind as PartialEq>⟧.eq j k ≡ eq_by_cmp kind_order j k }
+    ensures identities_equal { (i j : IdentityOf) → ⟦<Identity as PartialEq>⟧.eq i j ≡ same_identity i j }
+    ensures transfers_equal { (s t : TransferOf) → ⟦<TransferKey as PartialEq>⟧.eq s t ≡ same_transfer s t }
+    ensures identities_total { IsTotalOrder identity_order }
+    ensures transfers_total { IsTotalOrder transfer_order }
+    ensures identities_same { IsAntisymmetric identity_order }
+    ensures transfers_same { IsAntisymmetric transfer_order }
+{}
+
+/// Messages are totally ordered, and come out equal only where all their elements are the same.
+pub fn order_is_total()
+    ensures total { IsTotalOrder message_order }
+    ensures same { (a b : Elements) → (message_order a b ≡ Ordering.Equal) ↔ (a ≡ b) }
+{}

@@ -1,0 +1,112 @@
+//! The rules of each kind.
+ghost use Rattle.std.specs.Prelude.{◌≡◌, ◌↔◌, Option, None, IsTrue};
+ghost use Rattle.sct_message.specs.Rules.{rule_number, first_broken_rule, broken_in_transfer, broken_in_report, FollowsRules};
+
+use crate::draft::{CreditTransfer, Draft, StatusReport};
+use crate::kinds::Kind;
+use thiserror::Error;
+
+/// A rule that a message's elements break, of those of its kind the first by number.
+#[derive(Clone, Copy, Debug, PartialEq, Eq, Error)]
+pub enum RuleFault {
+    /// 10: MsgNmId is no name of the message's kind.
+    #[error("the message name is of another kind")]
+    WrongName,
+    /// 11: Ccy is not EUR.
+    #[error("the currency is not EUR")]
+    WrongCurrency,
+    /// 12: SvcLvl is not SEPA.
+    #[error("the service level is not SEPA")]
+    WrongService,
+    /// 13: LclInstrm is not INST.
+    #[error("the local instrument is not INST")]
+    WrongInstrument,
+    /// 14: ChrgBr is not SLEV.
+    #[error("the charge bearer is not SLEV")]
+    WrongCharge,
+    /// 15: TxSts is neither ACCP nor RJCT.
+    #[error("the status is neither ACCP nor RJCT")]
+    WrongStatus,
+    /// 16: a rejection without a reason.
+    #[error("a rejection has no reason")]
+    ReasonMissing,
+    /// 17: a positive confirmation with a reason.
+    #[error("a positive confirmation has a reason")]
+    ReasonUnasked,
+    /// 21: OrgnlMsgNmId is no name of the kind that such a message is about.
+    #[error("the original message name is of a wrong kind")]
+    WrongOriginalName,
+}
+
+impl RuleFault {
+    /// The fault's number, 10 to 21.
+    pub fn number(self) -> u8
+        ensures { result ≡ rule_number self }
+    {
+        match self {
+            RuleFault::WrongName => 10,
+            RuleFault::WrongCurrency => 11,
+            RuleFault::WrongService => 12,
+            RuleFault::WrongInstrument => 13,
+            RuleFault::WrongCharge => 14,
+            RuleFault::WrongStatus => 15,
+            RuleFault::ReasonMissing => 16,
+            RuleFault::ReasonUnasked => 17,
+            RuleFault::WrongOriginalName => 21,
+        }
+    }
+}
+
+#[tactic(auto, unfolding(crate::specs::Rules::broken_in_transfer))]
+fn broken_in_transfer(transfer: &CreditTransfer) -> Option<RuleFault>
+    ensures { result ≡ broken_in_transfer transfer.now }
+{
+    if transfer.currency.text() != "EUR" {
+        Some(RuleFault::WrongCurrency)
+    } else if transfer.service_level.text() != "SEPA" {
+        Some(RuleFault::WrongService)
+    } else if transfer.local_instrument.text() != "INST" {
+        Some(RuleFault::WrongInstrument)
+    } else if transfer.charge_bearer.text() != "SLEV" {
+        Some(RuleFault::WrongCharge)
+    } else {
+        None
+    }
+}
+
+#[tactic(auto, unfolding(crate::specs::Rules::broken_in_report))]
+fn broken_in_report(report: &StatusReport) -> Option<RuleFault>
+    ensures { result ≡ broken_in_report report.now }
+{
+    let status = report.status.text();
+    if status != "ACCP" && status != "RJCT" {
+        Some(RuleFault::WrongStatus)
+    } else if status == "RJCT" && report.reason.is_none() {
+        Some(RuleFault::ReasonMissing)
+    } else if status == "ACCP" && report.reason.is_some() {
+        Some(RuleFault::ReasonUnasked)
+    } else if !Kind::Pacs008.is_named(report.original.message_name.text()) {
+        Some(RuleFault::WrongOriginalName)
+    } else {
+        None
+    }
+}
+
+/// The first rule by number that a draft breaks.
+#[tactic(auto, unfolding(crate::specs::Rules::first_broken_rule))]
+pub(crate) fn first_broken_rule(draft: &Draft) -> Option<RuleFault>
+    ensures { result ≡ first_broken_rule draft.now }
+{
+    if !draft.kind().is_named(draft.head().message_name.text()) {
+        return Some(RuleFault::WrongName);
+    }
+    match draft {
+        Draft::CreditTransfer(transfer) => broken_in_transfer(transfer),
+        Draft::StatusReport(report) => broken_in_report(report),
+    }
+}
+
+/// No rule is broken exactly where all rules hold.
+pub fn all_rules_hold_where_none_is_broken()
+    ensures { (draft : Draft) → (first_broken_rule draft ≡ None) ↔ FollowsRules draft }
+{}

@@ -1,0 +1,247 @@
+//! Messages and keys in their orders.
+
+use super::texts::{
+    CONFIRMATION, INSTRUCTION, InstructionTexts, ReportTexts, read_instruction, read_report,
+};
+use crate::*;
+use sct_element::{Bic, ElementFault, Id35};
+use std::alloc::Global;
+use std::cmp::Ordering;
+use std::process::Abort;
+use std::test::Fail;
+
+/// Whether messages that ascend compare with one of them, which stands at this place, as their places do.
+fn assert_place(rt: &impl Abort, ascending: &[Message], place: usize, message: &Message) {
+    for (at, other) in ascending.iter().enumerate() {
+        assert_eq!(rt; message.order(other), place.cmp(&at), "at {place} and {at}");
+        assert_eq!(rt; message.same(other), place == at, "at {place} and {at}");
+        assert_eq!(rt; message == other, place == at, "at {place} and {at}");
+    }
+}
+
+fn assert_ascending(rt: &impl Abort, messages: &[Message]) {
+    for (place, message) in messages.iter().enumerate() {
+        assert_place(rt, messages, place, message);
+    }
+}
+
+fn instructions(alloc: Global, rows: &[InstructionTexts]) -> Result<Vec<Message>, Fail> {
+    let mut messages = Vec::new(alloc);
+    for texts in rows {
+        messages.push(Message::of(read_instruction(alloc, texts)?)?)?;
+    }
+    Ok(messages)
+}
+
+fn reports(alloc: Global, rows: &[ReportTexts]) -> Result<Vec<Message>, Fail> {
+    let mut messages = Vec::new(alloc);
+    for texts in rows {
+        messages.push(Message::of(read_report(texts)?)?)?;
+    }
+    Ok(messages)
+}
+
+#[test]
+fn orders_transfers_by_identity_and_then_by_elements(rt: HostRuntime) -> Result<(), Fail> {
+    let rows = [
+        InstructionTexts {
+            sender: "AANKDEFF",
+            msg_id: "M9",
+            tx: "T9",
+            ..INSTRUCTION
+        },
+        InstructionTexts {
+            sender: "BANKDEFF001",
+            msg_id: "M0",
+            ..INSTRUCTION
+        },
+        INSTRUCTION,
+        InstructionTexts {
+            amount: "10.00",
+            ..INSTRUCTION
+        },
+        InstructionTexts {
+            tx: "T1 ",
+            amount: "1.00",
+            ..INSTRUCTION
+        },
+        InstructionTexts {
+            tx: "T10",
+            ..INSTRUCTION
+        },
+        InstructionTexts {
+            name: "pacs.008.001.08",
+            ..INSTRUCTION
+        },
+        InstructionTexts {
+            msg_id: "M2",
+            amount: "1.00",
+            ..INSTRUCTION
+        },
+    ];
+    assert_ascending(&rt, &instructions(rt.alloc(), &rows)?);
+    Ok(())
+}
+
+#[test]
+fn orders_kinds_before_identifications(rt: HostRuntime) -> Result<(), Fail> {
+    let texts = ReportTexts {
+        sender: "BANKDEFF",
+        msg_id: "M9",
+        ..CONFIRMATION
+    };
+    let confirmation = Message::of(read_report(&texts)?)?;
+    let instruction = Message::of(read_instruction(rt.alloc(), &INSTRUCTION)?)?;
+    assert_eq!(rt; confirmation.order(&instruction), Ordering::Less);
+    assert_eq!(rt; instruction.order(&confirmation), Ordering::Greater);
+    assert!(rt; !confirmation.same(&instruction));
+    Ok(())
+}
+
+#[test]
+fn puts_an_absent_element_of_a_transfer_first(rt: HostRuntime) -> Result<(), Fail> {
+    let rows = [
+        INSTRUCTION,
+        InstructionTexts {
+            remittance: Some("Rent"),
+            ..INSTRUCTION
+        },
+        InstructionTexts {
+            accepted: Some("2024-05-02T09:59:59Z"),
+            ..INSTRUCTION
+        },
+        InstructionTexts {
+            reference: Some("I1"),
+            ..INSTRUCTION
+        },
+        InstructionTexts {
+            receiver: Some("BANQFRPP"),
+            ..INSTRUCTION
+        },
+    ];
+    assert_ascending(&rt, &instructions(rt.alloc(), &rows)?);
+    Ok(())
+}
+
+#[test]
+fn puts_an_absent_element_of_a_report_first(rt: HostRuntime) -> Result<(), Fail> {
+    let rejection = ReportTexts {
+        status: "RJCT",
+        reason: Some("AM04"),
+        ..CONFIRMATION
+    };
+    let rows = [
+        CONFIRMATION,
+        ReportTexts {
+            reason: Some("AC04"),
+            ..rejection
+        },
+        rejection,
+        ReportTexts {
+            bank: "BANKNL2A",
+            ..rejection
+        },
+        ReportTexts {
+            tx: "T2",
+            ..CONFIRMATION
+        },
+        ReportTexts {
+            reference: Some("E1"),
+            ..CONFIRMATION
+        },
+        ReportTexts {
+            original: "pacs.008.001.08",
+            ..CONFIRMATION
+        },
+        ReportTexts {
+            receiver: Some("BANKDEFF"),
+            ..CONFIRMATION
+        },
+    ];
+    assert_ascending(&rt, &reports(rt.alloc(), &rows)?);
+    Ok(())
+}
+
+fn transfer_key(bank: &str, tx: &str) -> Result<TransferKey, ElementFault> {
+    Ok(TransferKey {
+        debtor_agent: Bic::read(bank)?,
+        tx: Id35::read(tx)?,
+    })
+}
+
+fn recall_key(bank: &str, tx: &str, cxl: &str) -> Result<RecallKey, ElementFault> {
+    Ok(RecallKey {
+        transfer: transfer_key(bank, tx)?,
+        cxl: Id35::read(cxl)?,
+    })
+}
+
+fn identity(sender: &str, kind: Kind, msg_id: &str) -> Result<Identity, ElementFault> {
+    Ok(Identity {
+        sender: Bic::read(sender)?,
+        kind,
+        msg_id: Id35::read(msg_id)?,
+    })
+}
+
+/// Whether a key compares with keys that ascend, among which it stands at this place, as their places do.
+fn assert_key_place<K: Ord>(rt: &impl Abort, ascending: &[K], place: usize, key: &K) {
+    for (at, other) in ascending.iter().enumerate() {
+        assert_eq!(rt; key.cmp(other), place.cmp(&at), "at {place} and {at}");
+        assert_eq!(rt; key == other, place == at, "at {place} and {at}");
+    }
+}
+
+fn assert_keys_ascend<K: Ord>(rt: &impl Abort, keys: &[K]) {
+    for (place, key) in keys.iter().enumerate() {
+        assert_key_place(rt, keys, place, key);
+    }
+}
+
+#[test]
+fn orders_identities_by_sender_kind_and_id(rt: HostRuntime) -> Result<(), Fail> {
+    let mut keys = Vec::new(rt.alloc());
+    for (sender, kind, msg_id) in [
+        ("BANKDEFF", Kind::Pacs002, "M2"),
+        ("BANKDEFF", Kind::Pacs008, "M1"),
+        ("BANKDEFF", Kind::Pacs008, "M10"),
+        ("BANKDEFF", Kind::Pacs008, "M2"),
+        ("BANQFRPP", Kind::Pacs002, "M1"),
+    ] {
+        keys.push(identity(sender, kind, msg_id)?)?;
+    }
+    assert_keys_ascend(&rt, &keys);
+    Ok(())
+}
+
+#[test]
+fn orders_transfer_keys_by_bank_and_id(rt: HostRuntime) -> Result<(), Fail> {
+    let mut keys = Vec::new(rt.alloc());
+    for (bank, tx) in [
+        ("BANKDEFF", "T1"),
+        ("BANKDEFF", "T1 "),
+        ("BANKDEFF", "T10"),
+        ("BANKDEFF", "T9"),
+        ("BANQFRPP", "T0"),
+    ] {
+        keys.push(transfer_key(bank, tx)?)?;
+    }
+    assert_keys_ascend(&rt, &keys);
+    Ok(())
+}
+
+#[test]
+fn orders_recall_keys_by_transfer_and_id(rt: HostRuntime) -> Result<(), Fail> {
+    let mut keys = Vec::new(rt.alloc());
+    for (bank, tx, cxl) in [
+        ("BANKDEFF", "T1", "R1"),
+        ("BANKDEFF", "T1", "R10"),
+        ("BANKDEFF", "T1", "R2"),
+        ("BANKDEFF", "T1 ", "R0"),
+        ("BANQFRPP", "T0", "R0"),
+    ] {
+        keys.push(recall_key(bank, tx, cxl)?)?;
+    }
+    assert_keys_ascend(&rt, &keys);
+    Ok(())
+}

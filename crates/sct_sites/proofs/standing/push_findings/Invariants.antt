@@ -1,0 +1,7 @@
+use Rattle.std.proofs.Common.{◌≡◌, ◌++◌, map, filter, take, not}
+use Rattle.std.specs.Prelude.{string_bytes}
+use Rattle.sct_sites.specs.Status.{finding_lines}
+use Rattle.sct_sites.proofs.standing.push_findings.Given as goal
+
+abbrev pub invariant-loop-finding : goal.invariant-loop-finding
+invariant-loop-finding l = string_bytes l.text ≡ string_bytes l.initial.text ++ finding_lines l.transfer (take l.finding-index l.found)

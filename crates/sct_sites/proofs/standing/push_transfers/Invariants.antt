@@ -1,0 +1,7 @@
+use Rattle.std.proofs.Common.{◌≡◌, ◌++◌, map, take}
+use Rattle.std.specs.Prelude.{string_bytes, flat_map}
+use Rattle.sct_sites.specs.Status.{lines_among}
+use Rattle.sct_sites.proofs.standing.push_transfers.Given as goal
+
+abbrev pub invariant-loop-transfer : goal.invariant-loop-transfer
+invariant-loop-transfer l = string_bytes l.text ≡ string_bytes l.initial.text ++ flat_map (lines_among (map (λ m. m.now) l.clean) (map (λ m. m.now) l.contradicted)) (take l.transfer-index l.transfers)

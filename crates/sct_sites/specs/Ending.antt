@@ -1,0 +1,27 @@
+use Rattle.std.specs.Prelude.{ℕ, ◌==◌, if◌then◌else◌, Result, Ok, Err}
+use Rattle.std.specs.declared.io.ErrorKind.{ErrorKind}
+use Rattle.std.specs.declared.io.ErrorKind.TheVariants.{OutOfMemory}
+use Rattle.sct_sites.specs.declared.ending.Ending.{Ending}
+use Rattle.sct_sites.specs.declared.ending.Ending.TheVariants as ending
+use Rattle.sct_sites.specs.declared.fault.ProgramFault.{ProgramFault}
+use Rattle.sct_sites.specs.declared.fault.ProgramFault.TheVariants as fault
+
+-- the exit status: 0 where every line was taken or help was shown, 1 where some line was refused, 3 where memory was
+-- wanting and 2 at any other fault, a mistake in the command line among them
+abbrev pub exit_status_of : Result Ending ProgramFault → ℕ
+exit_status_of (Ok (ending.Done done)) = if done.refused == 0 then 0 else 1
+exit_status_of (Ok ending.Helped) = 0
+exit_status_of (Ok ending.Mistaken) = 2
+exit_status_of (Err fault.Memory) = 3
+exit_status_of (Err _) = 2
+
+-- what may end a run before the command line is known
+abbrev pub EndsAsking : ProgramFault → Type 0
+EndsAsking fault.Usage = Unit {0}
+EndsAsking fault.Memory = Unit {0}
+EndsAsking _ = ⊥
+
+-- the fault where the words of the command line could not be had
+abbrev pub words_fault : ErrorKind → ProgramFault
+words_fault OutOfMemory = fault.Memory
+words_fault _ = fault.Usage

@@ -1,0 +1,29 @@
+use Rattle.std.specs.Prelude.{ℕ, ◌≡◌, ◌+◌, List, Option, IfSome}
+use Rattle.std.specs.Option.{option_map}
+use Rattle.sct_sites.specs.declared.engine.Job.{Job}
+use Rattle.sct_sites.specs.declared.engine.Job.TheVariants.{Status}
+use Rattle.sct_sites.specs.Lines.{messages_read, refusals_told, told_text_of}
+use Rattle.sct_sites.specs.Status.{status_text_of}
+use Rattle.sct_sites.specs.Stream.{AppendsIfTold, AppendsPrefixIfTold}
+
+-- the text that a job makes of an input
+abbrev pub job_text_of : Job → List ℕ → List ℕ
+job_text_of Status input = status_text_of (messages_read input)
+
+-- the same, where the input is known
+abbrev pub job_text_if_told : Job → Option (List ℕ) → Option (List ℕ)
+job_text_if_told job input = option_map (job_text_of job) input
+
+-- the lines that tell the refused lines of an input, where it is known
+abbrev pub told_text_if_told : Option (List ℕ) → Option (List ℕ)
+told_text_if_told input = option_map (λ bytes. told_text_of (refusals_told bytes)) input
+
+-- no write failed, and what is held is what was held before followed by the whole text, where these are known
+pub record IsWritten (failed failed_now : ℕ) (held held_now : Option (List ℕ)) (text : Option (List ℕ)) : Type 0 where
+  pub none_failed : failed_now ≡ failed
+  pub whole : IfSome text (λ bytes. AppendsIfTold held held_now bytes)
+
+-- one write failed, and what is held is what was held before followed by a prefix of the text, where these are known
+pub record IsCutOff (failed failed_now : ℕ) (held held_now : Option (List ℕ)) (text : Option (List ℕ)) : Type 0 where
+  pub one_failed : failed_now ≡ failed + 1
+  pub prefix : IfSome text (λ bytes. AppendsPrefixIfTold held held_now bytes)

@@ -1,0 +1,21 @@
+use Rattle.std.specs.Prelude.{ℕ}
+use Rattle.sct_sites.specs.declared.fault.ProgramFault.{ProgramFault}
+use Rattle.sct_sites.specs.declared.fault.ProgramFault.TheVariants.{TooLong, Read, Write, Usage, Memory}
+
+-- the number of a fault that ends a run
+abbrev pub program_fault_number : ProgramFault → ℕ
+program_fault_number TooLong = 60
+program_fault_number Read = 62
+program_fault_number Write = 63
+program_fault_number Usage = 64
+program_fault_number Memory = 65
+
+-- how many reads have failed in a run that ended with this fault
+abbrev pub failed_reads : ProgramFault → ℕ
+failed_reads Read = 1
+failed_reads _ = 0
+
+-- how many writes have failed in a run that ended with this fault
+abbrev pub failed_writes : ProgramFault → ℕ
+failed_writes Write = 1
+failed_writes _ = 0

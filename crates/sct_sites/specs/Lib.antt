@@ -1,0 +1,9 @@
+pub mod Cases
+pub mod Ending
+pub mod Engine
+pub mod Fault
+pub mod LineLaws
+pub mod Lines
+pub mod Request
+pub mod Status
+pub mod Stream

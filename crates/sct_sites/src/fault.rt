@@ -1,0 +1,56 @@
+ghost use Rattle.std.specs.Prelude.{◌≡◌};
+ghost use Rattle.sct_sites.specs.declared.fault.ProgramFault.TheVariants as fault;
+ghost use Rattle.sct_sites.specs.Fault.{program_fault_number};
+
+use std::alloc::{AllocError, AllocFailed};
+use thiserror::Error;
+
+/// What ends a run of the program.
+#[derive(Clone, Copy, Debug, PartialEq, Eq, Error)]
+pub enum ProgramFault {
+    /// The input has a byte past the limit.
+    #[error("fault 60")]
+    TooLong,
+    /// A read failed.
+    #[error("fault 62")]
+    Read,
+    /// A write failed, or took no byte.
+    #[error("fault 63")]
+    Write,
+    /// The command line or the limit is not one that the program takes.
+    #[error("fault 64")]
+    Usage,
+    /// Memory is wanting.
+    #[error("fault 65")]
+    Memory,
+}
+
+impl ProgramFault {
+    pub fn number(&self) -> u8
+        ensures { result ≡ program_fault_number self.now }
+    {
+        match self {
+            ProgramFault::TooLong => 60,
+            ProgramFault::Read => 62,
+            ProgramFault::Write => 63,
+            ProgramFault::Usage => 64,
+            ProgramFault::Memory => 65,
+        }
+    }
+}
+
+impl From<AllocError> for ProgramFault {
+    ghost from_gives = { λ _ e. e ≡ fault.Memory };
+
+    fn from(_error: AllocError) -> ProgramFault {
+        ProgramFault::Memory
+    }
+}
+
+impl<T: Drop> From<AllocFailed<T>> for ProgramFault {
+    ghost from_gives = { λ _ e. e ≡ fault.Memory };
+
+    fn from(_error: AllocFailed<T>) -> ProgramFault {
+        ProgramFault::Memory
+    }
+}

@@ -1,0 +1,87 @@
+ghost use Rattle.std.specs.Prelude.{◌≡◌, IfErr};
+ghost use Rattle.sct_sites.specs.declared.fault.ProgramFault.TheVariants as fault;
+ghost use Rattle.sct_sites.specs.Ending.{EndsAsking, words_fault};
+ghost use Rattle.std.specs.IoError.{error_kind};
+
+use crate::engine::Job;
+use crate::fault::ProgramFault;
+use clap::error::ErrorKind;
+use clap::{ArgMatches, Command, Error};
+use std::alloc::{AllocError, Global};
+use std::rt::Env;
+use std::{env, io};
+
+/// What a command line asks for.
+#[derive(Debug, Drop)]
+pub enum Request {
+    /// To do the job on standard input.
+    Run(Job),
+    /// To be shown this help.
+    Help(String),
+    /// Nothing that the program does: clap's text says why.
+    Mistake(String),
+}
+
+// Why the words of the command line could not be had.
+fn fault_of(error: &io::Error) -> ProgramFault
+    ensures { result ≡ words_fault (error_kind error.now) }
+{
+    match error.kind() {
+        io::ErrorKind::OutOfMemory => ProgramFault::Memory,
+        _ => ProgramFault::Usage,
+    }
+}
+
+/// The words of the command line. Without them, the command line is one that the program does not take.
+pub fn read_words<R: Env + AllocGlobal>(rt: &R) -> Result<Vec<String>, ProgramFault>
+    ensures { IfErr result EndsAsking }
+{
+    match env::args(rt) {
+        Ok(words) => Ok(words.collect(rt.alloc())?),
+        Err(error) => Err(fault_of(&error)),
+    }
+}
+
+fn command<'a>(alloc: Global) -> Result<Command<'a>, AllocError> {
+    let status = Command::new(alloc, "status").about(
+        "Writes the status of each transfer in the messages on standard input",
+    );
+    Command::new(alloc, "sct_sites")
+        .about("Answers on the SEPA Instant messages of a clearing hub")
+        .subcommand_required(true)
+        .subcommand(status)
+}
+
+// What clap answers in place of matches: a request for help, or a mistake.
+fn answer_of(alloc: Global, error: &Error) -> Result<Request, ProgramFault>
+    ensures { IfErr result (λ e. e ≡ fault.Memory) }
+{
+    if error.kind() == ErrorKind::OutOfMemory {
+        return Err(ProgramFault::Memory);
+    }
+    let text = format!(in alloc; "{error}")?;
+    if error.use_stderr() {
+        Ok(Request::Mistake(text))
+    } else {
+        Ok(Request::Help(text))
+    }
+}
+
+fn job_of(matches: &ArgMatches<'_>) -> Option<Job> {
+    match matches.subcommand_name() {
+        Some("status") => Some(Job::Status),
+        _ => None,
+    }
+}
+
+/// Reads the words of a command line, the first of which is the program's name.
+pub fn read_request(alloc: Global, words: &[String]) -> Result<Request, ProgramFault>
+    ensures { IfErr result EndsAsking }
+{
+    match command(alloc)?.try_get_matches_from(words) {
+        Ok(matches) => job_of(&matches)
+            .map(Request::Run)
+            .ok_or(ProgramFault::Usage),
+        Err(error) => answer_of(alloc, &error),
+    }
+}

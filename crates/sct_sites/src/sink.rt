@@ -1,0 +1,63 @@
+ghost use Rattle.std.specs.Prelude.{◌≡◌, ◌+◌, ◌<◌, ◌≤◌, ◌≢◌, [], ℕ, List, Option, None, length, take, IfOk, IfSome, OnOk, OnErr};
+ghost use Rattle.sct_sites.specs.Stream.{AppendsIfTold};
+
+use crate::failures::Failures;
+use crate::source::Failed;
+use std::io;
+use std::sync::ledger::{Blank, Ledger};
+
+/// What bytes are written to.
+pub trait Sink {
+    /// The bytes that were written, where they are known.
+    ghost held: { Self → Option (List ℕ) };
+
+    /// How many writes have failed.
+    ghost failures: { Self → ℕ };
+
+    /// Writes some bytes of the front of the piece. A write that takes none of a piece with bytes has failed.
+    fn write(&mut self, piece: &[u8]) -> Result<usize, Failed>
+        ensures fits { IfOk result (λ n. n ≤ length piece.now) }
+        ensures some { IfOk result (λ n. 0 < length piece.now → 0 < n) }
+        ensures taken { IfOk result (λ n. AppendsIfTold (held self.old) (held self.new) (take n piece.now)) }
+        ensures ok { OnOk result (failures self.new ≡ failures self.old) }
+        ensures failed { OnErr result (failures self.new ≡ failures self.old + 1) }
+        ensures untaken { OnErr result (AppendsIfTold (held self.old) (held self.new) []) };
+}
+
+/// One of std's writers, with a count of the writes that failed. An interrupted write is one of them.
+#[derive(Drop)]
+pub struct Writing<W: io::Write + Drop, L: Ledger> {
+    writer: W,
+    failures: Failures<L>,
+}
+
+impl<W: io::Write + Drop, L: Ledger> Writing<W, L> {
+    /// The writer, of which no write has failed yet.
+    pub fn new(writer: W, blank: Blank) -> Self
+        requires name { blank.name ≡ L.name }
+        requires parts { blank.parts ≡ L.parts }
+        requires one_part { blank.parts ≡ 1 }
+        ensures { result.failures ≡ 0 }
+    {
+        Writing {
+            writer,
+            failures: Failures::none(blank),
+        }
+    }
+}
+
+impl<W: io::Write + Drop, L: Ledger> Sink for Writing<W, L> {
+    ghost held = { λ _. None };
+
+    ghost failures = { λ s. s.failures };
+
+    fn write(&mut self, piece: &[u8]) -> Result<usize, Failed> {
+        match self.writer.write(piece) {
+            Ok(n) if n > 0 || piece.is_empty() => Ok(n),
+            _ => {
+                self.failures.add();
+                Err(Failed)
+            }
+        }
+    }
+}

@@ -1,0 +1,64 @@
+ghost use Rattle.std.specs.Prelude.{◌≡◌, ◌+◌, ◌≤◌, ℕ, List, Option, None, length, IfOk, IfSome, OnOk, OnErr};
+ghost use Rattle.sct_sites.specs.Stream.{Gives};
+
+use crate::failures::Failures;
+use std::io;
+use std::sync::ledger::{Blank, Ledger};
+
+/// A read or a write that failed.
+#[derive(Clone, Copy, Debug, PartialEq, Eq)]
+pub struct Failed;
+
+/// What bytes are read from.
+pub trait Source {
+    /// The bytes that reads will give from here on, where they are known.
+    ghost left: { Self → Option (List ℕ) };
+
+    /// How many reads have failed.
+    ghost failures: { Self → ℕ };
+
+    /// Reads some bytes into the front of the piece. None at a piece that has room is the end.
+    fn read(&mut self, piece: &mut [u8]) -> Result<usize, Failed>
+        ensures fits { IfOk result (λ n. n ≤ length piece.new) }
+        ensures given { IfOk result (λ n. IfSome (left self.old) (λ bytes. Gives bytes n (length piece.new) piece.new (left self.new))) }
+        ensures ok { OnOk result (failures self.new ≡ failures self.old) }
+        ensures failed { OnErr result (failures self.new ≡ failures self.old + 1) };
+}
+
+/// One of std's readers, with a count of the reads that failed. An interrupted read is one of them.
+#[derive(Drop)]
+pub struct Reading<R: io::Read + Drop, L: Ledger> {
+    reader: R,
+    failures: Failures<L>,
+}
+
+impl<R: io::Read + Drop, L: Ledger> Reading<R, L> {
+    /// The reader, of which no read has failed yet.
+    pub fn new(reader: R, blank: Blank) -> Self
+        requires name { blank.name ≡ L.name }
+        requires parts { blank.parts ≡ L.parts }
+        requires one_part { blank.parts ≡ 1 }
+        ensures { result.failures ≡ 0 }
+    {
+        Reading {
+            reader,
+            failures: Failures::none(blank),
+        }
+    }
+}
+
+impl<R: io::Read + Drop, L: Ledger> Source for Reading<R, L> {
+    ghost left = { λ _. None };
+
+    ghost failures = { λ s. s.failures };
+
+    fn read(&mut self, piece: &mut [u8]) -> Result<usize, Failed> {
+        match self.reader.read(piece) {
+            Ok(n) => Ok(n),
+            Err(_) => {
+                self.failures.add();
+                Err(Failed)
+            }
+        }
+    }
+}

@@ -1,0 +1,53 @@
+ghost use Rattle.std.specs.Prelude.{◌≡◌, ◌++◌, IfOk, string_bytes};
+ghost use Rattle.serde_json.specs.Data.{string};
+ghost use Rattle.serde_json.specs.Written.{compact_text};
+ghost use Rattle.sct_sites.specs.Lines.{json_fault_text, refusal_line};
+
+use sct_json::{ExtraKey, JsonFault};
+use serde_json::Value;
+use std::alloc::{AllocError, Global};
+use std::fmt::Write;
+
+// The key as a JSON text, with its quotes.
+fn quoted(alloc: Global, key: &ExtraKey) -> Result<String, AllocError>
+    ensures { IfOk result (λ text. string_bytes text ≡ compact_text (string key.now)) }
+{
+    let key = String::from_str(alloc, key.as_str())?;
+    Value::String(key).to_string(alloc)
+}
+
+// Adds a fault of a line: its number and its arguments, parted by spaces.
+#[tactic(auto, unfolding(crate::specs::Lines::json_fault_text))]
+fn push_fault(alloc: Global, text: &mut String, fault: &JsonFault) -> Result<(), AllocError>
+    ensures { IfOk result (λ _. string_bytes text.new ≡ string_bytes text.old ++ json_fault_text fault.now) }
+{
+    match fault {
+        JsonFault::Memory => text.push_str("30"),
+        JsonFault::NotJson => text.push_str("31"),
+        JsonFault::NotObject => text.push_str("32"),
+        JsonFault::UnknownKind => text.push_str("33"),
+        JsonFault::Missing(key) => write!(text, "34 {}", key.text()),
+        JsonFault::NotText(key) => write!(text, "35 {}", key.text()),
+        JsonFault::Element(key, fault) => write!(text, "36 {} {}", key.text(), fault.number()),
+        JsonFault::Extra(key) => {
+            let key = quoted(alloc, key)?;
+            write!(text, "37 {}", key.as_str())
+        }
+        JsonFault::Rule(fault) => write!(text, "38 {}", fault.number()),
+    }
+}
+
+/// Adds the line that tells a refused line by its number.
+#[tactic(auto, unfolding(crate::specs::Lines::refusal_line))]
+pub fn push_refusal(
+    alloc: Global,
+    text: &mut String,
+    number: u64,
+    fault: &JsonFault,
+) -> Result<(), AllocError>
+    ensures { IfOk result (λ _. string_bytes text.new ≡ string_bytes text.old ++ refusal_line (number, fault.now)) }
+{
+    write!(text, "line {number}: ")?;
+    push_fault(alloc, text, fault)?;
+    text.push('\n')
+}
