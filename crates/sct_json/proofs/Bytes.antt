@@ -39,6 +39,7 @@ unfolding message_in
 bytes_stand bytes m e = text_read bytes (is_utf8 bytes) m refl e
 
 pub bytes_read : RulesAreKnown → (bytes : List ℕ) (m : Draft) → (message_in bytes ≡ Ok m) ↔ ((d : Data) × StandsFor bytes d × IsFormOf d m)
-bytes_read rules bytes m =
-    (λ e. let found : (d : Data) × StandsFor bytes d × (object_in d ≡ Ok m) = bytes_stand bytes m e in (found.0, found.1, (forms_read rules found.0 m).0 found.2),
-    λ h. message_in_object bytes h.0 h.1.text h.1.value ∙ (forms_read rules h.0 m).1 h.2)
+bytes_read rules bytes m = (
+  λ e. let found : (d : Data) × StandsFor bytes d × (object_in d ≡ Ok m) = bytes_stand bytes m e in (found.0, found.1, (forms_read rules found.0 m).0 found.2),
+  λ h. message_in_object bytes h.0 h.1.text h.1.value ∙ (forms_read rules h.0 m).1 h.2,
+)

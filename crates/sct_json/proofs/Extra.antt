@@ -1,5 +1,5 @@
 -- The first name that is no key of a kind, over a map and over the members that it stands for.
-use Rattle.std.proofs.Common.{◌≡◌, sym, refl, ℕ, Bool, true, false, cond, List, [], ◌∷◌, Option, Some, None, option_map, String, BTreeMap, Global, string_bytes}
+use Rattle.std.proofs.Common.{◌≡◌, sym, refl, ℕ, Bool, true, false, cond, List, [], ◌∷◌, Option, Some, option_map, String, BTreeMap, Global, string_bytes}
 use Rattle.std.specs.Prelude.{find, not}
 use Rattle.std.specs.BTreeMap.{keys}
 use Rattle.std.specs.Map.{keys_of}

@@ -1,14 +1,18 @@
 -- A written object has texts alone.
-use Rattle.std.proofs.Common.{◌≡◌, ◌∙◌, ap, refl, arith, ℕ, Bool, true, false, List, [], ◌∷◌, Some, None, Ordering, Less, Equal, Greater, nat_cmp}
-use Rattle.std.specs.Prelude.{◌||◌}
+use Rattle.std.proofs.Common.{◌≡◌, ◌∙◌, ap, refl, arith, ℕ, Bool, true, false, ◌≤◌, List, [], ◌∷◌, Some, None, Result, Ok, Err, Vec, Global, Ordering, Less, Equal, Greater, nat_cmp}
+use Rattle.std.specs.Prelude.{◌||◌, IfOk, IsUtf8}
+use Rattle.std.specs.declared.alloc.AllocError.{AllocError}
+use Rattle.std.proofs.lemmas.Result.{IfOk-weaker}
 use Rattle.std.specs.Ordering.{match_ordering}
 use Rattle.std.specs.Cmp.Lexicographic.{slice_cmp}
-use Rattle.serde_json.specs.Data.{Data, string, Members, no_members, member, put, members_depth}
+use Rattle.serde_json.specs.Data.{Data, string, Members, no_members, member, put, depth, members_depth}
+use Rattle.serde_json.specs.Read.{read, max_depth}
 use Rattle.serde_json.specs.Written.{has_float, members_have_float}
 use Rattle.sct_message.specs.declared.draft.Draft.{Draft}
 use Rattle.sct_message.specs.declared.draft.Draft.TheVariants.{CreditTransfer, StatusReport}
 use Rattle.sct_json.specs.Keys.{key_text}
-use Rattle.sct_json.specs.Writing.{Row, with_text, with_rows, with_elements, written_object, head_rows, original_rows, transfer_rows, report_rows, with_head, with_original}
+use Rattle.sct_json.specs.Form.{StandsFor}
+use Rattle.sct_json.specs.Writing.{Row, with_rows, with_elements, written_object, head_rows, original_rows, transfer_rows, report_rows, with_head, with_original}
 
 -- no member is a float, and none has members of its own
 abbrev pub IsFlat : Members → Type 0
@@ -44,3 +48,17 @@ flat_written (StatusReport m) =
 
 pub no_float_written : (m : Draft) → has_float (written_object m) ≡ false
 no_float_written m = (flat_written m).0
+
+if_ok_both : {T E : Type 0} (r : Result T E) (P Q : T → Type 0) → IfOk r P → IfOk r Q → IfOk r (λ x. P x × Q x)
+if_ok_both (Ok x) P Q p q = (p, q)
+if_ok_both (Err e) P Q p q = tt
+
+stands : (m : Draft) (d : Data) (bytes : List ℕ) → d ≡ written_object m → IsUtf8 bytes × (depth d ≤ max_depth → read bytes ≡ Some d) → StandsFor bytes (written_object m)
+stands m d bytes same h =
+    let shallow : depth d ≤ max_depth = rw same (omega (arith, (flat_written m).1)) in
+    record { text = h.0; value = h.1 shallow ∙ ap Some same }
+
+-- the text of a value that is a written object stands for that object
+pub stands_written : (m : Draft) (d : Data) (r : Result (Vec ℕ Global) AllocError) → d ≡ written_object m → IfOk r (λ text. IsUtf8 text.items)
+    → IfOk r (λ text. depth d ≤ max_depth → read text.items ≡ Some d) → IfOk r (λ text. StandsFor text.items (written_object m))
+stands_written m d r same utf8 back = IfOk-weaker r _ _ (λ text h. stands m d text.items same h) (if_ok_both r _ _ utf8 back)

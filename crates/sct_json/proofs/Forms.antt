@@ -1,9 +1,9 @@
 -- What is read is a form of its message, and a form is read as its message.
 use Rattle.std.proofs.Common.{◌≡◌, ◌≢◌, ◌∙◌, ap, sym, subst, refl, ℕ, Bool, true, false, cond, List, [], ◌∷◌, take, Option, Some, None, Result, Ok, Err}
-use Rattle.std.specs.Prelude.{◌↔◌, ◌&&◌, find, not, ok_or, option_and_then, IsTrue, ⊤}
+use Rattle.std.specs.Prelude.{◌↔◌, ◌&&◌, find, not, ok_or, option_and_then, ⊤}
 use Rattle.std.specs.List.{list_all}
 use Rattle.std.specs.Cmp.Lexicographic.{bytes_decides}
-use Rattle.std.proofs.lemmas.Bool.{false≢true, and_parts, and_from}
+use Rattle.std.proofs.lemmas.Bool.{false≢true, and_parts}
 use Rattle.serde_json.specs.Data.{Data, null, boolean, number, string, array, object, Members}
 use Rattle.serde_json.specs.Find.{get, as_str, as_object}
 use Rattle.sct_element.specs.declared.faults.ElementFault.{ElementFault}
@@ -24,7 +24,7 @@ use Rattle.sct_message.specs.declared.draft.Draft.{Draft}
 use Rattle.sct_message.specs.declared.draft.Draft.TheVariants.{CreditTransfer, StatusReport}
 use Rattle.sct_message.specs.declared.rules.RuleFault.{RuleFault}
 use Rattle.sct_message.specs.Drafts.{kind_of, head_of}
-use Rattle.sct_message.specs.Kinds.{kind_text, is_text, is_name_of, is_version, kind_named}
+use Rattle.sct_message.specs.Kinds.{kind_text, is_name_of, kind_named}
 use Rattle.sct_message.specs.Rules.{FollowsRules, first_broken_rule}
 use Rattle.sct_json.specs.declared.keys.Key.{Key}
 use Rattle.sct_json.specs.declared.keys.Key.TheVariants as key
@@ -342,15 +342,26 @@ read_is_form rules d m e0 =
       rules = (rules n).0 last.0;
     })))))
 
-form_is_read : RulesAreKnown → (d : Data) (m : Draft) → IsFormOf d m → object_in d ≡ Ok m
+kept_rule : (b : Bool) (broken : RuleFault) (later : Option RuleFault) → cond (not b) (Some broken) later ≡ None → b ≡ true
+kept_rule true broken later e = refl
+kept_rule false broken later e = cc
+
+names_its_kind : (m : Draft) → first_broken_rule m ≡ None → is_name_of (kind_of m) (head_of m).message_name ≡ true
+unfolding first_broken_rule
+names_its_kind m e = kept_rule _ _ _ e
+
+-- an object that holds the elements of a message, and has no other keys, is read as the message
+pub held_is_read : (d : Data) (m : Draft) → HasKeysOf (kind_of m) d → HoldsElements d m → first_broken_rule m ≡ None → object_in d ≡ Ok m
 unfolding object_in
-form_is_read rules d m h =
-    let keys : HasKeysOf (kind_of m) d = h.keys in
+held_is_read d m keys elements rules =
     bind_from _ _ keys.0 _ (ap (λ (o : Option Members). ok_or o fault.NotObject) (ap as_object keys.1))
-    (bind_from _ _ (kind_of m) _ (ap (λ (o : Option Kind). ok_or o fault.UnknownKind) (kind_held d m (holds_its_head d m h.elements) h.rules.0))
-    (bind_from _ _ m _ (holds_draft d m h.elements)
+    (bind_from _ _ (kind_of m) _ (ap (λ (o : Option Kind). ok_or o fault.UnknownKind) (kind_held d m (holds_its_head d m elements) (names_its_kind m rules)))
+    (bind_from _ _ m _ (holds_draft d m elements)
     (bind_from _ _ tt _ (ap passes_unless (none_fails (is_key_of (kind_of m)) (names_of keys.0) keys.2))
-    (ap (λ (o : Option RuleFault). follows_unless o m) ((rules m).1 h.rules)))))
+    (ap (λ (o : Option RuleFault). follows_unless o m) rules))))
+
+form_is_read : RulesAreKnown → (d : Data) (m : Draft) → IsFormOf d m → object_in d ≡ Ok m
+form_is_read rules d m h = held_is_read d m h.keys h.elements ((rules m).1 h.rules)
 
 pub forms_read : RulesAreKnown → (d : Data) (m : Draft) → (object_in d ≡ Ok m) ↔ IsFormOf d m
 forms_read rules d m = (read_is_form rules d m, form_is_read rules d m)

@@ -2,3 +2,4 @@ pub mod Bytes
 pub mod Extra
 pub mod Flat
 pub mod Forms
+pub mod Written

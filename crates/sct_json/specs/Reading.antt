@@ -1,5 +1,5 @@
 -- What an object is read as: the message of which it is a form, or the first reason why it is a form of none.
-use Rattle.std.specs.Prelude.{◌≡◌, ℕ, List, [], ◌∷◌, Bool, not, if◌then◌else◌, Option, Some, None, option_map, option_and_then, find, Result, Ok, Err, ok_or, ⊤}
+use Rattle.std.specs.Prelude.{◌≡◌, ℕ, List, [], ◌∷◌, not, if◌then◌else◌, Option, Some, None, option_and_then, find, Result, Ok, Err, ok_or, ⊤}
 use Rattle.std.specs.Str.{is_utf8}
 use Rattle.serde_json.specs.Data.{Data, Members, no_members, member}
 use Rattle.serde_json.specs.Read.{read}

@@ -1,8 +1,12 @@
 -- The written form of a message: one line with no spaces, its keys in the order of their bytes, absent elements left out.
-use Rattle.std.specs.Prelude.{ℕ, List, [], ◌∷◌, ◌++◌, Option, Some, None, option_map}
+use Rattle.std.specs.Prelude.{◌≡◌, ℕ, List, [], ◌∷◌, Option, Some, None}
 use Rattle.serde_json.specs.Data.{Data, string, object, Members, no_members, put}
 use Rattle.serde_json.specs.Written.{compact_text}
-use Rattle.sct_element.specs.Money.{amount_text}
+use Rattle.sct_element.specs.Account.{written_iban}
+use Rattle.sct_element.specs.Bank.{written_bic}
+use Rattle.sct_element.specs.Date.{written_day}
+use Rattle.sct_element.specs.Identification.{written_identification, written_stamp, written_code}
+use Rattle.sct_element.specs.Money.{amount_text, cents_of}
 use Rattle.sct_message.specs.declared.draft.Head.{Head}
 use Rattle.sct_message.specs.declared.draft.Original.{Original}
 use Rattle.sct_message.specs.declared.draft.CreditTransfer.{CreditTransfer as Transfer}
@@ -12,6 +16,7 @@ use Rattle.sct_message.specs.declared.draft.Draft.TheVariants.{CreditTransfer, S
 use Rattle.sct_json.specs.declared.keys.Key.{Key}
 use Rattle.sct_json.specs.declared.keys.Key.TheVariants as key
 use Rattle.sct_json.specs.Keys.{key_text}
+use Rattle.sct_json.specs.Reading.{name_of, remittance_of}
 
 -- a key and the written form of its element; none where it is absent
 abbrev pub Row : Type 0
@@ -65,3 +70,56 @@ written_object m = object (with_elements m no_members)
 
 unfoldable pub written_text : Draft → List ℕ
 written_text m = compact_text (written_object m)
+
+-- ---- The written form of each element is read as the element.
+
+abbrev pub ReadsBack : {X : Type 0} → (List ℕ → Option X) → (X → List ℕ) → X → Type 0
+ReadsBack reads written x = reads (written x) ≡ Some x
+
+abbrev pub MayReadBack : {X : Type 0} → (List ℕ → Option X) → (X → List ℕ) → Option X → Type 0
+MayReadBack reads written None = Unit {0}
+MayReadBack reads written (Some x) = ReadsBack reads written x
+
+pub record HeadReadsBack (m : Head) : Type 0 where
+  pub message_name : ReadsBack written_identification (λ s. s) m.message_name
+  pub message_id : ReadsBack written_identification (λ s. s) m.message_id
+  pub creation_time : ReadsBack written_stamp (λ s. s) m.creation_time
+  pub instructing_agent : ReadsBack written_bic (λ s. s) m.instructing_agent
+  pub instructed_agent : MayReadBack written_bic (λ s. s) m.instructed_agent
+
+pub record OriginalReadsBack (m : Original) : Type 0 where
+  pub message_id : ReadsBack written_identification (λ s. s) m.message_id
+  pub message_name : ReadsBack written_identification (λ s. s) m.message_name
+  pub end_to_end_id : MayReadBack written_identification (λ s. s) m.end_to_end_id
+  pub transaction_id : ReadsBack written_identification (λ s. s) m.transaction_id
+
+pub record TransferReadsBack (m : Transfer) : Type 0 where
+  pub head : HeadReadsBack m.head
+  pub settlement_date : ReadsBack written_day (λ s. s) m.settlement_date
+  pub service_level : ReadsBack written_code (λ s. s) m.service_level
+  pub local_instrument : ReadsBack written_code (λ s. s) m.local_instrument
+  pub instruction_id : MayReadBack written_identification (λ s. s) m.instruction_id
+  pub end_to_end_id : ReadsBack written_identification (λ s. s) m.end_to_end_id
+  pub transaction_id : ReadsBack written_identification (λ s. s) m.transaction_id
+  pub settlement_amount : ReadsBack cents_of amount_text m.settlement_amount
+  pub currency : ReadsBack written_code (λ s. s) m.currency
+  pub charge_bearer : ReadsBack written_code (λ s. s) m.charge_bearer
+  pub acceptance_time : MayReadBack written_stamp (λ s. s) m.acceptance_time
+  pub debtor : ReadsBack name_of (λ s. s) m.debtor
+  pub debtor_account : ReadsBack written_iban (λ s. s) m.debtor_account
+  pub debtor_agent : ReadsBack written_bic (λ s. s) m.debtor_agent
+  pub creditor_agent : ReadsBack written_bic (λ s. s) m.creditor_agent
+  pub creditor : ReadsBack name_of (λ s. s) m.creditor
+  pub creditor_account : ReadsBack written_iban (λ s. s) m.creditor_account
+  pub remittance : MayReadBack remittance_of (λ s. s) m.remittance
+
+pub record ReportReadsBack (m : Report) : Type 0 where
+  pub head : HeadReadsBack m.head
+  pub original : OriginalReadsBack m.original
+  pub status : ReadsBack written_code (λ s. s) m.status
+  pub reason : MayReadBack written_code (λ s. s) m.reason
+  pub debtor_agent : ReadsBack written_bic (λ s. s) m.debtor_agent
+
+abbrev pub ElementsReadBack : Draft → Type 0
+ElementsReadBack (CreditTransfer m) = TransferReadsBack m
+ElementsReadBack (StatusReport m) = ReportReadsBack m

@@ -4,13 +4,13 @@ ghost use Rattle.sct_message.specs.declared.kinds.Kind.TheVariants.{Pacs008};
 ghost use Rattle.sct_json.specs.Keys.{is_key_of};
 ghost use Rattle.serde_json.specs.View.{view, members_view};
 ghost use Rattle.sct_json.specs.Reading.{Gives, credit_transfer_in};
-ghost use Rattle.sct_json.specs.Writing.{with_transfer};
+ghost use Rattle.sct_json.specs.Writing.{with_transfer, TransferReadsBack};
 
 use crate::faults::JsonFault;
+use crate::head;
 use crate::keys::{Key, is_among};
 use crate::members::{optional, put, put_optional, required};
 use crate::tables::{has_key, own_key, put_member, put_table, read_member, read_table};
-use crate::head;
 use sct_message::CreditTransfer;
 use serde_json::{Map, Value};
 use std::alloc::{AllocError, Global};
@@ -56,8 +56,13 @@ pub(crate) fn is_key(name: &str) -> bool
 }
 
 /// Puts the elements into an object, each at its key.
-pub(crate) fn put_all(alloc: Global, transfer: &CreditTransfer, object: &mut Map<String, Value>) -> Result<(), AllocError>
-    ensures { OnOk result (members_view object.new.entries ≡ with_transfer transfer.now (members_view object.old.entries)) }
+pub(crate) fn put_all(
+    alloc: Global,
+    transfer: &CreditTransfer,
+    object: &mut Map<String, Value>,
+) -> Result<(), AllocError>
+    ensures put { OnOk result (members_view object.new.entries ≡ with_transfer transfer.now (members_view object.old.entries)) }
+    ensures reads_back { OnOk result (TransferReadsBack transfer.now) }
 {
     credit_transfer_table!(put_table! { alloc, transfer, object })
 }

@@ -1,5 +1,5 @@
 //! The elements that a key's text may be read as.
-ghost use Rattle.std.specs.Prelude.{◌≡◌, ℕ, List, Option, IfOk};
+ghost use Rattle.std.specs.Prelude.{◌≡◌, ℕ, List, Option, Some, IfOk};
 ghost use Rattle.serde_json.specs.Data.{string};
 ghost use Rattle.serde_json.specs.View.{view};
 ghost use Rattle.sct_element.specs.Text.{where_read};
@@ -26,7 +26,8 @@ pub(crate) trait Element: Drop {
 
     /// The written form as a JSON text.
     fn to_value(&self, alloc: Global) -> Result<Value, AllocError>
-        ensures { IfOk result (λ value. view value ≡ string (written self.now)) };
+        ensures text { IfOk result (λ value. view value ≡ string (written self.now)) }
+        ensures reads_back { reads (written self.now) ≡ Some self.now };
 }
 
 impl<R: Rule<N>, const N: usize> Element for Checked<R, N> {

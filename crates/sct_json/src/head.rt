@@ -3,7 +3,7 @@ ghost use Rattle.std.specs.Prelude.{◌≡◌, OnOk};
 ghost use Rattle.sct_json.specs.Keys.{head_keys, is_among};
 ghost use Rattle.serde_json.specs.View.{view, members_view};
 ghost use Rattle.sct_json.specs.Reading.{Gives, head_in};
-ghost use Rattle.sct_json.specs.Writing.{with_head};
+ghost use Rattle.sct_json.specs.Writing.{with_head, HeadReadsBack};
 
 use crate::faults::JsonFault;
 use crate::keys::{Key, is_among};
@@ -41,8 +41,13 @@ pub(crate) fn is_key(name: &str) -> bool
 }
 
 /// Puts the elements into an object, each at its key.
-pub(crate) fn put_all(alloc: Global, head: &Head, object: &mut Map<String, Value>) -> Result<(), AllocError>
-    ensures { OnOk result (members_view object.new.entries ≡ with_head head.now (members_view object.old.entries)) }
+pub(crate) fn put_all(
+    alloc: Global,
+    head: &Head,
+    object: &mut Map<String, Value>,
+) -> Result<(), AllocError>
+    ensures put { OnOk result (members_view object.new.entries ≡ with_head head.now (members_view object.old.entries)) }
+    ensures reads_back { OnOk result (HeadReadsBack head.now) }
 {
     head_table!(put_table! { alloc, head, object })
 }

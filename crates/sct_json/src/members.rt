@@ -2,7 +2,7 @@
 ghost use Rattle.std.specs.Prelude.{◌≡◌, Some, OnOk, option_map};
 ghost use Rattle.serde_json.specs.View.{view, members_view};
 ghost use Rattle.sct_json.specs.Reading.{Gives, required, optional, value_as};
-ghost use Rattle.sct_json.specs.Writing.{with_text};
+ghost use Rattle.sct_json.specs.Writing.{with_text, ReadsBack, MayReadBack};
 
 use crate::elements::Element;
 use crate::faults::JsonFault;
@@ -39,7 +39,11 @@ pub(crate) fn required<E: Element>(alloc: Global, key: Key, object: &Value) -> R
 
 /// The element at a key that may be absent.
 #[tactic(auto, unfolding(crate::specs::Reading::optional))]
-pub(crate) fn optional<E: Element>(alloc: Global, key: Key, object: &Value) -> Result<Option<E>, JsonFault>
+pub(crate) fn optional<E: Element>(
+    alloc: Global,
+    key: Key,
+    object: &Value,
+) -> Result<Option<E>, JsonFault>
     ensures { Gives result (optional E.reads E.refusal key (view object.now)) }
 {
     match object.get(key.text()) {
@@ -52,16 +56,28 @@ pub(crate) fn optional<E: Element>(alloc: Global, key: Key, object: &Value) -> R
 }
 
 /// Puts an element at its key.
-pub(crate) fn put<E: Element>(alloc: Global, key: Key, element: &E, object: &mut Map<String, Value>) -> Result<(), AllocError>
-    ensures { OnOk result (members_view object.new.entries ≡ with_text key (Some (E.written element.now)) (members_view object.old.entries)) }
+pub(crate) fn put<E: Element>(
+    alloc: Global,
+    key: Key,
+    element: &E,
+    object: &mut Map<String, Value>,
+) -> Result<(), AllocError>
+    ensures put { OnOk result (members_view object.new.entries ≡ with_text key (Some (E.written element.now)) (members_view object.old.entries)) }
+    ensures reads_back { OnOk result (ReadsBack E.reads E.written element.now) }
 {
     let value = element.to_value(alloc)?;
     serde_json::put(object, alloc, key.text(), value)
 }
 
 /// Puts an element at its key, or nothing where it is absent.
-pub(crate) fn put_optional<E: Element>(alloc: Global, key: Key, element: &Option<E>, object: &mut Map<String, Value>) -> Result<(), AllocError>
-    ensures { OnOk result (members_view object.new.entries ≡ with_text key (option_map E.written element.now) (members_view object.old.entries)) }
+pub(crate) fn put_optional<E: Element>(
+    alloc: Global,
+    key: Key,
+    element: &Option<E>,
+    object: &mut Map<String, Value>,
+) -> Result<(), AllocError>
+    ensures put { OnOk result (members_view object.new.entries ≡ with_text key (option_map E.written element.now) (members_view object.old.entries)) }
+    ensures reads_back { OnOk result (MayReadBack E.reads E.written element.now) }
 {
     match element {
         Some(element) => put(alloc, key, element, object),

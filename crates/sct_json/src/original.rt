@@ -3,7 +3,7 @@ ghost use Rattle.std.specs.Prelude.{◌≡◌, OnOk};
 ghost use Rattle.sct_json.specs.Keys.{original_keys, is_among};
 ghost use Rattle.serde_json.specs.View.{view, members_view};
 ghost use Rattle.sct_json.specs.Reading.{Gives, original_in};
-ghost use Rattle.sct_json.specs.Writing.{with_original};
+ghost use Rattle.sct_json.specs.Writing.{with_original, OriginalReadsBack};
 
 use crate::faults::JsonFault;
 use crate::keys::{Key, is_among};
@@ -40,8 +40,13 @@ pub(crate) fn is_key(name: &str) -> bool
 }
 
 /// Puts the elements into an object, each at its key.
-pub(crate) fn put_all(alloc: Global, original: &Original, object: &mut Map<String, Value>) -> Result<(), AllocError>
-    ensures { OnOk result (members_view object.new.entries ≡ with_original original.now (members_view object.old.entries)) }
+pub(crate) fn put_all(
+    alloc: Global,
+    original: &Original,
+    object: &mut Map<String, Value>,
+) -> Result<(), AllocError>
+    ensures put { OnOk result (members_view object.new.entries ≡ with_original original.now (members_view object.old.entries)) }
+    ensures reads_back { OnOk result (OriginalReadsBack original.now) }
 {
     original_table!(put_table! { alloc, original, object })
 }

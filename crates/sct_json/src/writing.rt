@@ -1,7 +1,9 @@
 //! From a message to its written form.
-ghost use Rattle.std.specs.Prelude.{◌≡◌, OnOk, IfOk, IfErr};
+ghost use Rattle.std.specs.Prelude.{◌≡◌, Ok, OnOk, IfOk, IfErr};
 ghost use Rattle.serde_json.specs.View.{view, members_view};
-ghost use Rattle.sct_json.specs.Writing.{with_elements, written_object, written_text};
+ghost use Rattle.sct_json.specs.Reading.{message_in};
+ghost use Rattle.sct_json.specs.Form.{StandsFor};
+ghost use Rattle.sct_json.specs.Writing.{with_elements, written_object, written_text, ElementsReadBack};
 
 use crate::faults::JsonFault;
 use crate::{credit_transfer, status_report};
@@ -10,8 +12,13 @@ use serde_json::{Map, Value};
 use std::alloc::{AllocError, Global};
 
 /// Puts the elements of a message into an object, each at its key.
-fn put_elements(alloc: Global, draft: &Draft, object: &mut Map<String, Value>) -> Result<(), AllocError>
-    ensures { OnOk result (members_view object.new.entries ≡ with_elements draft.now (members_view object.old.entries)) }
+fn put_elements(
+    alloc: Global,
+    draft: &Draft,
+    object: &mut Map<String, Value>,
+) -> Result<(), AllocError>
+    ensures put { OnOk result (members_view object.new.entries ≡ with_elements draft.now (members_view object.old.entries)) }
+    ensures reads_back { OnOk result (ElementsReadBack draft.now) }
 {
     match draft {
         Draft::CreditTransfer(transfer) => credit_transfer::put_all(alloc, transfer, object),
@@ -21,7 +28,8 @@ fn put_elements(alloc: Global, draft: &Draft, object: &mut Map<String, Value>) -
 
 /// The object of a message.
 fn object_of(alloc: Global, draft: &Draft) -> Result<Value, AllocError>
-    ensures { IfOk result (λ value. view value ≡ written_object draft.now) }
+    ensures object { IfOk result (λ value. view value ≡ written_object draft.now) }
+    ensures reads_back { OnOk result (ElementsReadBack draft.now) }
 {
     let mut members = Map::new(alloc);
     put_elements(alloc, draft, &mut members)?;
@@ -31,16 +39,19 @@ fn object_of(alloc: Global, draft: &Draft) -> Result<Value, AllocError>
 /// The text of that object.
 #[tactic(auto, using(crate::proofs::Flat::no_float_written), unfolding(crate::specs::Writing::written_text))]
 fn text_of(alloc: Global, draft: &Draft) -> Result<Vec<u8>, AllocError>
-    ensures { IfOk result (λ text. text.items ≡ written_text draft.now) }
+    ensures text { IfOk result (λ text. text.items ≡ written_text draft.now) }
+    ensures stands { IfOk result (λ text. StandsFor text.items (written_object draft.now)) }
+    ensures reads_back { OnOk result (ElementsReadBack draft.now) }
 {
     let object = object_of(alloc, draft)?;
     object.to_vec(alloc)
 }
 
 /// Writes the one written form of a message: one line with no spaces, its keys in the order of their bytes, each element
-/// in its written form, absent elements left out. It fails for want of memory alone.
+/// in its written form, absent elements left out. The text reads back as the message. Only want of memory is a fault.
 pub fn write_message(alloc: Global, message: &Message) -> Result<Vec<u8>, JsonFault>
     ensures written { IfOk result (λ text. text.items ≡ written_text message.now) }
+    ensures reads_back { IfOk result (λ text. message_in text.items ≡ Ok message.now) }
     ensures memory { IfErr result (λ fault. fault ≡ JsonFault.Memory) }
 {
     match text_of(alloc, message.draft()) {

@@ -9,9 +9,9 @@ use Rattle.sct_sites.proofs.References.{any_behind, any_pair_behind, count_behin
 
 pub findings_behind : (clean : List (Bor Draft)) (asides : List Identity)
     → findings_when asides (nat_lt 1 (count_by (λ (m : Bor Draft). is_instruction m.now) clean))
-        (list_any (λ (m : Bor Draft). is_acceptance m.now) clean && list_any (λ (m : Bor Draft). is_rejection m.now) clean)
-        (list_any (λ (m : Bor Draft). list_any (λ (n : Bor Draft). reject_differently m.now n.now) clean) clean)
-      ≡ findings_of (map (λ (m : Bor Draft). m.now) clean) asides
+    (list_any (λ (m : Bor Draft). is_acceptance m.now) clean && list_any (λ (m : Bor Draft). is_rejection m.now) clean)
+    (list_any (λ (m : Bor Draft). list_any (λ (n : Bor Draft). reject_differently m.now n.now) clean) clean)
+    ≡ findings_of (map (λ (m : Bor Draft). m.now) clean) asides
 unfolding findings_of
 findings_behind clean asides = λ i. findings_when asides
     (nat_lt 1 (count_behind (λ (m : Bor Draft). m.now) is_instruction clean i))

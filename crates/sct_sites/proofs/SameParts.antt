@@ -18,7 +18,7 @@ and_assoc false b c = refl
 
 pub identity_by_parts : (a b : Draft)
     → (pointwise nat_eq (head_of a).instructing_agent (head_of b).instructing_agent && pointwise nat_eq (kind_text (kind_of a)) (kind_text (kind_of b)) && pointwise nat_eq (head_of a).message_id (head_of b).message_id)
-      ≡ same_identity (identity_of a) (identity_of b)
+    ≡ same_identity (identity_of a) (identity_of b)
 identity_by_parts a b =
     and_assoc (pointwise nat_eq (identity_of a).sender (identity_of b).sender) (pointwise nat_eq (kind_text (kind_of a)) (kind_text (kind_of b))) (pointwise nat_eq (identity_of a).msg_id (identity_of b).msg_id)
     ∙ identity_ties _ (identity_of a) (identity_of b) (texts_ties (kind_text (kind_of a)) (kind_text (kind_of b)) ∙ ap (λ (o : Ordering). is_eq o) (sym (kinds_by_text (kind_of a) (kind_of b))))

@@ -4,7 +4,6 @@ ghost use Rattle.std.specs.List.{list_any};
 ghost use Rattle.std.specs.Option.{option_copied};
 ghost use Rattle.sct_sites.specs.Cases.{is_instruction, is_acceptance, is_rejection, reason_of, reasons_differ, reject_differently, has_two_instructions, findings_of, transfer_status_of, first_status, findings_when, where_found};
 ghost use Rattle.sct_sites.specs.declared.cases.Finding.TheVariants as finding;
-
 ghost use Rattle.sct_message.specs.declared.draft.Draft.{Draft as DraftOf};
 ghost use Rattle.sct_message.specs.declared.keys.Identity.{Identity as IdentityOf};
 
@@ -107,9 +106,7 @@ fn rejects_differently_from_some(draft: &Draft, clean: &[&Message]) -> bool
 fn has_differing_reasons(clean: &[&Message]) -> bool
     ensures { result ≡ list_any (λ m. list_any (λ n. reject_differently m.now n.now) clean.now) clean.now }
 {
-    clean
-        .iter()
-        .any(|message| rejects_differently_from_some(message.draft(), clean))
+    clean.iter().any(|message| rejects_differently_from_some(message.draft(), clean))
 }
 
 fn has_instruction(clean: &[&Message]) -> bool
@@ -185,13 +182,23 @@ fn findings_when(
 }
 
 /// All that contradicts itself in the clean messages of a transfer and its asides.
-pub fn findings(alloc: Global, clean: &[&Message], asides: &[Identity]) -> Result<Vec<Finding>, AllocError>
+pub fn findings(
+    alloc: Global,
+    clean: &[&Message],
+    asides: &[Identity],
+) -> Result<Vec<Finding>, AllocError>
     ensures { IfOk result (λ found. found.items ≡ findings_of (map (λ m. m.now) clean.now) asides.now) }
 {
     let two_instructions = has_two_instructions(clean);
     let both_confirmed = has_both_confirmations(clean);
     let reasons_differ = has_differing_reasons(clean);
-    let found = findings_when(alloc, asides, two_instructions, both_confirmed, reasons_differ)?;
+    let found = findings_when(
+        alloc,
+        asides,
+        two_instructions,
+        both_confirmed,
+        reasons_differ,
+    )?;
     Ok(found)
 }
 
@@ -220,7 +227,13 @@ fn rejection_told(clean: &[&Message]) -> Option<Code4>
     }
 }
 
-fn first_status(found: bool, unknown: bool, instructed: bool, rejection: Option<Code4>, accepted: bool) -> Status
+fn first_status(
+    found: bool,
+    unknown: bool,
+    instructed: bool,
+    rejection: Option<Code4>,
+    accepted: bool,
+) -> Status
     ensures { result ≡ first_status found unknown instructed rejection accepted }
 {
     if found {
@@ -255,5 +268,4 @@ pub fn transfer_status(found: &[Finding], clean: &[&Message]) -> Status
 /// A transfer is contradicted exactly where something contradicts itself in its messages.
 fn contradicted_where_found()
     ensures { (clean : List DraftOf) → (asides : List IdentityOf) → (transfer_status_of clean asides ≡ Status.Contradicted) ↔ (findings_of clean asides ≢ []) }
-{
-}
+{}

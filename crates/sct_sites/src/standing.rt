@@ -8,7 +8,6 @@ ghost use Rattle.sct_message.specs.Keys.{identity_of, transfer_of};
 ghost use Rattle.sct_message.specs.Order.{message_order, identity_order, transfer_order, same_identity, same_message};
 ghost use Rattle.sct_sites.specs.Cases.{is_contradicted, clean_messages, contradicted_messages, is_about, transfers_of};
 ghost use Rattle.sct_sites.specs.Status.{status_words, finding_words, key_words, line_on, finding_lines, lines_by, lines_among, text_of_held, status_text_of, HaveSameMembers};
-
 ghost use Rattle.sct_message.specs.declared.draft.Draft.{Draft as DraftOf};
 
 use crate::cases::{Finding, Status, findings, transfer_status};
@@ -81,7 +80,11 @@ fn contradicted<'a>(alloc: Global, messages: &'a [Message]) -> Result<Vec<&'a Me
 }
 
 /// Those of some messages that are about a transfer.
-fn about<'a>(alloc: Global, messages: &[&'a Message], transfer: &TransferKey) -> Result<Vec<&'a Message>, AllocError>
+fn about<'a>(
+    alloc: Global,
+    messages: &[&'a Message],
+    transfer: &TransferKey,
+) -> Result<Vec<&'a Message>, AllocError>
     ensures { IfOk result (λ found. map (λ m. m.now) found.items ≡ filter (is_about transfer.now) (map (λ m. m.now) messages.now)) }
 {
     let mut found = Vec::new(alloc);
@@ -188,7 +191,11 @@ fn push_key(text: &mut String, letter: &str, transfer: &TransferKey) -> Result<(
 }
 
 #[tactic(auto, unfolding(crate::specs::Status::line_on))]
-fn push_status_line(text: &mut String, transfer: &TransferKey, status: &Status) -> Result<(), AllocError>
+fn push_status_line(
+    text: &mut String,
+    transfer: &TransferKey,
+    status: &Status,
+) -> Result<(), AllocError>
     ensures { OnOk result (string_bytes text.new ≡ string_bytes text.old ++ line_on (codes "T") transfer.now (status_words status.now)) }
 {
     push_key(text, "T", transfer)?;
@@ -198,7 +205,11 @@ fn push_status_line(text: &mut String, transfer: &TransferKey, status: &Status) 
 }
 
 #[tactic(auto, unfolding(crate::specs::Status::line_on))]
-fn push_finding_line(text: &mut String, transfer: &TransferKey, finding: &Finding) -> Result<(), AllocError>
+fn push_finding_line(
+    text: &mut String,
+    transfer: &TransferKey,
+    finding: &Finding,
+) -> Result<(), AllocError>
     ensures { OnOk result (string_bytes text.new ≡ string_bytes text.old ++ line_on (codes "F") transfer.now (finding_words finding.now)) }
 {
     push_key(text, "F", transfer)?;
@@ -207,7 +218,11 @@ fn push_finding_line(text: &mut String, transfer: &TransferKey, finding: &Findin
     Ok(())
 }
 
-fn push_findings(text: &mut String, transfer: &TransferKey, found: &[Finding]) -> Result<(), AllocError>
+fn push_findings(
+    text: &mut String,
+    transfer: &TransferKey,
+    found: &[Finding],
+) -> Result<(), AllocError>
     ensures { OnOk result (string_bytes text.new ≡ string_bytes text.old ++ finding_lines transfer.now found.now) }
 {
     for finding in found {
@@ -294,5 +309,4 @@ pub fn status_text(alloc: Global, mut messages: Vec<Message>) -> Result<Vec<u8>,
 /// The status text is one for each set of messages: neither their order nor their repeats change it.
 fn status_text_is_of_the_set()
     ensures { (some others : List DraftOf) → HaveSameMembers some others → status_text_of some ≡ status_text_of others }
-{
-}
+{}

@@ -23,7 +23,12 @@ fn given(input: &[u8]) -> Given<'_> {
 fn answers_over_slow_streams(rt: HostRuntime) {
     for case in CASES {
         let ran = run_engine(rt.alloc(), given(case.input));
-        assert_eq!(rt; ran.result, Ok(Done { refused: case.refused }));
+        assert_eq!(rt;
+            ran.result,
+            Ok(Done {
+                refused: case.refused
+            })
+        );
         assert_eq!(rt; ran.out.as_slice(), case.out);
         assert_eq!(rt; ran.err.as_slice(), case.err);
     }

@@ -1,4 +1,4 @@
-use Rattle.std.proofs.Common.{◌≡◌, ◌∙◌, sym, subst, Result}
+use Rattle.std.proofs.Common.{◌∙◌, sym, subst, Result}
 use Rattle.std.proofs.lemmas.Bool.{false≢true}
 use Rattle.serde_json.specs.View.{view}
 use Rattle.sct_message.specs.declared.draft.Draft.{Draft}

@@ -14,4 +14,4 @@ returns c =
     lines_put_among _ _ c.args.transfer.now _ _ _ _ c.in_ok-push_told.ensures
     (ap behind c.as_slice-2.ensures.value ∙ c.in_ok-clean.ensures)
     (c.as_slice-3.ensures.value ∙ c.in_ok-sort_identities.ensures ∙ ap (ascending identity_order)
-      (c.in_ok-asides.ensures ∙ ap (λ (ms : List Draft). map identity_of ms) (ap behind c.as_slice.ensures.value ∙ c.in_ok-contradicted.ensures)))
+    (c.in_ok-asides.ensures ∙ ap (λ (ms : List Draft). map identity_of ms) (ap behind c.as_slice.ensures.value ∙ c.in_ok-contradicted.ensures)))

@@ -11,4 +11,4 @@ pub returns : goal.returns
 returns c =
     dedup_is _ _ _ c.dedup.ensures.filtered
     ∙ ascending-sort_dedup_plain identity_total identities_same _ c.keys_are_ordered.ensures.identities_equal _ _ c.in_ok-sort.ensures.permutation
-      (subst (λ (R : Identity → Identity → Ordering). IsSorted R c.sort.new.self.items) (λ n i j. c.keys_are_ordered.ensures.identities i j n) c.in_ok-sort.ensures.sorted)
+    (subst (λ (R : Identity → Identity → Ordering). IsSorted R c.sort.new.self.items) (λ n i j. c.keys_are_ordered.ensures.identities i j n) c.in_ok-sort.ensures.sorted)

@@ -1,0 +1,180 @@
+-- What is written is a form of its message.
+use Rattle.std.proofs.Common.{◌≡◌, ◌∙◌, ap, sym, subst, refl, ℕ, Bool, true, false, cond, List, [], ◌∷◌, Option, Some, None, Ok, Ordering, Less, Equal, Greater, nat_cmp}
+use Rattle.std.specs.List.{list_all}
+use Rattle.std.specs.Ordering.{match_ordering}
+use Rattle.std.specs.Cmp.Lexicographic.{slice_cmp, bytes_decides}
+use Rattle.std.proofs.lemmas.Bool.{false≢true, and_parts, and_from}
+use Rattle.serde_json.specs.Data.{Data, string, Members, no_members, member, put}
+use Rattle.serde_json.specs.Find.{get, get_member}
+use Rattle.serde_json.proofs.Views.{get_member-put, get_member-put_other}
+use Rattle.sct_element.specs.Account.{written_iban}
+use Rattle.sct_element.specs.Bank.{written_bic}
+use Rattle.sct_element.specs.Date.{written_day}
+use Rattle.sct_element.specs.Identification.{written_identification, written_stamp, written_code}
+use Rattle.sct_element.specs.Money.{amount_text, cents_of}
+use Rattle.sct_message.specs.declared.kinds.Kind.TheVariants.{Pacs002, Pacs008}
+use Rattle.sct_message.specs.declared.draft.Head.{Head}
+use Rattle.sct_message.specs.declared.draft.Original.{Original}
+use Rattle.sct_message.specs.declared.draft.CreditTransfer.{CreditTransfer as Transfer}
+use Rattle.sct_message.specs.declared.draft.StatusReport.{StatusReport as Report}
+use Rattle.sct_message.specs.declared.draft.Draft.{Draft}
+use Rattle.sct_message.specs.declared.draft.Draft.TheVariants.{CreditTransfer, StatusReport}
+use Rattle.sct_message.specs.Drafts.{kind_of}
+use Rattle.sct_message.specs.Kinds.{is_text}
+use Rattle.sct_message.specs.Rules.{first_broken_rule}
+use Rattle.sct_json.specs.declared.keys.Key.{Key}
+use Rattle.sct_json.specs.declared.keys.Key.TheVariants as key
+use Rattle.sct_json.specs.Keys.{key_text, is_among, is_key_of}
+use Rattle.sct_json.specs.Reading.{name_of, remittance_of, names_of, object_in}
+use Rattle.sct_json.specs.Form.{Holds, MayHold, HoldsHead, HoldsOriginal, HoldsTransfer, HoldsReport, HoldsElements, HasKeysOf}
+use Rattle.sct_json.specs.Writing.{Row, with_text, with_rows, with_elements, written_object, head_rows, original_rows, transfer_rows, report_rows, with_head, with_original, ReadsBack, MayReadBack, HeadReadsBack, OriginalReadsBack, TransferReadsBack, ReportReadsBack, ElementsReadBack}
+use Rattle.sct_json.proofs.Forms.{held_is_read}
+
+-- ---- what stands at a key once rows were put
+
+abbrev text_or : Option Data → Option (List ℕ) → Option Data
+text_or o None = o
+text_or o (Some s) = Some (string s)
+
+-- the last of the rows with the key counts
+abbrev found : List ℕ → List Row → Option Data → Option Data
+found k [] o = o
+found k (r ∷ rs) o = found k rs (cond (is_text k (key_text r.0)) (text_or o r.1) o)
+
+get_at : (b : Bool) (k : List ℕ) (q : Key) (t : Option (List ℕ)) (ms : Members) → is_text k (key_text q) ≡ b
+    → get_member k (with_text q t ms) ≡ cond b (text_or (get_member k ms) t) (get_member k ms)
+get_at true k q None ms e = refl
+get_at true k q (Some s) ms e =
+    let same : k ≡ key_text q = (bytes_decides k (key_text q)).0 e in
+    subst (λ (n : List ℕ). get_member n (put (key_text q) (string s) ms) ≡ Some (string s)) (sym same) (get_member-put (key_text q) (string s) ms)
+get_at false k q None ms e = refl
+get_at false k q (Some s) ms e = get_member-put_other k (key_text q) (string s) ms (λ same. false≢true (sym e ∙ (bytes_decides k (key_text q)).1 same))
+
+get_with : (k : List ℕ) (rs : List Row) (ms : Members) → get_member k (with_rows rs ms) ≡ found k rs (get_member k ms)
+get_with k [] ms = refl
+get_with k (r ∷ rs) ms = get_with k rs (with_text r.0 r.1 ms) ∙ ap (found k rs) (get_at (is_text k (key_text r.0)) k r.0 r.1 ms refl)
+
+holds_text : {X : Type 0} (reads : List ℕ → Option X) (written : X → List ℕ) (k : Key) (d : Data) (x : X) → ReadsBack reads written x → get (key_text k) d ≡ Some (string (written x)) → Holds reads k d x
+holds_text reads written k d x back at = (written x, at, back)
+
+may_hold_text : (reads : List ℕ → Option (List ℕ)) (k : Key) (d : Data) (x : Option (List ℕ)) → MayReadBack reads (λ s. s) x → get (key_text k) d ≡ text_or None x → MayHold reads k d x
+may_hold_text reads k d None back at = at
+may_hold_text reads k d (Some s) back at = (s, at, back)
+
+-- ---- the keys of what is written
+
+named_at : (o : Ordering) (p : List ℕ → Bool) (k l : List ℕ) (d e : Data) (ms : Members) → p k ≡ true → list_all p (l ∷ names_of ms) ≡ true → list_all p (names_of (put k d ms)) ≡ true
+    → list_all p (names_of (match_ordering o (member k d (member l e ms)) (member l d ms) (member l e (put k d ms)))) ≡ true
+named_at Less p k l d e ms here all later = and_from _ _ here all
+named_at Equal p k l d e ms here all later = all
+named_at Greater p k l d e ms here all later = and_from _ _ (and_parts _ _ all).0 later
+
+names_put : (p : List ℕ → Bool) (k : List ℕ) (d : Data) (ms : Members) → p k ≡ true → list_all p (names_of ms) ≡ true → list_all p (names_of (put k d ms)) ≡ true
+names_put p k d no_members here all = and_from _ _ here refl
+names_put p k d (member l e ms) here all = named_at (slice_cmp nat_cmp k l) p k l d e ms here all (names_put p k d ms here (and_parts _ _ all).1)
+
+abbrev are_rows_of : (List ℕ → Bool) → List Row → Bool
+are_rows_of p rs = list_all (λ r. p (key_text r.0)) rs
+
+names_with : (p : List ℕ → Bool) (rs : List Row) (ms : Members) → are_rows_of p rs ≡ true → list_all p (names_of ms) ≡ true → list_all p (names_of (with_rows rs ms)) ≡ true
+names_with p [] ms rows all = all
+names_with p ((k, None) ∷ rs) ms rows all = names_with p rs ms (and_parts _ _ rows).1 all
+names_with p ((k, Some s) ∷ rs) ms rows all = names_with p rs (put (key_text k) (string s) ms) (and_parts _ _ rows).1 (names_put p (key_text k) (string s) ms (and_parts _ _ rows).0 all)
+
+head_rows_in_transfer : (m : Head) → are_rows_of (is_key_of Pacs008) (head_rows m) ≡ true
+unfolding is_among
+head_rows_in_transfer m = refl
+
+transfer_rows_in_transfer : (m : Transfer) → are_rows_of (is_key_of Pacs008) (transfer_rows m) ≡ true
+unfolding is_among
+transfer_rows_in_transfer m = refl
+
+head_rows_in_report : (m : Head) → are_rows_of (is_key_of Pacs002) (head_rows m) ≡ true
+unfolding is_among
+head_rows_in_report m = refl
+
+original_rows_in_report : (m : Original) → are_rows_of (is_key_of Pacs002) (original_rows m) ≡ true
+unfolding is_among
+original_rows_in_report m = refl
+
+report_rows_in_report : (m : Report) → are_rows_of (is_key_of Pacs002) (report_rows m) ≡ true
+unfolding is_among
+report_rows_in_report m = refl
+
+keys_written : (m : Draft) → HasKeysOf (kind_of m) (written_object m)
+keys_written (CreditTransfer m) = (with_elements (CreditTransfer m) no_members, refl, names_with (is_key_of Pacs008) (transfer_rows m) (with_head m.head no_members) (transfer_rows_in_transfer m) (names_with (is_key_of Pacs008) (head_rows m.head) no_members (head_rows_in_transfer m.head) refl))
+keys_written (StatusReport m) = (with_elements (StatusReport m) no_members, refl, names_with (is_key_of Pacs002) (report_rows m) (with_original m.original (with_head m.head no_members)) (report_rows_in_report m) (names_with (is_key_of Pacs002) (original_rows m.original) (with_head m.head no_members) (original_rows_in_report m.original) (names_with (is_key_of Pacs002) (head_rows m.head) no_members (head_rows_in_report m.head) refl)))
+
+-- ---- the elements of what is written
+
+head_written : (d : Data) (m : Head) → HeadReadsBack m
+    → get (key_text key.MsgNmId) d ≡ Some (string m.message_name)
+    → get (key_text key.MsgId) d ≡ Some (string m.message_id)
+    → get (key_text key.CreDtTm) d ≡ Some (string m.creation_time)
+    → get (key_text key.InstgAgt) d ≡ Some (string m.instructing_agent)
+    → get (key_text key.InstdAgt) d ≡ text_or None m.instructed_agent
+    → HoldsHead d m
+head_written d m back at0 at1 at2 at3 at4 = record {
+  message_name = holds_text written_identification (λ s. s) key.MsgNmId d m.message_name back.message_name at0;
+  message_id = holds_text written_identification (λ s. s) key.MsgId d m.message_id back.message_id at1;
+  creation_time = holds_text written_stamp (λ s. s) key.CreDtTm d m.creation_time back.creation_time at2;
+  instructing_agent = holds_text written_bic (λ s. s) key.InstgAgt d m.instructing_agent back.instructing_agent at3;
+  instructed_agent = may_hold_text written_bic key.InstdAgt d m.instructed_agent back.instructed_agent at4;
+}
+
+original_written : (d : Data) (m : Original) → OriginalReadsBack m
+    → get (key_text key.OrgnlMsgId) d ≡ Some (string m.message_id)
+    → get (key_text key.OrgnlMsgNmId) d ≡ Some (string m.message_name)
+    → get (key_text key.OrgnlEndToEndId) d ≡ text_or None m.end_to_end_id
+    → get (key_text key.OrgnlTxId) d ≡ Some (string m.transaction_id)
+    → HoldsOriginal d m
+original_written d m back at0 at1 at2 at3 = record {
+  message_id = holds_text written_identification (λ s. s) key.OrgnlMsgId d m.message_id back.message_id at0;
+  message_name = holds_text written_identification (λ s. s) key.OrgnlMsgNmId d m.message_name back.message_name at1;
+  end_to_end_id = may_hold_text written_identification key.OrgnlEndToEndId d m.end_to_end_id back.end_to_end_id at2;
+  transaction_id = holds_text written_identification (λ s. s) key.OrgnlTxId d m.transaction_id back.transaction_id at3;
+}
+
+in_transfer : (m : Transfer) (k : Key) → get (key_text k) (written_object (CreditTransfer m)) ≡ found (key_text k) (transfer_rows m) (found (key_text k) (head_rows m.head) None)
+in_transfer m k = get_with (key_text k) (transfer_rows m) (with_head m.head no_members) ∙ ap (found (key_text k) (transfer_rows m)) (get_with (key_text k) (head_rows m.head) no_members)
+
+transfer_written : (m : Transfer) → TransferReadsBack m → HoldsTransfer (written_object (CreditTransfer m)) m
+transfer_written m back = let d : Data = written_object (CreditTransfer m) in record {
+  head = head_written d m.head back.head (in_transfer m key.MsgNmId) (in_transfer m key.MsgId) (in_transfer m key.CreDtTm) (in_transfer m key.InstgAgt) (in_transfer m key.InstdAgt);
+  settlement_date = holds_text written_day (λ s. s) key.IntrBkSttlmDt d m.settlement_date back.settlement_date (in_transfer m key.IntrBkSttlmDt);
+  service_level = holds_text written_code (λ s. s) key.SvcLvl d m.service_level back.service_level (in_transfer m key.SvcLvl);
+  local_instrument = holds_text written_code (λ s. s) key.LclInstrm d m.local_instrument back.local_instrument (in_transfer m key.LclInstrm);
+  instruction_id = may_hold_text written_identification key.InstrId d m.instruction_id back.instruction_id (in_transfer m key.InstrId);
+  end_to_end_id = holds_text written_identification (λ s. s) key.EndToEndId d m.end_to_end_id back.end_to_end_id (in_transfer m key.EndToEndId);
+  transaction_id = holds_text written_identification (λ s. s) key.TxId d m.transaction_id back.transaction_id (in_transfer m key.TxId);
+  settlement_amount = holds_text cents_of amount_text key.IntrBkSttlmAmt d m.settlement_amount back.settlement_amount (in_transfer m key.IntrBkSttlmAmt);
+  currency = holds_text written_code (λ s. s) key.Ccy d m.currency back.currency (in_transfer m key.Ccy);
+  charge_bearer = holds_text written_code (λ s. s) key.ChrgBr d m.charge_bearer back.charge_bearer (in_transfer m key.ChrgBr);
+  acceptance_time = may_hold_text written_stamp key.AccptncDtTm d m.acceptance_time back.acceptance_time (in_transfer m key.AccptncDtTm);
+  debtor = holds_text name_of (λ s. s) key.Dbtr d m.debtor back.debtor (in_transfer m key.Dbtr);
+  debtor_account = holds_text written_iban (λ s. s) key.DbtrAcct d m.debtor_account back.debtor_account (in_transfer m key.DbtrAcct);
+  debtor_agent = holds_text written_bic (λ s. s) key.DbtrAgt d m.debtor_agent back.debtor_agent (in_transfer m key.DbtrAgt);
+  creditor_agent = holds_text written_bic (λ s. s) key.CdtrAgt d m.creditor_agent back.creditor_agent (in_transfer m key.CdtrAgt);
+  creditor = holds_text name_of (λ s. s) key.Cdtr d m.creditor back.creditor (in_transfer m key.Cdtr);
+  creditor_account = holds_text written_iban (λ s. s) key.CdtrAcct d m.creditor_account back.creditor_account (in_transfer m key.CdtrAcct);
+  remittance = may_hold_text remittance_of key.Ustrd d m.remittance back.remittance (in_transfer m key.Ustrd);
+}
+
+in_report : (m : Report) (k : Key) → get (key_text k) (written_object (StatusReport m)) ≡ found (key_text k) (report_rows m) (found (key_text k) (original_rows m.original) (found (key_text k) (head_rows m.head) None))
+in_report m k = get_with (key_text k) (report_rows m) (with_original m.original (with_head m.head no_members)) ∙ ap (found (key_text k) (report_rows m)) (get_with (key_text k) (original_rows m.original) (with_head m.head no_members) ∙ ap (found (key_text k) (original_rows m.original)) (get_with (key_text k) (head_rows m.head) no_members))
+
+report_written : (m : Report) → ReportReadsBack m → HoldsReport (written_object (StatusReport m)) m
+report_written m back = let d : Data = written_object (StatusReport m) in record {
+  head = head_written d m.head back.head (in_report m key.MsgNmId) (in_report m key.MsgId) (in_report m key.CreDtTm) (in_report m key.InstgAgt) (in_report m key.InstdAgt);
+  original = original_written d m.original back.original (in_report m key.OrgnlMsgId) (in_report m key.OrgnlMsgNmId) (in_report m key.OrgnlEndToEndId) (in_report m key.OrgnlTxId);
+  status = holds_text written_code (λ s. s) key.TxSts d m.status back.status (in_report m key.TxSts);
+  reason = may_hold_text written_code key.Rsn d m.reason back.reason (in_report m key.Rsn);
+  debtor_agent = holds_text written_bic (λ s. s) key.DbtrAgt d m.debtor_agent back.debtor_agent (in_report m key.DbtrAgt);
+}
+
+elements_written : (m : Draft) → ElementsReadBack m → HoldsElements (written_object m) m
+elements_written (CreditTransfer m) back = transfer_written m back
+elements_written (StatusReport m) back = report_written m back
+
+pub written_is_read : (m : Draft) → ElementsReadBack m → first_broken_rule m ≡ None → object_in (written_object m) ≡ Ok m
+written_is_read m back rules = held_is_read (written_object m) m (keys_written m) (elements_written m back) rules
