@@ -21,7 +21,7 @@ fn given(input: &[u8]) -> Given<'_> {
 
 #[test]
 fn answers_over_slow_streams(rt: HostRuntime) {
-    for case in CASES {
+    for case in &CASES {
         let ran = run_engine(rt.alloc(), given(case.input));
         assert_eq!(rt;
             ran.result,

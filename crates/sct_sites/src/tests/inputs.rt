@@ -8,14 +8,14 @@ pub struct Case {
 }
 
 // A refused line before a message.
-pub const REFUSED_AND_TAKEN: Case = Case {
+pub static REFUSED_AND_TAKEN: Case = Case {
     input: b"foo\n{\"MsgNmId\":\"pacs.008\",\"MsgId\":\"M1\",\"CreDtTm\":\"2024-05-02T10:00:00Z\",\"InstgAgt\":\"BANKDEFF\",\"IntrBkSttlmDt\":\"2024-05-02\",\"SvcLvl\":\"SEPA\",\"LclInstrm\":\"INST\",\"EndToEndId\":\"E1\",\"TxId\":\"T1\",\"IntrBkSttlmAmt\":\"1.00\",\"Ccy\":\"EUR\",\"ChrgBr\":\"SLEV\",\"Dbtr\":\"Anna Weber\",\"DbtrAcct\":\"DE89370400440532013000\",\"DbtrAgt\":\"BANKDEFF\",\"CdtrAgt\":\"BANQFRPP\",\"Cdtr\":\"Bo Maes\",\"CdtrAcct\":\"BE68539007547034\"}\n",
     out: b"T|BANKDEFFXXX|T1|PENDING\n",
     err: b"line 1: 31\n",
     refused: 1,
 };
 
-pub const CASES: [Case; 17] = [
+pub static CASES: [Case; 17] = [
     // empty
     Case {
         input: b"",
