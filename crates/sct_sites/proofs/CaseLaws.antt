@@ -1,11 +1,10 @@
 -- A transfer is contradicted exactly where something was found.
-use Rattle.std.proofs.Common.{◌≡◌, refl, arith, sym, ap, ℕ, Bool, true, false, List, [], ◌∷◌, length, Option, Some, None}
+use Rattle.std.proofs.Common.{◌≡◌, refl, arith, ap, ℕ, Bool, true, false, List, [], ◌∷◌, length, Option, Some, None}
 use Rattle.std.specs.Prelude.{◌≢◌, ◌↔◌, ◌==◌, not}
 use Rattle.std.proofs.lemmas.Bool.{ne_eqb}
 use Rattle.sct_message.specs.declared.draft.Draft.{Draft}
 use Rattle.sct_message.specs.declared.keys.Identity.{Identity}
 use Rattle.sct_sites.specs.declared.cases.Finding.{Finding}
-use Rattle.sct_sites.specs.declared.cases.Status.{Status}
 use Rattle.sct_sites.specs.declared.cases.Status.TheVariants as status
 use Rattle.sct_sites.specs.Cases.{first_status, transfer_status_of, findings_of}
 

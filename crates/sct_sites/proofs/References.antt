@@ -1,5 +1,5 @@
 -- Tests of what references point to.
-use Rattle.std.proofs.Common.{◌≡◌, refl, ap, ◌∙◌, sym, ℕ, ◌+◌, suc, Bool, true, false, cond, List, [], ◌∷◌, map, filter, length, Option, Some, None}
+use Rattle.std.proofs.Common.{◌≡◌, refl, ap, ◌∙◌, ℕ, ◌+◌, suc, Bool, true, false, cond, List, [], ◌∷◌, map, filter, length, Option, Some}
 use Rattle.std.specs.Prelude.{◌||◌, find, fold, count_by, option_and_then}
 use Rattle.std.specs.List.{list_any}
 

@@ -12,7 +12,7 @@ use Rattle.sct_sites.specs.declared.cases.Finding.{Finding}
 use Rattle.sct_sites.specs.declared.cases.Finding.TheVariants as finding
 use Rattle.sct_sites.specs.declared.cases.Status.{Status}
 use Rattle.sct_sites.specs.declared.cases.Status.TheVariants as status
-use Rattle.sct_sites.specs.Cases.{clean_messages, contradicted_messages, is_about, transfers_of, findings_of, transfer_status_of}
+use Rattle.sct_sites.specs.Cases.{is_about, messages_on, asides_of, transfers_of, findings_of, transfer_status_of}
 
 abbrev pub status_words : Status → List ℕ
 status_words status.Contradicted = codes "CONTRADICTED"
@@ -48,13 +48,13 @@ lines_told transfer stands found = line_on (codes "T") transfer (status_words st
 abbrev pub lines_by : TransferKey → List Draft → List Identity → List ℕ
 lines_by transfer clean asides = lines_told transfer (transfer_status_of clean asides) (findings_of clean asides)
 
--- the same, among all clean messages and all contradicted ones
-unfoldable pub lines_among : List Draft → List Draft → TransferKey → List ℕ
+-- the same, from all clean messages of a set and all contradicted ones
+abbrev pub lines_among : List Draft → List Draft → TransferKey → List ℕ
 lines_among clean contradicted transfer = lines_by transfer (filter (is_about transfer) clean) (ascending identity_order (map identity_of (filter (is_about transfer) contradicted)))
 
 -- the lines on a transfer of which the set has a message
 abbrev pub lines_on : List Draft → TransferKey → List ℕ
-lines_on messages transfer = lines_among (clean_messages messages) (contradicted_messages messages) transfer
+lines_on messages transfer = lines_by transfer (messages_on transfer messages) (asides_of transfer messages)
 
 -- the lines on each transfer of which a message is held, ascending
 abbrev pub text_of_held : List Draft → List ℕ

@@ -1,6 +1,5 @@
 -- Each test of the references is the same test of the messages.
-use Rattle.std.proofs.Common.{◌≡◌, ◌∙◌, Bor, refl}
-use Rattle.sct_message.specs.declared.draft.Draft.{Draft}
+use Rattle.std.proofs.Common.{◌∙◌}
 use Rattle.sct_sites.specs.Cases.{findings_when}
 use Rattle.sct_sites.proofs.CaseReferences.{findings_behind}
 use Rattle.sct_sites.proofs.cases.findings.Goals as goal

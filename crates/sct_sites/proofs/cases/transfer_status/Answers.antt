@@ -1,5 +1,5 @@
 -- Each test of the references is the same test of the messages.
-use Rattle.std.proofs.Common.{◌≡◌, Bor}
+use Rattle.std.proofs.Common.{Bor}
 use Rattle.sct_message.specs.declared.draft.Draft.{Draft}
 use Rattle.sct_sites.specs.Cases.{transfer_status_of, is_instruction, is_acceptance, is_rejection, reason_of}
 use Rattle.sct_sites.proofs.References.{any_behind, told_behind, length_behind}

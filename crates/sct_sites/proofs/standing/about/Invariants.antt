@@ -1,4 +1,4 @@
-use Rattle.std.proofs.Common.{◌≡◌, map, filter, take}
+use Rattle.std.proofs.Common.{◌≡◌, filter, take}
 use Rattle.sct_sites.specs.Cases.{is_about}
 use Rattle.sct_sites.proofs.standing.about.Given as goal
 

@@ -1,4 +1,4 @@
-use Rattle.std.proofs.Common.{◌≡◌, ◌++◌, map, filter, take, not}
+use Rattle.std.proofs.Common.{◌≡◌, map, filter, take}
 use Rattle.sct_sites.specs.Cases.{is_contradicted}
 use Rattle.sct_sites.proofs.standing.contradicted.Given as goal
 

@@ -1,4 +1,4 @@
-use Rattle.std.proofs.Common.{◌≡◌, ◌++◌, map, filter, take, not}
+use Rattle.std.proofs.Common.{◌≡◌, map, take}
 use Rattle.sct_message.specs.Keys.{identity_of}
 use Rattle.sct_sites.proofs.standing.identities.Given as goal
 

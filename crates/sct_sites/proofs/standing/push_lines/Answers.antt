@@ -3,12 +3,10 @@ use Rattle.sct_message.specs.Ascending.{ascending}
 use Rattle.sct_message.specs.Keys.{identity_of}
 use Rattle.sct_message.specs.Order.{identity_order}
 use Rattle.sct_message.specs.declared.draft.Draft.{Draft}
-use Rattle.sct_sites.specs.Status.{lines_among}
 use Rattle.sct_sites.proofs.StatusLines.{lines_put_among}
 use Rattle.sct_sites.proofs.standing.push_lines.Goals as goal
 
 pub returns : goal.returns
-unfolding lines_among
 returns c =
     let behind = λ (ms : List (Bor Draft)). map (λ (m : Bor Draft). m.now) ms in
     lines_put_among _ _ c.args.transfer.now _ _ _ _ c.in_ok-push_told.ensures

@@ -1,4 +1,4 @@
-use Rattle.std.proofs.Common.{◌∙◌, ap, sym, List, map}
+use Rattle.std.proofs.Common.{◌∙◌}
 use Rattle.sct_sites.proofs.StatusLines.{lines_put}
 use Rattle.sct_sites.proofs.standing.push_told.Goals as goal
 
