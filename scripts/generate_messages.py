@@ -1,0 +1,66 @@
+"""generate_messages.py N [SEED]: prints N valid messages for measuring, pacs.008 and a pacs.002 for most of them.
+
+The same N and SEED print the same bytes. Each transfer stands for itself: nothing is repeated and nothing contradicts.
+About nine in ten instructions are confirmed, a few places later; of these one in twenty is rejected.
+"""
+import random, sys
+from parties import account
+
+COUNTRIES = [("DE", 20099700), ("FR", 30997), ("BE", 979), ("AT", 99200), ("IT", 9931), ("ES", 9962), ("FI", 799971), ("NL", 0)]
+NAMES = ["Anna Weber", "Bo Maes", "Jürgen Größler", "Amélie Dubois", "María Núñez", "Päivi Virtanen", "Katharina Höfer",
+         "J. de Vries", "Officina Rossi S.r.l.", "Tulp Fietsen B.V.", "Atelier Lumière SARL", "Zeynep Özdemir"]
+REASONS = ["AB05", "AC01", "AC04", "AC06", "AG01", "AM04", "AM05", "MS03", "RR04", "TM01"]
+
+
+def banks(r):
+    """48 banks, six a country, some by 8 and some by 11 characters, each with 40 accounts."""
+    out = []
+    for i in range(48):
+        country, code = COUNTRIES[i % len(COUNTRIES)]
+        four = "".join(r.choice("ABCDEFGHIJKLMNOPQRSTUVWXYZ") for _ in range(3)) + "ABCDEFGHIJKLMNOPQRSTUVWXYZ"[i // 8]
+        place = r.choice(["FF", "PP", "2A", "BB", "WW", "MM", "HH"])
+        branch = r.choice(["", "", "XXX", "370"])
+        out.append((four + country + place + branch, [account(country, code + i, r.randrange(10 ** 9)) for _ in range(40)]))
+    return out
+
+
+def time_of(i):
+    s = 6 * 3600 + i // 40
+    return f"2025-03-{10 + s // 86400 % 20:02d}", f"2025-03-{10 + s // 86400 % 20:02d}T{s // 3600 % 24:02d}:{s // 60 % 60:02d}:{s % 60:02d}Z"
+
+
+def main():
+    n = int(sys.argv[1])
+    r = random.Random(int(sys.argv[2]) if len(sys.argv) > 2 else 1)
+    pool = banks(r)
+    waiting, out, number = [], [], 0
+    for i in range(n):
+        day, at = time_of(i)
+        if len(waiting) > 8 and r.random() < 0.65 or len(waiting) > 60:
+            tx, msg, debtor, creditor = waiting.pop(r.randrange(len(waiting)))
+            rejected = r.random() < 0.05
+            status = f'"RJCT","Rsn":"{r.choice(REASONS)}"' if rejected else '"ACCP"'
+            out.append(f'{{"MsgNmId":"pacs.002","MsgId":"C{i:09d}","CreDtTm":"{at}","InstgAgt":"{creditor}",'
+                       f'"OrgnlMsgId":"{msg}","OrgnlMsgNmId":"pacs.008","OrgnlTxId":"{tx}","TxSts":{status},"DbtrAgt":"{debtor}"}}\n')
+        else:
+            number += 1
+            debtor, debtor_accounts = pool[r.randrange(48)]
+            creditor, creditor_accounts = pool[r.randrange(48)]
+            tx, msg = f"T{number:09d}", f"M{number:09d}"
+            cents = min(99999999999, int(r.lognormvariate(8.5, 1.6)) + 1)
+            more = f',"Ustrd":"Invoice {r.randrange(10 ** 7)}"' if r.random() < 0.2 else ""
+            out.append(f'{{"MsgNmId":"pacs.008","MsgId":"{msg}","CreDtTm":"{at}","InstgAgt":"{debtor}","IntrBkSttlmDt":"{day}",'
+                       f'"SvcLvl":"SEPA","LclInstrm":"INST","EndToEndId":"E{number:09d}","TxId":"{tx}",'
+                       f'"IntrBkSttlmAmt":"{cents // 100}.{cents % 100:02d}","Ccy":"EUR","ChrgBr":"SLEV","Dbtr":"{r.choice(NAMES)}",'
+                       f'"DbtrAcct":"{r.choice(debtor_accounts)}","DbtrAgt":"{debtor}","CdtrAgt":"{creditor}",'
+                       f'"Cdtr":"{r.choice(NAMES)}","CdtrAcct":"{r.choice(creditor_accounts)}"{more}}}\n')
+            if r.random() < 0.92:
+                waiting.append((tx, msg, debtor, creditor))
+        if len(out) >= 10000:
+            sys.stdout.buffer.write("".join(out).encode())
+            out.clear()
+    sys.stdout.buffer.write("".join(out).encode())
+
+
+if __name__ == "__main__":
+    main()
