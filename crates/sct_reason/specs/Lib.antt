@@ -1,0 +1,5 @@
+pub mod Codes
+pub mod Listed
+pub mod ReasonLaws
+pub mod Reasons
+pub mod Uses

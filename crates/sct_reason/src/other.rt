@@ -1,0 +1,46 @@
+//! A code that the reason table does not list.
+ghost use Rattle.std.specs.Prelude.{◌≡◌, IsTrue};
+ghost use Rattle.sct_reason.specs.Listed.{is_other_code};
+
+use crate::reasons::is_listed;
+use sct_element::Code4;
+
+/// A code that is none of the listed reasons: 1 to 4 characters of `A-Z` and `0-9`.
+#[derive(Debug, Drop)]
+pub struct OtherCode {
+    code: Code4,
+    ghost other: { IsTrue (is_other_code code) },
+}
+
+impl OtherCode {
+    ghost use Rattle.sct_reason.specs.Reasons.{other_of};
+
+    /// Reads a code that is none of the listed ones, and refuses any other text.
+    pub fn read(text: &str) -> Option<OtherCode>
+        ensures { result ≡ other_of text.now }
+    {
+        if is_listed(text) {
+            return None;
+        }
+        match Code4::read(text) {
+            Ok(code) => Some(OtherCode { code }),
+            Err(_) => None,
+        }
+    }
+
+    /// The code's text.
+    pub fn text(&self) -> &str
+        ensures { result.now ≡ self.now.code }
+    {
+        self.code.text()
+    }
+
+    /// The same code once more. It takes no memory.
+    pub fn copy(&self) -> Self
+        ensures { result ≡ self.now }
+    {
+        OtherCode {
+            code: self.code.copy(),
+        }
+    }
+}
