@@ -1,14 +1,22 @@
 -- No rule is broken exactly where all rules hold.
-use Rattle.std.proofs.Common.{◌≡◌, sym, subst, refl, inl, inr, ℕ, Bool, true, false, List, Option, Some, None, if◌then◌else◌}
+use Rattle.std.proofs.Common.{◌≡◌, ap, sym, subst, refl, inl, inr, ℕ, Bool, true, false, List, Option, Some, None, if◌then◌else◌}
 use Rattle.std.specs.Prelude.{◌&&◌, ◌⊎◌, ◌↔◌, not, is_some, is_none, IsSome, IsNone, codes}
 use Rattle.std.specs.Cmp.Lexicographic.{bytes_decides}
+use Rattle.std.proofs.lemmas.Bool.{leb-true, le-leb}
 use Rattle.sct_message.specs.declared.draft.CreditTransfer.{CreditTransfer as Transfer}
 use Rattle.sct_message.specs.declared.draft.StatusReport.{StatusReport as Report}
+use Rattle.sct_message.specs.declared.draft.CancellationRequest.{CancellationRequest as Recall}
+use Rattle.sct_message.specs.declared.draft.PaymentReturn.{PaymentReturn as Return}
+use Rattle.sct_message.specs.declared.draft.Resolution.{Resolution as Answer}
 use Rattle.sct_message.specs.declared.draft.Draft.{Draft}
-use Rattle.sct_message.specs.declared.draft.Draft.TheVariants.{CreditTransfer, StatusReport}
+use Rattle.sct_message.specs.declared.draft.Draft.TheVariants.{CreditTransfer, StatusReport, StatusRequest, CancellationRequest, PaymentReturn, Resolution}
 use Rattle.sct_message.specs.declared.rules.RuleFault.{RuleFault}
+use Rattle.sct_reason.specs.declared.reasons.Reason.{Reason}
+use Rattle.sct_reason.specs.declared.reasons.Reason.TheVariants.{FOCR}
+use Rattle.sct_reason.specs.Codes.{reason_text}
+use Rattle.sct_reason.specs.ReasonLaws.{same_text as same_reason}
 use Rattle.sct_message.specs.Kinds.{is_text}
-use Rattle.sct_message.specs.Rules.{FollowsRules, FollowsRulesOfKind, TransferFollowsRules, ReportFollowsRules, broken_in_transfer, broken_in_report, broken_in_kind, first_broken_rule}
+use Rattle.sct_message.specs.Rules.{FollowsRules, FollowsRulesOfKind, TransferFollowsRules, ReportFollowsRules, RecallFollowsRules, ReturnFollowsRules, ResolutionFollowsRules, broken_in_transfer, broken_in_report, broken_in_recall, broken_in_return, broken_in_resolution, broken_in_kind, broken_first, first_broken_rule}
 
 -- a rule that is kept is passed over
 kept_then : (b : Bool) (f : RuleFault) (rest : Option RuleFault) → ((if not b then Some f else rest) ≡ None) ↔ ((b ≡ true) × (rest ≡ None))
@@ -43,26 +51,26 @@ transfer_rules d = (
   λ r. (kept_then _ _ _).1 (text_same _ _ r.currency, (kept_then _ _ _).1 (text_same _ _ r.service, (kept_then _ _ _).1 (text_same _ _ r.instrument, (kept_then _ _ _).1 (text_same _ _ r.charges, refl)))),
 )
 
-abbrev Confirms : List ℕ → Option (List ℕ) → Type 0
+abbrev Confirms : List ℕ → Option Reason → Type 0
 Confirms status reason = ((status ≡ codes "ACCP") × IsNone reason) ⊎ ((status ≡ codes "RJCT") × IsSome reason)
 
 -- what is left once the status is one of the two, a rejection has a reason, and a confirmation has none
-confirms_by : (status : List ℕ) (reason : Option (List ℕ)) (accepted rejected : Bool) → is_text status (codes "ACCP") ≡ accepted → is_text status (codes "RJCT") ≡ rejected
+confirms_by : (status : List ℕ) (reason : Option Reason) (accepted rejected : Bool) → is_text status (codes "ACCP") ≡ accepted → is_text status (codes "RJCT") ≡ rejected
     → (not accepted && not rejected) ≡ false → (rejected && is_none reason) ≡ false → (accepted && is_some reason) ≡ false → Confirms status reason
 confirms_by status reason true rejected a r one two three = inl (same_text _ _ a, three)
 confirms_by status None false true a r one two three = cc
 confirms_by status (Some code) false true a r one two three = inr (same_text _ _ r, refl)
 confirms_by status reason false false a r one two three = cc
 
-none_is_no_some : (reason : Option (List ℕ)) → is_some reason ≡ true → is_none reason ≡ false
+none_is_no_some : (reason : Option Reason) → is_some reason ≡ true → is_none reason ≡ false
 none_is_no_some None e = cc
 none_is_no_some (Some code) e = refl
 
-abbrev Passed : List ℕ → Option (List ℕ) → Type 0
+abbrev Passed : List ℕ → Option Reason → Type 0
 Passed status reason = ((not (is_text status (codes "ACCP")) && not (is_text status (codes "RJCT"))) ≡ false)
     × ((is_text status (codes "RJCT") && is_none reason) ≡ false) × ((is_text status (codes "ACCP") && is_some reason) ≡ false)
 
-passed_by : (status : List ℕ) (reason : Option (List ℕ)) → Confirms status reason → Passed status reason
+passed_by : (status : List ℕ) (reason : Option Reason) → Confirms status reason → Passed status reason
 passed_by status reason (inl p) = subst (λ (s : List ℕ). Passed s reason) (sym p.0) (refl, refl, p.1)
 passed_by status reason (inr p) = subst (λ (s : List ℕ). Passed s reason) (sym p.0) (refl, none_is_no_some reason p.1, refl)
 
@@ -73,23 +81,59 @@ report_rules d = (
       let one = (unmet_then _ _ _).0 e in
       let two = (unmet_then _ _ _).0 one.1 in
       let three = (unmet_then _ _ _).0 two.1 in
-      let four = (kept_then _ _ _).0 three.1 in
-      record {
-        confirms = confirms_by d.status d.reason _ _ refl refl one.0 two.0 three.0;
-        about = four.0;
-      },
+      record { confirms = confirms_by d.status d.reason _ _ refl refl one.0 two.0 three.0 },
   λ r.
       let passed : Passed d.status d.reason = passed_by d.status d.reason r.confirms in
-      (unmet_then _ _ _).1 (passed.0, (unmet_then _ _ _).1 (passed.1, (unmet_then _ _ _).1 (passed.2, (kept_then _ _ _).1 (r.about, refl)))),
+      (unmet_then _ _ _).1 (passed.0, (unmet_then _ _ _).1 (passed.1, (unmet_then _ _ _).1 (passed.2, refl))),
+)
+
+recall_rules : (d : Recall) → (broken_in_recall d ≡ None) ↔ RecallFollowsRules d
+unfolding broken_in_recall
+recall_rules d = (
+  λ e. record { currency = same_text _ _ ((kept_then _ _ _).0 e).0 },
+  λ r. (kept_then _ _ _).1 (text_same _ _ r.currency, refl),
+)
+
+return_rules : (d : Return) → (broken_in_return d ≡ None) ↔ ReturnFollowsRules d
+unfolding broken_in_return
+return_rules d = (
+  λ e.
+      let one = (kept_then _ _ _).0 e in
+      let two = (kept_then _ _ _).0 one.1 in
+      let three = (kept_then _ _ _).0 two.1 in
+      record {
+        currency = same_text _ _ one.0;
+        amount = leb-true _ _ two.0;
+        reason = same_reason d.reason FOCR (same_text _ _ three.0);
+      },
+  λ r. (kept_then _ _ _).1 (text_same _ _ r.currency, (kept_then _ _ _).1 (le-leb _ _ r.amount, (kept_then _ _ _).1 (text_same _ _ (ap reason_text r.reason), refl))),
+)
+
+resolution_rules : (d : Answer) → (broken_in_resolution d ≡ None) ↔ ResolutionFollowsRules d
+unfolding broken_in_resolution
+resolution_rules d = (
+  λ e. record { answer = same_text _ _ ((kept_then _ _ _).0 e).0 },
+  λ r. (kept_then _ _ _).1 (text_same _ _ r.answer, refl),
 )
 
 kind_rules : (d : Draft) → (broken_in_kind d ≡ None) ↔ FollowsRulesOfKind d
 kind_rules (CreditTransfer d) = transfer_rules d
 kind_rules (StatusReport d) = report_rules d
+kind_rules (StatusRequest d) = (λ e. tt, λ r. refl)
+kind_rules (CancellationRequest d) = recall_rules d
+kind_rules (PaymentReturn d) = return_rules d
+kind_rules (Resolution d) = resolution_rules d
+
+none_first : (a b : Option RuleFault) → (broken_first a b ≡ None) ↔ ((a ≡ None) × (b ≡ None))
+none_first None b = (λ e. (refl, e), λ p. p.1)
+none_first (Some f) b = (λ e. cc, λ p. cc)
 
 pub all_rules : (d : Draft) → (first_broken_rule d ≡ None) ↔ FollowsRules d
 unfolding first_broken_rule
 all_rules d = (
-  λ e. let named = (kept_then _ _ _).0 e in (named.0, (kind_rules d).0 named.1),
-  λ r. (kept_then _ _ _).1 (r.0, (kind_rules d).1 r.1),
+  λ e.
+      let named = (kept_then _ _ _).0 e in
+      let both = (none_first _ _).0 named.1 in
+      record { name = named.0; kind = (kind_rules d).0 both.0; original = ((kept_then _ _ _).0 both.1).0 },
+  λ r. (kept_then _ _ _).1 (r.name, (none_first _ _).1 ((kind_rules d).1 r.kind, (kept_then _ _ _).1 (r.original, refl))),
 )

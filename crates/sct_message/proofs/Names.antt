@@ -5,11 +5,15 @@ use Rattle.std.proofs.lemmas.Bool.{and_left}
 use Rattle.std.proofs.lemmas.List.{length-take}
 use Rattle.sct_message.specs.Kinds.{kind_text, is_name_of}
 use Rattle.sct_message.specs.declared.kinds.Kind.{Kind}
-use Rattle.sct_message.specs.declared.kinds.Kind.TheVariants.{Pacs002, Pacs008}
+use Rattle.sct_message.specs.declared.kinds.Kind.TheVariants.{Camt029, Camt056, Pacs002, Pacs004, Pacs008, Pacs028}
 
 text_length : (kind : Kind) → length (kind_text kind) ≡ 8
+text_length Camt029 = refl
+text_length Camt056 = refl
 text_length Pacs002 = refl
+text_length Pacs004 = refl
 text_length Pacs008 = refl
+text_length Pacs028 = refl
 
 pub too_short : (kind : Kind) (s : List ℕ) → length s < 8 → false ≡ is_name_of kind s
 too_short kind s h =

@@ -4,11 +4,15 @@ use Rattle.std.specs.Char.{is_ascii_digit}
 use Rattle.std.specs.Cmp.Lexicographic.{pointwise}
 use Rattle.std.specs.List.{list_all}
 use Rattle.sct_message.specs.declared.kinds.Kind.{Kind}
-use Rattle.sct_message.specs.declared.kinds.Kind.TheVariants.{Pacs002, Pacs008}
+use Rattle.sct_message.specs.declared.kinds.Kind.TheVariants.{Camt029, Camt056, Pacs002, Pacs004, Pacs008, Pacs028}
 
 abbrev pub kind_text : Kind → List ℕ
+kind_text Camt029 = codes "camt.029"
+kind_text Camt056 = codes "camt.056"
 kind_text Pacs002 = codes "pacs.002"
+kind_text Pacs004 = codes "pacs.004"
 kind_text Pacs008 = codes "pacs.008"
+kind_text Pacs028 = codes "pacs.028"
 
 -- the two texts are the same
 abbrev pub is_text : List ℕ → List ℕ → Bool
@@ -22,6 +26,10 @@ is_version s = (length s == 7) && (slice_index s 0 == 46) && list_all is_ascii_d
 abbrev pub is_name_of : Kind → List ℕ → Bool
 is_name_of kind s = is_text (take 8 s) (kind_text kind) && (length (drop 8 s) == 0 || is_version (drop 8 s))
 
+-- every kind, in the order of the kinds' texts
+abbrev pub kinds : List Kind
+kinds = Camt029 ∷ Camt056 ∷ Pacs002 ∷ Pacs004 ∷ Pacs008 ∷ Pacs028 ∷ []
+
 -- the kind of which a text is a name
 abbrev pub kind_named : List ℕ → Option Kind
-kind_named s = find (λ kind. is_name_of kind s) (Pacs002 ∷ Pacs008 ∷ [])
+kind_named s = find (λ kind. is_name_of kind s) kinds

@@ -4,4 +4,5 @@ pub mod Keys
 pub mod Kinds
 pub mod Order
 pub mod OrderLaws
+pub mod Ranks
 pub mod Rules

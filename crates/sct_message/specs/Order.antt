@@ -1,18 +1,19 @@
 -- The order of messages: by identity, and then by the elements in the order of the key table, an absent one first.
-use Rattle.std.specs.Prelude.{ℕ, Bool, List, [], ◌∷◌, ◌++◌, Option, Some}
+use Rattle.std.specs.Prelude.{ℕ, Bool, List, [], ◌∷◌, ◌++◌, Option, Some, option_map}
 use Rattle.std.specs.Ordering.{nat_cmp, ordering_then, eq_by_cmp}
 use Rattle.std.specs.declared.cmp.Ordering.{Ordering}
 use Rattle.std.specs.Option.{option_cmp}
 use Rattle.std.specs.Cmp.Lexicographic.{slice_cmp}
+use Rattle.sct_reason.specs.Codes.{reason_text}
 use Rattle.sct_message.specs.declared.draft.Head.{Head}
 use Rattle.sct_message.specs.declared.draft.Original.{Original}
 use Rattle.sct_message.specs.declared.draft.Draft.{Draft}
-use Rattle.sct_message.specs.declared.draft.Draft.TheVariants.{CreditTransfer, StatusReport}
+use Rattle.sct_message.specs.declared.draft.Draft.TheVariants.{CreditTransfer, StatusReport, StatusRequest, CancellationRequest, PaymentReturn, Resolution}
 use Rattle.sct_message.specs.declared.keys.Identity.{Identity}
 use Rattle.sct_message.specs.declared.keys.TransferKey.{TransferKey}
 use Rattle.sct_message.specs.declared.keys.RecallKey.{RecallKey}
 use Rattle.sct_message.specs.declared.kinds.Kind.{Kind}
-use Rattle.sct_message.specs.declared.kinds.Kind.TheVariants.{Pacs002, Pacs008}
+use Rattle.sct_message.specs.declared.kinds.Kind.TheVariants.{Camt029, Camt056, Pacs002, Pacs004, Pacs008, Pacs028}
 use Rattle.sct_message.specs.Drafts.{kind_of, head_of}
 use Rattle.sct_message.specs.Kinds.{kind_text}
 
@@ -30,12 +31,16 @@ head_elements h = Some h.message_name ∷ Some h.message_id ∷ Some h.creation_
 abbrev pub original_elements : Original → List (Option (List ℕ))
 original_elements o = Some o.message_id ∷ Some o.message_name ∷ o.end_to_end_id ∷ Some o.transaction_id ∷ []
 
--- the elements in the order of the key table; an amount counts by its cents
+-- the elements in the order of the key table; an amount counts by its cents, a reason by its code
 abbrev pub elements_of : Draft → List (Option (List ℕ))
 elements_of (CreditTransfer d) = head_elements d.head ++ Some d.settlement_date ∷ Some d.service_level ∷ Some d.local_instrument ∷ d.instruction_id ∷ Some d.end_to_end_id ∷ Some d.transaction_id
     ∷ Some (d.settlement_amount ∷ []) ∷ Some d.currency ∷ Some d.charge_bearer ∷ d.acceptance_time ∷ Some d.debtor ∷ Some d.debtor_account ∷ Some d.debtor_agent
     ∷ Some d.creditor_agent ∷ Some d.creditor ∷ Some d.creditor_account ∷ d.remittance ∷ []
-elements_of (StatusReport d) = head_elements d.head ++ original_elements d.original ++ Some d.status ∷ d.reason ∷ Some d.debtor_agent ∷ []
+elements_of (StatusReport d) = head_elements d.head ++ original_elements d.original ++ Some d.status ∷ option_map reason_text d.reason ∷ Some d.debtor_agent ∷ []
+elements_of (StatusRequest d) = head_elements d.head ++ original_elements d.original ++ d.cancellation_id ∷ Some d.debtor_agent ∷ []
+elements_of (CancellationRequest d) = head_elements d.head ++ Some d.cancellation_id ∷ original_elements d.original ++ Some (d.original_amount ∷ []) ∷ Some d.currency ∷ d.original_settlement_date ∷ Some (reason_text d.reason) ∷ Some d.debtor_agent ∷ []
+elements_of (PaymentReturn d) = head_elements d.head ++ Some d.return_id ∷ Some d.cancellation_id ∷ original_elements d.original ++ Some (d.original_amount ∷ []) ∷ Some (d.returned_amount ∷ []) ∷ Some d.currency ∷ Some d.settlement_date ∷ Some (reason_text d.reason) ∷ Some d.debtor_agent ∷ []
+elements_of (Resolution d) = head_elements d.head ++ Some d.resolution_id ∷ Some d.cancellation_id ∷ original_elements d.original ++ Some d.confirmation ∷ Some (reason_text d.reason) ∷ Some d.debtor_agent ∷ []
 
 -- sender, kind and message identification, and then all elements
 abbrev pub ranks_of : Draft → List (Option (List ℕ))
@@ -48,8 +53,12 @@ message_order a b = elements_order (ranks_of a) (ranks_of b)
 
 -- kinds are listed by their text, and ordered by their place in that list
 abbrev pub kind_place : Kind → ℕ
-kind_place Pacs002 = 0
-kind_place Pacs008 = 1
+kind_place Camt029 = 0
+kind_place Camt056 = 1
+kind_place Pacs002 = 2
+kind_place Pacs004 = 3
+kind_place Pacs008 = 4
+kind_place Pacs028 = 5
 
 abbrev pub kind_order : Kind → Kind → Ordering
 kind_order j k = nat_cmp (kind_place j) (kind_place k)

@@ -1,8 +1,10 @@
 //! The elements of a message, kind by kind, each in the order of its key table.
 ghost use Rattle.std.specs.Prelude.{◌≡◌};
+ghost use Rattle.std.specs.Option.{option_copied};
 
 use crate::kinds::Kind;
 use sct_element::{Amount, Bic, Code4, Day, Iban, Id35, Name, Remittance, Stamp};
+use sct_reason::Reason;
 
 /// What every message begins with (GroupHeader of ISO 20022).
 #[derive(Debug, Drop, PartialEq, Eq, PartialOrd, Ord)]
@@ -83,7 +85,85 @@ pub struct StatusReport {
     /// TxSts: `ACCP` or `RJCT`.
     pub status: Code4,
     /// Rsn: why the transfer was rejected.
-    pub reason: Option<Code4>,
+    pub reason: Option<Reason>,
+    /// DbtrAgt: the originator bank of the transfer.
+    pub debtor_agent: Bic,
+}
+
+/// pacs.028: asks for the status of a transfer after silence, or of the recall that it names.
+#[derive(Debug, Drop, PartialEq, Eq, PartialOrd, Ord)]
+pub struct StatusRequest {
+    /// MsgNmId, MsgId, CreDtTm, InstgAgt, InstdAgt.
+    pub head: Head,
+    /// OrgnlMsgId, OrgnlMsgNmId, OrgnlEndToEndId, OrgnlTxId.
+    pub original: Original,
+    /// OrgnlCxlId: the recall that it asks about; none where it asks about the transfer.
+    pub cancellation_id: Option<Id35>,
+    /// DbtrAgt: the originator bank of the transfer.
+    pub debtor_agent: Bic,
+}
+
+/// camt.056: the recall of a transfer, with a reason.
+#[derive(Debug, Drop, PartialEq, Eq, PartialOrd, Ord)]
+pub struct CancellationRequest {
+    /// MsgNmId, MsgId (of the assignment), CreDtTm, InstgAgt (the assigner), InstdAgt (the assignee).
+    pub head: Head,
+    /// CxlId: the identification of the recall.
+    pub cancellation_id: Id35,
+    /// OrgnlMsgId, OrgnlMsgNmId, OrgnlEndToEndId, OrgnlTxId.
+    pub original: Original,
+    /// OrgnlIntrBkSttlmAmt: the amount of the transfer, in cents.
+    pub original_amount: Amount,
+    /// Ccy: `EUR`.
+    pub currency: Code4,
+    /// OrgnlIntrBkSttlmDt: the settlement date of the transfer.
+    pub original_settlement_date: Option<Day>,
+    /// Rsn: why the transfer is recalled.
+    pub reason: Reason,
+    /// DbtrAgt: the originator bank of the transfer.
+    pub debtor_agent: Bic,
+}
+
+/// pacs.004: the positive answer to a recall, which returns the money.
+#[derive(Debug, Drop, PartialEq, Eq, PartialOrd, Ord)]
+pub struct PaymentReturn {
+    /// MsgNmId, MsgId, CreDtTm, InstgAgt, InstdAgt.
+    pub head: Head,
+    /// RtrId: the identification of the return.
+    pub return_id: Id35,
+    /// OrgnlCxlId: the recall that it answers.
+    pub cancellation_id: Id35,
+    /// OrgnlMsgId, OrgnlMsgNmId, OrgnlEndToEndId, OrgnlTxId.
+    pub original: Original,
+    /// OrgnlIntrBkSttlmAmt: the amount of the transfer, in cents.
+    pub original_amount: Amount,
+    /// RtrdIntrBkSttlmAmt: the amount that comes back, in cents; at most the amount of the transfer.
+    pub returned_amount: Amount,
+    /// Ccy: `EUR`.
+    pub currency: Code4,
+    /// IntrBkSttlmDt: the settlement date of the return.
+    pub settlement_date: Day,
+    /// Rsn: `FOCR`, following a cancellation request.
+    pub reason: Reason,
+    /// DbtrAgt: the originator bank of the transfer.
+    pub debtor_agent: Bic,
+}
+
+/// camt.029: the negative answer to a recall, with a reason.
+#[derive(Debug, Drop, PartialEq, Eq, PartialOrd, Ord)]
+pub struct Resolution {
+    /// MsgNmId, MsgId (of the assignment), CreDtTm, InstgAgt (the assigner), InstdAgt (the assignee).
+    pub head: Head,
+    /// CxlStsId: the identification of the answer.
+    pub resolution_id: Id35,
+    /// OrgnlCxlId: the recall that it answers.
+    pub cancellation_id: Id35,
+    /// OrgnlMsgId, OrgnlMsgNmId, OrgnlEndToEndId, OrgnlTxId.
+    pub original: Original,
+    /// Conf: `RJCR`, the recall is refused.
+    pub confirmation: Code4,
+    /// Rsn: why the recall is refused.
+    pub reason: Reason,
     /// DbtrAgt: the originator bank of the transfer.
     pub debtor_agent: Bic,
 }
@@ -95,10 +175,18 @@ pub enum Draft {
     CreditTransfer(CreditTransfer),
     /// pacs.002.
     StatusReport(StatusReport),
+    /// pacs.028.
+    StatusRequest(StatusRequest),
+    /// camt.056.
+    CancellationRequest(CancellationRequest),
+    /// pacs.004.
+    PaymentReturn(PaymentReturn),
+    /// camt.029.
+    Resolution(Resolution),
 }
 
 impl Draft {
-    ghost use Rattle.sct_message.specs.Drafts.{kind_of, head_of, debtor_agent_of, transaction_of};
+    ghost use Rattle.sct_message.specs.Drafts.{kind_of, head_of, debtor_agent_of, transaction_of, cancellation_of, original_of};
 
     /// The kind.
     pub fn kind(&self) -> Kind
@@ -107,6 +195,10 @@ impl Draft {
         match self {
             Draft::CreditTransfer(_) => Kind::Pacs008,
             Draft::StatusReport(_) => Kind::Pacs002,
+            Draft::StatusRequest(_) => Kind::Pacs028,
+            Draft::CancellationRequest(_) => Kind::Camt056,
+            Draft::PaymentReturn(_) => Kind::Pacs004,
+            Draft::Resolution(_) => Kind::Camt029,
         }
     }
 
@@ -117,6 +209,10 @@ impl Draft {
         match self {
             Draft::CreditTransfer(transfer) => &transfer.head,
             Draft::StatusReport(report) => &report.head,
+            Draft::StatusRequest(request) => &request.head,
+            Draft::CancellationRequest(recall) => &recall.head,
+            Draft::PaymentReturn(payment) => &payment.head,
+            Draft::Resolution(resolution) => &resolution.head,
         }
     }
 
@@ -127,6 +223,10 @@ impl Draft {
         match self {
             Draft::CreditTransfer(transfer) => &transfer.debtor_agent,
             Draft::StatusReport(report) => &report.debtor_agent,
+            Draft::StatusRequest(request) => &request.debtor_agent,
+            Draft::CancellationRequest(recall) => &recall.debtor_agent,
+            Draft::PaymentReturn(payment) => &payment.debtor_agent,
+            Draft::Resolution(resolution) => &resolution.debtor_agent,
         }
     }
 
@@ -137,6 +237,36 @@ impl Draft {
         match self {
             Draft::CreditTransfer(transfer) => &transfer.transaction_id,
             Draft::StatusReport(report) => &report.original.transaction_id,
+            Draft::StatusRequest(request) => &request.original.transaction_id,
+            Draft::CancellationRequest(recall) => &recall.original.transaction_id,
+            Draft::PaymentReturn(payment) => &payment.original.transaction_id,
+            Draft::Resolution(resolution) => &resolution.original.transaction_id,
+        }
+    }
+
+    /// CxlId of a camt.056, in the other kinds OrgnlCxlId: the recall that the message is, or is about.
+    pub fn cancellation_id(&self) -> Option<&Id35>
+        ensures { option_copied result ≡ cancellation_of self.now }
+    {
+        match self {
+            Draft::CreditTransfer(_) | Draft::StatusReport(_) => None,
+            Draft::StatusRequest(request) => request.cancellation_id.as_ref(),
+            Draft::CancellationRequest(recall) => Some(&recall.cancellation_id),
+            Draft::PaymentReturn(payment) => Some(&payment.cancellation_id),
+            Draft::Resolution(resolution) => Some(&resolution.cancellation_id),
+        }
+    }
+    /// What a later message says of its original message; none for a pacs.008.
+    pub fn original(&self) -> Option<&Original>
+        ensures { option_copied result ≡ original_of self.now }
+    {
+        match self {
+            Draft::CreditTransfer(_) => None,
+            Draft::StatusReport(report) => Some(&report.original),
+            Draft::StatusRequest(request) => Some(&request.original),
+            Draft::CancellationRequest(recall) => Some(&recall.original),
+            Draft::PaymentReturn(payment) => Some(&payment.original),
+            Draft::Resolution(resolution) => Some(&resolution.original),
         }
     }
 }

@@ -1,30 +1,50 @@
 //! The kinds of messages, and the names by which a message says its kind.
-ghost use Rattle.std.specs.Prelude.{◌≡◌, ◌&&◌, ◌||◌, ◌==◌, length, take, drop, slice_index, nat_eq};
+ghost use Rattle.std.specs.Prelude.{◌≡◌, ◌&&◌, ◌||◌, ◌==◌, length, take, drop, slice_index, nat_eq, find};
 ghost use Rattle.std.specs.Cmp.Lexicographic.{pointwise};
 ghost use Rattle.std.specs.Char.{is_ascii_digit};
 ghost use Rattle.std.specs.List.{list_all};
+ghost use Rattle.std.specs.Option.{option_copied};
 ghost use Rattle.sct_message.specs.Kinds.{kind_text, is_version, is_name_of, kind_named};
 
 /// A kind of message (ISO 20022), ordered by its text.
 #[derive(Clone, Copy, Debug, PartialEq, Eq, PartialOrd, Ord, Hash)]
 pub enum Kind {
+    /// camt.029, ResolutionOfInvestigation: refuses a recall.
+    Camt029,
+    /// camt.056, FIToFIPaymentCancellationRequest: recalls a transfer.
+    Camt056,
     /// pacs.002, FIToFIPaymentStatusReport: confirms a transfer, or rejects it with a reason.
     Pacs002,
+    /// pacs.004, PaymentReturn: returns the money of a transfer that was recalled.
+    Pacs004,
     /// pacs.008, FIToFICustomerCreditTransfer: carries a transfer.
     Pacs008,
+    /// pacs.028, FIToFIPaymentStatusRequest: asks for the status of a transfer or of a recall.
+    Pacs028,
 }
 
 impl Kind {
     /// Every kind.
-    pub const ALL: [Kind; 2] = [Kind::Pacs002, Kind::Pacs008];
+    pub const ALL: [Kind; 6] = [
+        Kind::Camt029,
+        Kind::Camt056,
+        Kind::Pacs002,
+        Kind::Pacs004,
+        Kind::Pacs008,
+        Kind::Pacs028,
+    ];
 
     /// The kind's text, as `pacs.008`.
     pub fn text(self) -> &'static str
         ensures { result.now ≡ kind_text self }
     {
         match self {
+            Kind::Camt029 => "camt.029",
+            Kind::Camt056 => "camt.056",
             Kind::Pacs002 => "pacs.002",
+            Kind::Pacs004 => "pacs.004",
             Kind::Pacs008 => "pacs.008",
+            Kind::Pacs028 => "pacs.028",
         }
     }
 
@@ -45,14 +65,14 @@ impl Kind {
     pub fn of_name(name: &str) -> Option<Kind>
         ensures { result ≡ kind_named name.now }
     {
-        if Kind::Pacs002.is_named(name) {
-            Some(Kind::Pacs002)
-        } else if Kind::Pacs008.is_named(name) {
-            Some(Kind::Pacs008)
-        } else {
-            None
-        }
+        first_named(&Kind::ALL, name).copied()
     }
+}
+
+fn first_named<'a>(kinds: &'a [Kind], name: &str) -> Option<&'a Kind>
+    ensures { option_copied result ≡ find (λ kind. is_name_of kind name.now) kinds.now }
+{
+    kinds.iter().find(|kind| kind.is_named(name))
 }
 
 fn are_digits(bytes: &[u8]) -> bool

@@ -9,7 +9,10 @@ mod messages;
 mod order;
 mod rules;
 
-pub use draft::{CreditTransfer, Draft, Head, Original, StatusReport};
+pub use draft::{
+    CancellationRequest, CreditTransfer, Draft, Head, Original, PaymentReturn, Resolution,
+    StatusReport, StatusRequest,
+};
 pub use keys::{Identity, RecallKey, TransferKey};
 pub use kinds::Kind;
 pub use messages::Message;

@@ -83,11 +83,15 @@ impl Message {
         }
     }
 
-    /// The recall that the message is about: none for the kinds that stand so far.
+    /// The recall that the message is, or is about; none for a pacs.008, a pacs.002, and a pacs.028 about a transfer.
     pub fn recall(&self) -> Option<RecallKey>
         ensures { result ≡ recall_of self.now }
     {
-        None
+        let cxl = self.draft.cancellation_id()?;
+        Some(RecallKey {
+            transfer: self.transfer(),
+            cxl: cxl.copy(),
+        })
     }
 }
 

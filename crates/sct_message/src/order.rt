@@ -13,12 +13,15 @@ ghost use Rattle.sct_message.specs.declared.keys.RecallKey.{RecallKey as RecallO
 ghost use Rattle.sct_message.specs.declared.draft.Draft.{Draft as Elements};
 ghost use Rattle.sct_message.specs.declared.draft.Draft.TheVariants as draft;
 
-use crate::draft::{CreditTransfer, Draft, StatusReport};
+use crate::draft::{
+    CancellationRequest, CreditTransfer, Draft, PaymentReturn, Resolution, StatusReport,
+    StatusRequest,
+};
 use crate::keys::{Identity, RecallKey, TransferKey};
 use crate::kinds::Kind;
 use std::cmp::Ordering;
 
-fn transfer_order(left: &CreditTransfer, right: &CreditTransfer) -> Ordering
+fn instruction_order(left: &CreditTransfer, right: &CreditTransfer) -> Ordering
     ensures { result ≡ elements_order (elements_of (draft.CreditTransfer left.now)) (elements_of (draft.CreditTransfer right.now)) }
 {
     left.cmp(right)
@@ -30,6 +33,30 @@ fn report_order(left: &StatusReport, right: &StatusReport) -> Ordering
     left.cmp(right)
 }
 
+fn request_order(left: &StatusRequest, right: &StatusRequest) -> Ordering
+    ensures { result ≡ elements_order (elements_of (draft.StatusRequest left.now)) (elements_of (draft.StatusRequest right.now)) }
+{
+    left.cmp(right)
+}
+
+fn recall_order(left: &CancellationRequest, right: &CancellationRequest) -> Ordering
+    ensures { result ≡ elements_order (elements_of (draft.CancellationRequest left.now)) (elements_of (draft.CancellationRequest right.now)) }
+{
+    left.cmp(right)
+}
+
+fn payment_order(left: &PaymentReturn, right: &PaymentReturn) -> Ordering
+    ensures { result ≡ elements_order (elements_of (draft.PaymentReturn left.now)) (elements_of (draft.PaymentReturn right.now)) }
+{
+    left.cmp(right)
+}
+
+fn resolution_order(left: &Resolution, right: &Resolution) -> Ordering
+    ensures { result ≡ elements_order (elements_of (draft.Resolution left.now)) (elements_of (draft.Resolution right.now)) }
+{
+    left.cmp(right)
+}
+
 /// The order of two messages' elements, where they are of one kind.
 fn elements_order(left: &Draft, right: &Draft) -> Ordering
     requires { kind_of left.now ≡ kind_of right.now }
@@ -37,11 +64,27 @@ fn elements_order(left: &Draft, right: &Draft) -> Ordering
 {
     match left {
         Draft::CreditTransfer(left) => match right {
-            Draft::CreditTransfer(right) => transfer_order(left, right),
+            Draft::CreditTransfer(right) => instruction_order(left, right),
             _ => unreachable!(),
         },
         Draft::StatusReport(left) => match right {
             Draft::StatusReport(right) => report_order(left, right),
+            _ => unreachable!(),
+        },
+        Draft::StatusRequest(left) => match right {
+            Draft::StatusRequest(right) => request_order(left, right),
+            _ => unreachable!(),
+        },
+        Draft::CancellationRequest(left) => match right {
+            Draft::CancellationRequest(right) => recall_order(left, right),
+            _ => unreachable!(),
+        },
+        Draft::PaymentReturn(left) => match right {
+            Draft::PaymentReturn(right) => payment_order(left, right),
+            _ => unreachable!(),
+        },
+        Draft::Resolution(left) => match right {
+            Draft::Resolution(right) => resolution_order(left, right),
             _ => unreachable!(),
         },
     }

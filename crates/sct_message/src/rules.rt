@@ -1,8 +1,10 @@
 //! The rules of each kind.
 ghost use Rattle.std.specs.Prelude.{◌≡◌, ◌↔◌, Option, None, IsTrue};
-ghost use Rattle.sct_message.specs.Rules.{rule_number, first_broken_rule, broken_in_transfer, broken_in_report, FollowsRules};
+ghost use Rattle.sct_message.specs.Rules.{rule_number, first_broken_rule, broken_in_transfer, broken_in_report, broken_in_recall, broken_in_return, broken_in_resolution, broken_in_kind, kind_it_is_about, names_its_original, FollowsRules};
 
-use crate::draft::{CreditTransfer, Draft, StatusReport};
+use crate::draft::{
+    CancellationRequest, CreditTransfer, Draft, PaymentReturn, Resolution, StatusReport,
+};
 use crate::kinds::Kind;
 use thiserror::Error;
 
@@ -33,6 +35,15 @@ pub enum RuleFault {
     /// 17: a positive confirmation with a reason.
     #[error("a positive confirmation has a reason")]
     ReasonUnasked,
+    /// 18: the returned amount is above the original one.
+    #[error("the returned amount is above the original amount")]
+    ReturnAboveOriginal,
+    /// 19: the reason of a return is not FOCR.
+    #[error("the reason of the return is not FOCR")]
+    WrongReturnReason,
+    /// 20: Conf is not RJCR.
+    #[error("the confirmation is not RJCR")]
+    WrongAnswer,
     /// 21: OrgnlMsgNmId is no name of the kind that such a message is about.
     #[error("the original message name is of a wrong kind")]
     WrongOriginalName,
@@ -52,6 +63,9 @@ impl RuleFault {
             RuleFault::WrongStatus => 15,
             RuleFault::ReasonMissing => 16,
             RuleFault::ReasonUnasked => 17,
+            RuleFault::ReturnAboveOriginal => 18,
+            RuleFault::WrongReturnReason => 19,
+            RuleFault::WrongAnswer => 20,
             RuleFault::WrongOriginalName => 21,
         }
     }
@@ -85,10 +99,79 @@ fn broken_in_report(report: &StatusReport) -> Option<RuleFault>
         Some(RuleFault::ReasonMissing)
     } else if status == "ACCP" && report.reason.is_some() {
         Some(RuleFault::ReasonUnasked)
-    } else if !Kind::Pacs008.is_named(report.original.message_name.text()) {
-        Some(RuleFault::WrongOriginalName)
     } else {
         None
+    }
+}
+
+#[tactic(auto, unfolding(crate::specs::Rules::broken_in_recall))]
+fn broken_in_recall(recall: &CancellationRequest) -> Option<RuleFault>
+    ensures { result ≡ broken_in_recall recall.now }
+{
+    if recall.currency.text() != "EUR" {
+        Some(RuleFault::WrongCurrency)
+    } else {
+        None
+    }
+}
+
+#[tactic(auto, unfolding(crate::specs::Rules::broken_in_return))]
+fn broken_in_return(payment: &PaymentReturn) -> Option<RuleFault>
+    ensures { result ≡ broken_in_return payment.now }
+{
+    if payment.currency.text() != "EUR" {
+        Some(RuleFault::WrongCurrency)
+    } else if payment.returned_amount.cents() > payment.original_amount.cents() {
+        Some(RuleFault::ReturnAboveOriginal)
+    } else if payment.reason.text() != "FOCR" {
+        Some(RuleFault::WrongReturnReason)
+    } else {
+        None
+    }
+}
+
+#[tactic(auto, unfolding(crate::specs::Rules::broken_in_resolution))]
+fn broken_in_resolution(resolution: &Resolution) -> Option<RuleFault>
+    ensures { result ≡ broken_in_resolution resolution.now }
+{
+    if resolution.confirmation.text() != "RJCR" {
+        Some(RuleFault::WrongAnswer)
+    } else {
+        None
+    }
+}
+
+/// The first rule by number that the elements break, of those that its kind alone has.
+fn broken_in_kind(draft: &Draft) -> Option<RuleFault>
+    ensures { result ≡ broken_in_kind draft.now }
+{
+    match draft {
+        Draft::CreditTransfer(transfer) => broken_in_transfer(transfer),
+        Draft::StatusReport(report) => broken_in_report(report),
+        Draft::StatusRequest(_) => None,
+        Draft::CancellationRequest(recall) => broken_in_recall(recall),
+        Draft::PaymentReturn(payment) => broken_in_return(payment),
+        Draft::Resolution(resolution) => broken_in_resolution(resolution),
+    }
+}
+
+/// The kind of message that a later message is about: a status request that names a recall is about the recall.
+fn kind_it_is_about(draft: &Draft) -> Kind
+    ensures { result ≡ kind_it_is_about draft.now }
+{
+    match draft {
+        Draft::StatusRequest(request) if request.cancellation_id.is_some() => Kind::Camt056,
+        _ => Kind::Pacs008,
+    }
+}
+
+/// Whether OrgnlMsgNmId, where there is one, names the kind of message that the draft is about.
+fn names_its_original(draft: &Draft) -> bool
+    ensures { result ≡ names_its_original draft.now }
+{
+    match draft.original() {
+        None => true,
+        Some(original) => kind_it_is_about(draft).is_named(original.message_name.text()),
     }
 }
 
@@ -100,9 +183,14 @@ pub(crate) fn first_broken_rule(draft: &Draft) -> Option<RuleFault>
     if !draft.kind().is_named(draft.head().message_name.text()) {
         return Some(RuleFault::WrongName);
     }
-    match draft {
-        Draft::CreditTransfer(transfer) => broken_in_transfer(transfer),
-        Draft::StatusReport(report) => broken_in_report(report),
+    let broken = broken_in_kind(draft);
+    if broken.is_some() {
+        return broken;
+    }
+    if names_its_original(draft) {
+        None
+    } else {
+        Some(RuleFault::WrongOriginalName)
     }
 }
 

@@ -1,8 +1,6 @@
 //! Messages and keys in their orders.
 
-use super::texts::{
-    CONFIRMATION, INSTRUCTION, InstructionTexts, ReportTexts, read_instruction, read_report,
-};
+use super::texts::{REQUEST, RequestTexts, read_instruction, read_request};
 use crate::*;
 use sct_element::{Bic, ElementFault, Id35};
 use std::alloc::Global;
@@ -25,140 +23,83 @@ fn assert_ascending(rt: &impl Abort, messages: &[Message]) {
     }
 }
 
-fn instructions(alloc: Global, rows: &[InstructionTexts]) -> Result<Vec<Message>, Fail> {
+fn requests(alloc: Global, rows: &[RequestTexts]) -> Result<Vec<Message>, Fail> {
     let mut messages = Vec::new(alloc);
     for texts in rows {
-        messages.push(Message::of(read_instruction(alloc, texts)?)?)?;
-    }
-    Ok(messages)
-}
-
-fn reports(alloc: Global, rows: &[ReportTexts]) -> Result<Vec<Message>, Fail> {
-    let mut messages = Vec::new(alloc);
-    for texts in rows {
-        messages.push(Message::of(read_report(texts)?)?)?;
+        messages.push(Message::of(read_request(texts)?)?)?;
     }
     Ok(messages)
 }
 
 #[test]
-fn orders_transfers_by_identity_and_then_by_elements(rt: HostRuntime) -> Result<(), Fail> {
+fn orders_messages_by_identity_and_then_by_elements(rt: HostRuntime) -> Result<(), Fail> {
     let rows = [
-        InstructionTexts {
+        RequestTexts {
             sender: "AANKDEFF",
-            msg_id: "M9",
+            msg_id: "S9",
             tx: "T9",
-            ..INSTRUCTION
+            ..REQUEST
         },
-        InstructionTexts {
+        RequestTexts {
             sender: "BANKDEFF001",
-            msg_id: "M0",
-            ..INSTRUCTION
+            msg_id: "S0",
+            ..REQUEST
         },
-        INSTRUCTION,
-        InstructionTexts {
-            amount: "10.00",
-            ..INSTRUCTION
-        },
-        InstructionTexts {
+        REQUEST,
+        RequestTexts {
             tx: "T1 ",
-            amount: "1.00",
-            ..INSTRUCTION
+            ..REQUEST
         },
-        InstructionTexts {
+        RequestTexts {
             tx: "T10",
-            ..INSTRUCTION
+            ..REQUEST
         },
-        InstructionTexts {
-            name: "pacs.008.001.08",
-            ..INSTRUCTION
+        RequestTexts {
+            name: "pacs.028.001.03",
+            ..REQUEST
         },
-        InstructionTexts {
-            msg_id: "M2",
-            amount: "1.00",
-            ..INSTRUCTION
+        RequestTexts {
+            msg_id: "S2",
+            ..REQUEST
         },
     ];
-    assert_ascending(&rt, &instructions(rt.alloc(), &rows)?);
+    assert_ascending(&rt, &requests(rt.alloc(), &rows)?);
     Ok(())
 }
 
 #[test]
 fn orders_kinds_before_identifications(rt: HostRuntime) -> Result<(), Fail> {
-    let texts = ReportTexts {
-        sender: "BANKDEFF",
-        msg_id: "M9",
-        ..CONFIRMATION
+    let texts = RequestTexts {
+        sender: "BANKNL2A",
+        msg_id: "A1",
+        ..REQUEST
     };
-    let confirmation = Message::of(read_report(&texts)?)?;
-    let instruction = Message::of(read_instruction(rt.alloc(), &INSTRUCTION)?)?;
-    assert_eq!(rt; confirmation.order(&instruction), Ordering::Less);
-    assert_eq!(rt; instruction.order(&confirmation), Ordering::Greater);
-    assert!(rt; !confirmation.same(&instruction));
+    let request = Message::of(read_request(&texts)?)?;
+    let instruction = Message::of(read_instruction(rt.alloc())?)?;
+    assert_eq!(rt; instruction.order(&request), Ordering::Less);
+    assert_eq!(rt; request.order(&instruction), Ordering::Greater);
+    assert!(rt; !request.same(&instruction));
     Ok(())
 }
 
 #[test]
-fn puts_an_absent_element_of_a_transfer_first(rt: HostRuntime) -> Result<(), Fail> {
+fn puts_an_absent_element_first(rt: HostRuntime) -> Result<(), Fail> {
     let rows = [
-        INSTRUCTION,
-        InstructionTexts {
-            remittance: Some("Rent"),
-            ..INSTRUCTION
+        REQUEST,
+        RequestTexts {
+            bank: "BANQFRPP",
+            ..REQUEST
         },
-        InstructionTexts {
-            accepted: Some("2024-05-02T09:59:59Z"),
-            ..INSTRUCTION
-        },
-        InstructionTexts {
-            reference: Some("I1"),
-            ..INSTRUCTION
-        },
-        InstructionTexts {
-            receiver: Some("BANQFRPP"),
-            ..INSTRUCTION
-        },
-    ];
-    assert_ascending(&rt, &instructions(rt.alloc(), &rows)?);
-    Ok(())
-}
-
-#[test]
-fn puts_an_absent_element_of_a_report_first(rt: HostRuntime) -> Result<(), Fail> {
-    let rejection = ReportTexts {
-        status: "RJCT",
-        reason: Some("AM04"),
-        ..CONFIRMATION
-    };
-    let rows = [
-        CONFIRMATION,
-        ReportTexts {
-            reason: Some("AC04"),
-            ..rejection
-        },
-        rejection,
-        ReportTexts {
-            bank: "BANKNL2A",
-            ..rejection
-        },
-        ReportTexts {
-            tx: "T2",
-            ..CONFIRMATION
-        },
-        ReportTexts {
+        RequestTexts {
             reference: Some("E1"),
-            ..CONFIRMATION
+            ..REQUEST
         },
-        ReportTexts {
-            original: "pacs.008.001.08",
-            ..CONFIRMATION
-        },
-        ReportTexts {
-            receiver: Some("BANKDEFF"),
-            ..CONFIRMATION
+        RequestTexts {
+            receiver: Some("BANQFRPP"),
+            ..REQUEST
         },
     ];
-    assert_ascending(&rt, &reports(rt.alloc(), &rows)?);
+    assert_ascending(&rt, &requests(rt.alloc(), &rows)?);
     Ok(())
 }
 
@@ -202,11 +143,15 @@ fn assert_keys_ascend<K: Ord>(rt: &impl Abort, keys: &[K]) {
 fn orders_identities_by_sender_kind_and_id(rt: HostRuntime) -> Result<(), Fail> {
     let mut keys = Vec::new(rt.alloc());
     for (sender, kind, msg_id) in [
+        ("BANKDEFF", Kind::Camt029, "M9"),
+        ("BANKDEFF", Kind::Camt056, "M9"),
         ("BANKDEFF", Kind::Pacs002, "M2"),
+        ("BANKDEFF", Kind::Pacs004, "M1"),
         ("BANKDEFF", Kind::Pacs008, "M1"),
         ("BANKDEFF", Kind::Pacs008, "M10"),
         ("BANKDEFF", Kind::Pacs008, "M2"),
-        ("BANQFRPP", Kind::Pacs002, "M1"),
+        ("BANKDEFF", Kind::Pacs028, "M0"),
+        ("BANQFRPP", Kind::Camt029, "M1"),
     ] {
         keys.push(identity(sender, kind, msg_id)?)?;
     }
