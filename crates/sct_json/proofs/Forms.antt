@@ -14,14 +14,19 @@ use Rattle.sct_element.specs.Date.{written_day}
 use Rattle.sct_element.specs.Identification.{is_identification, written_identification, written_stamp, written_code}
 use Rattle.sct_element.specs.Money.{cents_of}
 use Rattle.sct_element.specs.Settles.{read_parts}
+use Rattle.sct_reason.specs.Reasons.{reason_of}
 use Rattle.sct_message.specs.declared.kinds.Kind.{Kind}
-use Rattle.sct_message.specs.declared.kinds.Kind.TheVariants.{Pacs002, Pacs008}
+use Rattle.sct_message.specs.declared.kinds.Kind.TheVariants.{Camt029, Camt056, Pacs002, Pacs004, Pacs008, Pacs028}
 use Rattle.sct_message.specs.declared.draft.Head.{Head}
 use Rattle.sct_message.specs.declared.draft.Original.{Original}
 use Rattle.sct_message.specs.declared.draft.CreditTransfer.{CreditTransfer as Transfer}
 use Rattle.sct_message.specs.declared.draft.StatusReport.{StatusReport as Report}
+use Rattle.sct_message.specs.declared.draft.StatusRequest.{StatusRequest as Request}
+use Rattle.sct_message.specs.declared.draft.CancellationRequest.{CancellationRequest as Recall}
+use Rattle.sct_message.specs.declared.draft.PaymentReturn.{PaymentReturn as Return}
+use Rattle.sct_message.specs.declared.draft.Resolution.{Resolution as Answer}
 use Rattle.sct_message.specs.declared.draft.Draft.{Draft}
-use Rattle.sct_message.specs.declared.draft.Draft.TheVariants.{CreditTransfer, StatusReport}
+use Rattle.sct_message.specs.declared.draft.Draft.TheVariants.{CreditTransfer, StatusReport, StatusRequest, CancellationRequest, PaymentReturn, Resolution}
 use Rattle.sct_message.specs.declared.rules.RuleFault.{RuleFault}
 use Rattle.sct_message.specs.Drafts.{kind_of, head_of}
 use Rattle.sct_message.specs.Kinds.{kind_text, is_name_of, kind_named}
@@ -31,8 +36,8 @@ use Rattle.sct_json.specs.declared.keys.Key.TheVariants as key
 use Rattle.sct_json.specs.declared.faults.JsonFault.{JsonFault}
 use Rattle.sct_json.specs.declared.faults.JsonFault.TheVariants as fault
 use Rattle.sct_json.specs.Keys.{key_text, is_key_of}
-use Rattle.sct_json.specs.Reading.{◌>>=◌, name_of, remittance_of, required_as, optional_as, required, optional, head_in, original_in, credit_transfer_in, status_report_in, draft_in, names_of, first_extra, kind_in, passes_unless, follows_unless, object_in}
-use Rattle.sct_json.specs.Form.{Holds, MayHold, HoldsHead, HoldsOriginal, HoldsTransfer, HoldsReport, HoldsElements, HasKeysOf, IsFormOf}
+use Rattle.sct_json.specs.Reading.{◌>>=◌, name_of, remittance_of, required_as, optional_as, required, optional, head_in, original_in, credit_transfer_in, status_report_in, status_request_in, cancellation_request_in, payment_return_in, resolution_in, draft_in, names_of, first_extra, kind_in, passes_unless, follows_unless, object_in}
+use Rattle.sct_json.specs.Form.{Holds, MayHold, HoldsHead, HoldsOriginal, HoldsTransfer, HoldsReport, HoldsRequest, HoldsRecall, HoldsReturn, HoldsAnswer, HoldsElements, HasKeysOf, IsFormOf}
 
 -- ---- one step after another
 
@@ -228,13 +233,13 @@ report_holds d m e0 =
     bind_then (head_in d) _ _ e0 (λ x1 r1 e1.
     bind_then (original_in d) _ _ e1 (λ x2 r2 e2.
     bind_then (required written_code element.BadCode key.TxSts d) _ _ e2 (λ x3 r3 e3.
-    bind_then (optional written_code element.BadCode key.Rsn d) _ _ e3 (λ x4 r4 e4.
+    bind_then (optional reason_of element.BadCode key.Rsn d) _ _ e3 (λ x4 r4 e4.
     bind_then (required written_bic element.BadBic key.DbtrAgt d) _ _ e4 (λ x5 r5 e5.
     ok_then _ _ e5 (λ same. record {
       head = head_holds d _ (r1 ∙ ap (λ (m : Report). Ok m.head) same);
       original = original_holds d _ (r2 ∙ ap (λ (m : Report). Ok m.original) same);
       status = required_holds written_code element.BadCode key.TxSts d m.status (r3 ∙ ap (λ (m : Report). Ok m.status) same);
-      reason = optional_holds written_code element.BadCode key.Rsn d m.reason (r4 ∙ ap (λ (m : Report). Ok m.reason) same);
+      reason = optional_holds reason_of element.BadCode key.Rsn d m.reason (r4 ∙ ap (λ (m : Report). Ok m.reason) same);
       debtor_agent = required_holds written_bic element.BadBic key.DbtrAgt d m.debtor_agent (r5 ∙ ap (λ (m : Report). Ok m.debtor_agent) same);
     }))))))
 
@@ -248,17 +253,160 @@ holds_report d m h =
     bind_from _ _ _ _ (holds_required _ _ _ _ _ h.debtor_agent) (
     refl)))))
 
+request_holds : (d : Data) (m : Request) → status_request_in d ≡ Ok m → HoldsRequest d m
+unfolding status_request_in
+request_holds d m e0 =
+    bind_then (head_in d) _ _ e0 (λ x1 r1 e1.
+    bind_then (original_in d) _ _ e1 (λ x2 r2 e2.
+    bind_then (optional written_identification element.BadId key.OrgnlCxlId d) _ _ e2 (λ x3 r3 e3.
+    bind_then (required written_bic element.BadBic key.DbtrAgt d) _ _ e3 (λ x4 r4 e4.
+    ok_then _ _ e4 (λ same. record {
+      head = head_holds d _ (r1 ∙ ap (λ (m : Request). Ok m.head) same);
+      original = original_holds d _ (r2 ∙ ap (λ (m : Request). Ok m.original) same);
+      cancellation_id = optional_holds written_identification element.BadId key.OrgnlCxlId d m.cancellation_id (r3 ∙ ap (λ (m : Request). Ok m.cancellation_id) same);
+      debtor_agent = required_holds written_bic element.BadBic key.DbtrAgt d m.debtor_agent (r4 ∙ ap (λ (m : Request). Ok m.debtor_agent) same);
+    })))))
+
+holds_request : (d : Data) (m : Request) → HoldsRequest d m → status_request_in d ≡ Ok m
+unfolding status_request_in
+holds_request d m h =
+    bind_from _ _ _ _ (holds_head d _ h.head) (
+    bind_from _ _ _ _ (holds_original d _ h.original) (
+    bind_from _ _ _ _ (holds_optional _ _ _ _ _ h.cancellation_id) (
+    bind_from _ _ _ _ (holds_required _ _ _ _ _ h.debtor_agent) (
+    refl))))
+
+recall_holds : (d : Data) (m : Recall) → cancellation_request_in d ≡ Ok m → HoldsRecall d m
+unfolding cancellation_request_in
+recall_holds d m e0 =
+    bind_then (head_in d) _ _ e0 (λ x1 r1 e1.
+    bind_then (required written_identification element.BadId key.CxlId d) _ _ e1 (λ x2 r2 e2.
+    bind_then (original_in d) _ _ e2 (λ x3 r3 e3.
+    bind_then (required cents_of element.BadAmount key.OrgnlIntrBkSttlmAmt d) _ _ e3 (λ x4 r4 e4.
+    bind_then (required written_code element.BadCode key.Ccy d) _ _ e4 (λ x5 r5 e5.
+    bind_then (optional written_day element.BadDay key.OrgnlIntrBkSttlmDt d) _ _ e5 (λ x6 r6 e6.
+    bind_then (required reason_of element.BadCode key.Rsn d) _ _ e6 (λ x7 r7 e7.
+    bind_then (required written_bic element.BadBic key.DbtrAgt d) _ _ e7 (λ x8 r8 e8.
+    ok_then _ _ e8 (λ same. record {
+      head = head_holds d _ (r1 ∙ ap (λ (m : Recall). Ok m.head) same);
+      cancellation_id = required_holds written_identification element.BadId key.CxlId d m.cancellation_id (r2 ∙ ap (λ (m : Recall). Ok m.cancellation_id) same);
+      original = original_holds d _ (r3 ∙ ap (λ (m : Recall). Ok m.original) same);
+      original_amount = required_holds cents_of element.BadAmount key.OrgnlIntrBkSttlmAmt d m.original_amount (r4 ∙ ap (λ (m : Recall). Ok m.original_amount) same);
+      currency = required_holds written_code element.BadCode key.Ccy d m.currency (r5 ∙ ap (λ (m : Recall). Ok m.currency) same);
+      original_settlement_date = optional_holds written_day element.BadDay key.OrgnlIntrBkSttlmDt d m.original_settlement_date (r6 ∙ ap (λ (m : Recall). Ok m.original_settlement_date) same);
+      reason = required_holds reason_of element.BadCode key.Rsn d m.reason (r7 ∙ ap (λ (m : Recall). Ok m.reason) same);
+      debtor_agent = required_holds written_bic element.BadBic key.DbtrAgt d m.debtor_agent (r8 ∙ ap (λ (m : Recall). Ok m.debtor_agent) same);
+    })))))))))
+
+holds_recall : (d : Data) (m : Recall) → HoldsRecall d m → cancellation_request_in d ≡ Ok m
+unfolding cancellation_request_in
+holds_recall d m h =
+    bind_from _ _ _ _ (holds_head d _ h.head) (
+    bind_from _ _ _ _ (holds_required _ _ _ _ _ h.cancellation_id) (
+    bind_from _ _ _ _ (holds_original d _ h.original) (
+    bind_from _ _ _ _ (holds_required _ _ _ _ _ h.original_amount) (
+    bind_from _ _ _ _ (holds_required _ _ _ _ _ h.currency) (
+    bind_from _ _ _ _ (holds_optional _ _ _ _ _ h.original_settlement_date) (
+    bind_from _ _ _ _ (holds_required _ _ _ _ _ h.reason) (
+    bind_from _ _ _ _ (holds_required _ _ _ _ _ h.debtor_agent) (
+    refl))))))))
+
+return_holds : (d : Data) (m : Return) → payment_return_in d ≡ Ok m → HoldsReturn d m
+unfolding payment_return_in
+return_holds d m e0 =
+    bind_then (head_in d) _ _ e0 (λ x1 r1 e1.
+    bind_then (required written_identification element.BadId key.RtrId d) _ _ e1 (λ x2 r2 e2.
+    bind_then (required written_identification element.BadId key.OrgnlCxlId d) _ _ e2 (λ x3 r3 e3.
+    bind_then (original_in d) _ _ e3 (λ x4 r4 e4.
+    bind_then (required cents_of element.BadAmount key.OrgnlIntrBkSttlmAmt d) _ _ e4 (λ x5 r5 e5.
+    bind_then (required cents_of element.BadAmount key.RtrdIntrBkSttlmAmt d) _ _ e5 (λ x6 r6 e6.
+    bind_then (required written_code element.BadCode key.Ccy d) _ _ e6 (λ x7 r7 e7.
+    bind_then (required written_day element.BadDay key.IntrBkSttlmDt d) _ _ e7 (λ x8 r8 e8.
+    bind_then (required reason_of element.BadCode key.Rsn d) _ _ e8 (λ x9 r9 e9.
+    bind_then (required written_bic element.BadBic key.DbtrAgt d) _ _ e9 (λ x10 r10 e10.
+    ok_then _ _ e10 (λ same. record {
+      head = head_holds d _ (r1 ∙ ap (λ (m : Return). Ok m.head) same);
+      return_id = required_holds written_identification element.BadId key.RtrId d m.return_id (r2 ∙ ap (λ (m : Return). Ok m.return_id) same);
+      cancellation_id = required_holds written_identification element.BadId key.OrgnlCxlId d m.cancellation_id (r3 ∙ ap (λ (m : Return). Ok m.cancellation_id) same);
+      original = original_holds d _ (r4 ∙ ap (λ (m : Return). Ok m.original) same);
+      original_amount = required_holds cents_of element.BadAmount key.OrgnlIntrBkSttlmAmt d m.original_amount (r5 ∙ ap (λ (m : Return). Ok m.original_amount) same);
+      returned_amount = required_holds cents_of element.BadAmount key.RtrdIntrBkSttlmAmt d m.returned_amount (r6 ∙ ap (λ (m : Return). Ok m.returned_amount) same);
+      currency = required_holds written_code element.BadCode key.Ccy d m.currency (r7 ∙ ap (λ (m : Return). Ok m.currency) same);
+      settlement_date = required_holds written_day element.BadDay key.IntrBkSttlmDt d m.settlement_date (r8 ∙ ap (λ (m : Return). Ok m.settlement_date) same);
+      reason = required_holds reason_of element.BadCode key.Rsn d m.reason (r9 ∙ ap (λ (m : Return). Ok m.reason) same);
+      debtor_agent = required_holds written_bic element.BadBic key.DbtrAgt d m.debtor_agent (r10 ∙ ap (λ (m : Return). Ok m.debtor_agent) same);
+    })))))))))))
+
+holds_return : (d : Data) (m : Return) → HoldsReturn d m → payment_return_in d ≡ Ok m
+unfolding payment_return_in
+holds_return d m h =
+    bind_from _ _ _ _ (holds_head d _ h.head) (
+    bind_from _ _ _ _ (holds_required _ _ _ _ _ h.return_id) (
+    bind_from _ _ _ _ (holds_required _ _ _ _ _ h.cancellation_id) (
+    bind_from _ _ _ _ (holds_original d _ h.original) (
+    bind_from _ _ _ _ (holds_required _ _ _ _ _ h.original_amount) (
+    bind_from _ _ _ _ (holds_required _ _ _ _ _ h.returned_amount) (
+    bind_from _ _ _ _ (holds_required _ _ _ _ _ h.currency) (
+    bind_from _ _ _ _ (holds_required _ _ _ _ _ h.settlement_date) (
+    bind_from _ _ _ _ (holds_required _ _ _ _ _ h.reason) (
+    bind_from _ _ _ _ (holds_required _ _ _ _ _ h.debtor_agent) (
+    refl))))))))))
+
+answer_holds : (d : Data) (m : Answer) → resolution_in d ≡ Ok m → HoldsAnswer d m
+unfolding resolution_in
+answer_holds d m e0 =
+    bind_then (head_in d) _ _ e0 (λ x1 r1 e1.
+    bind_then (required written_identification element.BadId key.CxlStsId d) _ _ e1 (λ x2 r2 e2.
+    bind_then (required written_identification element.BadId key.OrgnlCxlId d) _ _ e2 (λ x3 r3 e3.
+    bind_then (original_in d) _ _ e3 (λ x4 r4 e4.
+    bind_then (required written_code element.BadCode key.Conf d) _ _ e4 (λ x5 r5 e5.
+    bind_then (required reason_of element.BadCode key.Rsn d) _ _ e5 (λ x6 r6 e6.
+    bind_then (required written_bic element.BadBic key.DbtrAgt d) _ _ e6 (λ x7 r7 e7.
+    ok_then _ _ e7 (λ same. record {
+      head = head_holds d _ (r1 ∙ ap (λ (m : Answer). Ok m.head) same);
+      resolution_id = required_holds written_identification element.BadId key.CxlStsId d m.resolution_id (r2 ∙ ap (λ (m : Answer). Ok m.resolution_id) same);
+      cancellation_id = required_holds written_identification element.BadId key.OrgnlCxlId d m.cancellation_id (r3 ∙ ap (λ (m : Answer). Ok m.cancellation_id) same);
+      original = original_holds d _ (r4 ∙ ap (λ (m : Answer). Ok m.original) same);
+      confirmation = required_holds written_code element.BadCode key.Conf d m.confirmation (r5 ∙ ap (λ (m : Answer). Ok m.confirmation) same);
+      reason = required_holds reason_of element.BadCode key.Rsn d m.reason (r6 ∙ ap (λ (m : Answer). Ok m.reason) same);
+      debtor_agent = required_holds written_bic element.BadBic key.DbtrAgt d m.debtor_agent (r7 ∙ ap (λ (m : Answer). Ok m.debtor_agent) same);
+    }))))))))
+
+holds_answer : (d : Data) (m : Answer) → HoldsAnswer d m → resolution_in d ≡ Ok m
+unfolding resolution_in
+holds_answer d m h =
+    bind_from _ _ _ _ (holds_head d _ h.head) (
+    bind_from _ _ _ _ (holds_required _ _ _ _ _ h.resolution_id) (
+    bind_from _ _ _ _ (holds_required _ _ _ _ _ h.cancellation_id) (
+    bind_from _ _ _ _ (holds_original d _ h.original) (
+    bind_from _ _ _ _ (holds_required _ _ _ _ _ h.confirmation) (
+    bind_from _ _ _ _ (holds_required _ _ _ _ _ h.reason) (
+    bind_from _ _ _ _ (holds_required _ _ _ _ _ h.debtor_agent) (
+    refl)))))))
+
 draft_holds : (kind : Kind) (d : Data) (m : Draft) → draft_in kind d ≡ Ok m → (kind ≡ kind_of m) × HoldsElements d m
-draft_holds Pacs008 d m e = bind_then (credit_transfer_in d) _ _ e (λ t r e1. subst (λ (n : Draft). (Pacs008 ≡ kind_of n) × HoldsElements d n) (ok_same _ _ e1) (refl, transfer_holds d t r))
+draft_holds Camt029 d m e = bind_then (resolution_in d) _ _ e (λ t r e1. subst (λ (n : Draft). (Camt029 ≡ kind_of n) × HoldsElements d n) (ok_same _ _ e1) (refl, answer_holds d t r))
+draft_holds Camt056 d m e = bind_then (cancellation_request_in d) _ _ e (λ t r e1. subst (λ (n : Draft). (Camt056 ≡ kind_of n) × HoldsElements d n) (ok_same _ _ e1) (refl, recall_holds d t r))
 draft_holds Pacs002 d m e = bind_then (status_report_in d) _ _ e (λ t r e1. subst (λ (n : Draft). (Pacs002 ≡ kind_of n) × HoldsElements d n) (ok_same _ _ e1) (refl, report_holds d t r))
+draft_holds Pacs004 d m e = bind_then (payment_return_in d) _ _ e (λ t r e1. subst (λ (n : Draft). (Pacs004 ≡ kind_of n) × HoldsElements d n) (ok_same _ _ e1) (refl, return_holds d t r))
+draft_holds Pacs008 d m e = bind_then (credit_transfer_in d) _ _ e (λ t r e1. subst (λ (n : Draft). (Pacs008 ≡ kind_of n) × HoldsElements d n) (ok_same _ _ e1) (refl, transfer_holds d t r))
+draft_holds Pacs028 d m e = bind_then (status_request_in d) _ _ e (λ t r e1. subst (λ (n : Draft). (Pacs028 ≡ kind_of n) × HoldsElements d n) (ok_same _ _ e1) (refl, request_holds d t r))
 
 holds_draft : (d : Data) (m : Draft) → HoldsElements d m → draft_in (kind_of m) d ≡ Ok m
 holds_draft d (CreditTransfer m) h = bind_from _ _ _ _ (holds_transfer d m h) refl
 holds_draft d (StatusReport m) h = bind_from _ _ _ _ (holds_report d m h) refl
+holds_draft d (StatusRequest m) h = bind_from _ _ _ _ (holds_request d m h) refl
+holds_draft d (CancellationRequest m) h = bind_from _ _ _ _ (holds_recall d m h) refl
+holds_draft d (PaymentReturn m) h = bind_from _ _ _ _ (holds_return d m h) refl
+holds_draft d (Resolution m) h = bind_from _ _ _ _ (holds_answer d m h) refl
 
 holds_its_head : (d : Data) (m : Draft) → HoldsElements d m → HoldsHead d (head_of m)
 holds_its_head d (CreditTransfer m) h = h.head
 holds_its_head d (StatusReport m) h = h.head
+holds_its_head d (StatusRequest m) h = h.head
+holds_its_head d (CancellationRequest m) h = h.head
+holds_its_head d (PaymentReturn m) h = h.head
+holds_its_head d (Resolution m) h = h.head
 
 -- ---- the kind
 
@@ -267,8 +415,12 @@ unfolding written_identification
 kept_as_read s t e = (read_parts (is_identification s) s t e).1
 
 named_itself : (k : Kind) → kind_named (kind_text k) ≡ Some k
+named_itself Camt029 = refl
+named_itself Camt056 = refl
 named_itself Pacs002 = refl
+named_itself Pacs004 = refl
 named_itself Pacs008 = refl
+named_itself Pacs028 = refl
 
 one_kind : (j k : Kind) → kind_text j ≡ kind_text k → Some j ≡ Some k
 one_kind j k e = sym (named_itself j) ∙ ap kind_named e ∙ named_itself k
@@ -280,12 +432,23 @@ some_name : (b : Bool) (j k : Kind) (s : List ℕ) (later : Option Kind) → is_
 some_name true j k s later named e others = one_kind j k (sym (text_of_name j s named) ∙ text_of_name k s e)
 some_name false j k s later named e others = others refl
 
-no_kind_left : (k : Kind) (s : List ℕ) → is_name_of Pacs002 s ≡ false → is_name_of Pacs008 s ≡ false → is_name_of k s ≡ true → None ≡ Some k
-no_kind_left Pacs002 s a b e = absurd (false≢true (sym a ∙ e))
-no_kind_left Pacs008 s a b e = absurd (false≢true (sym b ∙ e))
+no_kind_left : (k : Kind) (s : List ℕ) → is_name_of Camt029 s ≡ false → is_name_of Camt056 s ≡ false → is_name_of Pacs002 s ≡ false → is_name_of Pacs004 s ≡ false → is_name_of Pacs008 s ≡ false → is_name_of Pacs028 s ≡ false → is_name_of k s ≡ true → None ≡ Some k
+no_kind_left Camt029 s a b c d g h e = absurd (false≢true (sym a ∙ e))
+no_kind_left Camt056 s a b c d g h e = absurd (false≢true (sym b ∙ e))
+no_kind_left Pacs002 s a b c d g h e = absurd (false≢true (sym c ∙ e))
+no_kind_left Pacs004 s a b c d g h e = absurd (false≢true (sym d ∙ e))
+no_kind_left Pacs008 s a b c d g h e = absurd (false≢true (sym g ∙ e))
+no_kind_left Pacs028 s a b c d g h e = absurd (false≢true (sym h ∙ e))
 
 kind_of_name : (k : Kind) (s : List ℕ) → is_name_of k s ≡ true → kind_named s ≡ Some k
-kind_of_name k s e = some_name _ Pacs002 k s _ refl e (λ a. some_name _ Pacs008 k s _ refl e (λ b. no_kind_left k s a b e))
+kind_of_name k s e =
+    some_name _ Camt029 k s _ refl e (λ a.
+    some_name _ Camt056 k s _ refl e (λ b.
+    some_name _ Pacs002 k s _ refl e (λ c.
+    some_name _ Pacs004 k s _ refl e (λ d.
+    some_name _ Pacs008 k s _ refl e (λ g.
+    some_name _ Pacs028 k s _ refl e (λ h.
+    no_kind_left k s a b c d g h e))))))
 
 kind_held : (d : Data) (m : Draft) → HoldsHead d (head_of m) → is_name_of (kind_of m) (head_of m).message_name ≡ true → kind_in d ≡ Some (kind_of m)
 kind_held d m h named =

@@ -1,5 +1,5 @@
 -- What is written is a form of its message.
-use Rattle.std.proofs.Common.{◌≡◌, ◌∙◌, ap, sym, subst, refl, ℕ, Bool, true, false, cond, List, [], ◌∷◌, Option, Some, None, Ok, Ordering, Less, Equal, Greater, nat_cmp}
+use Rattle.std.proofs.Common.{◌≡◌, ◌∙◌, ap, sym, subst, refl, ℕ, Bool, true, false, cond, List, [], ◌∷◌, Option, Some, None, option_map, Ok, Ordering, Less, Equal, Greater, nat_cmp}
 use Rattle.std.specs.List.{list_all}
 use Rattle.std.specs.Ordering.{match_ordering}
 use Rattle.std.specs.Cmp.Lexicographic.{slice_cmp, bytes_decides}
@@ -12,13 +12,19 @@ use Rattle.sct_element.specs.Bank.{written_bic}
 use Rattle.sct_element.specs.Date.{written_day}
 use Rattle.sct_element.specs.Identification.{written_identification, written_stamp, written_code}
 use Rattle.sct_element.specs.Money.{amount_text, cents_of}
-use Rattle.sct_message.specs.declared.kinds.Kind.TheVariants.{Pacs002, Pacs008}
+use Rattle.sct_reason.specs.Codes.{reason_text}
+use Rattle.sct_reason.specs.Reasons.{reason_of}
+use Rattle.sct_message.specs.declared.kinds.Kind.TheVariants.{Camt029, Camt056, Pacs002, Pacs004, Pacs008, Pacs028}
 use Rattle.sct_message.specs.declared.draft.Head.{Head}
 use Rattle.sct_message.specs.declared.draft.Original.{Original}
 use Rattle.sct_message.specs.declared.draft.CreditTransfer.{CreditTransfer as Transfer}
 use Rattle.sct_message.specs.declared.draft.StatusReport.{StatusReport as Report}
+use Rattle.sct_message.specs.declared.draft.StatusRequest.{StatusRequest as Request}
+use Rattle.sct_message.specs.declared.draft.CancellationRequest.{CancellationRequest as Recall}
+use Rattle.sct_message.specs.declared.draft.PaymentReturn.{PaymentReturn as Return}
+use Rattle.sct_message.specs.declared.draft.Resolution.{Resolution as Answer}
 use Rattle.sct_message.specs.declared.draft.Draft.{Draft}
-use Rattle.sct_message.specs.declared.draft.Draft.TheVariants.{CreditTransfer, StatusReport}
+use Rattle.sct_message.specs.declared.draft.Draft.TheVariants.{CreditTransfer, StatusReport, StatusRequest, CancellationRequest, PaymentReturn, Resolution}
 use Rattle.sct_message.specs.Drafts.{kind_of}
 use Rattle.sct_message.specs.Kinds.{is_text}
 use Rattle.sct_message.specs.Rules.{first_broken_rule}
@@ -26,8 +32,8 @@ use Rattle.sct_json.specs.declared.keys.Key.{Key}
 use Rattle.sct_json.specs.declared.keys.Key.TheVariants as key
 use Rattle.sct_json.specs.Keys.{key_text, is_among, is_key_of}
 use Rattle.sct_json.specs.Reading.{name_of, remittance_of, names_of, object_in}
-use Rattle.sct_json.specs.Form.{Holds, MayHold, HoldsHead, HoldsOriginal, HoldsTransfer, HoldsReport, HoldsElements, HasKeysOf}
-use Rattle.sct_json.specs.Writing.{Row, with_text, with_rows, with_elements, written_object, head_rows, original_rows, transfer_rows, report_rows, with_head, with_original, ReadsBack, MayReadBack, HeadReadsBack, OriginalReadsBack, TransferReadsBack, ReportReadsBack, ElementsReadBack}
+use Rattle.sct_json.specs.Form.{Holds, MayHold, HoldsHead, HoldsOriginal, HoldsTransfer, HoldsReport, HoldsRequest, HoldsRecall, HoldsReturn, HoldsAnswer, HoldsElements, HasKeysOf}
+use Rattle.sct_json.specs.Writing.{Row, with_text, with_rows, with_elements, written_object, head_rows, original_rows, transfer_rows, report_rows, request_rows, recall_rows, return_rows, answer_rows, with_head, with_original, ReadsBack, MayReadBack, HeadReadsBack, OriginalReadsBack, TransferReadsBack, ReportReadsBack, RequestReadsBack, RecallReadsBack, ReturnReadsBack, AnswerReadsBack, ElementsReadBack}
 use Rattle.sct_json.proofs.Forms.{held_is_read}
 
 -- ---- what stands at a key once rows were put
@@ -60,6 +66,10 @@ holds_text reads written k d x back at = (written x, at, back)
 may_hold_text : (reads : List ℕ → Option (List ℕ)) (k : Key) (d : Data) (x : Option (List ℕ)) → MayReadBack reads (λ s. s) x → get (key_text k) d ≡ text_or None x → MayHold reads k d x
 may_hold_text reads k d None back at = at
 may_hold_text reads k d (Some s) back at = (s, at, back)
+
+may_hold_written : {X : Type 0} (reads : List ℕ → Option X) (written : X → List ℕ) (k : Key) (d : Data) (x : Option X) → MayReadBack reads written x → get (key_text k) d ≡ text_or None (option_map written x) → MayHold reads k d x
+may_hold_written reads written k d None back at = at
+may_hold_written reads written k d (Some y) back at = (written y, at, back)
 
 -- ---- the keys of what is written
 
@@ -101,9 +111,49 @@ report_rows_in_report : (m : Report) → are_rows_of (is_key_of Pacs002) (report
 unfolding is_among
 report_rows_in_report m = refl
 
+head_rows_in_request : (m : Head) → are_rows_of (is_key_of Pacs028) (head_rows m) ≡ true
+unfolding is_among
+head_rows_in_request m = refl
+
+original_rows_in_request : (m : Original) → are_rows_of (is_key_of Pacs028) (original_rows m) ≡ true
+unfolding is_among
+original_rows_in_request m = refl
+
+request_rows_in_request : (m : Request) → are_rows_of (is_key_of Pacs028) (request_rows m) ≡ true
+unfolding is_among
+request_rows_in_request m = refl
+
+head_rows_in_recall : (m : Head) → are_rows_of (is_key_of Camt056) (head_rows m) ≡ true
+unfolding is_among
+head_rows_in_recall m = refl
+
+recall_rows_in_recall : (m : Recall) → are_rows_of (is_key_of Camt056) (recall_rows m) ≡ true
+unfolding is_among
+recall_rows_in_recall m = refl
+
+head_rows_in_return : (m : Head) → are_rows_of (is_key_of Pacs004) (head_rows m) ≡ true
+unfolding is_among
+head_rows_in_return m = refl
+
+return_rows_in_return : (m : Return) → are_rows_of (is_key_of Pacs004) (return_rows m) ≡ true
+unfolding is_among
+return_rows_in_return m = refl
+
+head_rows_in_answer : (m : Head) → are_rows_of (is_key_of Camt029) (head_rows m) ≡ true
+unfolding is_among
+head_rows_in_answer m = refl
+
+answer_rows_in_answer : (m : Answer) → are_rows_of (is_key_of Camt029) (answer_rows m) ≡ true
+unfolding is_among
+answer_rows_in_answer m = refl
+
 keys_written : (m : Draft) → HasKeysOf (kind_of m) (written_object m)
 keys_written (CreditTransfer m) = (with_elements (CreditTransfer m) no_members, refl, names_with (is_key_of Pacs008) (transfer_rows m) (with_head m.head no_members) (transfer_rows_in_transfer m) (names_with (is_key_of Pacs008) (head_rows m.head) no_members (head_rows_in_transfer m.head) refl))
 keys_written (StatusReport m) = (with_elements (StatusReport m) no_members, refl, names_with (is_key_of Pacs002) (report_rows m) (with_original m.original (with_head m.head no_members)) (report_rows_in_report m) (names_with (is_key_of Pacs002) (original_rows m.original) (with_head m.head no_members) (original_rows_in_report m.original) (names_with (is_key_of Pacs002) (head_rows m.head) no_members (head_rows_in_report m.head) refl)))
+keys_written (StatusRequest m) = (with_elements (StatusRequest m) no_members, refl, names_with (is_key_of Pacs028) (request_rows m) (with_original m.original (with_head m.head no_members)) (request_rows_in_request m) (names_with (is_key_of Pacs028) (original_rows m.original) (with_head m.head no_members) (original_rows_in_request m.original) (names_with (is_key_of Pacs028) (head_rows m.head) no_members (head_rows_in_request m.head) refl)))
+keys_written (CancellationRequest m) = (with_elements (CancellationRequest m) no_members, refl, names_with (is_key_of Camt056) (recall_rows m) (with_head m.head no_members) (recall_rows_in_recall m) (names_with (is_key_of Camt056) (head_rows m.head) no_members (head_rows_in_recall m.head) refl))
+keys_written (PaymentReturn m) = (with_elements (PaymentReturn m) no_members, refl, names_with (is_key_of Pacs004) (return_rows m) (with_head m.head no_members) (return_rows_in_return m) (names_with (is_key_of Pacs004) (head_rows m.head) no_members (head_rows_in_return m.head) refl))
+keys_written (Resolution m) = (with_elements (Resolution m) no_members, refl, names_with (is_key_of Camt029) (answer_rows m) (with_head m.head no_members) (answer_rows_in_answer m) (names_with (is_key_of Camt029) (head_rows m.head) no_members (head_rows_in_answer m.head) refl))
 
 -- ---- the elements of what is written
 
@@ -168,13 +218,74 @@ report_written m back = let d : Data = written_object (StatusReport m) in record
   head = head_written d m.head back.head (in_report m key.MsgNmId) (in_report m key.MsgId) (in_report m key.CreDtTm) (in_report m key.InstgAgt) (in_report m key.InstdAgt);
   original = original_written d m.original back.original (in_report m key.OrgnlMsgId) (in_report m key.OrgnlMsgNmId) (in_report m key.OrgnlEndToEndId) (in_report m key.OrgnlTxId);
   status = holds_text written_code (λ s. s) key.TxSts d m.status back.status (in_report m key.TxSts);
-  reason = may_hold_text written_code key.Rsn d m.reason back.reason (in_report m key.Rsn);
+  reason = may_hold_written reason_of reason_text key.Rsn d m.reason back.reason (in_report m key.Rsn);
   debtor_agent = holds_text written_bic (λ s. s) key.DbtrAgt d m.debtor_agent back.debtor_agent (in_report m key.DbtrAgt);
+}
+
+in_request : (m : Request) (k : Key) → get (key_text k) (written_object (StatusRequest m)) ≡ found (key_text k) (request_rows m) (found (key_text k) (original_rows m.original) (found (key_text k) (head_rows m.head) None))
+in_request m k = get_with (key_text k) (request_rows m) (with_original m.original (with_head m.head no_members)) ∙ ap (found (key_text k) (request_rows m)) (get_with (key_text k) (original_rows m.original) (with_head m.head no_members) ∙ ap (found (key_text k) (original_rows m.original)) (get_with (key_text k) (head_rows m.head) no_members))
+
+request_written : (m : Request) → RequestReadsBack m → HoldsRequest (written_object (StatusRequest m)) m
+request_written m back = let d : Data = written_object (StatusRequest m) in record {
+  head = head_written d m.head back.head (in_request m key.MsgNmId) (in_request m key.MsgId) (in_request m key.CreDtTm) (in_request m key.InstgAgt) (in_request m key.InstdAgt);
+  original = original_written d m.original back.original (in_request m key.OrgnlMsgId) (in_request m key.OrgnlMsgNmId) (in_request m key.OrgnlEndToEndId) (in_request m key.OrgnlTxId);
+  cancellation_id = may_hold_text written_identification key.OrgnlCxlId d m.cancellation_id back.cancellation_id (in_request m key.OrgnlCxlId);
+  debtor_agent = holds_text written_bic (λ s. s) key.DbtrAgt d m.debtor_agent back.debtor_agent (in_request m key.DbtrAgt);
+}
+
+in_recall : (m : Recall) (k : Key) → get (key_text k) (written_object (CancellationRequest m)) ≡ found (key_text k) (recall_rows m) (found (key_text k) (head_rows m.head) None)
+in_recall m k = get_with (key_text k) (recall_rows m) (with_head m.head no_members) ∙ ap (found (key_text k) (recall_rows m)) (get_with (key_text k) (head_rows m.head) no_members)
+
+recall_written : (m : Recall) → RecallReadsBack m → HoldsRecall (written_object (CancellationRequest m)) m
+recall_written m back = let d : Data = written_object (CancellationRequest m) in record {
+  head = head_written d m.head back.head (in_recall m key.MsgNmId) (in_recall m key.MsgId) (in_recall m key.CreDtTm) (in_recall m key.InstgAgt) (in_recall m key.InstdAgt);
+  cancellation_id = holds_text written_identification (λ s. s) key.CxlId d m.cancellation_id back.cancellation_id (in_recall m key.CxlId);
+  original = original_written d m.original back.original (in_recall m key.OrgnlMsgId) (in_recall m key.OrgnlMsgNmId) (in_recall m key.OrgnlEndToEndId) (in_recall m key.OrgnlTxId);
+  original_amount = holds_text cents_of amount_text key.OrgnlIntrBkSttlmAmt d m.original_amount back.original_amount (in_recall m key.OrgnlIntrBkSttlmAmt);
+  currency = holds_text written_code (λ s. s) key.Ccy d m.currency back.currency (in_recall m key.Ccy);
+  original_settlement_date = may_hold_text written_day key.OrgnlIntrBkSttlmDt d m.original_settlement_date back.original_settlement_date (in_recall m key.OrgnlIntrBkSttlmDt);
+  reason = holds_text reason_of reason_text key.Rsn d m.reason back.reason (in_recall m key.Rsn);
+  debtor_agent = holds_text written_bic (λ s. s) key.DbtrAgt d m.debtor_agent back.debtor_agent (in_recall m key.DbtrAgt);
+}
+
+in_return : (m : Return) (k : Key) → get (key_text k) (written_object (PaymentReturn m)) ≡ found (key_text k) (return_rows m) (found (key_text k) (head_rows m.head) None)
+in_return m k = get_with (key_text k) (return_rows m) (with_head m.head no_members) ∙ ap (found (key_text k) (return_rows m)) (get_with (key_text k) (head_rows m.head) no_members)
+
+return_written : (m : Return) → ReturnReadsBack m → HoldsReturn (written_object (PaymentReturn m)) m
+return_written m back = let d : Data = written_object (PaymentReturn m) in record {
+  head = head_written d m.head back.head (in_return m key.MsgNmId) (in_return m key.MsgId) (in_return m key.CreDtTm) (in_return m key.InstgAgt) (in_return m key.InstdAgt);
+  return_id = holds_text written_identification (λ s. s) key.RtrId d m.return_id back.return_id (in_return m key.RtrId);
+  cancellation_id = holds_text written_identification (λ s. s) key.OrgnlCxlId d m.cancellation_id back.cancellation_id (in_return m key.OrgnlCxlId);
+  original = original_written d m.original back.original (in_return m key.OrgnlMsgId) (in_return m key.OrgnlMsgNmId) (in_return m key.OrgnlEndToEndId) (in_return m key.OrgnlTxId);
+  original_amount = holds_text cents_of amount_text key.OrgnlIntrBkSttlmAmt d m.original_amount back.original_amount (in_return m key.OrgnlIntrBkSttlmAmt);
+  returned_amount = holds_text cents_of amount_text key.RtrdIntrBkSttlmAmt d m.returned_amount back.returned_amount (in_return m key.RtrdIntrBkSttlmAmt);
+  currency = holds_text written_code (λ s. s) key.Ccy d m.currency back.currency (in_return m key.Ccy);
+  settlement_date = holds_text written_day (λ s. s) key.IntrBkSttlmDt d m.settlement_date back.settlement_date (in_return m key.IntrBkSttlmDt);
+  reason = holds_text reason_of reason_text key.Rsn d m.reason back.reason (in_return m key.Rsn);
+  debtor_agent = holds_text written_bic (λ s. s) key.DbtrAgt d m.debtor_agent back.debtor_agent (in_return m key.DbtrAgt);
+}
+
+in_answer : (m : Answer) (k : Key) → get (key_text k) (written_object (Resolution m)) ≡ found (key_text k) (answer_rows m) (found (key_text k) (head_rows m.head) None)
+in_answer m k = get_with (key_text k) (answer_rows m) (with_head m.head no_members) ∙ ap (found (key_text k) (answer_rows m)) (get_with (key_text k) (head_rows m.head) no_members)
+
+answer_written : (m : Answer) → AnswerReadsBack m → HoldsAnswer (written_object (Resolution m)) m
+answer_written m back = let d : Data = written_object (Resolution m) in record {
+  head = head_written d m.head back.head (in_answer m key.MsgNmId) (in_answer m key.MsgId) (in_answer m key.CreDtTm) (in_answer m key.InstgAgt) (in_answer m key.InstdAgt);
+  resolution_id = holds_text written_identification (λ s. s) key.CxlStsId d m.resolution_id back.resolution_id (in_answer m key.CxlStsId);
+  cancellation_id = holds_text written_identification (λ s. s) key.OrgnlCxlId d m.cancellation_id back.cancellation_id (in_answer m key.OrgnlCxlId);
+  original = original_written d m.original back.original (in_answer m key.OrgnlMsgId) (in_answer m key.OrgnlMsgNmId) (in_answer m key.OrgnlEndToEndId) (in_answer m key.OrgnlTxId);
+  confirmation = holds_text written_code (λ s. s) key.Conf d m.confirmation back.confirmation (in_answer m key.Conf);
+  reason = holds_text reason_of reason_text key.Rsn d m.reason back.reason (in_answer m key.Rsn);
+  debtor_agent = holds_text written_bic (λ s. s) key.DbtrAgt d m.debtor_agent back.debtor_agent (in_answer m key.DbtrAgt);
 }
 
 elements_written : (m : Draft) → ElementsReadBack m → HoldsElements (written_object m) m
 elements_written (CreditTransfer m) back = transfer_written m back
 elements_written (StatusReport m) back = report_written m back
+elements_written (StatusRequest m) back = request_written m back
+elements_written (CancellationRequest m) back = recall_written m back
+elements_written (PaymentReturn m) back = return_written m back
+elements_written (Resolution m) back = answer_written m back
 
 pub written_is_read : (m : Draft) → ElementsReadBack m → first_broken_rule m ≡ None → object_in (written_object m) ≡ Ok m
 written_is_read m back rules = held_is_read (written_object m) m (keys_written m) (elements_written m back) rules

@@ -9,13 +9,18 @@ use Rattle.sct_element.specs.Bank.{written_bic}
 use Rattle.sct_element.specs.Date.{written_day}
 use Rattle.sct_element.specs.Identification.{written_identification, written_stamp, written_code}
 use Rattle.sct_element.specs.Money.{cents_of}
+use Rattle.sct_reason.specs.Reasons.{reason_of}
 use Rattle.sct_message.specs.declared.kinds.Kind.{Kind}
 use Rattle.sct_message.specs.declared.draft.Head.{Head}
 use Rattle.sct_message.specs.declared.draft.Original.{Original}
 use Rattle.sct_message.specs.declared.draft.CreditTransfer.{CreditTransfer as Transfer}
 use Rattle.sct_message.specs.declared.draft.StatusReport.{StatusReport as Report}
+use Rattle.sct_message.specs.declared.draft.StatusRequest.{StatusRequest as Request}
+use Rattle.sct_message.specs.declared.draft.CancellationRequest.{CancellationRequest as Recall}
+use Rattle.sct_message.specs.declared.draft.PaymentReturn.{PaymentReturn as Return}
+use Rattle.sct_message.specs.declared.draft.Resolution.{Resolution as Answer}
 use Rattle.sct_message.specs.declared.draft.Draft.{Draft}
-use Rattle.sct_message.specs.declared.draft.Draft.TheVariants.{CreditTransfer, StatusReport}
+use Rattle.sct_message.specs.declared.draft.Draft.TheVariants.{CreditTransfer, StatusReport, StatusRequest, CancellationRequest, PaymentReturn, Resolution}
 use Rattle.sct_message.specs.Drafts.{kind_of}
 use Rattle.sct_message.specs.Rules.{FollowsRules}
 use Rattle.sct_json.specs.declared.keys.Key.{Key}
@@ -73,12 +78,57 @@ pub record HoldsReport (d : Data) (m : Report) : Type 0 where
   pub head : HoldsHead d m.head
   pub original : HoldsOriginal d m.original
   pub status : Holds written_code key.TxSts d m.status
-  pub reason : MayHold written_code key.Rsn d m.reason
+  pub reason : MayHold reason_of key.Rsn d m.reason
+  pub debtor_agent : Holds written_bic key.DbtrAgt d m.debtor_agent
+
+-- The object holds the elements of a pacs.028.
+pub record HoldsRequest (d : Data) (m : Request) : Type 0 where
+  pub head : HoldsHead d m.head
+  pub original : HoldsOriginal d m.original
+  pub cancellation_id : MayHold written_identification key.OrgnlCxlId d m.cancellation_id
+  pub debtor_agent : Holds written_bic key.DbtrAgt d m.debtor_agent
+
+-- The object holds the elements of a camt.056.
+pub record HoldsRecall (d : Data) (m : Recall) : Type 0 where
+  pub head : HoldsHead d m.head
+  pub cancellation_id : Holds written_identification key.CxlId d m.cancellation_id
+  pub original : HoldsOriginal d m.original
+  pub original_amount : Holds cents_of key.OrgnlIntrBkSttlmAmt d m.original_amount
+  pub currency : Holds written_code key.Ccy d m.currency
+  pub original_settlement_date : MayHold written_day key.OrgnlIntrBkSttlmDt d m.original_settlement_date
+  pub reason : Holds reason_of key.Rsn d m.reason
+  pub debtor_agent : Holds written_bic key.DbtrAgt d m.debtor_agent
+
+-- The object holds the elements of a pacs.004.
+pub record HoldsReturn (d : Data) (m : Return) : Type 0 where
+  pub head : HoldsHead d m.head
+  pub return_id : Holds written_identification key.RtrId d m.return_id
+  pub cancellation_id : Holds written_identification key.OrgnlCxlId d m.cancellation_id
+  pub original : HoldsOriginal d m.original
+  pub original_amount : Holds cents_of key.OrgnlIntrBkSttlmAmt d m.original_amount
+  pub returned_amount : Holds cents_of key.RtrdIntrBkSttlmAmt d m.returned_amount
+  pub currency : Holds written_code key.Ccy d m.currency
+  pub settlement_date : Holds written_day key.IntrBkSttlmDt d m.settlement_date
+  pub reason : Holds reason_of key.Rsn d m.reason
+  pub debtor_agent : Holds written_bic key.DbtrAgt d m.debtor_agent
+
+-- The object holds the elements of a camt.029.
+pub record HoldsAnswer (d : Data) (m : Answer) : Type 0 where
+  pub head : HoldsHead d m.head
+  pub resolution_id : Holds written_identification key.CxlStsId d m.resolution_id
+  pub cancellation_id : Holds written_identification key.OrgnlCxlId d m.cancellation_id
+  pub original : HoldsOriginal d m.original
+  pub confirmation : Holds written_code key.Conf d m.confirmation
+  pub reason : Holds reason_of key.Rsn d m.reason
   pub debtor_agent : Holds written_bic key.DbtrAgt d m.debtor_agent
 
 abbrev pub HoldsElements : Data → Draft → Type 0
 HoldsElements d (CreditTransfer m) = HoldsTransfer d m
 HoldsElements d (StatusReport m) = HoldsReport d m
+HoldsElements d (StatusRequest m) = HoldsRequest d m
+HoldsElements d (CancellationRequest m) = HoldsRecall d m
+HoldsElements d (PaymentReturn m) = HoldsReturn d m
+HoldsElements d (Resolution m) = HoldsAnswer d m
 
 -- The value is an object with keys of the kind alone.
 abbrev pub HasKeysOf : Kind → Data → Type 0

@@ -2,10 +2,10 @@
 use Rattle.std.specs.Prelude.{ℕ, List, [], ◌∷◌, ◌||◌, Bool, codes}
 use Rattle.std.specs.List.{list_any}
 use Rattle.sct_message.specs.declared.kinds.Kind.{Kind}
-use Rattle.sct_message.specs.declared.kinds.Kind.TheVariants.{Pacs002, Pacs008}
+use Rattle.sct_message.specs.declared.kinds.Kind.TheVariants.{Camt029, Camt056, Pacs002, Pacs004, Pacs008, Pacs028}
 use Rattle.sct_message.specs.Kinds.{is_text}
 use Rattle.sct_json.specs.declared.keys.Key.{Key}
-use Rattle.sct_json.specs.declared.keys.Key.TheVariants.{MsgNmId, MsgId, CreDtTm, InstgAgt, InstdAgt, IntrBkSttlmDt, SvcLvl, LclInstrm, InstrId, EndToEndId, TxId, IntrBkSttlmAmt, Ccy, ChrgBr, AccptncDtTm, Dbtr, DbtrAcct, DbtrAgt, CdtrAgt, Cdtr, CdtrAcct, Ustrd, OrgnlMsgId, OrgnlMsgNmId, OrgnlEndToEndId, OrgnlTxId, TxSts, Rsn}
+use Rattle.sct_json.specs.declared.keys.Key.TheVariants.{MsgNmId, MsgId, CreDtTm, InstgAgt, InstdAgt, IntrBkSttlmDt, SvcLvl, LclInstrm, InstrId, EndToEndId, TxId, IntrBkSttlmAmt, Ccy, ChrgBr, AccptncDtTm, Dbtr, DbtrAcct, DbtrAgt, CdtrAgt, Cdtr, CdtrAcct, Ustrd, OrgnlMsgId, OrgnlMsgNmId, OrgnlEndToEndId, OrgnlTxId, TxSts, Rsn, OrgnlCxlId, CxlId, OrgnlIntrBkSttlmAmt, OrgnlIntrBkSttlmDt, RtrId, RtrdIntrBkSttlmAmt, CxlStsId, Conf}
 
 abbrev pub key_text : Key → List ℕ
 key_text MsgNmId = codes "MsgNmId"
@@ -36,6 +36,14 @@ key_text OrgnlEndToEndId = codes "OrgnlEndToEndId"
 key_text OrgnlTxId = codes "OrgnlTxId"
 key_text TxSts = codes "TxSts"
 key_text Rsn = codes "Rsn"
+key_text OrgnlCxlId = codes "OrgnlCxlId"
+key_text CxlId = codes "CxlId"
+key_text OrgnlIntrBkSttlmAmt = codes "OrgnlIntrBkSttlmAmt"
+key_text OrgnlIntrBkSttlmDt = codes "OrgnlIntrBkSttlmDt"
+key_text RtrId = codes "RtrId"
+key_text RtrdIntrBkSttlmAmt = codes "RtrdIntrBkSttlmAmt"
+key_text CxlStsId = codes "CxlStsId"
+key_text Conf = codes "Conf"
 
 -- the keys that every message has
 abbrev pub head_keys : List Key
@@ -51,11 +59,27 @@ transfer_keys = IntrBkSttlmDt ∷ SvcLvl ∷ LclInstrm ∷ InstrId ∷ EndToEndI
 abbrev pub report_keys : List Key
 report_keys = TxSts ∷ Rsn ∷ DbtrAgt ∷ []
 
+abbrev pub request_keys : List Key
+request_keys = OrgnlCxlId ∷ DbtrAgt ∷ []
+
+abbrev pub recall_keys : List Key
+recall_keys = CxlId ∷ OrgnlIntrBkSttlmAmt ∷ Ccy ∷ OrgnlIntrBkSttlmDt ∷ Rsn ∷ DbtrAgt ∷ []
+
+abbrev pub return_keys : List Key
+return_keys = RtrId ∷ OrgnlCxlId ∷ OrgnlIntrBkSttlmAmt ∷ RtrdIntrBkSttlmAmt ∷ Ccy ∷ IntrBkSttlmDt ∷ Rsn ∷ DbtrAgt ∷ []
+
+abbrev pub answer_keys : List Key
+answer_keys = CxlStsId ∷ OrgnlCxlId ∷ Conf ∷ Rsn ∷ DbtrAgt ∷ []
+
 -- a name is the text of one of these keys
 unfoldable pub is_among : List Key → List ℕ → Bool
 is_among keys name = list_any (λ key. is_text name (key_text key)) keys
 
 -- the keys that a message of a kind may have
 abbrev pub is_key_of : Kind → List ℕ → Bool
-is_key_of Pacs008 name = is_among head_keys name || is_among transfer_keys name
+is_key_of Camt029 name = is_among head_keys name || is_among original_keys name || is_among answer_keys name
+is_key_of Camt056 name = is_among head_keys name || is_among original_keys name || is_among recall_keys name
 is_key_of Pacs002 name = is_among head_keys name || is_among original_keys name || is_among report_keys name
+is_key_of Pacs004 name = is_among head_keys name || is_among original_keys name || is_among return_keys name
+is_key_of Pacs008 name = is_among head_keys name || is_among transfer_keys name
+is_key_of Pacs028 name = is_among head_keys name || is_among original_keys name || is_among request_keys name

@@ -13,14 +13,19 @@ use Rattle.sct_element.specs.Date.{written_day}
 use Rattle.sct_element.specs.Identification.{written_identification, written_stamp, written_code}
 use Rattle.sct_element.specs.Money.{cents_of}
 use Rattle.sct_element.specs.Party.{has_characters}
+use Rattle.sct_reason.specs.Reasons.{reason_of}
 use Rattle.sct_message.specs.declared.kinds.Kind.{Kind}
-use Rattle.sct_message.specs.declared.kinds.Kind.TheVariants.{Pacs002, Pacs008}
+use Rattle.sct_message.specs.declared.kinds.Kind.TheVariants.{Camt029, Camt056, Pacs002, Pacs004, Pacs008, Pacs028}
 use Rattle.sct_message.specs.declared.draft.Head.{Head}
 use Rattle.sct_message.specs.declared.draft.Original.{Original}
 use Rattle.sct_message.specs.declared.draft.CreditTransfer.{CreditTransfer as Transfer}
 use Rattle.sct_message.specs.declared.draft.StatusReport.{StatusReport as Report}
+use Rattle.sct_message.specs.declared.draft.StatusRequest.{StatusRequest as Request}
+use Rattle.sct_message.specs.declared.draft.CancellationRequest.{CancellationRequest as Recall}
+use Rattle.sct_message.specs.declared.draft.PaymentReturn.{PaymentReturn as Return}
+use Rattle.sct_message.specs.declared.draft.Resolution.{Resolution as Answer}
 use Rattle.sct_message.specs.declared.draft.Draft.{Draft}
-use Rattle.sct_message.specs.declared.draft.Draft.TheVariants.{CreditTransfer, StatusReport}
+use Rattle.sct_message.specs.declared.draft.Draft.TheVariants.{CreditTransfer, StatusReport, StatusRequest, CancellationRequest, PaymentReturn, Resolution}
 use Rattle.sct_message.specs.declared.rules.RuleFault.{RuleFault}
 use Rattle.sct_message.specs.Kinds.{kind_named}
 use Rattle.sct_message.specs.Rules.{first_broken_rule}
@@ -134,13 +139,66 @@ status_report_in d = do
   head ← head_in d
   original ← original_in d
   status ← required written_code element.BadCode key.TxSts d
-  reason ← optional written_code element.BadCode key.Rsn d
+  reason ← optional reason_of element.BadCode key.Rsn d
   debtor_agent ← required written_bic element.BadBic key.DbtrAgt d
   Ok (record { head = head; original = original; status = status; reason = reason; debtor_agent = debtor_agent })
 
+-- pacs.028
+unfoldable pub status_request_in : Data → Result Request JsonFault
+status_request_in d = do
+  head ← head_in d
+  original ← original_in d
+  cancellation_id ← optional written_identification element.BadId key.OrgnlCxlId d
+  debtor_agent ← required written_bic element.BadBic key.DbtrAgt d
+  Ok (record { head = head; original = original; cancellation_id = cancellation_id; debtor_agent = debtor_agent })
+
+-- camt.056
+unfoldable pub cancellation_request_in : Data → Result Recall JsonFault
+cancellation_request_in d = do
+  head ← head_in d
+  cancellation_id ← required written_identification element.BadId key.CxlId d
+  original ← original_in d
+  original_amount ← required cents_of element.BadAmount key.OrgnlIntrBkSttlmAmt d
+  currency ← required written_code element.BadCode key.Ccy d
+  original_settlement_date ← optional written_day element.BadDay key.OrgnlIntrBkSttlmDt d
+  reason ← required reason_of element.BadCode key.Rsn d
+  debtor_agent ← required written_bic element.BadBic key.DbtrAgt d
+  Ok (record { head = head; cancellation_id = cancellation_id; original = original; original_amount = original_amount; currency = currency; original_settlement_date = original_settlement_date; reason = reason; debtor_agent = debtor_agent })
+
+-- pacs.004
+unfoldable pub payment_return_in : Data → Result Return JsonFault
+payment_return_in d = do
+  head ← head_in d
+  return_id ← required written_identification element.BadId key.RtrId d
+  cancellation_id ← required written_identification element.BadId key.OrgnlCxlId d
+  original ← original_in d
+  original_amount ← required cents_of element.BadAmount key.OrgnlIntrBkSttlmAmt d
+  returned_amount ← required cents_of element.BadAmount key.RtrdIntrBkSttlmAmt d
+  currency ← required written_code element.BadCode key.Ccy d
+  settlement_date ← required written_day element.BadDay key.IntrBkSttlmDt d
+  reason ← required reason_of element.BadCode key.Rsn d
+  debtor_agent ← required written_bic element.BadBic key.DbtrAgt d
+  Ok (record { head = head; return_id = return_id; cancellation_id = cancellation_id; original = original; original_amount = original_amount; returned_amount = returned_amount; currency = currency; settlement_date = settlement_date; reason = reason; debtor_agent = debtor_agent })
+
+-- camt.029
+unfoldable pub resolution_in : Data → Result Answer JsonFault
+resolution_in d = do
+  head ← head_in d
+  resolution_id ← required written_identification element.BadId key.CxlStsId d
+  cancellation_id ← required written_identification element.BadId key.OrgnlCxlId d
+  original ← original_in d
+  confirmation ← required written_code element.BadCode key.Conf d
+  reason ← required reason_of element.BadCode key.Rsn d
+  debtor_agent ← required written_bic element.BadBic key.DbtrAgt d
+  Ok (record { head = head; resolution_id = resolution_id; cancellation_id = cancellation_id; original = original; confirmation = confirmation; reason = reason; debtor_agent = debtor_agent })
+
 abbrev pub draft_in : Kind → Data → Result Draft JsonFault
-draft_in Pacs008 d = credit_transfer_in d >>= λ m. Ok (CreditTransfer m)
+draft_in Camt029 d = resolution_in d >>= λ m. Ok (Resolution m)
+draft_in Camt056 d = cancellation_request_in d >>= λ m. Ok (CancellationRequest m)
 draft_in Pacs002 d = status_report_in d >>= λ m. Ok (StatusReport m)
+draft_in Pacs004 d = payment_return_in d >>= λ m. Ok (PaymentReturn m)
+draft_in Pacs008 d = credit_transfer_in d >>= λ m. Ok (CreditTransfer m)
+draft_in Pacs028 d = status_request_in d >>= λ m. Ok (StatusRequest m)
 
 -- ---- the whole object
 

@@ -1,5 +1,5 @@
 -- The written form of a message: one line with no spaces, its keys in the order of their bytes, absent elements left out.
-use Rattle.std.specs.Prelude.{◌≡◌, ℕ, List, [], ◌∷◌, Option, Some, None}
+use Rattle.std.specs.Prelude.{◌≡◌, ℕ, List, [], ◌∷◌, ◌++◌, Option, Some, None, option_map}
 use Rattle.serde_json.specs.Data.{Data, string, object, Members, no_members, put}
 use Rattle.serde_json.specs.Written.{compact_text}
 use Rattle.sct_element.specs.Account.{written_iban}
@@ -7,12 +7,18 @@ use Rattle.sct_element.specs.Bank.{written_bic}
 use Rattle.sct_element.specs.Date.{written_day}
 use Rattle.sct_element.specs.Identification.{written_identification, written_stamp, written_code}
 use Rattle.sct_element.specs.Money.{amount_text, cents_of}
+use Rattle.sct_reason.specs.Codes.{reason_text}
+use Rattle.sct_reason.specs.Reasons.{reason_of}
 use Rattle.sct_message.specs.declared.draft.Head.{Head}
 use Rattle.sct_message.specs.declared.draft.Original.{Original}
 use Rattle.sct_message.specs.declared.draft.CreditTransfer.{CreditTransfer as Transfer}
 use Rattle.sct_message.specs.declared.draft.StatusReport.{StatusReport as Report}
+use Rattle.sct_message.specs.declared.draft.StatusRequest.{StatusRequest as Request}
+use Rattle.sct_message.specs.declared.draft.CancellationRequest.{CancellationRequest as Recall}
+use Rattle.sct_message.specs.declared.draft.PaymentReturn.{PaymentReturn as Return}
+use Rattle.sct_message.specs.declared.draft.Resolution.{Resolution as Answer}
 use Rattle.sct_message.specs.declared.draft.Draft.{Draft}
-use Rattle.sct_message.specs.declared.draft.Draft.TheVariants.{CreditTransfer, StatusReport}
+use Rattle.sct_message.specs.declared.draft.Draft.TheVariants.{CreditTransfer, StatusReport, StatusRequest, CancellationRequest, PaymentReturn, Resolution}
 use Rattle.sct_json.specs.declared.keys.Key.{Key}
 use Rattle.sct_json.specs.declared.keys.Key.TheVariants as key
 use Rattle.sct_json.specs.Keys.{key_text}
@@ -45,7 +51,23 @@ transfer_rows m = (key.IntrBkSttlmDt, Some m.settlement_date) ∷ (key.SvcLvl, S
 
 -- pacs.002, without its head and its original message
 abbrev pub report_rows : Report → List Row
-report_rows m = (key.TxSts, Some m.status) ∷ (key.Rsn, m.reason) ∷ (key.DbtrAgt, Some m.debtor_agent) ∷ []
+report_rows m = (key.TxSts, Some m.status) ∷ (key.Rsn, option_map reason_text m.reason) ∷ (key.DbtrAgt, Some m.debtor_agent) ∷ []
+
+-- pacs.028, without its head and its original message
+abbrev pub request_rows : Request → List Row
+request_rows m = (key.OrgnlCxlId, m.cancellation_id) ∷ (key.DbtrAgt, Some m.debtor_agent) ∷ []
+
+-- camt.056, without its head
+abbrev pub recall_rows : Recall → List Row
+recall_rows m = (key.CxlId, Some m.cancellation_id) ∷ original_rows m.original ++ (key.OrgnlIntrBkSttlmAmt, Some (amount_text m.original_amount)) ∷ (key.Ccy, Some m.currency) ∷ (key.OrgnlIntrBkSttlmDt, m.original_settlement_date) ∷ (key.Rsn, Some (reason_text m.reason)) ∷ (key.DbtrAgt, Some m.debtor_agent) ∷ []
+
+-- pacs.004, without its head
+abbrev pub return_rows : Return → List Row
+return_rows m = (key.RtrId, Some m.return_id) ∷ (key.OrgnlCxlId, Some m.cancellation_id) ∷ original_rows m.original ++ (key.OrgnlIntrBkSttlmAmt, Some (amount_text m.original_amount)) ∷ (key.RtrdIntrBkSttlmAmt, Some (amount_text m.returned_amount)) ∷ (key.Ccy, Some m.currency) ∷ (key.IntrBkSttlmDt, Some m.settlement_date) ∷ (key.Rsn, Some (reason_text m.reason)) ∷ (key.DbtrAgt, Some m.debtor_agent) ∷ []
+
+-- camt.029, without its head
+abbrev pub answer_rows : Answer → List Row
+answer_rows m = (key.CxlStsId, Some m.resolution_id) ∷ (key.OrgnlCxlId, Some m.cancellation_id) ∷ original_rows m.original ++ (key.Conf, Some m.confirmation) ∷ (key.Rsn, Some (reason_text m.reason)) ∷ (key.DbtrAgt, Some m.debtor_agent) ∷ []
 
 -- the members that a part puts beside others
 abbrev pub with_head : Head → Members → Members
@@ -60,9 +82,25 @@ with_transfer m ms = with_rows (transfer_rows m) (with_head m.head ms)
 abbrev pub with_report : Report → Members → Members
 with_report m ms = with_rows (report_rows m) (with_original m.original (with_head m.head ms))
 
+abbrev pub with_request : Request → Members → Members
+with_request m ms = with_rows (request_rows m) (with_original m.original (with_head m.head ms))
+
+abbrev pub with_recall : Recall → Members → Members
+with_recall m ms = with_rows (recall_rows m) (with_head m.head ms)
+
+abbrev pub with_return : Return → Members → Members
+with_return m ms = with_rows (return_rows m) (with_head m.head ms)
+
+abbrev pub with_answer : Answer → Members → Members
+with_answer m ms = with_rows (answer_rows m) (with_head m.head ms)
+
 abbrev pub with_elements : Draft → Members → Members
 with_elements (CreditTransfer m) ms = with_transfer m ms
 with_elements (StatusReport m) ms = with_report m ms
+with_elements (StatusRequest m) ms = with_request m ms
+with_elements (CancellationRequest m) ms = with_recall m ms
+with_elements (PaymentReturn m) ms = with_return m ms
+with_elements (Resolution m) ms = with_answer m ms
 
 -- the object that is written for a message, and its text
 abbrev pub written_object : Draft → Data
@@ -117,9 +155,50 @@ pub record ReportReadsBack (m : Report) : Type 0 where
   pub head : HeadReadsBack m.head
   pub original : OriginalReadsBack m.original
   pub status : ReadsBack written_code (λ s. s) m.status
-  pub reason : MayReadBack written_code (λ s. s) m.reason
+  pub reason : MayReadBack reason_of reason_text m.reason
+  pub debtor_agent : ReadsBack written_bic (λ s. s) m.debtor_agent
+
+pub record RequestReadsBack (m : Request) : Type 0 where
+  pub head : HeadReadsBack m.head
+  pub original : OriginalReadsBack m.original
+  pub cancellation_id : MayReadBack written_identification (λ s. s) m.cancellation_id
+  pub debtor_agent : ReadsBack written_bic (λ s. s) m.debtor_agent
+
+pub record RecallReadsBack (m : Recall) : Type 0 where
+  pub head : HeadReadsBack m.head
+  pub cancellation_id : ReadsBack written_identification (λ s. s) m.cancellation_id
+  pub original : OriginalReadsBack m.original
+  pub original_amount : ReadsBack cents_of amount_text m.original_amount
+  pub currency : ReadsBack written_code (λ s. s) m.currency
+  pub original_settlement_date : MayReadBack written_day (λ s. s) m.original_settlement_date
+  pub reason : ReadsBack reason_of reason_text m.reason
+  pub debtor_agent : ReadsBack written_bic (λ s. s) m.debtor_agent
+
+pub record ReturnReadsBack (m : Return) : Type 0 where
+  pub head : HeadReadsBack m.head
+  pub return_id : ReadsBack written_identification (λ s. s) m.return_id
+  pub cancellation_id : ReadsBack written_identification (λ s. s) m.cancellation_id
+  pub original : OriginalReadsBack m.original
+  pub original_amount : ReadsBack cents_of amount_text m.original_amount
+  pub returned_amount : ReadsBack cents_of amount_text m.returned_amount
+  pub currency : ReadsBack written_code (λ s. s) m.currency
+  pub settlement_date : ReadsBack written_day (λ s. s) m.settlement_date
+  pub reason : ReadsBack reason_of reason_text m.reason
+  pub debtor_agent : ReadsBack written_bic (λ s. s) m.debtor_agent
+
+pub record AnswerReadsBack (m : Answer) : Type 0 where
+  pub head : HeadReadsBack m.head
+  pub resolution_id : ReadsBack written_identification (λ s. s) m.resolution_id
+  pub cancellation_id : ReadsBack written_identification (λ s. s) m.cancellation_id
+  pub original : OriginalReadsBack m.original
+  pub confirmation : ReadsBack written_code (λ s. s) m.confirmation
+  pub reason : ReadsBack reason_of reason_text m.reason
   pub debtor_agent : ReadsBack written_bic (λ s. s) m.debtor_agent
 
 abbrev pub ElementsReadBack : Draft → Type 0
 ElementsReadBack (CreditTransfer m) = TransferReadsBack m
 ElementsReadBack (StatusReport m) = ReportReadsBack m
+ElementsReadBack (StatusRequest m) = RequestReadsBack m
+ElementsReadBack (CancellationRequest m) = RecallReadsBack m
+ElementsReadBack (PaymentReturn m) = ReturnReadsBack m
+ElementsReadBack (Resolution m) = AnswerReadsBack m

@@ -6,10 +6,13 @@ ghost use Rattle.sct_element.specs.Text.{where_read};
 ghost use Rattle.sct_element.specs.Money.{cents_of, amount_text};
 ghost use Rattle.sct_element.specs.Party.{has_characters};
 ghost use Rattle.sct_element.specs.declared.faults.ElementFault.{ElementFault};
-ghost use Rattle.sct_element.specs.declared.faults.ElementFault.TheVariants.{BadAmount, BadText};
+ghost use Rattle.sct_element.specs.declared.faults.ElementFault.TheVariants.{BadAmount, BadCode, BadText};
+ghost use Rattle.sct_reason.specs.Codes.{reason_text};
+ghost use Rattle.sct_reason.specs.Reasons.{reason_of};
 ghost use Rattle.sct_json.specs.Reading.{ReadsElement};
 
 use sct_element::{Amount, Checked, ElementFault, FreeText, Rule};
+use sct_reason::Reason;
 use serde_json::Value;
 use std::alloc::{AllocError, Global};
 
@@ -39,6 +42,22 @@ impl<R: Rule<N>, const N: usize> Element for Checked<R, N> {
 
     fn read_element(_alloc: Global, text: &str) -> Result<Self, ElementFault> {
         Checked::read(text)
+    }
+
+    fn to_value(&self, alloc: Global) -> Result<Value, AllocError> {
+        Ok(Value::String(String::from_str(alloc, self.text())?))
+    }
+}
+
+impl Element for Reason {
+    ghost reads = { reason_of };
+
+    ghost refusal = { BadCode };
+
+    ghost written = { reason_text };
+
+    fn read_element(_alloc: Global, text: &str) -> Result<Self, ElementFault> {
+        Reason::read(text).ok_or(ElementFault::BadCode)
     }
 
     fn to_value(&self, alloc: Global) -> Result<Value, AllocError> {

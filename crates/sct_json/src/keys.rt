@@ -61,6 +61,22 @@ pub enum Key {
     TxSts,
     /// The reason.
     Rsn,
+    /// The recall that the message is about.
+    OrgnlCxlId,
+    /// The identification of the recall.
+    CxlId,
+    /// The amount of the transfer that the message is about.
+    OrgnlIntrBkSttlmAmt,
+    /// The settlement date of that transfer.
+    OrgnlIntrBkSttlmDt,
+    /// The identification of the return.
+    RtrId,
+    /// The amount that comes back.
+    RtrdIntrBkSttlmAmt,
+    /// The identification of the answer to a recall.
+    CxlStsId,
+    /// The answer to a recall.
+    Conf,
 }
 
 impl Key {
@@ -97,6 +113,14 @@ impl Key {
             Key::OrgnlTxId => "OrgnlTxId",
             Key::TxSts => "TxSts",
             Key::Rsn => "Rsn",
+            Key::OrgnlCxlId => "OrgnlCxlId",
+            Key::CxlId => "CxlId",
+            Key::OrgnlIntrBkSttlmAmt => "OrgnlIntrBkSttlmAmt",
+            Key::OrgnlIntrBkSttlmDt => "OrgnlIntrBkSttlmDt",
+            Key::RtrId => "RtrId",
+            Key::RtrdIntrBkSttlmAmt => "RtrdIntrBkSttlmAmt",
+            Key::CxlStsId => "CxlStsId",
+            Key::Conf => "Conf",
         }
     }
 }

@@ -4,6 +4,7 @@
 //! reason why it is a form of none. [`write_message`] answers the one written form of a message.
 #![tactic(auto)]
 
+mod cancellation_request;
 mod credit_transfer;
 mod elements;
 mod faults;
@@ -12,8 +13,11 @@ mod keys;
 mod laws;
 mod members;
 mod original;
+mod payment_return;
 mod reading;
+mod resolution;
 mod status_report;
+mod status_request;
 mod tables;
 #[cfg(test)]
 mod tests;

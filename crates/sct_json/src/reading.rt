@@ -8,7 +8,10 @@ ghost use Rattle.sct_json.specs.Reading.{Gives, draft_in, kind_in, first_extra, 
 
 use crate::faults::{ExtraKey, JsonFault};
 use crate::keys::Key;
-use crate::{credit_transfer, status_report};
+use crate::{
+    cancellation_request, credit_transfer, payment_return, resolution, status_report,
+    status_request,
+};
 use sct_message::{Draft, Kind, Message};
 use serde_json::{Map, Value};
 use std::alloc::Global;
@@ -28,6 +31,10 @@ fn read_draft(alloc: Global, kind: Kind, object: &Value) -> Result<Draft, JsonFa
     match kind {
         Kind::Pacs008 => Ok(Draft::CreditTransfer(credit_transfer::read(alloc, object)?)),
         Kind::Pacs002 => Ok(Draft::StatusReport(status_report::read(alloc, object)?)),
+        Kind::Pacs028 => Ok(Draft::StatusRequest(status_request::read(alloc, object)?)),
+        Kind::Camt056 => Ok(Draft::CancellationRequest(cancellation_request::read(alloc, object)?)),
+        Kind::Pacs004 => Ok(Draft::PaymentReturn(payment_return::read(alloc, object)?)),
+        Kind::Camt029 => Ok(Draft::Resolution(resolution::read(alloc, object)?)),
     }
 }
 
@@ -38,6 +45,10 @@ fn is_key_of(kind: Kind, name: &str) -> bool
     match kind {
         Kind::Pacs008 => credit_transfer::is_key(name),
         Kind::Pacs002 => status_report::is_key(name),
+        Kind::Pacs028 => status_request::is_key(name),
+        Kind::Camt056 => cancellation_request::is_key(name),
+        Kind::Pacs004 => payment_return::is_key(name),
+        Kind::Camt029 => resolution::is_key(name),
     }
 }
 

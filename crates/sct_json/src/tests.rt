@@ -1,3 +1,5 @@
+mod recalls;
+
 use crate::*;
 use sct_message::Message;
 use std::alloc::{AllocError, Global};
@@ -83,16 +85,18 @@ fn writes_one_form(rt: HostRuntime) -> Result<(), Fail> {
     Ok(())
 }
 
+static TEXTS: [(&str, &str); 5] = [
+    (r#"Anna \"A\" Weber"#, r#"Anna \"A\" Weber"#),
+    (r#"back\\slash \/"#, r#"back\\slash /"#),
+    (r#"\u0001\u001F\n\t\u007f"#, "\\u0001\\u001f\\n\\t\u{7f}"),
+    (r#"\u00e4\u20ac\ud83d\ude00"#, "ä€😀"),
+    ("Ångström – 株式会社", "Ångström – 株式会社"),
+];
+
 #[test]
 fn writes_texts_as_json_has_them(rt: HostRuntime) -> Result<(), Fail> {
     let alloc = rt.alloc();
-    for (read, written) in [
-        (r#"Anna \"A\" Weber"#, r#"Anna \"A\" Weber"#),
-        (r#"back\\slash \/"#, r#"back\\slash /"#),
-        (r#"\u0001\u001F\n\t\u007f"#, "\\u0001\\u001f\\n\\t\u{7f}"),
-        (r#"\u00e4\u20ac\ud83d\ude00"#, "ä€😀"),
-        ("Ångström – 株式会社", "Ångström – 株式会社"),
-    ] {
+    for (read, written) in &TEXTS {
         let text = changed(alloc, TRANSFER, "Anna Weber", read)?;
         let form = changed(alloc, WRITTEN, "Anna Weber", written)?;
         assert_eq!(rt;
@@ -109,29 +113,31 @@ fn writes_texts_as_json_has_them(rt: HostRuntime) -> Result<(), Fail> {
     Ok(())
 }
 
+static NO_MESSAGES: [(&str, &str); 16] = [
+    (r#"{"MsgNmId":"#, "31"),
+    ("", "31"),
+    ("\u{feff}{}", "31"),
+    (r#"{} {}"#, "31"),
+    (r#"{"Foo":"\ud800"}"#, "31"),
+    (r#"{"Foo":1e999}"#, "31"),
+    ("[]", "32"),
+    ("null", "32"),
+    (r#""pacs.008""#, "32"),
+    ("{}", "33"),
+    (r#"{"MsgNmId":8}"#, "33"),
+    (r#"{"MsgNmId":null}"#, "33"),
+    (r#"{"MsgNmId":"pacs.009"}"#, "33"),
+    (r#"{"MsgNmId":"pacs.008.001.8"}"#, "33"),
+    (r#"{"MsgNmId":"pacs.008.001.08"}"#, "34 MsgId"),
+    (r#"{"MsgNmId":"pacs.002"}"#, "34 MsgId"),
+];
+
 #[test]
 fn tells_what_is_no_message(rt: HostRuntime) -> Result<(), Fail> {
     let alloc = rt.alloc();
-    for (text, fault) in [
-        (r#"{"MsgNmId":"#, "31"),
-        ("", "31"),
-        ("\u{feff}{}", "31"),
-        (r#"{} {}"#, "31"),
-        (r#"{"Foo":"\ud800"}"#, "31"),
-        (r#"{"Foo":1e999}"#, "31"),
-        ("[]", "32"),
-        ("null", "32"),
-        (r#""pacs.008""#, "32"),
-        ("{}", "33"),
-        (r#"{"MsgNmId":8}"#, "33"),
-        (r#"{"MsgNmId":null}"#, "33"),
-        (r#"{"MsgNmId":"pacs.009"}"#, "33"),
-        (r#"{"MsgNmId":"pacs.008.001.8"}"#, "33"),
-        (r#"{"MsgNmId":"pacs.008.001.08"}"#, "34 MsgId"),
-        (r#"{"MsgNmId":"pacs.002"}"#, "34 MsgId"),
-    ] {
+    for (text, fault) in &NO_MESSAGES {
         let answer = told(alloc, text.as_bytes())?;
-        assert_eq!(rt; answer.as_str(), fault, "at {text}");
+        assert_eq!(rt; answer.as_str(), *fault, "at {text}");
     }
     let no_text = told(alloc, b"{\"MsgNmId\":\"\xff\"}")?;
     assert_eq!(rt; no_text.as_str(), "31");
@@ -157,135 +163,164 @@ fn tells_nesting(rt: HostRuntime) -> Result<(), Fail> {
 }
 
 #[test]
-fn tells_the_first_fault_of_a_transfer(rt: HostRuntime) -> Result<(), Fail> {
+fn tells_remittance_information_of_141_characters(rt: HostRuntime) -> Result<(), Fail> {
     let alloc = rt.alloc();
     let mut long = String::from_str(alloc, r#""Ustrd":""#)?;
     for _ in 0..141 {
         long.push('u')?;
     }
     long.push_str(r#"","MsgId""#)?;
-    for (old, new, fault) in [
-        (r#""EndToEndId":"E1""#, r#""Foo":"x""#, "34 EndToEndId"),
-        (
-            r#""IntrBkSttlmAmt":"0.01""#,
-            r#""IntrBkSttlmAmt":1.00"#,
-            "35 IntrBkSttlmAmt",
-        ),
-        ("DE89", "DE88", "36 DbtrAcct 2"),
-        (r#""MsgId""#, long.as_str(), "36 Ustrd 6"),
-        (r#""MsgId""#, r#""Foo":"x","MsgId""#, "37 Foo"),
-        ("EUR", "USD", "38 11"),
-        ("SEPA", "SEPB", "38 12"),
-        ("INST", "INSU", "38 13"),
-        ("SLEV", "SHAR", "38 14"),
-        ("0.01", "0.00", "36 IntrBkSttlmAmt 4"),
-        ("0.01", "1000000000.00", "36 IntrBkSttlmAmt 4"),
-        ("0.01", "999999999.99", "read"),
-        (
-            r#""MsgId":"M1""#,
-            r#""MsgId":"/M1","Foo":"x""#,
-            "36 MsgId 3",
-        ),
-        ("2024-05-02T10:00:00Z", "", "36 CreDtTm 7"),
-        (
-            r#""InstgAgt":"BANKDEFF""#,
-            r#""InstgAgt":"BANK""#,
-            "36 InstgAgt 1",
-        ),
-        (
-            r#""IntrBkSttlmDt":"2024-05-02""#,
-            r#""IntrBkSttlmDt":"2024-5-02""#,
-            "36 IntrBkSttlmDt 5",
-        ),
-        ("SEPA", "sepa", "36 SvcLvl 9"),
-        ("Anna Weber", "", "36 Dbtr 6"),
-        (r#""MsgId""#, r#""InstdAgt":null,"MsgId""#, "35 InstdAgt"),
-        (r#""MsgId""#, r#""InstrId":7,"MsgId""#, "35 InstrId"),
-        (
-            r#""MsgId""#,
-            r#""AccptncDtTm":[],"MsgId""#,
-            "35 AccptncDtTm",
-        ),
-        (r#""MsgId""#, r#""Ustrd":{},"MsgId""#, "35 Ustrd"),
-        (r#""MsgId""#, r#""Ustrd":"","MsgId""#, "36 Ustrd 6"),
-        (r#""TxId":"T1""#, r#""TxId":true"#, "35 TxId"),
-        // An earlier key's element stands before a later key that is missing, and the other way round.
-        (
-            r#""EndToEndId":"E1","TxId":"T1""#,
-            r#""EndToEndId":"E//1""#,
-            "36 EndToEndId 3",
-        ),
-        (
-            r#""EndToEndId":"E1","TxId":"T1""#,
-            r#""TxId":"T//1""#,
-            "34 EndToEndId",
-        ),
-        (
-            r#""EndToEndId":"E1","TxId":"T1""#,
-            r#""EndToEndId":1"#,
-            "35 EndToEndId",
-        ),
-        // Of two equal keys the last counts.
-        (r#""MsgId":"M1""#, r#""MsgId":7,"MsgId":"M1""#, "read"),
-        (r#""MsgId":"M1""#, r#""MsgId":"M1","MsgId":7"#, "35 MsgId"),
-        // The first extra key is the first by its bytes in UTF-8.
-        (
-            r#""MsgId""#,
-            r#""\ud800\udc00":"x","\uffff":"y","MsgId""#,
-            "37 \u{ffff}",
-        ),
-        (r#""MsgId""#, r#""b":"x","a":null,"MsgId""#, "37 a"),
-        (r#""MsgId""#, r#""":"x","MsgId""#, "37 "),
-        (r#""MsgId""#, r#""TxSts":"ACCP","MsgId""#, "37 TxSts"),
-        (r#""Ccy":"EUR""#, r#""Ccy":"USD","Foo":"x""#, "37 Foo"),
-    ] {
+    let text = changed(alloc, TRANSFER, r#""MsgId""#, long.as_str())?;
+    let answer = told(alloc, text.as_bytes())?;
+    assert_eq!(rt; answer.as_str(), "36 Ustrd 6");
+    Ok(())
+}
+
+static TRANSFER_FAULTS: [(&str, &str, &str); 35] = [
+    (r#""EndToEndId":"E1""#, r#""Foo":"x""#, "34 EndToEndId"),
+    (
+        r#""IntrBkSttlmAmt":"0.01""#,
+        r#""IntrBkSttlmAmt":1.00"#,
+        "35 IntrBkSttlmAmt",
+    ),
+    ("DE89", "DE88", "36 DbtrAcct 2"),
+    (r#""MsgId""#, r#""Foo":"x","MsgId""#, "37 Foo"),
+    ("EUR", "USD", "38 11"),
+    ("SEPA", "SEPB", "38 12"),
+    ("INST", "INSU", "38 13"),
+    ("SLEV", "SHAR", "38 14"),
+    (
+        r#""SEPA","LclInstrm":"INST""#,
+        r#""SDVA","LclInstrm":"CORE""#,
+        "38 12",
+    ),
+    (
+        r#""EUR","ChrgBr":"SLEV""#,
+        r#""EURO","ChrgBr":"SHAR""#,
+        "38 11",
+    ),
+    ("0.01", "0.00", "36 IntrBkSttlmAmt 4"),
+    ("0.01", "1000000000.00", "36 IntrBkSttlmAmt 4"),
+    ("0.01", "999999999.99", "read"),
+    (
+        r#""MsgId":"M1""#,
+        r#""MsgId":"/M1","Foo":"x""#,
+        "36 MsgId 3",
+    ),
+    ("2024-05-02T10:00:00Z", "", "36 CreDtTm 7"),
+    (
+        r#""InstgAgt":"BANKDEFF""#,
+        r#""InstgAgt":"BANK""#,
+        "36 InstgAgt 1",
+    ),
+    (
+        r#""IntrBkSttlmDt":"2024-05-02""#,
+        r#""IntrBkSttlmDt":"2024-5-02""#,
+        "36 IntrBkSttlmDt 5",
+    ),
+    ("SEPA", "sepa", "36 SvcLvl 9"),
+    ("Anna Weber", "", "36 Dbtr 6"),
+    (r#""MsgId""#, r#""InstdAgt":null,"MsgId""#, "35 InstdAgt"),
+    (r#""MsgId""#, r#""InstrId":7,"MsgId""#, "35 InstrId"),
+    (
+        r#""MsgId""#,
+        r#""AccptncDtTm":[],"MsgId""#,
+        "35 AccptncDtTm",
+    ),
+    (r#""MsgId""#, r#""Ustrd":{},"MsgId""#, "35 Ustrd"),
+    (r#""MsgId""#, r#""Ustrd":"","MsgId""#, "36 Ustrd 6"),
+    (r#""TxId":"T1""#, r#""TxId":true"#, "35 TxId"),
+    // An earlier key's element stands before a later key that is missing, and the other way round.
+    (
+        r#""EndToEndId":"E1","TxId":"T1""#,
+        r#""EndToEndId":"E//1""#,
+        "36 EndToEndId 3",
+    ),
+    (
+        r#""EndToEndId":"E1","TxId":"T1""#,
+        r#""TxId":"T//1""#,
+        "34 EndToEndId",
+    ),
+    (
+        r#""EndToEndId":"E1","TxId":"T1""#,
+        r#""EndToEndId":1"#,
+        "35 EndToEndId",
+    ),
+    // Of two equal keys the last counts.
+    (r#""MsgId":"M1""#, r#""MsgId":7,"MsgId":"M1""#, "read"),
+    (r#""MsgId":"M1""#, r#""MsgId":"M1","MsgId":7"#, "35 MsgId"),
+    // The first extra key is the first by its bytes in UTF-8.
+    (
+        r#""MsgId""#,
+        r#""\ud800\udc00":"x","\uffff":"y","MsgId""#,
+        "37 \u{ffff}",
+    ),
+    (r#""MsgId""#, r#""b":"x","a":null,"MsgId""#, "37 a"),
+    (r#""MsgId""#, r#""":"x","MsgId""#, "37 "),
+    (r#""MsgId""#, r#""TxSts":"ACCP","MsgId""#, "37 TxSts"),
+    (r#""Ccy":"EUR""#, r#""Ccy":"USD","Foo":"x""#, "37 Foo"),
+];
+
+#[test]
+fn tells_the_first_fault_of_a_transfer(rt: HostRuntime) -> Result<(), Fail> {
+    let alloc = rt.alloc();
+    for (old, new, fault) in &TRANSFER_FAULTS {
         let text = changed(alloc, TRANSFER, old, new)?;
         let answer = told(alloc, text.as_bytes())?;
-        assert_eq!(rt; answer.as_str(), fault, "at {new} for {old}");
+        assert_eq!(rt; answer.as_str(), *fault, "at {new} for {old}");
     }
     Ok(())
 }
 
+static REPORT_FAULTS: [(&str, &str, &str); 15] = [
+    ("ACCP", "ACCP", "read"),
+    ("ACCP", "RJCT", "38 16"),
+    (r#""ACCP""#, r#""ACCP","Rsn":"AC04""#, "38 17"),
+    (r#""ACCP""#, r#""RJCT","Rsn":"AC04""#, "read"),
+    (r#""ACCP""#, r#""RJCT","Rsn":"ac04""#, "36 Rsn 9"),
+    ("ACCP", "ACSP", "38 15"),
+    (r#""ACCP""#, r#""RJCT","Rsn":"ZZ9""#, "read"),
+    (r#""ACCP""#, r#""ACSP","Rsn":"AC04""#, "38 15"),
+    (
+        r#""pacs.008","OrgnlTxId":"T1","TxSts":"ACCP""#,
+        r#""pacs.002","OrgnlTxId":"T1","TxSts":"RJCT""#,
+        "38 16",
+    ),
+    (
+        r#""OrgnlMsgNmId":"pacs.008""#,
+        r#""OrgnlMsgNmId":"pacs.002""#,
+        "38 21",
+    ),
+    (
+        r#""OrgnlMsgNmId":"pacs.008""#,
+        r#""OrgnlMsgNmId":"pacs.008.001.08""#,
+        "read",
+    ),
+    (
+        r#""OrgnlTxId":"T1","TxSts":"ACCP""#,
+        r#""TxSts":"accp""#,
+        "34 OrgnlTxId",
+    ),
+    (
+        r#""OrgnlTxId":"T1","TxSts":"ACCP""#,
+        r#""OrgnlTxId":"","Foo":"x""#,
+        "36 OrgnlTxId 3",
+    ),
+    (r#""DbtrAgt":"BANKDEFF""#, r#""TxId":"T1""#, "34 DbtrAgt"),
+    (
+        r#""DbtrAgt":"BANKDEFF""#,
+        r#""DbtrAgt":"BANKDEFF","TxId":"T1""#,
+        "37 TxId",
+    ),
+];
+
 #[test]
 fn tells_the_first_fault_of_a_report(rt: HostRuntime) -> Result<(), Fail> {
     let alloc = rt.alloc();
-    for (old, new, fault) in [
-        ("ACCP", "ACCP", "read"),
-        ("ACCP", "RJCT", "38 16"),
-        (r#""ACCP""#, r#""ACCP","Rsn":"AC04""#, "38 17"),
-        (r#""ACCP""#, r#""RJCT","Rsn":"AC04""#, "read"),
-        (r#""ACCP""#, r#""RJCT","Rsn":"ac04""#, "36 Rsn 9"),
-        ("ACCP", "ACSP", "38 15"),
-        (
-            r#""OrgnlMsgNmId":"pacs.008""#,
-            r#""OrgnlMsgNmId":"pacs.002""#,
-            "38 21",
-        ),
-        (
-            r#""OrgnlMsgNmId":"pacs.008""#,
-            r#""OrgnlMsgNmId":"pacs.008.001.08""#,
-            "read",
-        ),
-        (
-            r#""OrgnlTxId":"T1","TxSts":"ACCP""#,
-            r#""TxSts":"accp""#,
-            "34 OrgnlTxId",
-        ),
-        (
-            r#""OrgnlTxId":"T1","TxSts":"ACCP""#,
-            r#""OrgnlTxId":"","Foo":"x""#,
-            "36 OrgnlTxId 3",
-        ),
-        (r#""DbtrAgt":"BANKDEFF""#, r#""TxId":"T1""#, "34 DbtrAgt"),
-        (
-            r#""DbtrAgt":"BANKDEFF""#,
-            r#""DbtrAgt":"BANKDEFF","TxId":"T1""#,
-            "37 TxId",
-        ),
-    ] {
+    for (old, new, fault) in &REPORT_FAULTS {
         let text = changed(alloc, REPORT, old, new)?;
         let answer = told(alloc, text.as_bytes())?;
-        assert_eq!(rt; answer.as_str(), fault, "at {new} for {old}");
+        assert_eq!(rt; answer.as_str(), *fault, "at {new} for {old}");
     }
     Ok(())
 }

@@ -6,7 +6,10 @@ ghost use Rattle.sct_json.specs.Form.{StandsFor};
 ghost use Rattle.sct_json.specs.Writing.{with_elements, written_object, written_text, ElementsReadBack};
 
 use crate::faults::JsonFault;
-use crate::{credit_transfer, status_report};
+use crate::{
+    cancellation_request, credit_transfer, payment_return, resolution, status_report,
+    status_request,
+};
 use sct_message::{Draft, Message};
 use serde_json::{Map, Value};
 use std::alloc::{AllocError, Global};
@@ -23,6 +26,10 @@ fn put_elements(
     match draft {
         Draft::CreditTransfer(transfer) => credit_transfer::put_all(alloc, transfer, object),
         Draft::StatusReport(report) => status_report::put_all(alloc, report, object),
+        Draft::StatusRequest(request) => status_request::put_all(alloc, request, object),
+        Draft::CancellationRequest(recall) => cancellation_request::put_all(alloc, recall, object),
+        Draft::PaymentReturn(payment) => payment_return::put_all(alloc, payment, object),
+        Draft::Resolution(resolution) => resolution::put_all(alloc, resolution, object),
     }
 }
 
