@@ -2,20 +2,21 @@
 use Rattle.std.proofs.Common.{◌≡◌, refl, arith, ap, ℕ, Bool, true, false, List, [], ◌∷◌, length, Option, Some, None}
 use Rattle.std.specs.Prelude.{◌≢◌, ◌↔◌, ◌==◌, not}
 use Rattle.std.proofs.lemmas.Bool.{ne_eqb}
+use Rattle.sct_reason.specs.declared.reasons.Reason.{Reason}
 use Rattle.sct_message.specs.declared.draft.Draft.{Draft}
 use Rattle.sct_message.specs.declared.keys.Identity.{Identity}
 use Rattle.sct_sites.specs.declared.cases.Finding.{Finding}
 use Rattle.sct_sites.specs.declared.cases.Status.TheVariants as status
 use Rattle.sct_sites.specs.Cases.{first_status, transfer_status_of, findings_of}
 
-not_contradicted : (unknown instructed : Bool) (rejection : Option (List ℕ)) (accepted : Bool) → first_status false unknown instructed rejection accepted ≡ status.Contradicted → ⊥
+not_contradicted : (unknown instructed : Bool) (rejection : Option Reason) (accepted : Bool) → first_status false unknown instructed rejection accepted ≡ status.Contradicted → ⊥
 not_contradicted true instructed rejection accepted e = cc
 not_contradicted false false rejection accepted e = cc
 not_contradicted false true (Some reason) accepted e = cc
 not_contradicted false true None true e = cc
 not_contradicted false true None false e = cc
 
-where_found : (found : List Finding) (unknown instructed : Bool) (rejection : Option (List ℕ)) (accepted : Bool)
+where_found : (found : List Finding) (unknown instructed : Bool) (rejection : Option Reason) (accepted : Bool)
     → (first_status (not (length found == 0)) unknown instructed rejection accepted ≡ status.Contradicted) ↔ (found ≢ [])
 where_found [] unknown instructed rejection accepted = (λ e. absurd (not_contradicted unknown instructed rejection accepted e), λ none. absurd (none refl))
 where_found (f ∷ found) unknown instructed rejection accepted =

@@ -1,12 +1,14 @@
 -- The cases of one transfer: which messages speak of it, what contradicts what, and where it stands.
 use Rattle.std.specs.Prelude.{ℕ, ◌&&◌, ◌==◌, List, [], ◌∷◌, ◌++◌, length, map, filter, find, count_by, nat_lt, not, Bool, true, false, Option, Some, None, option_and_then, if◌then◌else◌, codes}
 use Rattle.std.specs.List.{list_any}
+use Rattle.sct_reason.specs.declared.reasons.Reason.{Reason}
+use Rattle.sct_reason.specs.Codes.{reason_text}
 use Rattle.sct_message.specs.Ascending.{ascending}
 use Rattle.sct_message.specs.Kinds.{is_text}
 use Rattle.sct_message.specs.Keys.{identity_of, transfer_of}
 use Rattle.sct_message.specs.Order.{identity_order, transfer_order, same_identity, same_transfer, same_message}
 use Rattle.sct_message.specs.declared.draft.Draft.{Draft}
-use Rattle.sct_message.specs.declared.draft.Draft.TheVariants.{CreditTransfer, StatusReport}
+use Rattle.sct_message.specs.declared.draft.Draft.TheVariants.{CreditTransfer, StatusReport, StatusRequest, CancellationRequest, PaymentReturn, Resolution}
 use Rattle.sct_message.specs.declared.keys.Identity.{Identity}
 use Rattle.sct_message.specs.declared.keys.TransferKey.{TransferKey}
 use Rattle.sct_sites.specs.declared.cases.Finding.{Finding}
@@ -47,19 +49,36 @@ transfers_of messages = ascending transfer_order (map transfer_of messages)
 abbrev pub is_instruction : Draft → Bool
 is_instruction (CreditTransfer d) = true
 is_instruction (StatusReport d) = false
+is_instruction (StatusRequest d) = false
+is_instruction (CancellationRequest d) = false
+is_instruction (PaymentReturn d) = false
+is_instruction (Resolution d) = false
 
 -- a positive confirmation
 abbrev pub is_acceptance : Draft → Bool
 is_acceptance (CreditTransfer d) = false
 is_acceptance (StatusReport d) = is_text d.status (codes "ACCP")
+is_acceptance (StatusRequest d) = false
+is_acceptance (CancellationRequest d) = false
+is_acceptance (PaymentReturn d) = false
+is_acceptance (Resolution d) = false
 
 abbrev pub is_rejection : Draft → Bool
 is_rejection (CreditTransfer d) = false
 is_rejection (StatusReport d) = is_text d.status (codes "RJCT")
+is_rejection (StatusRequest d) = false
+is_rejection (CancellationRequest d) = false
+is_rejection (PaymentReturn d) = false
+is_rejection (Resolution d) = false
 
-abbrev pub reason_of : Draft → Option (List ℕ)
-reason_of (CreditTransfer d) = None
-reason_of (StatusReport d) = d.reason
+-- the reason that a confirmation gives
+abbrev pub reason_given : Draft → Option Reason
+reason_given (CreditTransfer d) = None
+reason_given (StatusReport d) = d.reason
+reason_given (StatusRequest d) = None
+reason_given (CancellationRequest d) = None
+reason_given (PaymentReturn d) = None
+reason_given (Resolution d) = None
 
 -- ---- findings, on the clean messages of a transfer
 
@@ -70,14 +89,14 @@ has_two_instructions clean = nat_lt 1 (count_by is_instruction clean)
 abbrev pub has_both_confirmations : List Draft → Bool
 has_both_confirmations clean = list_any is_acceptance clean && list_any is_rejection clean
 
-abbrev pub reasons_differ : Option (List ℕ) → Option (List ℕ) → Bool
-reasons_differ (Some reason) (Some other) = not (is_text reason other)
+abbrev pub reasons_differ : Option Reason → Option Reason → Bool
+reasons_differ (Some reason) (Some other) = not (is_text (reason_text reason) (reason_text other))
 reasons_differ (Some reason) None = false
 reasons_differ None other = false
 
 -- both reject the transfer, for different reasons
 abbrev pub reject_differently : Draft → Draft → Bool
-reject_differently m n = is_rejection m && is_rejection n && reasons_differ (reason_of m) (reason_of n)
+reject_differently m n = is_rejection m && is_rejection n && reasons_differ (reason_given m) (reason_given n)
 
 abbrev pub has_differing_reasons : List Draft → Bool
 has_differing_reasons clean = list_any (λ m. list_any (λ n. reject_differently m n) clean) clean
@@ -100,11 +119,11 @@ findings_of clean asides = findings_when asides (has_two_instructions clean) (ha
 -- ---- where a transfer stands
 
 -- the reason of the first rejection; where nothing was found, all rejections give the same one
-abbrev pub rejection_told : List Draft → Option (List ℕ)
-rejection_told clean = option_and_then reason_of (find is_rejection clean)
+abbrev pub rejection_told : List Draft → Option Reason
+rejection_told clean = option_and_then reason_given (find is_rejection clean)
 
 -- the first that holds: something contradicts itself; nothing is known; no instruction; rejected; accepted; pending
-abbrev pub first_status : Bool → Bool → Bool → Option (List ℕ) → Bool → Status
+abbrev pub first_status : Bool → Bool → Bool → Option Reason → Bool → Status
 first_status true unknown instructed rejection accepted = status.Contradicted
 first_status false true instructed rejection accepted = status.Unknown
 first_status false false false rejection accepted = status.Missing

@@ -1,10 +1,16 @@
 -- The status text: where each transfer of a set of messages stands.
 use Rattle.std.specs.List.{list_any}
-use Rattle.std.specs.Prelude.{◌≡◌, ℕ, List, [], ◌∷◌, ◌++◌, map, filter, flat_map, codes}
+use Rattle.std.specs.Prelude.{◌≡◌, ℕ, List, [], ◌∷◌, ◌++◌, map, filter, flat_map, Bool, true, false, if◌then◌else◌, codes}
+use Rattle.sct_reason.specs.declared.reasons.Reason.{Reason}
+use Rattle.sct_reason.specs.declared.uses.Use.{Use}
+use Rattle.sct_reason.specs.declared.uses.Use.TheVariants.{Reject}
+use Rattle.sct_reason.specs.Codes.{reason_text}
+use Rattle.sct_reason.specs.Uses.{is_usual}
 use Rattle.sct_message.specs.Ascending.{ascending}
 use Rattle.sct_message.specs.Kinds.{kind_text}
 use Rattle.sct_message.specs.Order.{message_order, identity_order, same_message}
 use Rattle.sct_message.specs.declared.draft.Draft.{Draft}
+use Rattle.sct_message.specs.declared.draft.Draft.TheVariants.{CreditTransfer, StatusReport, StatusRequest, CancellationRequest, PaymentReturn, Resolution}
 use Rattle.sct_message.specs.declared.keys.Identity.{Identity}
 use Rattle.sct_message.specs.Keys.{identity_of}
 use Rattle.sct_message.specs.declared.keys.TransferKey.{TransferKey}
@@ -14,11 +20,15 @@ use Rattle.sct_sites.specs.declared.cases.Status.{Status}
 use Rattle.sct_sites.specs.declared.cases.Status.TheVariants as status
 use Rattle.sct_sites.specs.Cases.{is_about, messages_on, asides_of, transfers_of, findings_of, transfer_status_of}
 
+-- a reason is shown as its code, with a question mark where it is not usual in that use
+abbrev pub shown : Use → Reason → List ℕ
+shown usage reason = reason_text reason ++ (if is_usual reason usage then [] else codes "?")
+
 abbrev pub status_words : Status → List ℕ
 status_words status.Contradicted = codes "CONTRADICTED"
 status_words status.Unknown = codes "UNKNOWN"
 status_words status.Missing = codes "MISSING"
-status_words (status.Rejected reason) = codes "REJECTED|" ++ reason
+status_words (status.Rejected reason) = codes "REJECTED|" ++ shown Reject reason
 status_words status.Accepted = codes "ACCEPTED"
 status_words status.Pending = codes "PENDING"
 
@@ -60,9 +70,18 @@ lines_on messages transfer = lines_by transfer (messages_on transfer messages) (
 abbrev pub text_of_held : List Draft → List ℕ
 text_of_held held = flat_map (lines_on held) (transfers_of held)
 
+-- the kinds that say where a transfer stands: the instruction and its confirmation or rejection
+abbrev pub tells_of_status : Draft → Bool
+tells_of_status (CreditTransfer d) = true
+tells_of_status (StatusReport d) = true
+tells_of_status (StatusRequest d) = false
+tells_of_status (CancellationRequest d) = false
+tells_of_status (PaymentReturn d) = false
+tells_of_status (Resolution d) = false
+
 -- the status text of a set of messages, whatever their order and however often each comes
 unfoldable pub status_text_of : List Draft → List ℕ
-status_text_of messages = text_of_held (ascending message_order messages)
+status_text_of messages = text_of_held (filter tells_of_status (ascending message_order messages))
 
 -- each message stands in both lists or in neither
 abbrev pub HaveSameMembers : List Draft → List Draft → Type 0

@@ -2,13 +2,13 @@
 ghost use Rattle.std.specs.Prelude.{◌≡◌, ◌≢◌, ◌↔◌, [], ℕ, List, map, find, count_by, nat_lt, OnOk, ◌++◌, ◌&&◌, option_and_then, Option, Some, None, IfOk};
 ghost use Rattle.std.specs.List.{list_any};
 ghost use Rattle.std.specs.Option.{option_copied};
-ghost use Rattle.sct_sites.specs.Cases.{is_instruction, is_acceptance, is_rejection, reason_of, reasons_differ, reject_differently, has_two_instructions, findings_of, transfer_status_of, first_status, findings_when, where_found};
+ghost use Rattle.sct_sites.specs.Cases.{is_instruction, is_acceptance, is_rejection, reason_given, reasons_differ, reject_differently, has_two_instructions, findings_of, transfer_status_of, first_status, findings_when, where_found};
 ghost use Rattle.sct_sites.specs.declared.cases.Finding.TheVariants as finding;
 ghost use Rattle.sct_message.specs.declared.draft.Draft.{Draft as DraftOf};
 ghost use Rattle.sct_message.specs.declared.keys.Identity.{Identity as IdentityOf};
 
-use sct_element::Code4;
 use sct_message::{Draft, Identity, Message};
+use sct_reason::Reason;
 use std::alloc::{AllocError, Global};
 
 /// What contradicts itself in the messages about a transfer, in the order in which it is told.
@@ -34,7 +34,7 @@ pub enum Status {
     /// Messages are about it, but none instructs it.
     Missing,
     /// It was rejected, for this reason.
-    Rejected(Code4),
+    Rejected(Reason),
     /// It was accepted.
     Accepted,
     /// It was instructed, and neither accepted nor rejected.
@@ -44,18 +44,15 @@ pub enum Status {
 fn is_instruction(draft: &Draft) -> bool
     ensures { result ≡ is_instruction draft.now }
 {
-    match draft {
-        Draft::CreditTransfer(_) => true,
-        Draft::StatusReport(_) => false,
-    }
+    matches!(draft, Draft::CreditTransfer(_))
 }
 
 fn is_acceptance(draft: &Draft) -> bool
     ensures { result ≡ is_acceptance draft.now }
 {
     match draft {
-        Draft::CreditTransfer(_) => false,
         Draft::StatusReport(report) => report.status.text() == "ACCP",
+        _ => false,
     }
 }
 
@@ -63,21 +60,21 @@ fn is_rejection(draft: &Draft) -> bool
     ensures { result ≡ is_rejection draft.now }
 {
     match draft {
-        Draft::CreditTransfer(_) => false,
         Draft::StatusReport(report) => report.status.text() == "RJCT",
+        _ => false,
     }
 }
 
-fn reason(draft: &Draft) -> Option<&Code4>
-    ensures { option_copied result ≡ reason_of draft.now }
+fn reason(draft: &Draft) -> Option<&Reason>
+    ensures { option_copied result ≡ reason_given draft.now }
 {
     match draft {
-        Draft::CreditTransfer(_) => None,
         Draft::StatusReport(report) => report.reason.as_ref(),
+        _ => None,
     }
 }
 
-fn reasons_differ(left: Option<&Code4>, right: Option<&Code4>) -> bool
+fn reasons_differ(left: Option<&Reason>, right: Option<&Reason>) -> bool
     ensures { result ≡ reasons_differ (option_copied left.entry) (option_copied right.entry) }
 {
     match left {
@@ -202,8 +199,8 @@ pub fn findings(
     Ok(found)
 }
 
-fn copied_reason(draft: &Draft) -> Option<Code4>
-    ensures { result ≡ reason_of draft.now }
+fn copied_reason(draft: &Draft) -> Option<Reason>
+    ensures { result ≡ reason_given draft.now }
 {
     match reason(draft) {
         Some(reason) => Some(reason.copy()),
@@ -218,8 +215,8 @@ fn first_rejection<'a, 'b>(clean: &'b [&'a Message]) -> Option<&'b &'a Message>
 }
 
 /// The reason of the first rejection.
-fn rejection_told(clean: &[&Message]) -> Option<Code4>
-    ensures { result ≡ option_and_then (λ m. reason_of m.now) (find (λ m. is_rejection m.now) clean.now) }
+fn rejection_told(clean: &[&Message]) -> Option<Reason>
+    ensures { result ≡ option_and_then (λ m. reason_given m.now) (find (λ m. is_rejection m.now) clean.now) }
 {
     match first_rejection(clean) {
         Some(message) => copied_reason(message.draft()),
@@ -231,7 +228,7 @@ fn first_status(
     found: bool,
     unknown: bool,
     instructed: bool,
-    rejection: Option<Code4>,
+    rejection: Option<Reason>,
     accepted: bool,
 ) -> Status
     ensures { result ≡ first_status found unknown instructed rejection accepted }

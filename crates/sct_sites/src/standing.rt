@@ -7,11 +7,12 @@ ghost use Rattle.sct_message.specs.Kinds.{kind_text};
 ghost use Rattle.sct_message.specs.Keys.{identity_of, transfer_of};
 ghost use Rattle.sct_message.specs.Order.{message_order, identity_order, transfer_order, same_identity, same_message};
 ghost use Rattle.sct_sites.specs.Cases.{is_contradicted, clean_messages, contradicted_messages, is_about, transfers_of};
-ghost use Rattle.sct_sites.specs.Status.{status_words, finding_words, key_words, line_on, finding_lines, lines_by, lines_among, text_of_held, status_text_of, HaveSameMembers};
+ghost use Rattle.sct_sites.specs.Status.{shown, tells_of_status, status_words, finding_words, key_words, line_on, finding_lines, lines_by, lines_among, text_of_held, status_text_of, HaveSameMembers};
 ghost use Rattle.sct_message.specs.declared.draft.Draft.{Draft as DraftOf};
 
 use crate::cases::{Finding, Status, findings, transfer_status};
 use sct_message::{Draft, Identity, Message, TransferKey, keys_are_ordered};
+use sct_reason::{Reason, Use};
 use std::alloc::{AllocError, Global};
 
 fn has_parts_of(left: &Draft, right: &Draft) -> bool
@@ -144,6 +145,14 @@ fn sort_messages(messages: &mut Vec<Message>) -> Result<(), AllocError>
     Ok(())
 }
 
+/// A reason as it is shown: its code, with a question mark where it is not usual in that use.
+fn push_reason(text: &mut String, reason: &Reason, usage: Use) -> Result<(), AllocError>
+    ensures { OnOk result (string_bytes text.new ≡ string_bytes text.old ++ shown usage reason.now) }
+{
+    text.push_str(reason.text())?;
+    text.push_str(if reason.is_usual(usage) { "" } else { "?" })
+}
+
 fn push_status(text: &mut String, status: &Status) -> Result<(), AllocError>
     ensures { OnOk result (string_bytes text.new ≡ string_bytes text.old ++ status_words status.now) }
 {
@@ -153,7 +162,7 @@ fn push_status(text: &mut String, status: &Status) -> Result<(), AllocError>
         Status::Missing => text.push_str("MISSING"),
         Status::Rejected(reason) => {
             text.push_str("REJECTED|")?;
-            text.push_str(reason.text())
+            push_reason(text, reason, Use::Reject)
         }
         Status::Accepted => text.push_str("ACCEPTED"),
         Status::Pending => text.push_str("PENDING"),
@@ -296,13 +305,33 @@ fn text_of_held(alloc: Global, held: &[Message]) -> Result<String, AllocError>
     Ok(text)
 }
 
+fn tells_of_status(draft: &Draft) -> bool
+    ensures { result ≡ tells_of_status draft.now }
+{
+    matches!(draft, Draft::CreditTransfer(_) | Draft::StatusReport(_))
+}
+
+/// The messages that say where a transfer stands.
+fn telling(alloc: Global, messages: Vec<Message>) -> Result<Vec<Message>, AllocError>
+    ensures { IfOk result (λ found. found.items ≡ filter tells_of_status messages.items) }
+{
+    let mut found = Vec::new(alloc);
+    for message in messages {
+        if tells_of_status(message.draft()) {
+            found.push(message)?;
+        }
+    }
+    Ok(found)
+}
+
 /// The status text of the set of some messages, which may stand in any order and more than once.
 #[tactic(auto, unfolding(crate::specs::Status::status_text_of))]
 pub fn status_text(alloc: Global, mut messages: Vec<Message>) -> Result<Vec<u8>, AllocError>
     ensures { IfOk result (λ text. text.items ≡ status_text_of messages.items) }
 {
     sort_messages(&mut messages)?;
-    let text = text_of_held(alloc, &messages)?;
+    let held = telling(alloc, messages)?;
+    let text = text_of_held(alloc, &held)?;
     Ok(text.into_bytes())
 }
 

@@ -15,7 +15,7 @@ pub static REFUSED_AND_TAKEN: Case = Case {
     refused: 1,
 };
 
-pub static CASES: [Case; 17] = [
+pub static CASES: [Case; 19] = [
     // empty
     Case {
         input: b"",
@@ -134,5 +134,19 @@ pub static CASES: [Case; 17] = [
         out: b"T|BANKDEFFXXX|T1|PENDING\nT|BANKDEFFXXX|T1 |PENDING\nT|BANKDEFFXXX|T10|PENDING\nT|BANKDEFFXXX|T2|PENDING\n",
         err: b"",
         refused: 0,
+    },
+    // reasons that are not usual for a rejection
+    Case {
+        input: b"{\"MsgNmId\":\"pacs.008\",\"MsgId\":\"M1\",\"CreDtTm\":\"2024-05-02T10:00:00Z\",\"InstgAgt\":\"BANKDEFF\",\"IntrBkSttlmDt\":\"2024-05-02\",\"SvcLvl\":\"SEPA\",\"LclInstrm\":\"INST\",\"EndToEndId\":\"E1\",\"TxId\":\"T1\",\"IntrBkSttlmAmt\":\"1.00\",\"Ccy\":\"EUR\",\"ChrgBr\":\"SLEV\",\"Dbtr\":\"Anna Weber\",\"DbtrAcct\":\"DE89370400440532013000\",\"DbtrAgt\":\"BANKDEFF\",\"CdtrAgt\":\"BANQFRPP\",\"Cdtr\":\"Bo Maes\",\"CdtrAcct\":\"BE68539007547034\"}\n{\"MsgNmId\":\"pacs.002\",\"MsgId\":\"C1\",\"CreDtTm\":\"2024-05-02T10:00:02Z\",\"InstgAgt\":\"BANQFRPP\",\"OrgnlMsgId\":\"M1\",\"OrgnlMsgNmId\":\"pacs.008\",\"OrgnlTxId\":\"T1\",\"TxSts\":\"RJCT\",\"Rsn\":\"AM09\",\"DbtrAgt\":\"BANKDEFF\"}\n{\"MsgNmId\":\"pacs.008\",\"MsgId\":\"M2\",\"CreDtTm\":\"2024-05-02T10:00:00Z\",\"InstgAgt\":\"BANKDEFF\",\"IntrBkSttlmDt\":\"2024-05-02\",\"SvcLvl\":\"SEPA\",\"LclInstrm\":\"INST\",\"EndToEndId\":\"E1\",\"TxId\":\"T2\",\"IntrBkSttlmAmt\":\"1.00\",\"Ccy\":\"EUR\",\"ChrgBr\":\"SLEV\",\"Dbtr\":\"Anna Weber\",\"DbtrAcct\":\"DE89370400440532013000\",\"DbtrAgt\":\"BANKDEFF\",\"CdtrAgt\":\"BANQFRPP\",\"Cdtr\":\"Bo Maes\",\"CdtrAcct\":\"BE68539007547034\"}\n{\"MsgNmId\":\"pacs.002\",\"MsgId\":\"C2\",\"CreDtTm\":\"2024-05-02T10:00:02Z\",\"InstgAgt\":\"BANQFRPP\",\"OrgnlMsgId\":\"M1\",\"OrgnlMsgNmId\":\"pacs.008\",\"OrgnlTxId\":\"T2\",\"TxSts\":\"RJCT\",\"Rsn\":\"CUST\",\"DbtrAgt\":\"BANKDEFF\"}\n{\"MsgNmId\":\"pacs.008\",\"MsgId\":\"M3\",\"CreDtTm\":\"2024-05-02T10:00:00Z\",\"InstgAgt\":\"BANKDEFF\",\"IntrBkSttlmDt\":\"2024-05-02\",\"SvcLvl\":\"SEPA\",\"LclInstrm\":\"INST\",\"EndToEndId\":\"E1\",\"TxId\":\"T3\",\"IntrBkSttlmAmt\":\"1.00\",\"Ccy\":\"EUR\",\"ChrgBr\":\"SLEV\",\"Dbtr\":\"Anna Weber\",\"DbtrAcct\":\"DE89370400440532013000\",\"DbtrAgt\":\"BANKDEFF\",\"CdtrAgt\":\"BANQFRPP\",\"Cdtr\":\"Bo Maes\",\"CdtrAcct\":\"BE68539007547034\"}\n{\"MsgNmId\":\"pacs.002\",\"MsgId\":\"C3\",\"CreDtTm\":\"2024-05-02T10:00:02Z\",\"InstgAgt\":\"BANQFRPP\",\"OrgnlMsgId\":\"M1\",\"OrgnlMsgNmId\":\"pacs.008\",\"OrgnlTxId\":\"T3\",\"TxSts\":\"RJCT\",\"Rsn\":\"ZZ9\",\"DbtrAgt\":\"BANKDEFF\"}\n",
+        out: b"T|BANKDEFFXXX|T1|REJECTED|AM09\nT|BANKDEFFXXX|T2|REJECTED|CUST?\nT|BANKDEFFXXX|T3|REJECTED|ZZ9?\n",
+        err: b"",
+        refused: 0,
+    },
+    // kinds that say nothing of the status so far, of two transfers
+    Case {
+        input: b"{\"MsgNmId\":\"pacs.008\",\"MsgId\":\"M1\",\"CreDtTm\":\"2024-05-02T10:00:00Z\",\"InstgAgt\":\"BANKDEFF\",\"IntrBkSttlmDt\":\"2024-05-02\",\"SvcLvl\":\"SEPA\",\"LclInstrm\":\"INST\",\"EndToEndId\":\"E1\",\"TxId\":\"T1\",\"IntrBkSttlmAmt\":\"1.00\",\"Ccy\":\"EUR\",\"ChrgBr\":\"SLEV\",\"Dbtr\":\"Anna Weber\",\"DbtrAcct\":\"DE89370400440532013000\",\"DbtrAgt\":\"BANKDEFF\",\"CdtrAgt\":\"BANQFRPP\",\"Cdtr\":\"Bo Maes\",\"CdtrAcct\":\"BE68539007547034\"}\n{\"MsgNmId\":\"pacs.028\",\"MsgId\":\"Q1\",\"CreDtTm\":\"2024-05-02T10:00:30Z\",\"InstgAgt\":\"BANKDEFF\",\"OrgnlMsgId\":\"M1\",\"OrgnlMsgNmId\":\"pacs.008\",\"OrgnlTxId\":\"T1\",\"DbtrAgt\":\"BANKDEFF\"}\n{\"MsgNmId\":\"camt.056\",\"MsgId\":\"K1\",\"CreDtTm\":\"2024-05-03T09:00:00Z\",\"InstgAgt\":\"BANKDEFF\",\"CxlId\":\"R1\",\"OrgnlMsgId\":\"M1\",\"OrgnlMsgNmId\":\"pacs.008\",\"OrgnlTxId\":\"T1\",\"OrgnlIntrBkSttlmAmt\":\"1.00\",\"Ccy\":\"EUR\",\"Rsn\":\"FRAD\",\"DbtrAgt\":\"BANKDEFF\"}\n{\"MsgNmId\":\"pacs.004\",\"MsgId\":\"P1\",\"CreDtTm\":\"2024-05-04T09:00:00Z\",\"InstgAgt\":\"BANQFRPP\",\"RtrId\":\"XP1\",\"OrgnlCxlId\":\"R1\",\"OrgnlMsgId\":\"M1\",\"OrgnlMsgNmId\":\"pacs.008\",\"OrgnlTxId\":\"T1\",\"OrgnlIntrBkSttlmAmt\":\"1.00\",\"RtrdIntrBkSttlmAmt\":\"1.00\",\"Ccy\":\"EUR\",\"IntrBkSttlmDt\":\"2024-05-04\",\"Rsn\":\"FOCR\",\"DbtrAgt\":\"BANKDEFF\"}\n{\"MsgNmId\":\"camt.029\",\"MsgId\":\"N1\",\"CreDtTm\":\"2024-05-04T09:00:00Z\",\"InstgAgt\":\"BANQFRPP\",\"CxlStsId\":\"S1\",\"OrgnlCxlId\":\"R1\",\"OrgnlMsgId\":\"M1\",\"OrgnlMsgNmId\":\"pacs.008\",\"OrgnlTxId\":\"T2\",\"Conf\":\"RJCR\",\"Rsn\":\"CUST\",\"DbtrAgt\":\"BANKDEFF\"}\n{\"MsgNmId\":\"camt.029\",\"MsgId\":\"N2\",\"CreDtTm\":\"2024-05-04T09:00:00Z\",\"InstgAgt\":\"BANQFRPP\",\"CxlStsId\":\"S1\",\"OrgnlCxlId\":\"R1\",\"OrgnlMsgId\":\"M1\",\"OrgnlMsgNmId\":\"pacs.008\",\"OrgnlTxId\":\"T1\",\"Conf\":\"CNCL\",\"Rsn\":\"CUST\",\"DbtrAgt\":\"BANKDEFF\"}\n",
+        out: b"T|BANKDEFFXXX|T1|PENDING\n",
+        err: b"line 6: 38 20\n",
+        refused: 1,
     },
 ];
