@@ -1,0 +1,7 @@
+use Rattle.std.proofs.Common.{ap, ◌∙◌}
+use Rattle.sct_set.specs.Drafts.{drafts_of}
+use Rattle.sct_set.proofs.ContentsLemmas.{disputed-is}
+use Rattle.sct_set.proofs.contradictions.is_disputed_in.Goals as goal
+
+pub returns : goal.returns
+returns c = c.is_another_among.ensures ∙ disputed-is _ _ _ (c.of.ensures ∙ ap (λ i. drafts_of i c.args.table.now) c.identity.ensures)

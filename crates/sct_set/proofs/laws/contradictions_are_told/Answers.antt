@@ -1,0 +1,5 @@
+use Rattle.sct_set.proofs.LawLemmas.{contradictions_told}
+use Rattle.sct_set.proofs.laws.contradictions_are_told.Goals as goal
+
+pub returns : goal.returns
+returns c = contradictions_told

@@ -1,0 +1,5 @@
+use Rattle.sct_set.proofs.LawLemmas.{written_once}
+use Rattle.sct_set.proofs.laws.text_writes_each_once.Goals as goal
+
+pub returns : goal.returns
+returns c = written_once

@@ -1,0 +1,14 @@
+use Rattle.std.proofs.Common.{◌≡◌, ◌≤◌, length, take}
+use Rattle.std.specs.FinSet as set
+use Rattle.sct_set.specs.Contents.{contents_of, HasNoRepeat}
+use Rattle.sct_set.specs.Drafts.{drafts_in}
+use Rattle.sct_set.proofs.push.push_all.Given as goal
+
+abbrev pub invariant-loop-message : goal.invariant-loop-message
+invariant-loop-message l = record {
+  union : contents_of l.table ≡ set.union (contents_of l.initial.table) (contents_of (drafts_in (take l.message-index l.messages)));
+  no_repeat : HasNoRepeat l.table;
+  front : take l.before l.table ≡ l.initial.table;
+  grows : l.before ≤ length l.table;
+  before : l.before ≡ length l.initial.table;
+}

@@ -1,0 +1,13 @@
+-- A map from keys to lists, read as one list for each key.
+use Rattle.std.specs.Prelude.{Bool, List, [], Option, None, Some}
+use Rattle.std.specs.Global.{Vec}
+use Rattle.indexmap.specs.IndexMap.{IndexMap, get}
+
+-- the items of a list that may be absent
+abbrev pub items_in : {V : Type 0} → Option (Vec V) → List V
+items_in None = []
+items_in (Some v) = v.items
+
+-- the list at a key, empty where the map has none
+abbrev pub bucket : {K V S : Type 0} → (K → K → Bool) → IndexMap K (Vec V) S → K → List V
+bucket eq m k = items_in (get eq m k)

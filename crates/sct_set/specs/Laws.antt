@@ -1,0 +1,56 @@
+-- What holds of archives, whatever messages they hold.
+use Rattle.std.specs.FinSet as set
+use Rattle.std.specs.Prelude.{◌≡◌, ◌↔◌, true, false, ◌||◌, List, Contains}
+use Rattle.std.specs.List.{flat_map}
+use Rattle.std.specs.List.Sorted.{IsStrictlySortedBy}
+use Rattle.sct_message.specs.declared.draft.Draft.{Draft}
+use Rattle.sct_message.specs.declared.keys.Identity.{Identity}
+use Rattle.sct_message.specs.Keys.{identity_of}
+use Rattle.sct_message.specs.Order.{identity_order}
+use Rattle.sct_set.specs.declared.added.Added.TheVariants as added
+use Rattle.sct_set.specs.Archive.{IsContradicted, added_of, contradicted_identities, archive_text_of, line_of, line_order}
+use Rattle.sct_set.specs.Contents.{Contents}
+
+-- contents are merged as they are joined
+abbrev pub IsAssociative : Type 0
+IsAssociative = (a b c : Contents) → set.union (set.union a b) c ≡ set.union a (set.union b c)
+
+abbrev pub IsCommutative : Type 0
+IsCommutative = (a b : Contents) → set.union a b ≡ set.union b a
+
+abbrev pub IsIdempotent : Type 0
+IsIdempotent = (a : Contents) → set.union a a ≡ a
+
+-- a message is held after a merge exactly where one side held it
+abbrev pub HoldsBothSides : Type 0
+HoldsBothSides = (a b : Contents) (draft : Draft) → set.contains (set.union a b) draft ≡ (set.contains a draft || set.contains b draft)
+
+-- the same messages are held
+abbrev pub HaveSameMessages : Contents → Contents → Type 0
+HaveSameMessages a b = (draft : Draft) → set.contains a draft ≡ set.contains b draft
+
+-- archives that hold the same messages give the same bytes, and name the same contradictions
+abbrev pub EqualSetsAnswerAlike : Type 0
+EqualSetsAnswerAlike = (a b : Contents) → HaveSameMessages a b → (archive_text_of a ≡ archive_text_of b) × (contradicted_identities a ≡ contradicted_identities b)
+
+-- an identity is told as contradicted exactly where two different messages have it
+abbrev pub TellsContradictions : Type 0
+TellsContradictions = (contents : Contents) (identity : Identity) → Contains (contradicted_identities contents) identity ↔ IsContradicted contents identity
+
+-- contradicted identities are told in ascending order, each once
+abbrev pub TellsInOrder : Type 0
+TellsInOrder = (contents : Contents) → IsStrictlySortedBy identity_order (contradicted_identities contents)
+
+-- of a message that is not held, Against is answered exactly where its identity is contradicted once it is added
+abbrev pub AnswersAgainst : Type 0
+AnswersAgainst = (contents : Contents) (draft : Draft) → set.contains contents draft ≡ false
+    → (added_of contents draft ≡ added.Against) ↔ IsContradicted (set.insert contents draft) (identity_of draft)
+
+-- drafts are the messages of the set, each once, by identity and then by written text
+pub record IsLineOrderOf (contents : Contents) (drafts : List Draft) : Type 0 where
+  pub members : (draft : Draft) → Contains drafts draft ↔ (set.contains contents draft ≡ true)
+  pub rises : IsStrictlySortedBy line_order drafts
+
+-- the archive text is a line for each message of the set, in that order
+abbrev pub WritesEachOnce : Type 0
+WritesEachOnce = (contents : Contents) → (drafts : List Draft) × IsLineOrderOf contents drafts × (archive_text_of contents ≡ flat_map line_of drafts)

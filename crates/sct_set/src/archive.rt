@@ -1,0 +1,126 @@
+//! A set of messages.
+
+ghost use Rattle.std.specs.Prelude.{◌≡◌, ◌+◌, OnOk, OnErr, IfOk};
+ghost use Rattle.std.specs.Arc.{arc_value};
+ghost use Rattle.std.specs.FinSet as set;
+ghost use Rattle.sct_message.specs.Order.{message_order};
+ghost use Rattle.sct_set.specs.Contents.{contents_of};
+ghost use Rattle.sct_set.specs.Drafts.{drafts_in};
+
+use crate::added::Added;
+use crate::contradictions::contradictions;
+use crate::fault::SetFault;
+use crate::held::holds;
+use crate::push::push_all;
+use crate::table::Table;
+use crate::text::archive_text;
+use sct_message::{Identity, Message};
+use std::alloc::Global;
+use std::marker::Model;
+use std::sync::Arc;
+
+/// Messages, each held once, whatever their identities are.
+#[derive(Drop)]
+pub struct Archive {
+    table: Table,
+}
+
+impl Model for Archive {
+    ghost use Rattle.std.specs.FinSet as set;
+    ghost use Rattle.sct_message.specs.contracts.messages.Message as message;
+    ghost use Rattle.sct_message.specs.Order.{message_order};
+    ghost use Rattle.sct_set.specs.Contents.{HasNoRepeat};
+
+    ghost Value = { set.FinSet message_order };
+
+    ghost coded = { set.code message.the_row.coded };
+
+    ghost view = { λ a. set.from_list a.table };
+
+    ghost invariant = { λ a. HasNoRepeat a.table };
+}
+
+impl Archive {
+    ghost use Rattle.sct_set.specs.Archive.{added_of, archive_text_of, contradicted_identities, has_identity};
+
+    pub fn new(alloc: Global) -> Self
+        ensures { result ≡ set.empty }
+    {
+        Archive {
+            table: Table::new(alloc),
+        }
+    }
+
+    /// How many messages are held.
+    pub fn len(&self) -> usize
+        ensures { result ≡ set.len self.now }
+    {
+        self.table.len()
+    }
+
+    /// Whether the message is held.
+    pub fn holds(&self, message: &Message) -> bool
+        ensures { result ≡ set.contains self.now message.now }
+    {
+        holds(&self.table, message)
+    }
+
+    // Whether a message of the identity is held.
+    fn has(&self, identity: &Identity) -> bool
+        ensures { result ≡ has_identity self.now identity.now }
+    {
+        self.table.of(identity).len() > 0
+    }
+
+    /// Adds a message, and tells how it came.
+    pub fn add(&mut self, message: Arc<Message>) -> Result<Added, SetFault>
+        ensures answer { IfOk result (λ added. added ≡ added_of self.old (arc_value message)) }
+        ensures ok { OnOk result (self.new ≡ set.insert self.old (arc_value message)) }
+        ensures err { OnErr result (self.new ≡ self.old) }
+    {
+        if self.holds(&message) {
+            return Ok(Added::Repeat);
+        }
+        let against = self.has(&message.identity());
+        self.table.push(message)?;
+        Ok(if against {
+            Added::Against
+        } else {
+            Added::Fresh
+        })
+    }
+
+    /// Adds each message of a list, and tells how many of them were new. Where memory is wanting none is added.
+    pub fn add_all(&mut self, messages: &[Arc<Message>]) -> Result<u64, SetFault>
+        ensures ok { OnOk result (self.new ≡ set.union self.old (contents_of (drafts_in messages.now))) }
+        ensures count { IfOk result (λ fresh. set.len self.new ≡ set.len self.old + fresh) }
+        ensures err { OnErr result (self.new ≡ self.old) }
+    {
+        Ok(push_all(&mut self.table, messages)?)
+    }
+
+    /// Adds each message of another archive, and tells how many of them were new. Where memory is wanting
+    /// none is added.
+    pub fn merge(&mut self, other: &Archive) -> Result<u64, SetFault>
+        ensures ok { OnOk result (self.new ≡ set.union self.old other.now) }
+        ensures count { IfOk result (λ fresh. set.len self.new ≡ set.len self.old + fresh) }
+        ensures err { OnErr result (self.new ≡ self.old) }
+    {
+        Ok(push_all(&mut self.table, other.table.messages())?)
+    }
+
+    /// The identities of which different messages are held, in ascending order.
+    pub fn contradictions(&self) -> Result<Vec<Identity>, SetFault>
+        ensures { IfOk result (λ identities. identities.items ≡ contradicted_identities self.now) }
+    {
+        Ok(contradictions(&self.table)?)
+    }
+
+    /// The archive text: the written text of each message held, by identity and then by text, with a line
+    /// feed after each.
+    pub fn text(&self) -> Result<Vec<u8>, SetFault>
+        ensures { IfOk result (λ text. text.items ≡ archive_text_of self.now) }
+    {
+        archive_text(&self.table)
+    }
+}

@@ -1,0 +1,40 @@
+//! A map from keys to lists of items.
+
+ghost use Rattle.std.specs.Prelude.{◌≡◌, ◌-◌, ◌++◌, ◌∷◌, [], length, take, OnOk, OnErr, if◌then◌else◌};
+ghost use Rattle.sct_set.specs.Buckets.{bucket};
+
+use indexmap::IndexMap;
+use std::alloc::{AllocError, Global};
+use std::hash::Hash;
+
+/// Puts an item at the end of its key's list. Where memory is wanting no list has changed.
+pub fn file<K: Eq + Hash + Drop, V: Drop>(
+    alloc: Global,
+    index: &mut IndexMap<K, Vec<V>>,
+    key: K,
+    item: V,
+) -> Result<(), AllocError>
+    ensures ok { OnOk result ((k : K) → bucket K.eq index.new k
+        ≡ (if K.eq key k then bucket K.eq index.old k ++ item ∷ [] else bucket K.eq index.old k)) }
+    ensures err { OnErr result ((k : K) → bucket K.eq index.new k ≡ bucket K.eq index.old k) }
+{
+    if let Some(list) = index.get_mut(&key) {
+        list.push(item)?;
+        return Ok(());
+    }
+    let mut list = Vec::new(alloc);
+    list.push(item)?;
+    index.insert(key, list)?;
+    Ok(())
+}
+
+/// Takes the last item from its key's list.
+pub fn unfile<K: Eq + Hash + Drop, V: Drop>(index: &mut IndexMap<K, Vec<V>>, key: &K)
+    ensures { (k : K) → bucket K.eq index.new k
+        ≡ (if K.eq key.now k then take (length (bucket K.eq index.old k) - 1) (bucket K.eq index.old k)
+        else bucket K.eq index.old k) }
+{
+    if let Some(list) = index.get_mut(key) {
+        list.pop();
+    }
+}

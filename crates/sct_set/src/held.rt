@@ -1,0 +1,33 @@
+//! A message among others.
+
+ghost use Rattle.std.specs.Prelude.{◌≡◌, not};
+ghost use Rattle.std.specs.List.{list_any};
+ghost use Rattle.std.specs.Arc.{arc_value};
+ghost use Rattle.std.specs.FinSet as set;
+ghost use Rattle.sct_message.specs.Order.{same_message};
+ghost use Rattle.sct_set.specs.Contents.{contents_of};
+
+use crate::table::Table;
+use sct_message::Message;
+use std::sync::Arc;
+
+/// Whether a message is one of some.
+pub fn is_among(message: &Message, messages: &[Arc<Message>]) -> bool
+    ensures { result ≡ list_any (λ held. same_message (arc_value held) message.now) messages.now }
+{
+    messages.iter().any(|held| **held == *message)
+}
+
+/// Whether some of the messages differ from one.
+pub fn is_another_among(message: &Message, messages: &[Arc<Message>]) -> bool
+    ensures { result ≡ list_any (λ held. not (same_message (arc_value held) message.now)) messages.now }
+{
+    messages.iter().any(|held| **held != *message)
+}
+
+/// Whether a message is one of a table.
+pub fn holds(table: &Table, message: &Message) -> bool
+    ensures { result ≡ set.contains (contents_of table.now) message.now }
+{
+    is_among(message, table.of(&message.identity()))
+}

@@ -1,0 +1,21 @@
+//! The archive: a set of messages, in which two differing messages of one identity stand side by side.
+#![tactic(auto)]
+
+mod added;
+mod archive;
+mod buckets;
+mod contradictions;
+mod fault;
+mod held;
+pub mod laws;
+mod line;
+mod push;
+mod table;
+mod text;
+
+pub use added::Added;
+pub use archive::Archive;
+pub use fault::SetFault;
+
+#[cfg(test)]
+mod tests;
