@@ -1,14 +1,17 @@
 use Rattle.std.specs.Prelude.{ℕ, ◌≡◌, ◌+◌, List, Option, IfSome}
 use Rattle.std.specs.Option.{option_map}
 use Rattle.sct_sites.specs.declared.engine.Job.{Job}
-use Rattle.sct_sites.specs.declared.engine.Job.TheVariants.{Status}
+use Rattle.sct_sites.specs.declared.engine.Job.TheVariants.{Status, Archive}
 use Rattle.sct_sites.specs.Lines.{messages_read, refusals_told, told_text_of}
 use Rattle.sct_sites.specs.Status.{status_text_of}
+use Rattle.sct_set.specs.Archive.{archive_text_of}
+use Rattle.sct_set.specs.Contents.{contents_of}
 use Rattle.sct_sites.specs.Stream.{AppendsIfTold, AppendsPrefixIfTold}
 
--- the text that a job makes of an input
+-- the text that a job makes of an input: where each transfer stands, or the archive text of the set of the messages read
 abbrev pub job_text_of : Job → List ℕ → List ℕ
 job_text_of Status input = status_text_of (messages_read input)
+job_text_of Archive input = archive_text_of (contents_of (messages_read input))
 
 -- the same, where the input is known
 abbrev pub job_text_if_told : Job → Option (List ℕ) → Option (List ℕ)

@@ -23,19 +23,22 @@ ghost use Rattle.sct_sites.specs.Fault.{failed_reads};
 ghost use Rattle.sct_sites.specs.Lines.{messages_read, refusals_told};
 
 use crate::fault::ProgramFault;
+use crate::holding::archive_text;
 use crate::lines::{Intake, read_lines};
 use crate::sink::Sink;
 use crate::source::Source;
 use crate::standing::status_text;
 use crate::transfer::{MOST_BYTES, read_all, write_all};
 use sct_message::Message;
-use std::alloc::{AllocError, Global};
+use std::alloc::Global;
 
 /// What is asked of an input.
 #[derive(Clone, Copy, Debug, PartialEq, Eq)]
 pub enum Job {
     /// The status of each transfer, and the findings on the contradicted ones.
     Status,
+    /// Each message held, written on a line of its own.
+    Archive,
 }
 
 /// A run that ended well.
@@ -46,12 +49,14 @@ pub struct Done {
 }
 
 // The text that the job makes of the messages read from an input.
-fn job_text(alloc: Global, job: &Job, messages: Vec<Message>) -> Result<Vec<u8>, AllocError>
-    ensures { IfOk result (λ text. (input : List ℕ) → messages.items ≡ messages_read input
+fn job_text(alloc: Global, job: &Job, messages: Vec<Message>) -> Result<Vec<u8>, ProgramFault>
+    ensures text { IfOk result (λ text. (input : List ℕ) → messages.items ≡ messages_read input
         → text.items ≡ job_text_of job.now input) }
+    ensures memory { IfErr result (λ e. e ≡ fault.Memory) }
 {
     match job {
-        Job::Status => status_text(alloc, messages),
+        Job::Status => Ok(status_text(alloc, messages)?),
+        Job::Archive => archive_text(alloc, messages),
     }
 }
 

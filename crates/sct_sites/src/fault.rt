@@ -2,6 +2,7 @@ ghost use Rattle.std.specs.Prelude.{◌≡◌};
 ghost use Rattle.sct_sites.specs.declared.fault.ProgramFault.TheVariants as fault;
 ghost use Rattle.sct_sites.specs.Fault.{program_fault_number};
 
+use sct_set::SetFault;
 use std::alloc::{AllocError, AllocFailed};
 use thiserror::Error;
 
@@ -43,6 +44,14 @@ impl From<AllocError> for ProgramFault {
     ghost from_gives = { λ _ e. e ≡ fault.Memory };
 
     fn from(_error: AllocError) -> ProgramFault {
+        ProgramFault::Memory
+    }
+}
+
+impl From<SetFault> for ProgramFault {
+    ghost from_gives = { λ _ e. e ≡ fault.Memory };
+
+    fn from(_fault: SetFault) -> ProgramFault {
         ProgramFault::Memory
     }
 }

@@ -1,4 +1,4 @@
-// The program: the transfers' answers from messages on standard input.
+// The program: the archive and the transfers' answers from messages on standard input.
 #![tactic(auto)]
 
 mod cases;
@@ -6,6 +6,7 @@ mod ending;
 mod engine;
 mod failures;
 mod fault;
+mod holding;
 mod lines;
 mod request;
 mod sink;

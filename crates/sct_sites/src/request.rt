@@ -46,10 +46,14 @@ fn command<'a>(alloc: Global) -> Result<Command<'a>, AllocError> {
     let status = Command::new(alloc, "status").about(
         "Writes the status of each transfer in the messages on standard input",
     );
+    let archive = Command::new(alloc, "archive").about(
+        "Writes the messages on standard input, each once, by sender, kind and identification",
+    );
     Command::new(alloc, "sct_sites")
         .about("Answers on the SEPA Instant messages of a clearing hub")
         .subcommand_required(true)
-        .subcommand(status)
+        .subcommand(status)?
+        .subcommand(archive)
 }
 
 // What clap answers in place of matches: a request for help, or a mistake.
@@ -70,6 +74,7 @@ fn answer_of(alloc: Global, error: &Error) -> Result<Request, ProgramFault>
 fn job_of(matches: &ArgMatches<'_>) -> Option<Job> {
     match matches.subcommand_name() {
         Some("status") => Some(Job::Status),
+        Some("archive") => Some(Job::Archive),
         _ => None,
     }
 }

@@ -1,0 +1,12 @@
+use Rattle.std.proofs.Common.{ap, sym, ◌∙◌}
+use Rattle.std.specs.FinSet as set
+use Rattle.std.specs.FinSet.{from_list_push}
+use Rattle.sct_message.specs.OrderLaws.{message_total, message_same}
+use Rattle.sct_sites.proofs.holding.archive_of.Goals as goal
+
+pub loop-message-preserved : goal.loop-message-preserved
+loop-message-preserved c =
+    c.in_ok-add.ensures.ok
+    ∙ ap (set.insert c.loop-message.archive) c.in_ok-new.ensures.ok
+    ∙ ap (λ s. set.insert s c.in-Some.message) c.loop-message.invariant
+    ∙ sym (from_list_push message_total message_same c.loop-message.yielded c.in-Some.message)

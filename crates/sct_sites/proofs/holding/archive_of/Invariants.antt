@@ -1,0 +1,6 @@
+use Rattle.std.proofs.Common.{◌≡◌}
+use Rattle.sct_set.specs.Contents.{contents_of}
+use Rattle.sct_sites.proofs.holding.archive_of.Given as goal
+
+abbrev pub invariant-loop-message : goal.invariant-loop-message
+invariant-loop-message l = l.archive ≡ contents_of l.yielded

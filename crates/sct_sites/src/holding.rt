@@ -1,0 +1,31 @@
+//! The archive text of the messages read.
+ghost use Rattle.std.specs.Prelude.{◌≡◌, IfErr, IfOk};
+ghost use Rattle.sct_set.specs.Archive.{archive_text_of};
+ghost use Rattle.sct_set.specs.Contents.{contents_of};
+ghost use Rattle.sct_sites.specs.declared.fault.ProgramFault.TheVariants as fault;
+
+use crate::fault::ProgramFault;
+use sct_message::Message;
+use sct_set::Archive;
+use std::alloc::Global;
+use std::sync::Arc;
+
+/// An archive that holds the messages.
+fn archive_of(alloc: Global, messages: Vec<Message>) -> Result<Archive, ProgramFault>
+    ensures held { IfOk result (λ archive. archive ≡ contents_of messages.items) }
+    ensures memory { IfErr result (λ e. e ≡ fault.Memory) }
+{
+    let mut archive = Archive::new(alloc);
+    for message in messages {
+        archive.add(Arc::new(alloc, message)?)?;
+    }
+    Ok(archive)
+}
+
+/// Each message once, written on a line of its own, by identity and then by text. Only want of memory is a fault.
+pub fn archive_text(alloc: Global, messages: Vec<Message>) -> Result<Vec<u8>, ProgramFault>
+    ensures text { IfOk result (λ text. text.items ≡ archive_text_of (contents_of messages.items)) }
+    ensures memory { IfErr result (λ e. e ≡ fault.Memory) }
+{
+    Ok(archive_of(alloc, messages)?.text()?)
+}
