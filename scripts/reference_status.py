@@ -1,6 +1,8 @@
-"""What `status` must answer for an input, by the definitions alone: status text, refused lines, exit status.
+"""What the program must answer for an input, by the definitions alone: text, refused lines, exit status.
 
-Usage: reference_status.py INPUT STATUS REFUSED   (writes the last two)
+Usage: reference_status.py [status|archive] INPUT TEXT REFUSED   (writes the last two)
+
+TEXT gets the status text, or with `archive` the archive text.
 """
 import json, re, sys
 
@@ -59,19 +61,39 @@ def remittance(s):
     return s if 1 <= len(s) <= 140 else None
 
 
-NUMBER = {bic: 1, iban: 2, id35: 3, amount: 4, day: 5, name: 6, remittance: 6, stamp: 7, code4: 9}
+def reason(s):
+    return code4(s)
+
+
+NUMBER = {bic: 1, iban: 2, id35: 3, amount: 4, day: 5, name: 6, remittance: 6, stamp: 7, code4: 9, reason: 9}
+
+# ---- the key tables, "?" behind an optional key
 
 HEAD = [("MsgNmId", id35), ("MsgId", id35), ("CreDtTm", stamp), ("InstgAgt", bic), ("InstdAgt?", bic)]
+ORIGINAL = [("OrgnlMsgId", id35), ("OrgnlMsgNmId", id35), ("OrgnlEndToEndId?", id35), ("OrgnlTxId", id35)]
 TABLE = {
     "pacs.008": HEAD + [
         ("IntrBkSttlmDt", day), ("SvcLvl", code4), ("LclInstrm", code4), ("InstrId?", id35), ("EndToEndId", id35),
         ("TxId", id35), ("IntrBkSttlmAmt", amount), ("Ccy", code4), ("ChrgBr", code4), ("AccptncDtTm?", stamp),
         ("Dbtr", name), ("DbtrAcct", iban), ("DbtrAgt", bic), ("CdtrAgt", bic), ("Cdtr", name), ("CdtrAcct", iban),
         ("Ustrd?", remittance)],
-    "pacs.002": HEAD + [
-        ("OrgnlMsgId", id35), ("OrgnlMsgNmId", id35), ("OrgnlEndToEndId?", id35), ("OrgnlTxId", id35),
-        ("TxSts", code4), ("Rsn?", code4), ("DbtrAgt", bic)],
+    "pacs.002": HEAD + ORIGINAL + [("TxSts", code4), ("Rsn?", reason), ("DbtrAgt", bic)],
+    "pacs.028": HEAD + ORIGINAL + [("OrgnlCxlId?", id35), ("DbtrAgt", bic)],
+    "camt.056": HEAD + [("CxlId", id35)] + ORIGINAL + [
+        ("OrgnlIntrBkSttlmAmt", amount), ("Ccy", code4), ("OrgnlIntrBkSttlmDt?", day), ("Rsn", reason),
+        ("DbtrAgt", bic)],
+    "pacs.004": HEAD + [("RtrId", id35), ("OrgnlCxlId", id35)] + ORIGINAL + [
+        ("OrgnlIntrBkSttlmAmt", amount), ("RtrdIntrBkSttlmAmt", amount), ("Ccy", code4), ("IntrBkSttlmDt", day),
+        ("Rsn", reason), ("DbtrAgt", bic)],
+    "camt.029": HEAD + [("CxlStsId", id35), ("OrgnlCxlId", id35)] + ORIGINAL + [
+        ("Conf", code4), ("Rsn", reason), ("DbtrAgt", bic)],
 }
+
+# ---- the reasons that are usual for a rejection
+
+REJECTIONS = set("""
+    AB05 AB06 AB07 AB08 AB09 AB10 AC01 AC04 AC06 AG01 AG02 AG09 AG10 AG11 AM02 AM04 AM05 AM09 AM23 BE04 FF01 MD07
+    MS02 MS03 RC01 RR01 RR02 RR03 RR04 TM01""".split())
 
 
 def kind_named(s):
@@ -119,21 +141,36 @@ def parse(line):
     return v
 
 
-def broken_rule(kind, m):
+def original_kind(kind, m):
+    """The kind of the message that a later message is about."""
+    return "camt.056" if kind == "pacs.028" and "OrgnlCxlId" in m else "pacs.008"
+
+
+def broken_rules(kind, m):
+    """The numbers of all rules that a message of the kind breaks."""
+    has = lambda key, *right: m.get(key) in right
+    if kind in ("pacs.008", "camt.056", "pacs.004") and not has("Ccy", "EUR"):
+        yield 11
     if kind == "pacs.008":
-        for number, key, right in ((11, "Ccy", "EUR"), (12, "SvcLvl", "SEPA"), (13, "LclInstrm", "INST"), (14, "ChrgBr", "SLEV")):
-            if m[key] != right:
-                return number
-    else:
-        if m["TxSts"] not in ("ACCP", "RJCT"):
-            return 15
-        if m["TxSts"] == "RJCT" and "Rsn" not in m:
-            return 16
-        if m["TxSts"] == "ACCP" and "Rsn" in m:
-            return 17
-        if kind_named(m["OrgnlMsgNmId"]) != "pacs.008":
-            return 21
-    return None
+        for number, key, right in ((12, "SvcLvl", "SEPA"), (13, "LclInstrm", "INST"), (14, "ChrgBr", "SLEV")):
+            if not has(key, right):
+                yield number
+    if kind == "pacs.002":
+        if not has("TxSts", "ACCP", "RJCT"):
+            yield 15
+        if has("TxSts", "RJCT") and "Rsn" not in m:
+            yield 16
+        if has("TxSts", "ACCP") and "Rsn" in m:
+            yield 17
+    if kind == "pacs.004":
+        if m["RtrdIntrBkSttlmAmt"] > m["OrgnlIntrBkSttlmAmt"]:
+            yield 18
+        if not has("Rsn", "FOCR"):
+            yield 19
+    if kind == "camt.029" and not has("Conf", "RJCR"):
+        yield 20
+    if kind != "pacs.008" and kind_named(m["OrgnlMsgNmId"]) != original_kind(kind, m):
+        yield 21
 
 
 def read_message(line):
@@ -160,9 +197,9 @@ def read_message(line):
     extra = sorted((k for k in v if k not in known), key=lambda k: k.encode())
     if extra:
         raise Refused("37 " + json.dumps(extra[0], ensure_ascii=False))
-    broken = broken_rule(kind, m)
-    if broken is not None:
-        raise Refused(f"38 {broken}")
+    broken = sorted(broken_rules(kind, m))
+    if broken:
+        raise Refused(f"38 {broken[0]}")
     return kind, tuple(sorted(m.items()))
 
 
@@ -176,6 +213,17 @@ def identity(msg):
 def transfer(msg):
     kind, m = msg[0], dict(msg[1])
     return m["DbtrAgt"].encode(), m["TxId" if kind == "pacs.008" else "OrgnlTxId"].encode()
+
+
+def written(msg):
+    """The written form of a message, without a line feed."""
+    elements = {k: f"{x // 100}.{x % 100:02d}" if isinstance(x, int) else x for k, x in msg[1]}
+    return json.dumps(elements, ensure_ascii=False, separators=(",", ":"), sort_keys=True)
+
+
+def shown(code):
+    """A reason of a rejection as it is shown."""
+    return code if code in REJECTIONS else code + "?"
 
 
 def contradicted(messages):
@@ -207,11 +255,34 @@ def standing(mine, against):
     if not instructions:
         return "MISSING", []
     if reasons:
-        return "REJECTED|" + reasons.pop(), []
+        return "REJECTED|" + shown(reasons.pop()), []
     return ("ACCEPTED" if accepts else "PENDING"), []
 
 
-def answer(data):
+def status_text(messages):
+    by = {}
+    for m in messages:
+        if m[0] in ("pacs.008", "pacs.002"):
+            by.setdefault(transfer(m), []).append(m)
+    against = contradicted(messages)
+    text = []
+    for t in sorted(by):
+        bank, tx = t[0].decode(), t[1].decode()
+        status, found = standing(by[t], against)
+        text.append(f"T|{bank}|{tx}|{status}\n")
+        text += [f"F|{bank}|{tx}|{f}\n" for f in found]
+    return "".join(text)
+
+
+def archive_text(messages):
+    lines = sorted((identity(m), written(m).encode()) for m in messages)
+    return b"".join(line + b"\n" for _, line in lines).decode()
+
+
+TEXT = {"status": status_text, "archive": archive_text}
+
+
+def answer(job, data):
     lines = data.split(b"\n")
     if lines[-1] == b"":
         lines.pop()
@@ -223,21 +294,15 @@ def answer(data):
             messages.add(read_message(line))
         except Refused as e:
             told.append(f"line {n}: {e}\n")
-    text = []
-    by = {}
-    for m in messages:
-        by.setdefault(transfer(m), []).append(m)
-    against = contradicted(messages)
-    for t in sorted(by):
-        bank, tx = t[0].decode(), t[1].decode()
-        status, found = standing(by[t], against)
-        text.append(f"T|{bank}|{tx}|{status}\n")
-        text += [f"F|{bank}|{tx}|{f}\n" for f in found]
-    return "".join(text), "".join(told), 1 if told else 0
+    return TEXT[job](messages), "".join(told), 1 if told else 0
 
 
 if __name__ == "__main__":
-    text, told, status = answer(open(sys.argv[1], "rb").read())
-    open(sys.argv[2], "w", encoding="utf-8", newline="").write(text)
-    open(sys.argv[3], "w", encoding="utf-8", newline="").write(told)
+    words = sys.argv[1:]
+    job = words.pop(0) if words and words[0] in TEXT else "status"
+    if len(words) != 3:
+        sys.exit(__doc__)
+    text, told, status = answer(job, open(words[0], "rb").read())
+    open(words[1], "w", encoding="utf-8", newline="").write(text)
+    open(words[2], "w", encoding="utf-8", newline="").write(told)
     print("exit", status)
