@@ -1,6 +1,7 @@
 //! What the definitions of reading and of the form have to do with each other. These functions do nothing; their contracts
 //! are laws.
-ghost use Rattle.std.specs.Prelude.{◌≡◌, ◌↔◌, ℕ, List, Ok};
+ghost use Rattle.std.specs.Prelude.{◌≡◌, ◌≢◌, ◌↔◌, ℕ, List, Ok, Err};
+ghost use Rattle.sct_json.specs.declared.faults.JsonFault.TheVariants as fault;
 ghost use Rattle.serde_json.specs.Data.{Data};
 ghost use Rattle.sct_message.specs.declared.draft.Draft.{Draft as Elements};
 ghost use Rattle.sct_json.specs.Reading.{object_in, message_in};
@@ -14,6 +15,11 @@ pub fn an_object_is_read_where_it_is_a_form()
 {
     all_rules_hold_where_none_is_broken();
 }
+
+/// Reading bytes has an answer of its own: want of memory is a fault of the call, and never what the bytes are read as.
+pub fn reading_never_wants_memory()
+    ensures { (bytes : List ℕ) → message_in bytes ≢ Err fault.Memory }
+{}
 
 /// An object is a form of one message at most.
 pub fn an_object_is_a_form_of_one_message()

@@ -27,7 +27,7 @@ pub use faults::{ExtraKey, JsonFault};
 pub use keys::Key;
 pub use laws::{
     an_object_is_a_form_of_one_message, an_object_is_read_where_it_is_a_form,
-    bytes_are_read_where_they_stand_for_a_form,
+    bytes_are_read_where_they_stand_for_a_form, reading_never_wants_memory,
 };
 pub use reading::read_message;
 pub use writing::write_message;
