@@ -1,6 +1,6 @@
 -- The order of messages is total, and tells apart whatever differs.
-use Rattle.std.proofs.Common.{◌≡◌, ◌∙◌, refl, ap, sym, subst, ℕ, List, [], ◌∷◌, take, drop, get_or, Option, Some, None, option_map, ◌==◌, ◌&&◌, Bool, nat_eq, if◌then◌else◌}
-use Rattle.std.specs.Ordering.{ordering_then, nat_cmp, is_eq, eq_by_cmp}
+use Rattle.std.proofs.Common.{◌≡◌, ◌∙◌, refl, ap, sym, subst, ℕ, List, Option, Some, None, option_map, ◌==◌, ◌&&◌, Bool, true, nat_eq, if◌then◌else◌}
+use Rattle.std.specs.Ordering.{ordering_then, is_eq, eq_by_cmp}
 use Rattle.std.specs.declared.cmp.Ordering.{Ordering}
 use Rattle.std.specs.declared.cmp.Ordering.TheVariants.{Less, Equal, Greater}
 use Rattle.std.specs.Option.{option_cmp}
@@ -14,13 +14,12 @@ use Rattle.sct_reason.specs.Reasons.{reason_order}
 use Rattle.sct_message.specs.declared.draft.Draft.{Draft}
 use Rattle.sct_message.specs.declared.kinds.Kind.{Kind}
 use Rattle.sct_message.specs.declared.kinds.Kind.TheVariants.{Camt029, Camt056, Pacs002, Pacs004, Pacs008, Pacs028}
-use Rattle.sct_message.specs.Drafts.{kind_of}
 use Rattle.sct_message.specs.Kinds.{kind_text, kind_named}
 use Rattle.sct_message.specs.Ranks.{message_from, message_back}
 use Rattle.sct_message.specs.declared.keys.Identity.{Identity}
 use Rattle.sct_message.specs.declared.keys.TransferKey.{TransferKey}
 use Rattle.sct_message.specs.declared.keys.RecallKey.{RecallKey}
-use Rattle.sct_message.specs.Order.{text_order, elements_order, head_elements, original_elements, elements_of, ranks_of, message_order, kind_place, kind_order, identity_order, transfer_order, recall_order, same_identity, same_transfer}
+use Rattle.sct_message.specs.Order.{text_order, elements_order, ranks_of, message_order, kind_place, kind_order, identity_order, transfer_order, recall_order, same_identity, same_transfer, same_message}
 
 pub then_assoc : (a b c : Ordering) → ordering_then (ordering_then a b) c ≡ ordering_then a (ordering_then b c)
 then_assoc Less b c = refl
@@ -83,6 +82,15 @@ message_same a b e = ranks_same a b (elements_same (ranks_of a) (ranks_of b) e)
 
 pub message_itself : (a b : Draft) → a ≡ b → message_order a b ≡ Equal
 message_itself a b e = subst (λ (d : Draft). message_order a d ≡ Equal) e (tied_itself message_total a)
+
+is_eq_Equal : (r : Ordering) → is_eq r ≡ true → r ≡ Equal
+is_eq_Equal Less e = cc
+is_eq_Equal Equal e = refl
+is_eq_Equal Greater e = cc
+
+-- what is told of a message by its elements is told alike of two that are the same
+pub same_input : {X : Type 0} (told : Draft → X) (a b : Draft) → same_message a b ≡ true → told a ≡ told b
+same_input told a b e = ap told (message_same a b (is_eq_Equal (message_order a b) e))
 
 -- ---- the orders of keys
 
@@ -170,6 +178,13 @@ transfers_same s t e =
     let debtor_agent : s.debtor_agent ≡ t.debtor_agent = texts_same _ _ parts.0 in
     let tx : s.tx ≡ t.tx = texts_same _ _ parts.1 in
     λ n. record { debtor_agent = debtor_agent n; tx = tx n }
+
+pub recalls_same : IsAntisymmetric recall_order
+recalls_same q r e =
+    let parts : (transfer_order q.transfer r.transfer ≡ Equal) × (text_order q.cxl r.cxl ≡ Equal) = both_tie _ _ e in
+    let transfer : q.transfer ≡ r.transfer = transfers_same _ _ parts.0 in
+    let cxl : q.cxl ≡ r.cxl = texts_same _ _ parts.1 in
+    λ n. record { transfer = transfer n; cxl = cxl n }
 
 -- ---- equality by parts is equality by order
 

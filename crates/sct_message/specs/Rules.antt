@@ -15,7 +15,7 @@ use Rattle.sct_message.specs.declared.kinds.Kind.TheVariants.{Camt056, Pacs008}
 use Rattle.sct_message.specs.declared.rules.RuleFault.{RuleFault}
 use Rattle.sct_message.specs.declared.rules.RuleFault.TheVariants.{WrongName, WrongCurrency, WrongService, WrongInstrument, WrongCharge, WrongStatus, ReasonMissing, ReasonUnasked, ReturnAboveOriginal, WrongReturnReason, WrongAnswer, WrongOriginalName}
 use Rattle.sct_message.specs.Kinds.{is_text, is_name_of}
-use Rattle.sct_message.specs.Drafts.{kind_of, head_of, original_of, cancellation_of}
+use Rattle.sct_message.specs.Drafts.{kind_of, head_of, original_of}
 
 abbrev pub rule_number : RuleFault → ℕ
 rule_number WrongName = 10

@@ -7,7 +7,7 @@ use sct_element::{Amount, Bic, Code4, Day, Iban, Id35, Name, Remittance, Stamp};
 use sct_reason::Reason;
 
 /// What every message begins with (GroupHeader of ISO 20022).
-#[derive(Debug, Drop, PartialEq, Eq, PartialOrd, Ord)]
+#[derive(Debug, Drop, PartialEq, Eq, PartialOrd, Ord, Hash)]
 pub struct Head {
     /// MsgNmId: the name of the message's kind.
     pub message_name: Id35,
@@ -22,7 +22,7 @@ pub struct Head {
 }
 
 /// The transfer that a later message is about (OriginalGroupInformation and the original transaction's identifications).
-#[derive(Debug, Drop, PartialEq, Eq, PartialOrd, Ord)]
+#[derive(Debug, Drop, PartialEq, Eq, PartialOrd, Ord, Hash)]
 pub struct Original {
     /// OrgnlMsgId: the identification of the original message.
     pub message_id: Id35,
@@ -35,7 +35,7 @@ pub struct Original {
 }
 
 /// pacs.008: a transfer in euro from an originator to a beneficiary.
-#[derive(Debug, Drop, PartialEq, Eq, PartialOrd, Ord)]
+#[derive(Debug, Drop, PartialEq, Eq, PartialOrd, Ord, Hash)]
 pub struct CreditTransfer {
     /// MsgNmId, MsgId, CreDtTm, InstgAgt, InstdAgt.
     pub head: Head,
@@ -76,7 +76,7 @@ pub struct CreditTransfer {
 }
 
 /// pacs.002: the confirmation of a transfer, or its rejection with a reason.
-#[derive(Debug, Drop, PartialEq, Eq, PartialOrd, Ord)]
+#[derive(Debug, Drop, PartialEq, Eq, PartialOrd, Ord, Hash)]
 pub struct StatusReport {
     /// MsgNmId, MsgId, CreDtTm, InstgAgt, InstdAgt.
     pub head: Head,
@@ -91,7 +91,7 @@ pub struct StatusReport {
 }
 
 /// pacs.028: asks for the status of a transfer after silence, or of the recall that it names.
-#[derive(Debug, Drop, PartialEq, Eq, PartialOrd, Ord)]
+#[derive(Debug, Drop, PartialEq, Eq, PartialOrd, Ord, Hash)]
 pub struct StatusRequest {
     /// MsgNmId, MsgId, CreDtTm, InstgAgt, InstdAgt.
     pub head: Head,
@@ -104,7 +104,7 @@ pub struct StatusRequest {
 }
 
 /// camt.056: the recall of a transfer, with a reason.
-#[derive(Debug, Drop, PartialEq, Eq, PartialOrd, Ord)]
+#[derive(Debug, Drop, PartialEq, Eq, PartialOrd, Ord, Hash)]
 pub struct CancellationRequest {
     /// MsgNmId, MsgId (of the assignment), CreDtTm, InstgAgt (the assigner), InstdAgt (the assignee).
     pub head: Head,
@@ -125,7 +125,7 @@ pub struct CancellationRequest {
 }
 
 /// pacs.004: the positive answer to a recall, which returns the money.
-#[derive(Debug, Drop, PartialEq, Eq, PartialOrd, Ord)]
+#[derive(Debug, Drop, PartialEq, Eq, PartialOrd, Ord, Hash)]
 pub struct PaymentReturn {
     /// MsgNmId, MsgId, CreDtTm, InstgAgt, InstdAgt.
     pub head: Head,
@@ -150,7 +150,7 @@ pub struct PaymentReturn {
 }
 
 /// camt.029: the negative answer to a recall, with a reason.
-#[derive(Debug, Drop, PartialEq, Eq, PartialOrd, Ord)]
+#[derive(Debug, Drop, PartialEq, Eq, PartialOrd, Ord, Hash)]
 pub struct Resolution {
     /// MsgNmId, MsgId (of the assignment), CreDtTm, InstgAgt (the assigner), InstdAgt (the assignee).
     pub head: Head,
@@ -169,7 +169,7 @@ pub struct Resolution {
 }
 
 /// The elements of a message before the rules of its kind were looked at.
-#[derive(Debug, Drop)]
+#[derive(Debug, Drop, PartialEq, Eq, Hash)]
 pub enum Draft {
     /// pacs.008.
     CreditTransfer(CreditTransfer),

@@ -10,6 +10,7 @@ use crate::kinds::Kind;
 use crate::order::order;
 use crate::rules::{RuleFault, first_broken_rule};
 use std::cmp::Ordering;
+use std::hash::{Hash, Hasher};
 use std::marker::Model;
 
 /// A message of one of the kinds, whose elements follow the rules of that kind. None of its calls takes memory.
@@ -161,5 +162,18 @@ impl Ord for Message {
 
     fn cmp(&self, other: &Self) -> Ordering {
         self.order(other)
+    }
+}
+
+impl Hash for Message {
+    ghost use Rattle.sct_message.specs.contracts.draft.DraftHash.TheImpl as elements;
+    ghost use Rattle.sct_message.specs.OrderLaws.{same_input};
+
+    ghost hash_input = { elements.ghosts.hash_input };
+
+    ghost respects_eq = { same_input elements.ghosts.hash_input };
+
+    fn hash<H: Hasher>(&self, state: &mut H) {
+        self.draft.hash(state);
     }
 }

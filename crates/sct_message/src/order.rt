@@ -132,8 +132,10 @@ pub fn keys_are_ordered()
     ensures transfers_equal { (s t : TransferOf) → ⟦<TransferKey as PartialEq>⟧.eq s t ≡ same_transfer s t }
     ensures identities_total { IsTotalOrder identity_order }
     ensures transfers_total { IsTotalOrder transfer_order }
+    ensures recalls_total { IsTotalOrder recall_order }
     ensures identities_same { IsAntisymmetric identity_order }
     ensures transfers_same { IsAntisymmetric transfer_order }
+    ensures recalls_same { IsAntisymmetric recall_order }
 {}
 
 /// Messages are totally ordered, and come out equal only where all their elements are the same.

@@ -3,6 +3,9 @@ use Rattle.std.proofs.Common.{◌≡◌, ◌∙◌, refl, ap, sym, subst, ℕ, L
 use Rattle.std.specs.Prelude.{◌↔◌, find}
 use Rattle.std.specs.Option.{is_some}
 use Rattle.std.specs.List.{list_any}
+use Rattle.std.specs.Ordering.{is_eq, eq_by_cmp}
+use Rattle.std.specs.declared.cmp.Ordering.{Ordering}
+use Rattle.std.specs.declared.cmp.Ordering.TheVariants.{Less, Equal, Greater}
 use Rattle.std.specs.Cmp.{IsTotalOrder, on_total}
 use Rattle.std.specs.Cmp.Lexicographic.{nat_list_cmp_total}
 use Rattle.std.specs.FinSet.{IsAntisymmetric, nat_cmp-IsAntisymmetric, slice_cmp-IsAntisymmetric}
@@ -172,3 +175,12 @@ reasons_same a b e = same_text a b (slice_cmp-IsAntisymmetric nat_cmp-IsAntisymm
 
 pub reason_total : IsTotalOrder reason_order
 reason_total = on_total reason_text nat_list_cmp_total
+
+is_eq_Equal : (r : Ordering) → is_eq r ≡ true → r ≡ Equal
+is_eq_Equal Less e = cc
+is_eq_Equal Equal e = refl
+is_eq_Equal Greater e = cc
+
+-- what is told of a reason is told alike of two that are the same
+pub same_input : {X : Type 0} (told : Reason → X) (a b : Reason) → eq_by_cmp reason_order a b ≡ true → told a ≡ told b
+same_input told a b e = ap told (reasons_same a b (is_eq_Equal (reason_order a b) e))

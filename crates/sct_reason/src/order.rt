@@ -11,6 +11,7 @@ ghost use Rattle.sct_reason.specs.ReasonLaws.{reason_total};
 
 use crate::reasons::Reason;
 use std::cmp::Ordering;
+use std::hash::{Hash, Hasher};
 
 impl PartialEq for Reason {
     ghost eq = { eq_by_cmp reason_order };
@@ -47,6 +48,19 @@ impl Ord for Reason {
 
     fn cmp(&self, other: &Self) -> Ordering {
         self.text().cmp(other.text())
+    }
+}
+
+impl Hash for Reason {
+    ghost use Rattle.std.specs.Hash as fed;
+    ghost use Rattle.sct_reason.specs.ReasonLaws.{same_input};
+
+    ghost hash_input = { λ r. fed.str (reason_text r) };
+
+    ghost respects_eq = { same_input (λ r. fed.str (reason_text r)) };
+
+    fn hash<H: Hasher>(&self, state: &mut H) {
+        self.text().hash(state);
     }
 }
 

@@ -1,6 +1,6 @@
 use Rattle.std.proofs.Common.{refl}
 use Rattle.sct_message.specs.declared.kinds.Kind.TheVariants.{Camt029, Camt056, Pacs002, Pacs004, Pacs008, Pacs028}
-use Rattle.sct_message.specs.OrderLaws.{identity_total, transfer_total, identities_same, transfers_same, identity_ties, transfer_ties}
+use Rattle.sct_message.specs.OrderLaws.{identity_total, transfer_total, recall_total, identities_same, transfers_same, recalls_same, identity_ties, transfer_ties}
 use Rattle.sct_message.proofs.order.keys_are_ordered.Goals as goal
 
 pub returns-clause-kinds : goal.returns-clause-kinds
@@ -26,3 +26,9 @@ returns-clause-identities_same c = identities_same
 
 pub returns-clause-transfers_same : goal.returns-clause-transfers_same
 returns-clause-transfers_same c = transfers_same
+
+pub returns-clause-recalls_total : goal.returns-clause-recalls_total
+returns-clause-recalls_total c = recall_total
+
+pub returns-clause-recalls_same : goal.returns-clause-recalls_same
+returns-clause-recalls_same c = recalls_same
