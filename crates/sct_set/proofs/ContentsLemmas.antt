@@ -1,5 +1,5 @@
 -- Lists of messages and the set of them.
-use Rattle.std.proofs.Common.{◌≡◌, ℕ, suc, ◌+◌, Bool, true, false, cond, not, ◌&&◌, ◌||◌, List, [], ◌∷◌, ◌++◌, map, length, refl, sym, ap, ◌∙◌, filter, arith, length-append, nat_lt, take, get_or, ◌<◌}
+use Rattle.std.proofs.Common.{◌≡◌, ℕ, suc, nat_eq, ◌+◌, Bool, true, false, cond, not, ◌&&◌, ◌||◌, List, [], ◌∷◌, ◌++◌, map, length, refl, sym, ap, ◌∙◌, filter, arith, length-append, nat_lt, take, get_or, ◌<◌}
 use Rattle.std.specs.FinSet as set
 use Rattle.std.specs.FinSet.{contains-from_list, contains-items, contains-insert, contains-union, from_list_push, len-insert, len-empty, contains-empty, same_set, IsAntisymmetric}
 use borrow.Author.Tests.{lt-ltb}
@@ -21,8 +21,10 @@ use Rattle.sct_set.specs.declared.added.Added.TheVariants as added
 use Rattle.sct_message.specs.Ascending.{ascending}
 use Rattle.sct_set.specs.LineOrder.{line_order_total}
 use Rattle.sct_message.proofs.AscendingLemmas.{ascending-same}
+use Rattle.sct_set.specs.Digest.{digest_of}
 use Rattle.sct_set.specs.Contents.{Contents, HasNoRepeat, contents_of}
-use Rattle.sct_set.specs.Drafts.{drafts_in, drafts_of}
+use Rattle.sct_set.specs.Drafts.{drafts_in, drafts_of, drafts_alike}
+use Rattle.std.proofs.lemmas.Bool.{eq-eqb}
 use Rattle.std.proofs.lemmas.Grind.{take_at_read}
 use Rattle.sct_set.proofs.IndexLemmas.{map-append}
 use Rattle.sct_message.proofs.Members.{list_any-filter, list_any-map, same_any, tie_is, ties_itself}
@@ -39,9 +41,8 @@ same_is d m e = tie_is message_total message_same d m e
 pub same_itself : (d : Draft) → same_message d d ≡ true
 same_itself d = ties_itself message_total message_same d
 
-same_have_one_identity : (d m : Draft) → same_message d m ≡ true → same_identity (identity_of d) (identity_of m) ≡ true
-same_have_one_identity d m e =
-    ap (λ (x : Draft). same_identity (identity_of x) (identity_of m)) (same_is d m e) ∙ (eq_by_cmp_equiv identity_total).refl (identity_of m)
+same_have_one_digest : (d m : Draft) → same_message d m ≡ true → nat_eq (digest_of d) (digest_of m) ≡ true
+same_have_one_digest d m e = ap (λ (x : Draft). nat_eq (digest_of x) (digest_of m)) (same_is d m e) ∙ eq-eqb (digest_of m) (digest_of m) refl
 
 implied : (a b : Bool) → (b ≡ true → a ≡ true) → (a && b) ≡ b
 implied true b h = refl
@@ -58,14 +59,14 @@ any_items p ds =
 pub contains-contents_of : (ds : List Draft) (m : Draft) → set.contains (contents_of ds) m ≡ list_any (λ d. same_message d m) ds
 contains-contents_of ds m = contains-from_list message_total ds m ∙ ap (λ (p : Draft → Bool). list_any p ds) (λ i d. sym (same_message-is d m) i)
 
--- a message is held where it is among those of its identity
-pub held-is : (ms : List (Arc Draft Global)) (ds : List Draft) (m : Draft) → drafts_in ms ≡ drafts_of (identity_of m) ds
+-- a message is held where it is among those of its digest
+pub held-is : (ms : List (Arc Draft Global)) (ds : List Draft) (m : Draft) → drafts_in ms ≡ drafts_alike (digest_of m) ds
     → list_any (λ held. same_message (arc_value held) m) ms ≡ set.contains (contents_of ds) m
 held-is ms ds m e =
     sym (list_any-map (λ d. same_message d m) arc_value ms)
     ∙ ap (list_any (λ d. same_message d m)) e
-    ∙ list_any-filter (λ d. same_message d m) (λ d. same_identity (identity_of d) (identity_of m)) ds
-    ∙ ap (λ (p : Draft → Bool). list_any p ds) (λ i d. implied _ _ (same_have_one_identity d m) i)
+    ∙ list_any-filter (λ d. same_message d m) (λ d. nat_eq (digest_of d) (digest_of m)) ds
+    ∙ ap (λ (p : Draft → Bool). list_any p ds) (λ i d. implied _ _ (same_have_one_digest d m) i)
     ∙ sym (contains-contents_of ds m)
 
 length-values : (ms : List (Arc Draft Global)) → length (drafts_in ms) ≡ length ms

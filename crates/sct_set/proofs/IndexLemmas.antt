@@ -7,11 +7,8 @@ use Rattle.std.specs.Global.{Vec, Global}
 use Rattle.std.specs.declared.sync.Arc.{Arc}
 use Rattle.indexmap.specs.IndexMap.{IndexMap}
 use Rattle.sct_message.specs.declared.draft.Draft.{Draft}
-use Rattle.sct_message.specs.declared.keys.Identity.{Identity}
-use Rattle.sct_message.specs.Keys.{identity_of}
-use Rattle.sct_message.specs.Order.{same_identity}
 use Rattle.sct_set.specs.Buckets.{bucket}
-use Rattle.sct_set.specs.Drafts.{drafts_in, drafts_of, IsIndex}
+use Rattle.sct_set.specs.Drafts.{drafts_in, IsIndexBy}
 
 pub map-append : {A B : Type 0} (f : A → B) (xs ys : List A) → map f (xs ++ ys) ≡ map f xs ++ map f ys
 map-append f [] ys = refl
@@ -62,37 +59,37 @@ module _ {A D : Type 0} (value : A → D) (is_of : D → Bool) where
 abbrev Messages : Type 0
 Messages = List (Arc Draft Global)
 
--- a map compares its keys by a test that answers as the order of identities does
-module _ {S : Type 0} (E : Identity → Identity → Bool) (ties : (i j : Identity) → E i j ≡ same_identity i j) (old new : IndexMap Identity (Vec (Arc Draft Global)) S) where
-  is_same : E ≡ same_identity
-  is_same = λ n i j. ties i j n
+-- a map compares its keys by a test that answers as the one of the index does
+module _ {K S : Type 0} (key_of : Draft → K) (T E : K → K → Bool) (ties : (j k : K) → E j k ≡ T j k) (old new : IndexMap K (Vec (Arc Draft Global)) S) where
+  is_same : E ≡ T
+  is_same = λ n j k. ties j k n
 
   -- an index in which a message was filed
-  pub IsIndex-filed : (key : Identity) (message : Arc Draft Global) (messages : Messages) → key ≡ identity_of (arc_value message) → IsIndex old (drafts_in messages)
-      → ((k : Identity) → bucket E new k ≡ cond (E key k) (bucket E old k ++ message ∷ []) (bucket E old k))
-      → IsIndex new (drafts_in (messages ++ message ∷ []))
-  IsIndex-filed key message messages is was became = λ i.
-      let told : bucket same_identity new i ≡ cond (same_identity (identity_of (arc_value message)) i) (bucket same_identity old i ++ message ∷ []) (bucket same_identity old i)
-      = subst (λ (k : Identity). bucket same_identity new i ≡ cond (same_identity k i) (bucket same_identity old i ++ message ∷ []) (bucket same_identity old i)) is
-      (subst (λ (T : Identity → Identity → Bool). bucket T new i ≡ cond (T key i) (bucket T old i ++ message ∷ []) (bucket T old i)) is_same (became i)) in
-      filed arc_value (λ d. same_identity (identity_of d) i) (bucket same_identity old i) (bucket same_identity new i) message (drafts_in messages) (was i) told
-      ∙ ap (drafts_of i) (sym (map-append arc_value messages (message ∷ [])))
+  pub IsIndexBy-filed : (key : K) (message : Arc Draft Global) (messages : Messages) → key ≡ key_of (arc_value message) → IsIndexBy key_of T old (drafts_in messages)
+      → ((k : K) → bucket E new k ≡ cond (E key k) (bucket E old k ++ message ∷ []) (bucket E old k))
+      → IsIndexBy key_of T new (drafts_in (messages ++ message ∷ []))
+  IsIndexBy-filed key message messages is was became = λ k.
+      let told : bucket T new k ≡ cond (T (key_of (arc_value message)) k) (bucket T old k ++ message ∷ []) (bucket T old k)
+      = subst (λ (j : K). bucket T new k ≡ cond (T j k) (bucket T old k ++ message ∷ []) (bucket T old k)) is
+      (subst (λ (F : K → K → Bool). bucket F new k ≡ cond (F key k) (bucket F old k ++ message ∷ []) (bucket F old k)) is_same (became k)) in
+      filed arc_value (λ d. T (key_of d) k) (bucket T old k) (bucket T new k) message (drafts_in messages) (was k) told
+      ∙ ap (filter (λ d. T (key_of d) k)) (sym (map-append arc_value messages (message ∷ [])))
 
   -- an index out of which the last message was taken
-  pub IsIndex-unfiled : (key : Identity) (message : Arc Draft Global) (messages rest : Messages) → key ≡ identity_of (arc_value message) → messages ≡ rest ++ message ∷ [] → IsIndex old (drafts_in messages)
-      → ((k : Identity) → bucket E new k ≡ cond (E key k) (take (length (bucket E old k) - 1) (bucket E old k)) (bucket E old k))
-      → IsIndex new (drafts_in rest)
-  IsIndex-unfiled key message messages rest is ends was became = λ i.
-      let told : bucket same_identity new i ≡ cond (same_identity (identity_of (arc_value message)) i) (take (length (bucket same_identity old i) - 1) (bucket same_identity old i)) (bucket same_identity old i)
-      = subst (λ (k : Identity). bucket same_identity new i ≡ cond (same_identity k i) (take (length (bucket same_identity old i) - 1) (bucket same_identity old i)) (bucket same_identity old i)) is
-      (subst (λ (T : Identity → Identity → Bool). bucket T new i ≡ cond (T key i) (take (length (bucket T old i) - 1) (bucket T old i)) (bucket T old i)) is_same (became i)) in
-      unfiled arc_value (λ d. same_identity (identity_of d) i) (bucket same_identity old i) (bucket same_identity new i) message (drafts_in rest)
-      (was i ∙ ap (λ (xs : Messages). drafts_of i (drafts_in xs)) ends ∙ ap (drafts_of i) (map-append arc_value rest (message ∷ []))) told
+  pub IsIndexBy-unfiled : (key : K) (message : Arc Draft Global) (messages rest : Messages) → key ≡ key_of (arc_value message) → messages ≡ rest ++ message ∷ [] → IsIndexBy key_of T old (drafts_in messages)
+      → ((k : K) → bucket E new k ≡ cond (E key k) (take (length (bucket E old k) - 1) (bucket E old k)) (bucket E old k))
+      → IsIndexBy key_of T new (drafts_in rest)
+  IsIndexBy-unfiled key message messages rest is ends was became = λ k.
+      let told : bucket T new k ≡ cond (T (key_of (arc_value message)) k) (take (length (bucket T old k) - 1) (bucket T old k)) (bucket T old k)
+      = subst (λ (j : K). bucket T new k ≡ cond (T j k) (take (length (bucket T old k) - 1) (bucket T old k)) (bucket T old k)) is
+      (subst (λ (F : K → K → Bool). bucket F new k ≡ cond (F key k) (take (length (bucket F old k) - 1) (bucket F old k)) (bucket F old k)) is_same (became k)) in
+      unfiled arc_value (λ d. T (key_of d) k) (bucket T old k) (bucket T new k) message (drafts_in rest)
+      (was k ∙ ap (λ (xs : Messages). filter (λ d. T (key_of d) k) (drafts_in xs)) ends ∙ ap (filter (λ d. T (key_of d) k)) (map-append arc_value rest (message ∷ []))) told
 
   -- an index whose lists are those of another has the same messages
-  pub IsIndex-kept : (ds : List Draft) → IsIndex old ds → ((k : Identity) → bucket E new k ≡ bucket E old k) → IsIndex new ds
-  IsIndex-kept ds was same = λ i. ap drafts_in (subst (λ (T : Identity → Identity → Bool). bucket T new i ≡ bucket T old i) is_same (same i)) ∙ was i
+  pub IsIndexBy-kept : (ds : List Draft) → IsIndexBy key_of T old ds → ((k : K) → bucket E new k ≡ bucket E old k) → IsIndexBy key_of T new ds
+  IsIndexBy-kept ds was same = λ k. ap drafts_in (subst (λ (F : K → K → Bool). bucket F new k ≡ bucket F old k) is_same (same k)) ∙ was k
 
   -- the list at a key has the messages of it
-  pub IsIndex-at : (ds : List Draft) (i : Identity) → IsIndex old ds → drafts_in (bucket E old i) ≡ drafts_of i ds
-  IsIndex-at ds i was = ap (λ (T : Identity → Identity → Bool). drafts_in (bucket T old i)) is_same ∙ was i
+  pub IsIndexBy-at : (ds : List Draft) (k : K) → IsIndexBy key_of T old ds → drafts_in (bucket E old k) ≡ filter (λ d. T (key_of d) k) ds
+  IsIndexBy-at ds k was = ap (λ (F : K → K → Bool). drafts_in (bucket F old k)) is_same ∙ was k

@@ -1,6 +1,7 @@
 pub mod Archive
 pub mod Buckets
 pub mod Contents
+pub mod Digest
 pub mod Drafts
 pub mod Laws
 pub mod LineOrder

@@ -29,5 +29,5 @@ pub fn is_another_among(message: &Message, messages: &[Arc<Message>]) -> bool
 pub fn holds(table: &Table, message: &Message) -> bool
     ensures { result ≡ set.contains (contents_of table.now) message.now }
 {
-    is_among(message, table.of(&message.identity()))
+    is_among(message, table.alike(message))
 }

@@ -5,6 +5,7 @@ mod added;
 mod archive;
 mod buckets;
 mod contradictions;
+mod digest;
 mod fault;
 mod held;
 pub mod laws;

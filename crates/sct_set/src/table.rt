@@ -1,10 +1,12 @@
-//! The messages of an archive in the order of their arrival, with an index by identity.
+//! The messages of an archive in the order of their arrival, with an index by identity and one by digest.
 
 ghost use Rattle.std.specs.Prelude.{◌≡◌, ◌++◌, ◌∷◌, ◌-◌, [], length, take, OnOk, OnErr};
 ghost use Rattle.std.specs.Arc.{arc_value};
-ghost use Rattle.sct_set.specs.Drafts.{drafts_in, drafts_of};
+ghost use Rattle.sct_set.specs.Digest.{digest_of};
+ghost use Rattle.sct_set.specs.Drafts.{drafts_in, drafts_of, drafts_alike};
 
 use crate::buckets::{file, unfile};
+use crate::digest::digest;
 use indexmap::IndexMap;
 use sct_message::{Identity, Message, keys_are_ordered};
 use std::alloc::{AllocError, Global};
@@ -16,19 +18,20 @@ use std::sync::Arc;
 pub struct Table {
     alloc: Global,
     messages: Vec<Arc<Message>>,
-    index: IndexMap<Identity, Vec<Arc<Message>>>,
+    by_identity: IndexMap<Identity, Vec<Arc<Message>>>,
+    by_digest: IndexMap<u64, Vec<Arc<Message>>>,
 }
 
 impl Model for Table {
     ghost use Rattle.std.specs.Prelude.{List};
     ghost use Rattle.sct_message.specs.declared.draft.Draft.{Draft};
-    ghost use Rattle.sct_set.specs.Drafts.{drafts_in, IsIndex};
+    ghost use Rattle.sct_set.specs.Drafts.{drafts_in, AreIndexes};
 
     ghost Value = { List Draft };
 
     ghost view = { λ t. drafts_in t.messages.items };
 
-    ghost invariant = { λ t. IsIndex t.index (drafts_in t.messages.items) };
+    ghost invariant = { λ t. AreIndexes t.by_identity t.by_digest (drafts_in t.messages.items) };
 }
 
 impl Table {
@@ -38,7 +41,8 @@ impl Table {
         Table {
             alloc,
             messages: Vec::new(alloc),
-            index: IndexMap::new(alloc),
+            by_identity: IndexMap::new(alloc),
+            by_digest: IndexMap::new(alloc),
         }
     }
 
@@ -63,7 +67,17 @@ impl Table {
         ensures { drafts_in result.now ≡ drafts_of identity.now self.now }
     {
         keys_are_ordered();
-        match self.index.get(identity) {
+        match self.by_identity.get(identity) {
+            Some(messages) => messages,
+            None => &[],
+        }
+    }
+
+    /// The messages of the digest of one.
+    pub fn alike(&self, message: &Message) -> &[Arc<Message>]
+        ensures { drafts_in result.now ≡ drafts_alike (digest_of message.now) self.now }
+    {
+        match self.by_digest.get(&digest(message)) {
             Some(messages) => messages,
             None => &[],
         }
@@ -76,8 +90,13 @@ impl Table {
     {
         keys_are_ordered();
         let filed = message.clone()?;
+        let again = message.clone()?;
         self.messages.reserve(1)?;
-        file(self.alloc, &mut self.index, message.identity(), filed)?;
+        file(self.alloc, &mut self.by_identity, message.identity(), filed)?;
+        if let Err(refused) = file(self.alloc, &mut self.by_digest, digest(&message), again) {
+            unfile(&mut self.by_identity, &message.identity());
+            return Err(refused);
+        }
         self.messages.push_reserved(message);
         Ok(())
     }
@@ -88,7 +107,8 @@ impl Table {
     {
         keys_are_ordered();
         if let Some(last) = self.messages.pop() {
-            unfile(&mut self.index, &last.identity());
+            unfile(&mut self.by_identity, &last.identity());
+            unfile(&mut self.by_digest, &digest(&last));
         }
     }
 

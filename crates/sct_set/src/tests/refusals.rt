@@ -1,50 +1,134 @@
-//! Growths that are refused. `rt try --test --fail-alloc N..` refuses the Nth allocation of a test and each later one
-//! in turn. Where it falls into the scene there is nothing to see.
+//! Growths that are refused. `scripts/refuse_growths.py` has the toolchain refuse one allocation of each test, always the
+//! one of the same number; the tests differ in how many allocations they make first, so that each meets another refusal.
 
-use super::scenes::{Row, archive_of, messages_of};
+use super::scenes::{Row, messages_of};
 use crate::*;
 use sct_message::Message;
 use std::alloc::Global;
+use std::process::Abort;
 use std::sync::Arc;
 
-static HELD: [Row; 1] = [Row::Confirmation("C1", "T1")];
-
-// One held message, one against it, and one that shares its identity with none.
-static LIST: [Row; 3] = [
+// The second message is against the first.
+static LIST: [Row; 6] = [
     Row::Confirmation("C1", "T1"),
     Row::Confirmation("C1", "T2"),
     Row::Confirmation("C2", "T2"),
+    Row::Confirmation("C3", "T3"),
+    Row::Confirmation("C4", "T4"),
+    Row::Confirmation("C5", "T5"),
 ];
 
-// An archive and a list of three messages, of which two are new to it.
-fn scene(alloc: Global) -> Option<(Archive, Vec<Arc<Message>>)> {
-    let archive = archive_of(alloc, &HELD)?;
+// After some allocations, a list of six messages and an archive that holds the first of them.
+fn scene(alloc: Global, before: usize) -> Option<(Archive, Vec<Arc<Message>>)> {
+    for _ in 0..before {
+        Arc::new(alloc, 0).ok()?;
+    }
     let list = messages_of(alloc, &LIST)?;
+    let mut archive = Archive::new(alloc);
+    archive.add(list.first()?.clone().ok()?).ok()?;
     Some((archive, list))
 }
 
-// Whether the archive has this many messages, of which those of the list are as told.
-fn has(archive: &Archive, len: usize, list: &[Arc<Message>], held: [bool; 3]) -> bool {
-    archive.len() == len
+// Whether the archive holds the first message of the list, and nothing else.
+fn is_unchanged(archive: &Archive, list: &[Arc<Message>]) -> bool {
+    archive.len() == 1
         && list
             .iter()
-            .zip(held)
-            .all(|(message, is_held)| archive.holds(message) == is_held)
+            .map(|message| archive.holds(message))
+            .eq([true, false, false, false, false, false])
+}
+
+// Adds the list. Where a growth is refused nothing has changed, the list can be added again, and the test ends there.
+fn add_list(rt: &impl Abort, alloc: Global, before: usize) {
+    let (mut archive, list) = scene(alloc, before).expect(rt, "no room for the scene");
+    let answer = archive.add_all(&list);
+    if let Err(fault) = &answer {
+        assert_eq!(rt; fault.number(), 39);
+        assert!(rt; is_unchanged(&archive, &list));
+        let fresh = archive.add_all(&list).expect(rt, "room for the list");
+        assert_eq!(rt; fresh, 5);
+    }
+    assert_eq!(rt; archive.len(), 6);
+    let fresh = answer.expect(rt, "no room for the list: 39, and nothing has changed");
+    assert_eq!(rt; fresh, 5);
 }
 
 #[test]
-fn a_refused_list_changes_nothing(rt: HostRuntime) {
-    let Some((mut archive, list)) = scene(rt.alloc()) else {
-        return;
-    };
-    match archive.add_all(&list) {
-        Ok(fresh) => {
-            assert_eq!(rt; fresh, 2);
-            assert!(rt; has(&archive, 3, &list, [true, true, true]));
-        }
-        Err(fault) => {
-            assert_eq!(rt; fault.number(), 39);
-            assert!(rt; has(&archive, 1, &list, [true, false, false]));
-        }
-    }
+fn after_0(rt: HostRuntime) {
+    add_list(&rt, rt.alloc(), 0);
+}
+
+#[test]
+fn after_1(rt: HostRuntime) {
+    add_list(&rt, rt.alloc(), 1);
+}
+
+#[test]
+fn after_2(rt: HostRuntime) {
+    add_list(&rt, rt.alloc(), 2);
+}
+
+#[test]
+fn after_3(rt: HostRuntime) {
+    add_list(&rt, rt.alloc(), 3);
+}
+
+#[test]
+fn after_4(rt: HostRuntime) {
+    add_list(&rt, rt.alloc(), 4);
+}
+
+#[test]
+fn after_5(rt: HostRuntime) {
+    add_list(&rt, rt.alloc(), 5);
+}
+
+#[test]
+fn after_6(rt: HostRuntime) {
+    add_list(&rt, rt.alloc(), 6);
+}
+
+#[test]
+fn after_7(rt: HostRuntime) {
+    add_list(&rt, rt.alloc(), 7);
+}
+
+#[test]
+fn after_8(rt: HostRuntime) {
+    add_list(&rt, rt.alloc(), 8);
+}
+
+#[test]
+fn after_9(rt: HostRuntime) {
+    add_list(&rt, rt.alloc(), 9);
+}
+
+#[test]
+fn after_10(rt: HostRuntime) {
+    add_list(&rt, rt.alloc(), 10);
+}
+
+#[test]
+fn after_11(rt: HostRuntime) {
+    add_list(&rt, rt.alloc(), 11);
+}
+
+#[test]
+fn after_12(rt: HostRuntime) {
+    add_list(&rt, rt.alloc(), 12);
+}
+
+#[test]
+fn after_13(rt: HostRuntime) {
+    add_list(&rt, rt.alloc(), 13);
+}
+
+#[test]
+fn after_14(rt: HostRuntime) {
+    add_list(&rt, rt.alloc(), 14);
+}
+
+#[test]
+fn after_15(rt: HostRuntime) {
+    add_list(&rt, rt.alloc(), 15);
 }

@@ -1,12 +1,16 @@
-use Rattle.std.proofs.Common.{ap, ◌∙◌, ◌++◌}
+use Rattle.std.proofs.Common.{ap, ◌∙◌, ◌++◌, nat_eq, refl}
 use Rattle.std.specs.Option.{option_to_list}
 use Rattle.sct_message.specs.Keys.{identity_of}
-use Rattle.sct_set.proofs.IndexLemmas.{IsIndex-unfiled}
+use Rattle.sct_message.specs.Order.{same_identity}
+use Rattle.sct_set.specs.Digest.{digest_of}
+use Rattle.sct_set.proofs.IndexLemmas.{IsIndexBy-unfiled}
 use Rattle.sct_set.proofs.table.Table.pop.Goals as goal
 
 pub invariant_of-self : goal.invariant_of-self
 invariant_of-self c =
-    IsIndex-unfiled _ c.keys_are_ordered.ensures.identities_equal c.self.inside.index c.unfile.new.index _ c.in-Some.last c.self.inside.messages.items c.pop.new.self.items
-    (c.identity.ensures ∙ ap identity_of c.deref.ensures)
-    (c.pop.ensures.items ∙ ap (λ o. c.pop.new.self.items ++ option_to_list o) c.in-Some.is)
-    c.self.invariant c.unfile.ensures
+    let last = c.pop.ensures.items ∙ ap (λ o. c.pop.new.self.items ++ option_to_list o) c.in-Some.is in (
+      IsIndexBy-unfiled identity_of same_identity _ c.keys_are_ordered.ensures.identities_equal c.self.inside.by_identity c.unfile.new.index _ c.in-Some.last c.self.inside.messages.items c.pop.new.self.items
+          (c.identity.ensures ∙ ap identity_of c.deref.ensures) last c.self.invariant.0 c.unfile.ensures,
+      IsIndexBy-unfiled digest_of nat_eq _ (λ j k. refl) c.self.inside.by_digest c.unfile-in-Some.new.index _ c.in-Some.last c.self.inside.messages.items c.pop.new.self.items
+          (c.digest.ensures ∙ ap digest_of c.deref-in-Some.ensures) last c.self.invariant.1 c.unfile-in-Some.ensures,
+    )
