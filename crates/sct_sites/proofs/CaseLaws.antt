@@ -1,5 +1,5 @@
 -- A transfer is contradicted exactly where something was found.
-use Rattle.std.proofs.Common.{◌≡◌, refl, arith, ap, ℕ, Bool, true, false, List, [], ◌∷◌, length, Option, Some, None}
+use Rattle.std.proofs.Common.{◌≡◌, refl, arith, ap, Bool, true, false, List, [], ◌∷◌, length, Option, Some, None}
 use Rattle.std.specs.Prelude.{◌≢◌, ◌↔◌, ◌==◌, not}
 use Rattle.std.proofs.lemmas.Bool.{ne_eqb}
 use Rattle.sct_reason.specs.declared.reasons.Reason.{Reason}

@@ -1,5 +1,5 @@
 -- The cases of one transfer: which messages speak of it, what contradicts what, and where it stands.
-use Rattle.std.specs.Prelude.{ℕ, ◌&&◌, ◌==◌, List, [], ◌∷◌, ◌++◌, length, map, filter, find, count_by, nat_lt, not, Bool, true, false, Option, Some, None, option_and_then, if◌then◌else◌, codes}
+use Rattle.std.specs.Prelude.{◌&&◌, ◌==◌, List, [], ◌∷◌, ◌++◌, length, map, filter, find, count_by, nat_lt, not, Bool, true, false, Option, Some, None, option_and_then, if◌then◌else◌, codes}
 use Rattle.std.specs.List.{list_any}
 use Rattle.sct_reason.specs.declared.reasons.Reason.{Reason}
 use Rattle.sct_reason.specs.Codes.{reason_text}

@@ -1,9 +1,11 @@
+mod archived;
 mod fakes;
 mod inputs;
 
-use crate::engine::Done;
+use crate::engine::{Done, Job};
 use crate::fault::ProgramFault;
 use crate::transfer::MOST_BYTES;
+use archived::ARCHIVED;
 use fakes::{Given, run_engine};
 use inputs::{CASES, REFUSED_AND_TAKEN};
 
@@ -11,6 +13,7 @@ const AMPLE: usize = 1_000_000;
 
 fn given(input: &[u8]) -> Given<'_> {
     Given {
+        job: Job::Status,
         input,
         fails: false,
         limit: MOST_BYTES,
@@ -23,6 +26,27 @@ fn given(input: &[u8]) -> Given<'_> {
 fn answers_over_slow_streams(rt: HostRuntime) {
     for case in &CASES {
         let ran = run_engine(rt.alloc(), given(case.input));
+        assert_eq!(rt;
+            ran.result,
+            Ok(Done {
+                refused: case.refused
+            })
+        );
+        assert_eq!(rt; ran.out.as_slice(), case.out);
+        assert_eq!(rt; ran.err.as_slice(), case.err);
+    }
+}
+
+#[test]
+fn writes_the_archive_over_slow_streams(rt: HostRuntime) {
+    for case in &ARCHIVED {
+        let ran = run_engine(
+            rt.alloc(),
+            Given {
+                job: Job::Archive,
+                ..given(case.input)
+            },
+        );
         assert_eq!(rt;
             ran.result,
             Ok(Done {

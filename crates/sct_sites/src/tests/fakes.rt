@@ -69,6 +69,7 @@ impl<L: Ledger> Sink for Taking<L> {
 // What a run is given.
 #[derive(Clone, Copy)]
 pub struct Given<'a> {
+    pub job: Job,
     pub input: &'a [u8],
     pub fails: bool,
     pub limit: u64,
@@ -118,7 +119,7 @@ fn run_over<A: Ledger, B: Ledger, C: Ledger>(
     };
     let result = engine(
         alloc,
-        &Job::Status,
+        &given.job,
         given.limit,
         &mut reader,
         &mut out,
