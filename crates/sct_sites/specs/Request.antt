@@ -1,4 +1,7 @@
-use Rattle.std.specs.Prelude.{ℕ, List, [], ◌∷◌, ◌++◌, Option, Some, codes, string_bytes}
+use Rattle.std.specs.Prelude.{ℕ, List, [], ◌∷◌, ◌++◌, Option, Some, None, Bool, true, false, if◌then◌else◌, codes, string_bytes}
+use Rattle.sct_message.specs.Kinds.{is_text}
+use Rattle.sct_sites.specs.declared.engine.Job.{Job}
+use Rattle.sct_sites.specs.declared.engine.Job.TheVariants.{Status, Archive}
 use Rattle.sct_sites.specs.declared.ending.Ending.{Ending}
 use Rattle.sct_sites.specs.declared.ending.Ending.TheVariants.{Done, Helped, Mistaken}
 use Rattle.sct_sites.specs.declared.request.Request.{Request}
@@ -16,6 +19,22 @@ abbrev pub err_text_of : Request → Option (List ℕ) → Option (List ℕ)
 err_text_of (Run job) input = told_text_if_told input
 err_text_of (Help text) input = Some []
 err_text_of (Mistake text) input = Some (codes "fault 64" ++ 10 ∷ [] ++ string_bytes text)
+
+-- the job that a word of the command line asks for
+abbrev pub job_named : List ℕ → Option Job
+job_named word = if is_text word (codes "status") then Some Status else if is_text word (codes "archive") then Some Archive else None
+
+-- a mistake, and neither a job nor help
+abbrev pub is_mistake : Request → Bool
+is_mistake (Run job) = false
+is_mistake (Help text) = false
+is_mistake (Mistake text) = true
+
+-- what is asked for in place of a job: help, or nothing that the program does
+abbrev pub AsksForNoJob : Request → Type 0
+AsksForNoJob (Run job) = ⊥
+AsksForNoJob (Help text) = Unit {0}
+AsksForNoJob (Mistake text) = Unit {0}
 
 -- how a request ends that meets no fault
 abbrev pub IsEndingOf : Request → Ending → Type 0

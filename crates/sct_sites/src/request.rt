@@ -1,7 +1,11 @@
-ghost use Rattle.std.specs.Prelude.{◌≡◌, IfErr};
+ghost use Rattle.std.specs.Prelude.{◌≡◌, ◌≢◌, ◌↔◌, IfErr, IfOk, IsTrue, option_and_then};
 ghost use Rattle.sct_sites.specs.declared.fault.ProgramFault.TheVariants as fault;
 ghost use Rattle.sct_sites.specs.Ending.{EndsAsking, words_fault};
 ghost use Rattle.std.specs.IoError.{error_kind};
+ghost use Rattle.clap.specs.Matches.{subcommand_name_of};
+ghost use Rattle.clap.specs.Values.{kind_of};
+ghost use Rattle.clap.specs.declared.error.kind.ErrorKind.TheVariants as kind;
+ghost use Rattle.sct_sites.specs.Request.{job_named, is_mistake, AsksForNoJob};
 
 use crate::engine::Job;
 use crate::fault::ProgramFault;
@@ -58,7 +62,9 @@ fn command<'a>(alloc: Global) -> Result<Command<'a>, AllocError> {
 
 // What clap answers in place of matches: a request for help, or a mistake.
 fn answer_of(alloc: Global, error: &Error) -> Result<Request, ProgramFault>
-    ensures { IfErr result (λ e. e ≡ fault.Memory) }
+    ensures no_job { IfOk result AsksForNoJob }
+    ensures mistake { IfOk result (λ r. IsTrue (is_mistake r) ↔ ((kind_of error.now ≢ kind.DisplayHelp) × (kind_of error.now ≢ kind.DisplayVersion))) }
+    ensures memory { IfErr result (λ e. e ≡ fault.Memory) }
 {
     if error.kind() == ErrorKind::OutOfMemory {
         return Err(ProgramFault::Memory);
@@ -71,7 +77,10 @@ fn answer_of(alloc: Global, error: &Error) -> Result<Request, ProgramFault>
     }
 }
 
-fn job_of(matches: &ArgMatches<'_>) -> Option<Job> {
+// The job that the first word asks for.
+fn job_of(matches: &ArgMatches<'_>) -> Option<Job>
+    ensures { result ≡ option_and_then job_named (subcommand_name_of matches.now) }
+{
     match matches.subcommand_name() {
         Some("status") => Some(Job::Status),
         Some("archive") => Some(Job::Archive),
