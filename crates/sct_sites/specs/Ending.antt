@@ -1,6 +1,9 @@
-use Rattle.std.specs.Prelude.{ℕ, ◌==◌, if◌then◌else◌, Result, Ok, Err}
+-- How a run ends: its exit status, and what is told of its end. Read by an auditor.
+use Rattle.std.specs.Prelude.{ℕ, List, [], ◌∷◌, ◌++◌, ◌==◌, if◌then◌else◌, codes, string_bytes, Result, Ok, Err}
+use Rattle.std.specs.Fmt.{decimal}
 use Rattle.std.specs.declared.io.ErrorKind.{ErrorKind}
 use Rattle.std.specs.declared.io.ErrorKind.TheVariants.{OutOfMemory}
+use Rattle.sct_sites.specs.Fault.{program_fault_number}
 use Rattle.sct_sites.specs.declared.ending.Ending.{Ending}
 use Rattle.sct_sites.specs.declared.ending.Ending.TheVariants as ending
 use Rattle.sct_sites.specs.declared.fault.ProgramFault.{ProgramFault}
@@ -11,7 +14,7 @@ use Rattle.sct_sites.specs.declared.fault.ProgramFault.TheVariants as fault
 abbrev pub exit_status_of : Result Ending ProgramFault → ℕ
 exit_status_of (Ok (ending.Done done)) = if done.refused == 0 then 0 else 1
 exit_status_of (Ok ending.Helped) = 0
-exit_status_of (Ok ending.Mistaken) = 2
+exit_status_of (Ok (ending.Mistaken text)) = 2
 exit_status_of (Err fault.Memory) = 3
 exit_status_of (Err _) = 2
 
@@ -25,3 +28,15 @@ EndsAsking _ = ⊥
 abbrev pub words_fault : ErrorKind → ProgramFault
 words_fault OutOfMemory = fault.Memory
 words_fault _ = fault.Usage
+
+-- the line that tells a fault by its number
+abbrev pub fault_line_of : ProgramFault → List ℕ
+fault_line_of fault = codes "fault " ++ decimal (program_fault_number fault) ++ 10 ∷ []
+
+-- what standard error tells of the end of a run, beside the refused lines: nothing of a job that was done and of help,
+-- fault 64 and clap's text of a mistake in the command line, and any other fault by its number
+abbrev pub ending_text_of : Result Ending ProgramFault → List ℕ
+ending_text_of (Ok (ending.Done done)) = []
+ending_text_of (Ok ending.Helped) = []
+ending_text_of (Ok (ending.Mistaken text)) = fault_line_of fault.Usage ++ string_bytes text
+ending_text_of (Err fault) = fault_line_of fault

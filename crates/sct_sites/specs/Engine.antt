@@ -1,4 +1,4 @@
-use Rattle.std.specs.Prelude.{ℕ, ◌≡◌, ◌+◌, List, Option, IfSome}
+use Rattle.std.specs.Prelude.{ℕ, ◌≡◌, ◌+◌, ◌⊎◌, List, Option, IfSome}
 use Rattle.std.specs.Option.{option_map}
 use Rattle.sct_sites.specs.declared.engine.Job.{Job}
 use Rattle.sct_sites.specs.declared.engine.Job.TheVariants.{Status, Archive}
@@ -30,3 +30,8 @@ pub record IsWritten (failed failed_now : ℕ) (held held_now : Option (List ℕ
 pub record IsCutOff (failed failed_now : ℕ) (held held_now : Option (List ℕ)) (text : Option (List ℕ)) : Type 0 where
   pub one_failed : failed_now ≡ failed + 1
   pub prefix : IfSome text (λ bytes. AppendsPrefixIfTold held held_now bytes)
+
+-- the text went out whole, or one write failed and a prefix of it did
+abbrev pub IsWrittenOrCutOff : ℕ → ℕ → Option (List ℕ) → Option (List ℕ) → Option (List ℕ) → Type 0
+IsWrittenOrCutOff failed failed_now held held_now text =
+    IsWritten failed failed_now held held_now text ⊎ IsCutOff failed failed_now held held_now text

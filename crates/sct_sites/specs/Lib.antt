@@ -5,5 +5,6 @@ pub mod Fault
 pub mod LineLaws
 pub mod Lines
 pub mod Request
+pub mod Run
 pub mod Status
 pub mod Stream

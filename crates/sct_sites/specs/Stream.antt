@@ -1,4 +1,4 @@
-use Rattle.std.specs.Prelude.{ℕ, ◌≡◌, ◌<◌, ◌≤◌, List, [], ◌++◌, Option, Some, length, take, IfSome}
+use Rattle.std.specs.Prelude.{ℕ, ◌≡◌, ◌+◌, ◌<◌, ◌≤◌, List, [], ◌++◌, Option, Some, length, take, drop, IfSome}
 use Rattle.sct_sites.specs.declared.fault.ProgramFault.{ProgramFault}
 use Rattle.sct_sites.specs.declared.fault.ProgramFault.TheVariants.{TooLong, Read, Write, Usage, Memory}
 
@@ -14,13 +14,18 @@ pub record Gives (before : List ℕ) (n : ℕ) (room : ℕ) (piece : List ℕ) (
 abbrev pub HasReadIfTold : Option (List ℕ) → Option (List ℕ) → List ℕ → Type 0
 HasReadIfTold before after bytes = IfSome before (λ left. (rest : List ℕ) × ((left ≡ bytes ++ rest) × (after ≡ Some rest)))
 
--- what a fault says that ended the reading of at most so many of the bytes that were left
-abbrev pub EndsReading : ProgramFault → ℕ → Option (List ℕ) → Type 0
-EndsReading TooLong limit before = IfSome before (λ left. limit < length left)
-EndsReading Read limit before = Unit {0}
-EndsReading Memory limit before = Unit {0}
-EndsReading Write limit before = ⊥
-EndsReading Usage limit before = ⊥
+-- where the bytes left before are known, n of them were taken from their front and the others are left now
+abbrev pub HasTakenIfTold : Option (List ℕ) → Option (List ℕ) → ℕ → Type 0
+HasTakenIfTold before after n = IfSome before (λ left. (n ≤ length left) × (after ≡ Some (drop n left)))
+
+-- what a fault says that ended the reading of at most so many of the bytes that were left: past the limit exactly one
+-- byte more than the limit was taken, and before a read that failed at most the limit
+abbrev pub EndsReading : ProgramFault → ℕ → Option (List ℕ) → Option (List ℕ) → Type 0
+EndsReading TooLong limit before after = HasTakenIfTold before after (limit + 1)
+EndsReading Read limit before after = (n : ℕ) × ((n ≤ limit) × HasTakenIfTold before after n)
+EndsReading Memory limit before after = Unit {0}
+EndsReading Write limit before after = ⊥
+EndsReading Usage limit before after = ⊥
 
 -- the one fault that may end the writing of a text
 abbrev pub EndsWriting : ProgramFault → Type 0

@@ -1,3 +1,4 @@
+//! One run of a job: an input is read whole, and then its refused lines are told and its text is written.
 ghost use Rattle.std.specs.Prelude.{
   ◌≡◌,
   ◌≢◌,
@@ -21,6 +22,7 @@ ghost use Rattle.sct_sites.specs.declared.fault.ProgramFault.TheVariants as faul
 ghost use Rattle.sct_sites.specs.Engine.{job_text_if_told, job_text_of, told_text_if_told, IsCutOff, IsWritten};
 ghost use Rattle.sct_sites.specs.Fault.{failed_reads};
 ghost use Rattle.sct_sites.specs.Lines.{messages_read, refusals_told};
+ghost use Rattle.sct_sites.specs.Stream.{HasTakenIfTold};
 
 use crate::fault::ProgramFault;
 use crate::holding::archive_text;
@@ -80,8 +82,11 @@ pub fn engine<R: Source, O: Sink, E: Sink>(
         (λ input. done.refused ≡ length (refusals_told input))) }
 
     // When each fault comes.
-    ensures usage { (result ≡ Err fault.Usage) ↔ ((limit ≡ 0) ⊎ (MOST_BYTES < limit)) }
+    ensures usage { (result ≡ Err fault.Usage) ↔ ((limit ≡ 0) ⊎ (1073741824 < limit)) }
     ensures too_long { result ≡ Err fault.TooLong → IfSome (R.left reader.old) (λ input. limit < length input) }
+    ensures passed { result ≡ Err fault.TooLong → HasTakenIfTold (R.left reader.old) (R.left reader.new) (limit + 1) }
+    ensures cut_input { result ≡ Err fault.Read
+        → (n : ℕ) × ((n ≤ limit) × HasTakenIfTold (R.left reader.old) (R.left reader.new) n) }
     ensures reads { OnOk result (R.failures reader.new ≡ R.failures reader.old) }
     ensures failed_read { IfErr result (λ e. R.failures reader.new ≡ R.failures reader.old + failed_reads e) }
     ensures cut_off { result ≡ Err fault.Write

@@ -8,21 +8,17 @@ use thiserror::Error;
 
 /// What ends a run of the program.
 #[derive(Clone, Copy, Debug, PartialEq, Eq, Error)]
+#[error("fault {}", self.number())]
 pub enum ProgramFault {
     /// The input has a byte past the limit.
-    #[error("fault 60")]
     TooLong,
     /// A read failed.
-    #[error("fault 62")]
     Read,
     /// A write failed, or took no byte.
-    #[error("fault 63")]
     Write,
     /// The command line or the limit is not one that the program takes.
-    #[error("fault 64")]
     Usage,
     /// Memory is wanting.
-    #[error("fault 65")]
     Memory,
 }
 

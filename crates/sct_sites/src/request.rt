@@ -1,4 +1,5 @@
-ghost use Rattle.std.specs.Prelude.{◌≡◌, ◌≢◌, ◌↔◌, IfErr, IfOk, IsTrue, option_and_then};
+//! The command line: its words, and what they ask for.
+ghost use Rattle.std.specs.Prelude.{◌≡◌, ◌≢◌, ◌↔◌, Err, IfErr, IfOk, OnOk, IsTrue, option_and_then};
 ghost use Rattle.sct_sites.specs.declared.fault.ProgramFault.TheVariants as fault;
 ghost use Rattle.sct_sites.specs.Ending.{EndsAsking, words_fault};
 ghost use Rattle.std.specs.IoError.{error_kind};
@@ -12,8 +13,8 @@ use crate::fault::ProgramFault;
 use clap::error::ErrorKind;
 use clap::{ArgMatches, Command, Error};
 use std::alloc::{AllocError, Global};
-use std::rt::Env;
-use std::{env, io};
+use std::env::Args;
+use std::io;
 
 /// What a command line asks for.
 #[derive(Debug, Drop)]
@@ -36,12 +37,14 @@ fn fault_of(error: &io::Error) -> ProgramFault
     }
 }
 
-/// The words of the command line. Without them, the command line is one that the program does not take.
-pub fn read_words<R: Env + AllocGlobal>(rt: &R) -> Result<Vec<String>, ProgramFault>
-    ensures { IfErr result EndsAsking }
+/// The words of a command line, as the environment answers them. Without them (where one is no UTF-8, say), the command
+/// line is one that the program does not take: 64 Usage. Want of memory is 65 Memory.
+pub fn read_words(alloc: Global, words: io::Result<Args>) -> Result<Vec<String>, ProgramFault>
+    ensures memory { OnOk words (IfErr result (λ e. e ≡ fault.Memory)) }
+    ensures unread { IfErr words (λ e. result ≡ Err (words_fault (error_kind e))) }
 {
-    match env::args(rt) {
-        Ok(words) => Ok(words.collect(rt.alloc())?),
+    match words {
+        Ok(words) => Ok(words.collect(alloc)?),
         Err(error) => Err(fault_of(&error)),
     }
 }

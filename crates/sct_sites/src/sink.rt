@@ -1,3 +1,4 @@
+//! What the program writes to.
 ghost use Rattle.std.specs.Prelude.{◌≡◌, ◌+◌, ◌<◌, ◌≤◌, ◌≢◌, [], ℕ, List, Option, None, length, take, IfOk, IfSome, OnOk, OnErr};
 ghost use Rattle.sct_sites.specs.Stream.{AppendsIfTold};
 
@@ -37,7 +38,8 @@ impl<W: io::Write + Drop, L: Ledger> Writing<W, L> {
         requires name { blank.name ≡ L.name }
         requires parts { blank.parts ≡ L.parts }
         requires one_part { blank.parts ≡ 1 }
-        ensures { result.failures ≡ 0 }
+        ensures none_failed { result.failures ≡ 0 }
+        ensures carried { result.writer ≡ writer }
     {
         Writing {
             writer,
@@ -47,10 +49,11 @@ impl<W: io::Write + Drop, L: Ledger> Writing<W, L> {
 }
 
 impl<W: io::Write + Drop, L: Ledger> Sink for Writing<W, L> {
-    ghost held = { λ _. None };
+    ghost held = { λ s. W.contents s.writer };
 
     ghost failures = { λ s. s.failures };
 
+    #[tactic(auto, using(crate::proofs::Adapters::write_appends, crate::proofs::Adapters::write_keeps))]
     fn write(&mut self, piece: &[u8]) -> Result<usize, Failed> {
         match self.writer.write(piece) {
             Ok(n) if n > 0 || piece.is_empty() => Ok(n),

@@ -1,5 +1,6 @@
+//! What the program reads from.
 ghost use Rattle.std.specs.Prelude.{◌≡◌, ◌+◌, ◌≤◌, ℕ, List, Option, None, length, IfOk, IfSome, OnOk, OnErr};
-ghost use Rattle.sct_sites.specs.Stream.{Gives};
+ghost use Rattle.sct_sites.specs.Stream.{Gives, HasTakenIfTold};
 
 use crate::failures::Failures;
 use std::io;
@@ -17,12 +18,13 @@ pub trait Source {
     /// How many reads have failed.
     ghost failures: { Self → ℕ };
 
-    /// Reads some bytes into the front of the piece. None at a piece that has room is the end.
+    /// Reads some bytes into the front of the piece. None at a piece that has room is the end. A failed read took none.
     fn read(&mut self, piece: &mut [u8]) -> Result<usize, Failed>
         ensures fits { IfOk result (λ n. n ≤ length piece.new) }
         ensures given { IfOk result (λ n. IfSome (left self.old) (λ bytes. Gives bytes n (length piece.new) piece.new (left self.new))) }
         ensures ok { OnOk result (failures self.new ≡ failures self.old) }
-        ensures failed { OnErr result (failures self.new ≡ failures self.old + 1) };
+        ensures failed { OnErr result (failures self.new ≡ failures self.old + 1) }
+        ensures untaken { OnErr result (HasTakenIfTold (left self.old) (left self.new) 0) };
 }
 
 /// One of std's readers, with a count of the reads that failed. An interrupted read is one of them.
@@ -38,7 +40,8 @@ impl<R: io::Read + Drop, L: Ledger> Reading<R, L> {
         requires name { blank.name ≡ L.name }
         requires parts { blank.parts ≡ L.parts }
         requires one_part { blank.parts ≡ 1 }
-        ensures { result.failures ≡ 0 }
+        ensures none_failed { result.failures ≡ 0 }
+        ensures carried { result.reader ≡ reader }
     {
         Reading {
             reader,
@@ -48,10 +51,11 @@ impl<R: io::Read + Drop, L: Ledger> Reading<R, L> {
 }
 
 impl<R: io::Read + Drop, L: Ledger> Source for Reading<R, L> {
-    ghost left = { λ _. None };
+    ghost left = { λ s. R.remaining s.reader };
 
     ghost failures = { λ s. s.failures };
 
+    #[tactic(auto, using(crate::proofs::Adapters::read_gives, crate::proofs::Adapters::read_keeps))]
     fn read(&mut self, piece: &mut [u8]) -> Result<usize, Failed> {
         match self.reader.read(piece) {
             Ok(n) => Ok(n),

@@ -1,4 +1,6 @@
+//! Whole runs over known bytes: what no clause says is that memory is there, and how clap's texts read.
 mod archived;
+mod commands;
 mod fakes;
 mod inputs;
 
@@ -6,77 +8,210 @@ use crate::engine::{Done, Job};
 use crate::fault::ProgramFault;
 use crate::transfer::MOST_BYTES;
 use archived::ARCHIVED;
-use fakes::{Given, run_engine};
-use inputs::{CASES, REFUSED_AND_TAKEN};
+use commands::{BOTH, COMMANDS};
+use fakes::{Given, run_engine, run_program};
+use inputs::{CASES, Case, REFUSED_AND_TAKEN};
+use std::alloc::{AllocError, Global};
 
 const AMPLE: usize = 1_000_000;
 
 fn given(input: &[u8]) -> Given<'_> {
     Given {
-        job: Job::Status,
         input,
         fails: false,
-        limit: MOST_BYTES,
         out_room: AMPLE,
         err_room: AMPLE,
     }
 }
 
+// A run of the job writes what the case says.
+fn fits(alloc: Global, job: Job, case: &Case) -> bool {
+    let ran = run_engine(alloc, job, MOST_BYTES, &given(case.input));
+    ran.answer
+        == Ok(Done {
+            refused: case.refused,
+        })
+        && ran.out.as_slice() == case.out
+        && ran.err.as_slice() == case.err
+}
+
 #[test]
 fn answers_over_slow_streams(rt: HostRuntime) {
     for case in &CASES {
-        let ran = run_engine(rt.alloc(), given(case.input));
-        assert_eq!(rt;
-            ran.result,
-            Ok(Done {
-                refused: case.refused
-            })
-        );
-        assert_eq!(rt; ran.out.as_slice(), case.out);
-        assert_eq!(rt; ran.err.as_slice(), case.err);
+        assert!(rt; fits(rt.alloc(), Job::Status, case));
     }
 }
 
 #[test]
 fn writes_the_archive_over_slow_streams(rt: HostRuntime) {
     for case in &ARCHIVED {
-        let ran = run_engine(
-            rt.alloc(),
-            Given {
-                job: Job::Archive,
-                ..given(case.input)
-            },
-        );
-        assert_eq!(rt;
-            ran.result,
-            Ok(Done {
-                refused: case.refused
-            })
-        );
-        assert_eq!(rt; ran.out.as_slice(), case.out);
-        assert_eq!(rt; ran.err.as_slice(), case.err);
+        assert!(rt; fits(rt.alloc(), Job::Archive, case));
     }
 }
 
+// The words, each as a text of its own.
+fn words(alloc: Global, words: &[&str]) -> Result<Vec<String>, AllocError> {
+    let mut texts = Vec::new(alloc);
+    for word in words {
+        texts.push(String::from_str(alloc, word)?)?;
+    }
+    Ok(texts)
+}
+
+#[test]
+fn does_what_the_words_ask(rt: HostRuntime) {
+    for command in &COMMANDS {
+        let asked = words(rt.alloc(), command.words).map_err(ProgramFault::from);
+        let ran = run_program(rt.alloc(), asked, &given(command.input));
+        assert_eq!(rt; ran.out.as_slice(), command.out);
+        assert_eq!(rt; ran.err.as_slice(), command.err);
+        assert_eq!(rt; ran.answer, command.status);
+    }
+}
+
+// The status of a run of `status` over what is given, if it wrote this.
+fn status_where(alloc: Global, given: &Given<'_>, out: &[u8], err: &[u8]) -> Option<u8> {
+    let asked = words(alloc, &["sct_sites", "status"]).map_err(ProgramFault::from);
+    let ran = run_program(alloc, asked, given);
+    (ran.out.as_slice() == out && ran.err.as_slice() == err).then_some(ran.answer)
+}
+
+// The status of a run whose words could not be had, if it told this alone.
+fn status_unasked(alloc: Global, fault: ProgramFault, err: &[u8]) -> Option<u8> {
+    let ran = run_program(alloc, Err(fault), &given(BOTH));
+    (ran.out.is_empty() && ran.err.as_slice() == err).then_some(ran.answer)
+}
+
+// A fault that ends a run, the line that tells it, and the exit status.
+struct Unasked {
+    fault: ProgramFault,
+    err: &'static [u8],
+    status: u8,
+}
+
+static UNASKED: [Unasked; 3] = [
+    Unasked {
+        fault: ProgramFault::TooLong,
+        err: b"fault 60\n",
+        status: 2,
+    },
+    Unasked {
+        fault: ProgramFault::Usage,
+        err: b"fault 64\n",
+        status: 2,
+    },
+    Unasked {
+        fault: ProgramFault::Memory,
+        err: b"fault 65\n",
+        status: 3,
+    },
+];
+
+#[test]
+fn tells_each_fault_by_its_number(rt: HostRuntime) {
+    let alloc = rt.alloc();
+    let failing = Given {
+        fails: true,
+        ..given(BOTH)
+    };
+    assert_eq!(rt; status_where(alloc, &failing, b"", b"fault 62\n"), Some(2));
+    let full = Given {
+        out_room: 1,
+        ..given(BOTH)
+    };
+    assert_eq!(rt; status_where(alloc, &full, b"T", b"fault 63\n"), Some(2));
+    let mute = Given {
+        err_room: 0,
+        ..given(b"foo")
+    };
+    assert_eq!(rt; status_where(alloc, &mute, b"", b""), Some(2));
+    for row in &UNASKED {
+        assert_eq!(rt; status_unasked(alloc, row.fault, row.err), Some(row.status));
+    }
+}
+
+// An input of so many line feeds under a limit, which a read fails after or not, and what comes of it: an answer, and how
+// many of the line feeds are left.
+struct Limited {
+    length: usize,
+    fails: bool,
+    limit: u64,
+    answer: Result<Done, ProgramFault>,
+    left: usize,
+}
+
+static FEEDS: [u8; 12] = [b'\n'; 12];
+
+static LIMITED: [Limited; 8] = [
+    Limited {
+        length: 10,
+        fails: false,
+        limit: 10,
+        answer: Ok(Done { refused: 0 }),
+        left: 0,
+    },
+    Limited {
+        length: 11,
+        fails: false,
+        limit: 10,
+        answer: Err(ProgramFault::TooLong),
+        left: 0,
+    },
+    Limited {
+        length: 12,
+        fails: false,
+        limit: 10,
+        answer: Err(ProgramFault::TooLong),
+        left: 1,
+    },
+    Limited {
+        length: 11,
+        fails: true,
+        limit: 10,
+        answer: Err(ProgramFault::TooLong),
+        left: 0,
+    },
+    Limited {
+        length: 10,
+        fails: true,
+        limit: 10,
+        answer: Err(ProgramFault::Read),
+        left: 0,
+    },
+    Limited {
+        length: 0,
+        fails: false,
+        limit: 0,
+        answer: Err(ProgramFault::Usage),
+        left: 0,
+    },
+    Limited {
+        length: 0,
+        fails: false,
+        limit: MOST_BYTES + 1,
+        answer: Err(ProgramFault::Usage),
+        left: 0,
+    },
+    Limited {
+        length: 11,
+        fails: false,
+        limit: MOST_BYTES,
+        answer: Ok(Done { refused: 0 }),
+        left: 0,
+    },
+];
+
 #[test]
 fn stops_past_the_limit(rt: HostRuntime) {
-    let feeds = [b'\n'; 11];
-    for (length, limit, result) in [
-        (10, 10, Ok(Done { refused: 0 })),
-        (11, 10, Err(ProgramFault::TooLong)),
-        (0, 0, Err(ProgramFault::Usage)),
-        (0, MOST_BYTES + 1, Err(ProgramFault::Usage)),
-        (11, MOST_BYTES, Ok(Done { refused: 0 })),
-    ] {
-        let (input, _) = feeds.split_at(length);
-        let ran = run_engine(
-            rt.alloc(),
-            Given {
-                limit,
-                ..given(input)
-            },
-        );
-        assert_eq!(rt; ran.result, result);
+    for row in &LIMITED {
+        let (input, _) = FEEDS.split_at(row.length.min(FEEDS.len()));
+        let streams = Given {
+            fails: row.fails,
+            ..given(input)
+        };
+        let ran = run_engine(rt.alloc(), Job::Status, row.limit, &streams);
+        assert_eq!(rt; ran.answer, row.answer);
+        assert_eq!(rt; ran.left, row.left);
         assert!(rt; ran.out.is_empty() && ran.err.is_empty());
     }
 }
@@ -86,14 +221,12 @@ fn writes_nothing_after_a_failing_read(rt: HostRuntime) {
     let text = REFUSED_AND_TAKEN.input;
     for length in 0..text.len() {
         let (input, _) = text.split_at(length);
-        let ran = run_engine(
-            rt.alloc(),
-            Given {
-                fails: true,
-                ..given(input)
-            },
-        );
-        assert_eq!(rt; ran.result, Err(ProgramFault::Read));
+        let failing = Given {
+            fails: true,
+            ..given(input)
+        };
+        let ran = run_engine(rt.alloc(), Job::Status, MOST_BYTES, &failing);
+        assert_eq!(rt; ran.answer, Err(ProgramFault::Read));
         assert!(rt; ran.out.is_empty() && ran.err.is_empty());
     }
 }
@@ -103,28 +236,24 @@ fn writes_a_prefix_before_a_failing_write(rt: HostRuntime) {
     let told = REFUSED_AND_TAKEN.err;
     let text = REFUSED_AND_TAKEN.out;
     for room in 0..told.len() {
-        let ran = run_engine(
-            rt.alloc(),
-            Given {
-                err_room: room,
-                ..given(REFUSED_AND_TAKEN.input)
-            },
-        );
+        let full = Given {
+            err_room: room,
+            ..given(REFUSED_AND_TAKEN.input)
+        };
+        let ran = run_engine(rt.alloc(), Job::Status, MOST_BYTES, &full);
         let (prefix, _) = told.split_at(room);
-        assert_eq!(rt; ran.result, Err(ProgramFault::Write));
+        assert_eq!(rt; ran.answer, Err(ProgramFault::Write));
         assert_eq!(rt; ran.err.as_slice(), prefix);
         assert!(rt; ran.out.is_empty());
     }
     for room in 0..text.len() {
-        let ran = run_engine(
-            rt.alloc(),
-            Given {
-                out_room: room,
-                ..given(REFUSED_AND_TAKEN.input)
-            },
-        );
+        let full = Given {
+            out_room: room,
+            ..given(REFUSED_AND_TAKEN.input)
+        };
+        let ran = run_engine(rt.alloc(), Job::Status, MOST_BYTES, &full);
         let (prefix, _) = text.split_at(room);
-        assert_eq!(rt; ran.result, Err(ProgramFault::Write));
+        assert_eq!(rt; ran.answer, Err(ProgramFault::Write));
         assert_eq!(rt; ran.err.as_slice(), told);
         assert_eq!(rt; ran.out.as_slice(), prefix);
     }
@@ -132,13 +261,11 @@ fn writes_a_prefix_before_a_failing_write(rt: HostRuntime) {
 
 #[test]
 fn writes_no_empty_text(rt: HostRuntime) {
-    let ran = run_engine(
-        rt.alloc(),
-        Given {
-            out_room: 0,
-            err_room: 0,
-            ..given(b"\n")
-        },
-    );
-    assert_eq!(rt; ran.result, Ok(Done { refused: 0 }));
+    let full = Given {
+        out_room: 0,
+        err_room: 0,
+        ..given(b"\n")
+    };
+    let ran = run_engine(rt.alloc(), Job::Status, MOST_BYTES, &full);
+    assert_eq!(rt; ran.answer, Ok(Done { refused: 0 }));
 }

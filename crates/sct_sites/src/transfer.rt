@@ -1,6 +1,6 @@
 ghost use Rattle.std.specs.Prelude.{◌≡◌, ◌+◌, ◌<◌, ◌≤◌, ◌++◌, [], Some, take, length, vec_len, IsOk, IfOk, IfErr, IfSome, OnOk, OnErr};
 ghost use Rattle.sct_sites.specs.Fault.{failed_reads, failed_writes};
-ghost use Rattle.sct_sites.specs.Stream.{AppendsIfTold, AppendsPrefixIfTold, EndsReading, EndsWriting, Gives, HasReadIfTold};
+ghost use Rattle.sct_sites.specs.Stream.{AppendsIfTold, AppendsPrefixIfTold, EndsReading, EndsWriting, Gives, HasReadIfTold, HasTakenIfTold};
 
 use crate::fault::ProgramFault;
 use crate::sink::Sink;
@@ -19,6 +19,7 @@ fn read_most<R: Source>(source: &mut R, piece: &mut [u8], most: usize) -> Result
     ensures given { IfOk result (λ n. IfSome (R.left source.old) (λ bytes. Gives bytes n most piece.new (R.left source.new))) }
     ensures ok { OnOk result (R.failures source.new ≡ R.failures source.old) }
     ensures failed { OnErr result (R.failures source.new ≡ R.failures source.old + 1) }
+    ensures untaken { OnErr result (HasTakenIfTold (R.left source.old) (R.left source.new) 0) }
 {
     source.read(&mut piece[..most])
 }
@@ -32,7 +33,7 @@ pub fn read_all<R: Source>(
     requires { limit ≤ MOST_BYTES }
     ensures all { IfOk result (λ v. IfSome (R.left source.old) (λ bytes. (bytes ≡ v.items) × (R.left source.new ≡ Some []))) }
     ensures within { IfOk result (λ v. vec_len v ≤ limit) }
-    ensures faults { IfErr result (λ e. EndsReading e limit (R.left source.old)) }
+    ensures faults { IfErr result (λ e. EndsReading e limit (R.left source.old) (R.left source.new)) }
     ensures quiet { OnOk result (R.failures source.new ≡ R.failures source.old) }
     ensures counted { IfErr result (λ e. R.failures source.new ≡ R.failures source.old + failed_reads e) }
 {

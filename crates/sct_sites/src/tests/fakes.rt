@@ -1,11 +1,13 @@
+//! Readers and writers whose bytes are known, slow ones and ones that fail, and runs over them.
 ghost use Rattle.std.specs.Prelude.{◌≡◌, Some};
 
 use crate::engine::{Done, Job, engine};
 use crate::failures::Failures;
 use crate::fault::ProgramFault;
+use crate::program::run;
 use crate::sink::Sink;
 use crate::source::{Failed, Source};
-use std::alloc::{AllocError, Global};
+use std::alloc::Global;
 use std::marker::Brand;
 use std::sync::ledger::{Blank, Ledger};
 
@@ -66,72 +68,124 @@ impl<L: Ledger> Sink for Taking<L> {
     }
 }
 
-// What a run is given.
+// What a run is given: the bytes that its input has, whether a read fails after them, and how many bytes each writer takes.
 #[derive(Clone, Copy)]
 pub struct Given<'a> {
-    pub job: Job,
     pub input: &'a [u8],
     pub fails: bool,
-    pub limit: u64,
     pub out_room: usize,
     pub err_room: usize,
 }
 
-// What a run did.
+// What a run answered and wrote, and how many bytes of its input it left.
 #[derive(Drop)]
-pub struct Ran {
-    pub result: Result<Done, ProgramFault>,
+pub struct Ran<T: Drop> {
+    pub answer: T,
+    pub left: usize,
     pub out: Vec<u8>,
     pub err: Vec<u8>,
 }
 
-fn run_over<A: Ledger, B: Ledger, C: Ledger>(
+impl<'a, L: Ledger> Giving<'a, L> {
+    fn of(given: &Given<'a>, blank: Blank) -> Self
+        requires name { blank.name ≡ L.name }
+        requires parts { blank.parts ≡ L.parts }
+        requires one_part { blank.parts ≡ 1 }
+    {
+        Giving {
+            left: given.input,
+            fails: given.fails,
+            failures: Failures::none(blank),
+        }
+    }
+}
+
+impl<L: Ledger> Taking<L> {
+    fn of(alloc: Global, room: usize, blank: Blank) -> Self
+        requires name { blank.name ≡ L.name }
+        requires parts { blank.parts ≡ L.parts }
+        requires one_part { blank.parts ≡ 1 }
+    {
+        Taking {
+            held: Vec::new(alloc),
+            room,
+            failures: Failures::none(blank),
+        }
+    }
+}
+
+fn run_engine_over<A: Ledger, B: Ledger, C: Ledger>(
     alloc: Global,
-    given: Given<'_>,
-    reader: Blank,
-    out: Blank,
-    err: Blank,
-) -> Ran
-    requires reader_name { reader.name ≡ A.name }
-    requires reader_parts { reader.parts ≡ A.parts }
-    requires reader_part { reader.parts ≡ 1 }
-    requires out_name { out.name ≡ B.name }
-    requires out_parts { out.parts ≡ B.parts }
-    requires out_part { out.parts ≡ 1 }
-    requires err_name { err.name ≡ C.name }
-    requires err_parts { err.parts ≡ C.parts }
-    requires err_part { err.parts ≡ 1 }
+    job: Job,
+    limit: u64,
+    given: &Given<'_>,
+    blanks: (Blank, Blank, Blank),
+) -> Ran<Result<Done, ProgramFault>>
+    requires reader_name { blanks.0.name ≡ A.name }
+    requires reader_parts { blanks.0.parts ≡ A.parts }
+    requires reader_part { blanks.0.parts ≡ 1 }
+    requires out_name { blanks.1.name ≡ B.name }
+    requires out_parts { blanks.1.parts ≡ B.parts }
+    requires out_part { blanks.1.parts ≡ 1 }
+    requires err_name { blanks.2.name ≡ C.name }
+    requires err_parts { blanks.2.parts ≡ C.parts }
+    requires err_part { blanks.2.parts ≡ 1 }
 {
-    let mut reader = Giving::<A> {
-        left: given.input,
-        fails: given.fails,
-        failures: Failures::none(reader),
-    };
-    let mut out = Taking::<B> {
-        held: Vec::new(alloc),
-        room: given.out_room,
-        failures: Failures::none(out),
-    };
-    let mut err = Taking::<C> {
-        held: Vec::new(alloc),
-        room: given.err_room,
-        failures: Failures::none(err),
-    };
-    let result = engine(
-        alloc,
-        &given.job,
-        given.limit,
-        &mut reader,
-        &mut out,
-        &mut err,
-    );
+    let mut reader = Giving::<A>::of(given, blanks.0);
+    let mut out = Taking::<B>::of(alloc, given.out_room, blanks.1);
+    let mut err = Taking::<C>::of(alloc, given.err_room, blanks.2);
+    let answer = engine(alloc, &job, limit, &mut reader, &mut out, &mut err);
     Ran {
-        result,
+        answer,
+        left: reader.left.len(),
         out: out.held,
         err: err.held,
     }
 }
 
-pub fn run_engine(alloc: Global, given: Given<'_>) -> Ran {
-    run_over::<Brand, Brand, Brand>(alloc, given, Blank::new(1), Blank::new(1), Blank::new(1))
+pub fn run_engine(
+    alloc: Global,
+    job: Job,
+    limit: u64,
+    given: &Given<'_>,
+) -> Ran<Result<Done, ProgramFault>> {
+    let blanks = (Blank::new(1), Blank::new(1), Blank::new(1));
+    run_engine_over::<Brand, Brand, Brand>(alloc, job, limit, given, blanks)
+}
+
+fn run_program_over<A: Ledger, B: Ledger, C: Ledger>(
+    alloc: Global,
+    words: Result<Vec<String>, ProgramFault>,
+    given: &Given<'_>,
+    blanks: (Blank, Blank, Blank),
+) -> Ran<u8>
+    requires reader_name { blanks.0.name ≡ A.name }
+    requires reader_parts { blanks.0.parts ≡ A.parts }
+    requires reader_part { blanks.0.parts ≡ 1 }
+    requires out_name { blanks.1.name ≡ B.name }
+    requires out_parts { blanks.1.parts ≡ B.parts }
+    requires out_part { blanks.1.parts ≡ 1 }
+    requires err_name { blanks.2.name ≡ C.name }
+    requires err_parts { blanks.2.parts ≡ C.parts }
+    requires err_part { blanks.2.parts ≡ 1 }
+{
+    let mut reader = Giving::<A>::of(given, blanks.0);
+    let mut out = Taking::<B>::of(alloc, given.out_room, blanks.1);
+    let mut err = Taking::<C>::of(alloc, given.err_room, blanks.2);
+    let answer = run(alloc, words, &mut reader, &mut out, &mut err);
+    Ran {
+        answer,
+        left: reader.left.len(),
+        out: out.held,
+        err: err.held,
+    }
+}
+
+pub fn run_program(
+    alloc: Global,
+    words: Result<Vec<String>, ProgramFault>,
+    given: &Given<'_>,
+) -> Ran<u8> {
+    let blanks = (Blank::new(1), Blank::new(1), Blank::new(1));
+    run_program_over::<Brand, Brand, Brand>(alloc, words, given, blanks)
 }
