@@ -17,7 +17,7 @@ mod tests;
 
 pub use account::{Iban, IbanRule};
 pub use bank::{Bic, BicRule};
-pub use checked::{Checked, Rule};
+pub use checked::{Checked, Rule, are_digits};
 pub use date::{Day, DayRule};
 pub use faults::ElementFault;
 pub use identification::{Code4, CodeRule, Id35, IdentificationRule, Stamp, StampRule};

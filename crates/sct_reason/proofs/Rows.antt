@@ -8,7 +8,8 @@ use Rattle.sct_reason.specs.declared.reasons.Reason.TheVariants.{Unlisted}
 use Rattle.sct_reason.specs.declared.uses.Use.{Use}
 use Rattle.sct_reason.specs.declared.uses.Use.TheVariants.{Reject, Recall, Refusal, Return}
 use Rattle.sct_reason.specs.declared.uses.RecallClass.TheVariants as class
-use Rattle.sct_reason.specs.Listed.{is_text, is_listed, is_other_code}
+use Rattle.sct_element.specs.Text.{is_text}
+use Rattle.sct_reason.specs.Listed.{is_listed, is_other_code}
 use Rattle.sct_reason.specs.Uses.{usual_codes, is_among, is_usual, bank_codes, originator_codes, class_of}
 
 not_true : (b : Bool) → not b ≡ true → b ≡ false

@@ -1,13 +1,9 @@
 -- The codes that the reason table lists (external reason codes of ISO 20022), and the other codes, by their bytes.
-use Rattle.std.specs.Prelude.{ℕ, ◌&&◌, List, [], ◌∷◌, Bool, nat_eq, not, codes}
-use Rattle.std.specs.Cmp.Lexicographic.{pointwise}
+use Rattle.std.specs.Prelude.{ℕ, ◌&&◌, List, [], ◌∷◌, Bool, not, codes}
 use Rattle.std.specs.List.{list_any}
 use Rattle.std.specs.Option.{is_some}
 use Rattle.sct_element.specs.Identification.{written_code}
-
--- the two texts are the same
-abbrev pub is_text : List ℕ → List ℕ → Bool
-is_text s t = pointwise nat_eq s t
+use Rattle.sct_element.specs.Text.{is_text}
 
 -- the listed codes, in the order of their texts
 abbrev pub listed_codes : List (List ℕ)

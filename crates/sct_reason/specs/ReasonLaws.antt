@@ -16,7 +16,8 @@ use Rattle.sct_element.specs.Identification.{written_code}
 use Rattle.sct_reason.specs.declared.other.OtherCode.{OtherCode}
 use Rattle.sct_reason.specs.declared.reasons.Reason.{Reason}
 use Rattle.sct_reason.specs.declared.reasons.Reason.TheVariants.{Unlisted}
-use Rattle.sct_reason.specs.Listed.{is_text, is_listed, is_other_code}
+use Rattle.sct_element.specs.Text.{is_text}
+use Rattle.sct_reason.specs.Listed.{is_listed, is_other_code}
 use Rattle.sct_reason.specs.Codes.{reason_text, listed}
 use Rattle.sct_reason.specs.Reasons.{listed_reason, other_where, other_of, unlisted, or_else, reason_of, reason_order}
 

@@ -6,7 +6,8 @@ use Rattle.std.specs.Cmp.Lexicographic.{slice_cmp}
 use Rattle.sct_reason.specs.declared.other.OtherCode.{OtherCode}
 use Rattle.sct_reason.specs.declared.reasons.Reason.{Reason}
 use Rattle.sct_reason.specs.declared.reasons.Reason.TheVariants.{Unlisted}
-use Rattle.sct_reason.specs.Listed.{is_text, is_other_code}
+use Rattle.sct_element.specs.Text.{is_text}
+use Rattle.sct_reason.specs.Listed.{is_other_code}
 use Rattle.sct_reason.specs.Codes.{reason_text, listed}
 
 -- the listed reason of that text

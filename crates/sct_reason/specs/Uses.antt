@@ -6,7 +6,7 @@ use Rattle.sct_reason.specs.declared.uses.Use.{Use}
 use Rattle.sct_reason.specs.declared.uses.Use.TheVariants.{Reject, Recall, Refusal, Return}
 use Rattle.sct_reason.specs.declared.uses.RecallClass.{RecallClass}
 use Rattle.sct_reason.specs.declared.uses.RecallClass.TheVariants.{Bank, Originator, Unlisted}
-use Rattle.sct_reason.specs.Listed.{is_text}
+use Rattle.sct_element.specs.Text.{is_text}
 use Rattle.sct_reason.specs.Codes.{reason_text}
 
 -- the rows of the reason table
