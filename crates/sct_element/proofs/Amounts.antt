@@ -15,7 +15,7 @@ use Rattle.sct_element.proofs.Decimals.{nine_long}
 digit_from_its_value : (c : ℕ) → digit_value c < 10 → is_ascii_digit c ≡ true
 digit_from_its_value c h = grind (arith, nat_tests)
 
-no_point : (c : ℕ) → digit_value c < 10 → is_point c ≡ false
+pub no_point : (c : ℕ) → digit_value c < 10 → is_point c ≡ false
 no_point c h = grind (arith, nat_tests)
 
 digits_alone : (s : List ℕ) → AllDigits 10 s → list_all is_ascii_digit s ≡ true
@@ -54,7 +54,7 @@ cents_written r few =
     rw (first, second, tens, ones, whole) refl
 
 -- what the digits before a point and those behind it stand for
-parts_read : (s rest : List ℕ) (euros cents : ℕ) → AllDigits 10 s → euros_of s ≡ Some euros → hundredths_of rest ≡ Some cents → 1 ≤ 100 * euros + cents
+pub parts_read : (s rest : List ℕ) (euros cents : ℕ) → AllDigits 10 s → euros_of s ≡ Some euros → hundredths_of rest ≡ Some cents → 1 ≤ 100 * euros + cents
     → cents_of (s ++ 46 ∷ rest) ≡ Some (100 * euros + cents)
 unfolding cents_of
 parts_read s rest euros cents digits e c some =

@@ -19,7 +19,7 @@ digit_below_ten c h = grind (arith, nat_tests)
 pub digit_is : (c : ℕ) → is_ascii_digit c ≡ true → digit_value c ≡ c - 48
 digit_is c h = grind (arith, nat_tests)
 
-all_digits : (s : List ℕ) → list_all is_ascii_digit s ≡ true → AllDigits 10 s
+pub all_digits : (s : List ℕ) → list_all is_ascii_digit s ≡ true → AllDigits 10 s
 all_digits [] h = tt
 all_digits (c ∷ cs) h =
     let parts : (is_ascii_digit c ≡ true) × (list_all is_ascii_digit cs ≡ true) = and_parts _ _ h in

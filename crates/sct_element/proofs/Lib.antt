@@ -1,3 +1,5 @@
+-- The files of lemmas of this crate.
+mod AmountTexts
 mod Amounts
 mod Decimals
 mod Remainders

@@ -1,4 +1,4 @@
--- International bank account numbers (ISO 13616), by the bytes of their texts.
+-- Read by an auditor: international bank account numbers (ISO 13616), by the bytes of their texts.
 use Rattle.std.specs.Prelude.{ℕ, ◌&&◌, ◌==◌, ◌-◌, ◌/◌, ◌%◌, List, [], ◌∷◌, ◌++◌, length, take, drop, map, flat_map, nat_le, Bool, Option, if◌then◌else◌}
 use Rattle.std.specs.Char.{is_ascii_uppercase, is_ascii_digit, is_ascii_alphanumeric, to_ascii_uppercase}
 use Rattle.std.specs.Int.Digits.{number_from_digits}
@@ -19,7 +19,10 @@ capitals s = map to_ascii_uppercase s
 
 -- 5 to 34 characters: two capitals for the country, two check digits, then letters and digits
 abbrev pub is_account_shaped : List ℕ → Bool
-is_account_shaped s = nat_le 5 (length s) && nat_le (length s) 34 && list_all is_ascii_uppercase (take 2 s) && list_all is_ascii_digit (take 2 (drop 2 s)) && list_all is_ascii_alphanumeric (drop 4 s)
+is_account_shaped s = nat_le 5 (length s) && nat_le (length s) 34
+    && list_all is_ascii_uppercase (take 2 s)
+    && list_all is_ascii_digit (take 2 (drop 2 s))
+    && list_all is_ascii_alphanumeric (drop 4 s)
 
 -- a text of that shape whose number leaves 1 when it is divided by 97
 abbrev pub is_iban : List ℕ → Bool

@@ -1,4 +1,4 @@
--- Dates of the form YYYY-MM-DD, by the bytes of their texts. No calendar is asked.
+-- Read by an auditor: dates of the form YYYY-MM-DD (ISODate), by the bytes of their texts. No calendar is asked.
 use Rattle.std.specs.Prelude.{ℕ, ◌&&◌, ◌==◌, List, length, take, drop, slice_index, Bool, Option}
 use Rattle.std.specs.Char.{is_ascii_digit}
 use Rattle.std.specs.List.{list_all}
@@ -6,7 +6,12 @@ use Rattle.sct_element.specs.Text.{where_read}
 
 -- ten characters: four digits, a hyphen, two digits, a hyphen, two digits
 abbrev pub is_day : List ℕ → Bool
-is_day s = (length s == 10) && list_all is_ascii_digit (take 4 s) && (slice_index s 4 == 45) && list_all is_ascii_digit (take 2 (drop 5 s)) && (slice_index s 7 == 45) && list_all is_ascii_digit (drop 8 s)
+is_day s = (length s == 10)
+    && list_all is_ascii_digit (take 4 s)
+    && (slice_index s 4 == 45)
+    && list_all is_ascii_digit (take 2 (drop 5 s))
+    && (slice_index s 7 == 45)
+    && list_all is_ascii_digit (drop 8 s)
 
 -- kept as it was read
 unfoldable pub written_day : List ℕ → Option (List ℕ)

@@ -1,4 +1,4 @@
--- Identifications, time stamps and codes, by the bytes of their texts.
+-- Read by an auditor: identifications, time stamps and codes, by the bytes of their texts.
 use Rattle.std.specs.Prelude.{ℕ, ◌-◌, ◌&&◌, ◌||◌, ◌==◌, List, length, drop, zip, slice_index, nat_le, not, Bool, Option, codes}
 use Rattle.std.specs.Char.{is_ascii_alphanumeric}
 use Rattle.std.specs.List.{list_all, list_any}
@@ -18,7 +18,10 @@ has_double_slash s = list_any (λ p. p.0 == 47 && p.1 == 47) (zip s (drop 1 s))
 
 -- such a text that begins with no slash, ends with none, and has no two in a row
 abbrev pub is_identification : List ℕ → Bool
-is_identification s = is_short_text s && not (slice_index s 0 == 47) && not (slice_index s (length s - 1) == 47) && not (has_double_slash s)
+is_identification s = is_short_text s
+    && not (slice_index s 0 == 47)
+    && not (slice_index s (length s - 1) == 47)
+    && not (has_double_slash s)
 
 -- 1 to 4 capitals and digits
 abbrev pub is_code : List ℕ → Bool

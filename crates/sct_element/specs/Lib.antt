@@ -1,3 +1,4 @@
+-- The files of definitions of this crate.
 pub mod Account
 pub mod Bank
 pub mod Date

@@ -1,4 +1,4 @@
--- Names and remittance information: texts of any characters, counted as Unicode scalar values.
+-- Read by an auditor: names and remittance information, texts of any characters, counted as Unicode scalar values.
 use Rattle.std.specs.Prelude.{◌≡◌, ℕ, ◌&&◌, List, length, chars, nat_le, Bool, true, false, Result, Ok, Err}
 use Rattle.sct_element.specs.declared.faults.ElementFault.{ElementFault}
 use Rattle.sct_element.specs.declared.faults.ElementFault.TheVariants.{BadBic, BadIban, BadId, BadAmount, BadDay, BadText, BadStamp, Memory, BadCode}
@@ -7,7 +7,8 @@ use Rattle.sct_element.specs.declared.faults.ElementFault.TheVariants.{BadBic, B
 abbrev pub has_characters : ℕ → List ℕ → Bool
 has_characters most s = nat_le 1 (length (chars s)) && nat_le (length (chars s)) most
 
--- A text of allowed length is kept as it is, and only such a one can meet want of memory; any other is refused BadText.
+-- A text of allowed length is kept as it is, and only such a one can meet want of memory; any other is refused
+-- BadText.
 abbrev pub ReadsFree : ℕ → List ℕ → Result (List ℕ) ElementFault → Type 0
 ReadsFree most s (Ok t) = (has_characters most s ≡ true) × (t ≡ s)
 ReadsFree most s (Err BadText) = has_characters most s ≡ false

@@ -1,5 +1,5 @@
 //! Accounts by their international numbers.
-ghost use Rattle.std.specs.Prelude.{◌≡◌, ◌<◌, ◌≤◌, ◌++◌, ◌==◌, ◌%◌, ◌&&◌, ◌||◌, ℕ, List, IsTrue, IsAscii, Some, None, MatchOption, length, nat_le, flat_map, drop, take};
+ghost use Rattle.std.specs.Prelude.{◌≡◌, ◌<◌, ◌≤◌, ◌++◌, ◌==◌, ◌%◌, ◌&&◌, ◌||◌, ℕ, List, IsTrue, IsAscii, Some, None, MatchOption, length, nat_le, ok_or, flat_map, drop, take};
 ghost use Rattle.std.specs.Bool.{OnTrue};
 ghost use Rattle.std.specs.Char.{is_ascii_uppercase, is_ascii_digit, is_ascii_alphanumeric};
 ghost use Rattle.std.specs.Int.Digits.{number_from_digits_after};
@@ -8,7 +8,8 @@ ghost use Rattle.sct_element.specs.Account.{digits_of_char, account_number, capi
 ghost use Rattle.sct_element.specs.Settles.{iban_settles};
 ghost use Rattle.sct_element.specs.declared.faults.ElementFault.TheVariants.{BadIban};
 
-use crate::checked::{Checked, Rule, are_digits, push_byte};
+use crate::characters::are_digits;
+use crate::checked::{Checked, Rule, push_byte};
 use crate::faults::ElementFault;
 use arrayvec::ArrayString;
 
@@ -43,6 +44,13 @@ impl Rule<34> for IbanRule {
     }
 
     ghost settles = { iban_settles };
+}
+
+/// Reads an international bank account number, as `Iban::read` does, or tells 2 (BadIban).
+pub fn read_iban(text: &str) -> Result<Iban, ElementFault>
+    ensures { result ≡ ok_or (written_iban text.now) ElementFault.BadIban }
+{
+    Iban::read(text)
 }
 
 fn are_capitals(bytes: &[u8]) -> bool
@@ -92,7 +100,8 @@ fn in_capitals(bytes: &[u8]) -> ArrayString<34>
 fn after_char(remainder: u64, byte: u8) -> u64
     requires { remainder < 97 }
     ensures below { result < 97 }
-    ensures goes_on { (rest : List ℕ) → number_from_digits_after 10 result rest % 97 ≡ number_from_digits_after 10 remainder (digits_of_char byte ++ rest) % 97 }
+    ensures goes_on { (rest : List ℕ) → number_from_digits_after 10 result rest % 97
+        ≡ number_from_digits_after 10 remainder (digits_of_char byte ++ rest) % 97 }
 {
     if byte.is_ascii_digit() {
         (remainder * 10 + u64::from(byte - b'0')) % 97
@@ -106,7 +115,8 @@ fn after_char(remainder: u64, byte: u8) -> u64
 fn after_chars(mut remainder: u64, bytes: &[u8]) -> u64
     requires { remainder < 97 }
     ensures below { result < 97 }
-    ensures goes_on { (rest : List ℕ) → number_from_digits_after 10 result rest % 97 ≡ number_from_digits_after 10 remainder (flat_map digits_of_char bytes.now ++ rest) % 97 }
+    ensures goes_on { (rest : List ℕ) → number_from_digits_after 10 result rest % 97
+        ≡ number_from_digits_after 10 remainder (flat_map digits_of_char bytes.now ++ rest) % 97 }
 {
     for byte in bytes {
         remainder = after_char(remainder, *byte);

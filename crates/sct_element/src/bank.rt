@@ -1,11 +1,10 @@
 //! Banks by their identifier codes.
-ghost use Rattle.std.specs.Prelude.{◌≡◌, ◌||◌, ◌==◌, IsTrue, Some, None, MatchOption, length};
-ghost use Rattle.std.specs.List.{list_all};
-ghost use Rattle.sct_element.specs.Text.{is_capital_or_digit};
+ghost use Rattle.std.specs.Prelude.{◌≡◌, ◌||◌, ◌==◌, IsTrue, Some, None, MatchOption, length, ok_or};
 ghost use Rattle.sct_element.specs.Bank.{is_bic, full_bic, written_bic};
 ghost use Rattle.sct_element.specs.Settles.{bic_settles};
 ghost use Rattle.sct_element.specs.declared.faults.ElementFault.TheVariants.{BadBic};
 
+use crate::characters::are_capitals_or_digits;
 use crate::checked::{Checked, Rule};
 use crate::faults::ElementFault;
 use arrayvec::ArrayString;
@@ -34,18 +33,17 @@ impl Rule<11> for BicRule {
     ghost settles = { bic_settles };
 }
 
+/// Reads a business identifier code, as `Bic::read` does, or tells 1 (BadBic).
+pub fn read_bic(text: &str) -> Result<Bic, ElementFault>
+    ensures { result ≡ ok_or (written_bic text.now) ElementFault.BadBic }
+{
+    Bic::read(text)
+}
+
 fn is_sized(len: usize) -> bool
     ensures { result ≡ (len == 8 || len == 11) }
 {
     len == 8 || len == 11
-}
-
-fn is_spelled(bytes: &[u8]) -> bool
-    ensures { result ≡ list_all is_capital_or_digit bytes.now }
-{
-    bytes
-        .iter()
-        .all(|byte| byte.is_ascii_uppercase() || byte.is_ascii_digit())
 }
 
 fn is_bic(text: &str) -> bool
@@ -53,7 +51,7 @@ fn is_bic(text: &str) -> bool
 {
     let bytes = text.as_bytes();
     is_sized(bytes.len())
-        && is_spelled(bytes)
+        && are_capitals_or_digits(bytes)
         && bytes[4].is_ascii_uppercase()
         && bytes[5].is_ascii_uppercase()
 }

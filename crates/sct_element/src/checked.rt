@@ -1,7 +1,5 @@
 //! A text of bounded length that keeps the rule of its type.
 ghost use Rattle.std.specs.Prelude.{◌≡◌, ◌+◌, ◌<◌, ◌++◌, ◌∷◌, [], ℕ, List, Option, Some, None, MatchOption, IsTrue, ◌≤◌, length, ok_or, nat_eq, refl};
-ghost use Rattle.std.specs.Char.{is_ascii_digit};
-ghost use Rattle.std.specs.List.{list_all};
 ghost use Rattle.std.specs.Ordering.{nat_cmp};
 ghost use Rattle.std.specs.Cmp.{on_equiv, on_total, on_po, on_per, partial_equiv_from_equiv};
 ghost use Rattle.std.specs.Cmp.Lexicographic.{pointwise, slice_cmp, nat_list_eq_equiv, nat_list_cmp_total, texts_po, texts_ties};
@@ -57,7 +55,7 @@ impl<R: Rule<N>, const N: usize> Drop for Checked<R, N> {
 }
 
 impl<R: Rule<N>, const N: usize> Checked<R, N> {
-    /// Reads a text, or tells the type's own fault.
+    /// Reads a text, or tells the type's own fault. Which rule each type has is said by `read_bic` and its like.
     pub fn read(text: &str) -> Result<Self, ElementFault>
         ensures { result ≡ ok_or (R.written text.now) R.fault }
     {
@@ -92,7 +90,8 @@ impl<R: Rule<N>, const N: usize> Checked<R, N> {
 /// A copy of a text that passed its test, which has room for it.
 pub fn kept_where<const N: usize>(passes: bool, text: &str) -> Option<ArrayString<N>>
     requires { IsTrue passes → length text.now ≤ N }
-    ensures { MatchOption result (where_read passes text.now ≡ None) (λ kept. where_read passes text.now ≡ Some kept.bytes) }
+    ensures { MatchOption result (where_read passes text.now ≡ None)
+        (λ kept. where_read passes text.now ≡ Some kept.bytes) }
 {
     if !passes {
         return None;
@@ -100,13 +99,6 @@ pub fn kept_where<const N: usize>(passes: bool, text: &str) -> Option<ArrayStrin
     let mut kept = ArrayString::new();
     kept.push_str(text);
     Some(kept)
-}
-
-/// Whether each byte is `0-9`.
-pub fn are_digits(bytes: &[u8]) -> bool
-    ensures { result ≡ list_all is_ascii_digit bytes.now }
-{
-    bytes.iter().all(|byte| byte.is_ascii_digit())
 }
 
 /// Appends a byte that is a character of its own.

@@ -1,12 +1,13 @@
 //! Dates.
-ghost use Rattle.std.specs.Prelude.{◌≡◌, ◌&&◌, ◌==◌, ◌≤◌, IsTrue, MatchOption, length, take, drop, slice_index};
+ghost use Rattle.std.specs.Prelude.{◌≡◌, ◌&&◌, ◌==◌, ◌≤◌, IsTrue, MatchOption, length, take, drop, slice_index, ok_or};
 ghost use Rattle.std.specs.List.{list_all};
 ghost use Rattle.std.specs.Char.{is_ascii_digit};
 ghost use Rattle.sct_element.specs.Date.{is_day, written_day};
 ghost use Rattle.sct_element.specs.Settles.{day_settles};
 ghost use Rattle.sct_element.specs.declared.faults.ElementFault.TheVariants.{BadDay};
 
-use crate::checked::{Checked, Rule, are_digits, kept_where};
+use crate::characters::are_digits;
+use crate::checked::{Checked, Rule, kept_where};
 use crate::faults::ElementFault;
 use arrayvec::ArrayString;
 
@@ -31,6 +32,13 @@ impl Rule<10> for DayRule {
     }
 
     ghost settles = { day_settles };
+}
+
+/// Reads a date, as `Day::read` does, or tells 5 (BadDay).
+pub fn read_day(text: &str) -> Result<Day, ElementFault>
+    ensures { result ≡ ok_or (written_day text.now) ElementFault.BadDay }
+{
+    Day::read(text)
 }
 
 fn is_day(bytes: &[u8]) -> bool

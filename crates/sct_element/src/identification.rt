@@ -1,11 +1,12 @@
 //! Identifications, time stamps and codes: texts of a few characters, kept as they are read.
-ghost use Rattle.std.specs.Prelude.{◌≡◌, ◌&&◌, ◌||◌, ◌==◌, ◌-◌, drop, zip, length, nat_le, codes};
+ghost use Rattle.std.specs.Prelude.{◌≡◌, ◌&&◌, ◌||◌, ◌==◌, ◌-◌, drop, zip, length, nat_le, codes, ok_or};
 ghost use Rattle.std.specs.List.{list_all, list_any};
 ghost use Rattle.sct_element.specs.Text.{is_capital_or_digit};
 ghost use Rattle.sct_element.specs.Identification.{is_sepa_character, is_short_text, is_identification, is_code, has_double_slash, written_identification, written_stamp, written_code};
 ghost use Rattle.sct_element.specs.declared.faults.ElementFault.TheVariants.{BadId, BadStamp, BadCode};
 ghost use Rattle.sct_element.specs.Settles.{identification_settles, stamp_settles, code_settles};
 
+use crate::characters::{are_capitals_or_digits, is_within};
 use crate::checked::{Checked, Rule, kept_where};
 use crate::faults::ElementFault;
 use arrayvec::ArrayString;
@@ -81,11 +82,25 @@ impl Rule<4> for CodeRule {
     ghost settles = { code_settles };
 }
 
-/// Whether the byte is `A-Z` or `0-9`.
-pub fn is_capital_or_digit(byte: u8) -> bool
-    ensures { result ≡ is_capital_or_digit byte }
+/// Reads an identification, as `Id35::read` does, or tells 3 (BadId).
+pub fn read_identification(text: &str) -> Result<Id35, ElementFault>
+    ensures { result ≡ ok_or (written_identification text.now) ElementFault.BadId }
 {
-    byte.is_ascii_uppercase() || byte.is_ascii_digit()
+    Id35::read(text)
+}
+
+/// Reads a time stamp, as `Stamp::read` does, or tells 7 (BadStamp).
+pub fn read_stamp(text: &str) -> Result<Stamp, ElementFault>
+    ensures { result ≡ ok_or (written_stamp text.now) ElementFault.BadStamp }
+{
+    Stamp::read(text)
+}
+
+/// Reads a code, as `Code4::read` does, or tells 9 (BadCode).
+pub fn read_code(text: &str) -> Result<Code4, ElementFault>
+    ensures { result ≡ ok_or (written_code text.now) ElementFault.BadCode }
+{
+    Code4::read(text)
 }
 
 fn is_sepa_character(byte: u8) -> bool
@@ -98,12 +113,6 @@ fn are_sepa_characters(bytes: &[u8]) -> bool
     ensures { result ≡ list_all is_sepa_character bytes.now }
 {
     bytes.iter().all(|byte| is_sepa_character(*byte))
-}
-
-fn is_within(len: usize, most: usize) -> bool
-    ensures { result ≡ (nat_le 1 len && nat_le len most) }
-{
-    1 <= len && len <= most
 }
 
 fn is_short_text(bytes: &[u8]) -> bool
@@ -128,12 +137,6 @@ fn is_identification(bytes: &[u8]) -> bool
         && bytes[0] != b'/'
         && bytes[bytes.len() - 1] != b'/'
         && !has_double_slash(bytes)
-}
-
-fn are_capitals_or_digits(bytes: &[u8]) -> bool
-    ensures { result ≡ list_all is_capital_or_digit bytes.now }
-{
-    bytes.iter().all(|byte| is_capital_or_digit(*byte))
 }
 
 fn is_code(bytes: &[u8]) -> bool

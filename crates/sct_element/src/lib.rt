@@ -6,6 +6,7 @@
 
 mod account;
 mod bank;
+mod characters;
 mod checked;
 mod date;
 mod faults;
@@ -15,11 +16,15 @@ mod party;
 #[cfg(test)]
 mod tests;
 
-pub use account::{Iban, IbanRule};
-pub use bank::{Bic, BicRule};
-pub use checked::{Checked, Rule, are_digits};
-pub use date::{Day, DayRule};
+pub use account::{Iban, IbanRule, read_iban};
+pub use bank::{Bic, BicRule, read_bic};
+pub use characters::are_digits;
+pub use checked::{Checked, Rule};
+pub use date::{Day, DayRule, read_day};
 pub use faults::ElementFault;
-pub use identification::{Code4, CodeRule, Id35, IdentificationRule, Stamp, StampRule};
-pub use money::Amount;
-pub use party::{FreeText, Name, Remittance};
+pub use identification::{
+    Code4, CodeRule, Id35, IdentificationRule, Stamp, StampRule, read_code, read_identification,
+    read_stamp,
+};
+pub use money::{Amount, amounts_are_exact};
+pub use party::{FreeText, Name, Remittance, read_name, read_remittance};

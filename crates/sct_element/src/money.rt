@@ -1,11 +1,12 @@
 //! Amounts of money.
-ghost use Rattle.std.specs.Prelude.{◌≡◌, ℕ, ◌+◌, ◌-◌, ◌*◌, ◌^◌, ◌<◌, ◌≤◌, ◌++◌, ◌&&◌, ◌==◌, List, Some, None, IsTrue, IfSome, length, nat_le, ok_or, decimal, position};
+ghost use Rattle.std.specs.Prelude.{◌≡◌, ◌↔◌, ℕ, ◌+◌, ◌-◌, ◌*◌, ◌^◌, ◌<◌, ◌≤◌, ◌++◌, ◌&&◌, ◌==◌, List, Some, None, IsTrue, IfSome, length, nat_le, ok_or, decimal, position};
 ghost use Rattle.std.specs.Char.{is_ascii_digit};
 ghost use Rattle.std.specs.List.{list_all};
 ghost use Rattle.std.specs.Str.Parse.{digits_value};
-ghost use Rattle.sct_element.specs.Money.{is_point, euros_of, hundredths_of, euros_before, cents_after, cents_of, amount_text};
+ghost use Rattle.sct_element.specs.Money.{is_point, euros_of, hundredths_of, euros_before, cents_after, cents_of, amount_text, IsAmountText};
 
-use crate::checked::{are_digits, push_byte};
+use crate::characters::{are_digits, is_within};
+use crate::checked::push_byte;
 use crate::faults::ElementFault;
 use arrayvec::ArrayString;
 use std::marker::Model;
@@ -56,6 +57,11 @@ impl Amount {
     }
 }
 
+/// An amount is read exactly from the texts that write it: whole euros, or whole euros, a point and one or two decimals.
+pub fn amounts_are_exact()
+    ensures { (s : List ℕ) (cents : ℕ) → (cents_of s ≡ Some cents) ↔ IsAmountText s cents }
+{}
+
 /// The written form of so many cents.
 #[tactic(auto, using(crate::proofs::Decimals::nine_long), unfolding(crate::specs::Money::amount_text))]
 fn written(cents: u64) -> ArrayString<12>
@@ -91,12 +97,6 @@ fn push_decimal(text: &mut ArrayString<12>, number: u64)
     }
     push_decimal(text, number / 10);
     push_byte(text, digit(number % 10));
-}
-
-fn is_within(len: usize, most: usize) -> bool
-    ensures { result ≡ (nat_le 1 len && nat_le len most) }
-{
-    1 <= len && len <= most
 }
 
 /// The number that at most nine digits write.

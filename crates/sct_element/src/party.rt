@@ -8,6 +8,7 @@ ghost use Rattle.std.specs.Hash as fed;
 ghost use Rattle.std.proofs.Common.{rules};
 ghost use Rattle.sct_element.specs.Party.{has_characters, ReadsFree};
 
+use crate::characters::is_within;
 use crate::faults::ElementFault;
 use std::alloc::Global;
 use std::cmp::Ordering;
@@ -57,17 +58,25 @@ impl<const MOST: usize> FreeText<MOST> {
     }
 }
 
+/// Reads a name of 1 to 70 characters, as `Name::read` does, or tells 6 (BadText), or 8 (Memory).
+pub fn read_name(alloc: Global, text: &str) -> Result<Name, ElementFault>
+    ensures { ReadsFree 70 text.now result }
+{
+    Name::read(alloc, text)
+}
+
+/// Reads remittance information of 1 to 140 characters, as `Remittance::read` does, or tells 6 (BadText), or 8 (Memory).
+pub fn read_remittance(alloc: Global, text: &str) -> Result<Remittance, ElementFault>
+    ensures { ReadsFree 140 text.now result }
+{
+    Remittance::read(alloc, text)
+}
+
 #[tactic(auto, using(std::proofs::lemmas::Str::chars_from_encodes))]
 fn count(text: &str) -> usize
     ensures { result ≡ length (chars text.now) }
 {
     text.chars().count()
-}
-
-fn is_within(count: usize, most: usize) -> bool
-    ensures { result ≡ (nat_le 1 count && nat_le count most) }
-{
-    1 <= count && count <= most
 }
 
 impl<const MOST: usize> PartialEq for FreeText<MOST> {

@@ -1,3 +1,4 @@
+-- So far the capitals are those of the bytes read.
 use Rattle.std.proofs.Common.{◌≡◌, take}
 use Rattle.sct_element.specs.Account.{capitals}
 use Rattle.sct_element.proofs.account.in_capitals.Given as goal

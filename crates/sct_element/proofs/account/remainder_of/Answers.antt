@@ -1,3 +1,4 @@
+-- The remainder of the back, and of the front behind it, is that of the whole number.
 use Rattle.sct_element.proofs.Remainders.{whole_number}
 use Rattle.sct_element.proofs.account.remainder_of.Goals as goal
 

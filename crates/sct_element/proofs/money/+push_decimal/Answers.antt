@@ -1,3 +1,4 @@
+-- The front digits and then the last one are the whole number.
 use Rattle.std.proofs.Common.{arith, append_assoc, refl}
 use Rattle.sct_element.proofs.Decimals.{last_digit}
 use Rattle.sct_element.proofs.money.+push_decimal.Goals as goal

@@ -1,3 +1,4 @@
+-- Each call leaves one digit fewer.
 use Rattle.sct_element.proofs.money.+push_decimal.Given as goal
 
 abbrev pub decreases-push_decimal : goal.decreases-push_decimal

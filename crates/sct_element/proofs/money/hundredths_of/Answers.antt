@@ -1,3 +1,4 @@
+-- One digit counts ten times its number, which stays below 100.
 use Rattle.std.proofs.Common.{◌∙◌, sym, arith, ◌≤◌}
 use Rattle.std.specs.Str.Parse.{digits_value}
 use Rattle.sct_element.proofs.Decimals.{one_digit_below}

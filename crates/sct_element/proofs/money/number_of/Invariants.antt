@@ -1,3 +1,4 @@
+-- So far the number is that of the digits read.
 use Rattle.std.proofs.Common.{◌≡◌, take}
 use Rattle.std.specs.Str.Parse.{digits_value}
 use Rattle.sct_element.proofs.money.number_of.Given as goal
