@@ -21,7 +21,8 @@ read_where : (b : Bool) (n : ℕ) → b ≡ true → (if b then Some n else None
 read_where b n e = rw e refl
 
 -- one digit at least, and at most so many
-sized : (s : List ℕ) (most : ℕ) → (nat_le 1 (length s) && nat_le (length s) most && list_all is_ascii_digit s) ≡ true
+sized : (s : List ℕ) (most : ℕ)
+    → (nat_le 1 (length s) && nat_le (length s) most && list_all is_ascii_digit s) ≡ true
     → (1 ≤ length s) × (length s ≤ most) × (list_all is_ascii_digit s ≡ true)
 sized s most h =
     let outer : ((nat_le 1 (length s) && nat_le (length s) most) ≡ true) × (list_all is_ascii_digit s ≡ true) = and_parts _ _ h in
@@ -52,7 +53,8 @@ euros_read s euros (some, few, digits, value) =
 abbrev counted : List ℕ → Bool → ℕ
 counted s one = if one then 10 * digits_value 10 s else digits_value 10 s
 
-length_told : (s : List ℕ) (cents : ℕ) (one : Bool) → (length s == 1) ≡ one → 1 ≤ length s → length s ≤ 2 → counted s one ≡ cents
+length_told : (s : List ℕ) (cents : ℕ) (one : Bool) → (length s == 1) ≡ one → 1 ≤ length s → length s ≤ 2
+    → counted s one ≡ cents
     → ((length s ≡ 1) × (cents ≡ 10 * digits_value 10 s)) ⊎ ((length s ≡ 2) × (cents ≡ digits_value 10 s))
 length_told s cents true e some few h = inl (eqb-true _ _ e, sym h)
 length_told s cents false e some few h = inr (grind (arith, nat_tests, e), sym h)
@@ -64,7 +66,8 @@ decimals_written s cents e =
     (long.2, length_told s cents (length s == 1) refl long.0 long.1 k.1)
 
 decimals_by : (s : List ℕ) (cents : ℕ) → list_all is_ascii_digit s ≡ true
-    → ((length s ≡ 1) × (cents ≡ 10 * digits_value 10 s)) ⊎ ((length s ≡ 2) × (cents ≡ digits_value 10 s)) → hundredths_of s ≡ Some cents
+    → ((length s ≡ 1) × (cents ≡ 10 * digits_value 10 s)) ⊎ ((length s ≡ 2) × (cents ≡ digits_value 10 s))
+    → hundredths_of s ≡ Some cents
 decimals_by s cents digits (inl (one, value)) =
     read_where _ (counted s (length s == 1)) (sized_passes s 2 (omega (arith, one)) (omega (arith, one)) digits)
     ∙ ap (λ (n : ℕ). Some (counted s (n == 1))) one ∙ ap (λ (n : ℕ). Some n) (sym value)
@@ -90,12 +93,15 @@ cut_there : (s : List ℕ) (at : ℕ) → position is_point s ≡ Some at → s 
 cut_there s at e =
     let there : (at < length s) × (is_point (get_or s at 0) ≡ true) × ((k : ℕ) → k < at → is_point (get_or s k 0) ≡ false) = position-Some is_point s at 0 e in
     let point : get_or s at 0 ≡ 46 = eqb-true _ _ there.1 in
-    let behind : drop at s ≡ get_or s at 0 ∷ drop (at + 1) s = rw (drop-cons s at 0 there.0, add-one at) refl in
-    sym (take-append-drop at s) ∙ ap (λ (t : List ℕ). take at s ++ t) behind ∙ ap (λ (c : ℕ). take at s ++ c ∷ drop (at + 1) s) point
+    let behind : drop at s ≡ get_or s at 0 ∷ drop (at + 1) s =
+    rw (drop-cons s at 0 there.0, add-one at) refl in
+    sym (take-append-drop at s) ∙ ap (λ (t : List ℕ). take at s ++ t) behind
+    ∙ ap (λ (c : ℕ). take at s ++ c ∷ drop (at + 1) s) point
 
 -- ---- a text that is read
 
-joined : (e c : Option ℕ) (n : ℕ) → in_all e c ≡ Some n → (euros : ℕ) × (rest : ℕ) × (e ≡ Some euros) × (c ≡ Some rest) × (n ≡ 100 * euros + rest) × (1 ≤ n)
+joined : (e c : Option ℕ) (n : ℕ) → in_all e c ≡ Some n
+    → (euros : ℕ) × (rest : ℕ) × (e ≡ Some euros) × (c ≡ Some rest) × (n ≡ 100 * euros + rest) × (1 ≤ n)
 joined None c n h = cc
 joined (Some euros) None n h = cc
 joined (Some euros) (Some rest) n h =
@@ -104,16 +110,20 @@ joined (Some euros) (Some rest) n h =
     (euros, rest, refl, refl, sym k.1, omega arith)
 
 euros_few : (s : List ℕ) (euros : ℕ) → IsEuros s euros → euros ≤ 999999999
-euros_few s euros (some, few, digits, value) = let small : digits_value 10 s ≤ 999999999 = nine_digits_below s digits few in omega arith
+euros_few s euros (some, few, digits, value) =
+    let small : digits_value 10 s ≤ 999999999 = nine_digits_below s digits few in omega arith
 
 cents_few : (s : List ℕ) (cents : ℕ) → IsDecimals s cents → cents ≤ 99
-cents_few s cents (digits, inl (one, value)) = let small : digits_value 10 s ≤ 9 = one_digit_below s digits one in omega arith
-cents_few s cents (digits, inr (two, value)) = let small : digits_value 10 s ≤ 99 = two_digits_below s digits (omega (arith, two)) in omega arith
+cents_few s cents (digits, inl (one, value)) =
+    let small : digits_value 10 s ≤ 9 = one_digit_below s digits one in omega arith
+cents_few s cents (digits, inr (two, value)) =
+    let small : digits_value 10 s ≤ 99 = two_digits_below s digits (omega (arith, two)) in omega arith
 
 in_bounds : (euros rest n : ℕ) → euros ≤ 999999999 → rest ≤ 99 → n ≡ 100 * euros + rest → n ≤ 99999999999
 in_bounds euros rest n few small sum = omega arith
 
-written_at : (s : List ℕ) (n : ℕ) (place : Option ℕ) → position is_point s ≡ place → in_all (euros_before place s) (cents_after place s) ≡ Some n
+written_at : (s : List ℕ) (n : ℕ) (place : Option ℕ) → position is_point s ≡ place
+    → in_all (euros_before place s) (cents_after place s) ≡ Some n
     → IsAmountText s n
 written_at s n None e h =
     let k : (euros : ℕ) × (rest : ℕ) × (euros_of s ≡ Some euros) × (Some 0 ≡ Some rest) × (n ≡ 100 * euros + rest) × (1 ≤ n) = joined (euros_of s) (Some 0) n h in

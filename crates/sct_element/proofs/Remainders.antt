@@ -10,9 +10,11 @@ use Rattle.sct_element.specs.Account.{digits_of_char, account_number}
 step_mod : (n d : ℕ) → (n % 97 * 10 + d) % 97 ≡ (n * 10 + d) % 97
 step_mod n d = omega arith
 
-pub after_mod : (n : ℕ) (ds : List ℕ) → number_from_digits_after 10 (n % 97) ds % 97 ≡ number_from_digits_after 10 n ds % 97
+pub after_mod : (n : ℕ) (ds : List ℕ)
+    → number_from_digits_after 10 (n % 97) ds % 97 ≡ number_from_digits_after 10 n ds % 97
 after_mod n [] = mod-mod n 97
-after_mod n (d ∷ ds) = sym (after_mod (n % 97 * 10 + d) ds) ∙ ap (λ (m : ℕ). number_from_digits_after 10 m ds % 97) (step_mod n d) ∙ after_mod (n * 10 + d) ds
+after_mod n (d ∷ ds) = sym (after_mod (n % 97 * 10 + d) ds)
+    ∙ ap (λ (m : ℕ). number_from_digits_after 10 m ds % 97) (step_mod n d) ∙ after_mod (n * 10 + d) ds
 
 pub after_digit : (n c : ℕ) (rest : List ℕ) → is_ascii_digit c ≡ true
     → number_from_digits_after 10 ((n * 10 + (c - 48)) % 97) rest % 97 ≡ number_from_digits_after 10 n (digits_of_char c ++ rest) % 97
@@ -31,4 +33,5 @@ whole_number s back front small b f =
     let e : flat_map digits_of_char (drop 4 s) ++ (flat_map digits_of_char (take 4 s) ++ []) ≡ flat_map digits_of_char (drop 4 s ++ take 4 s) =
     ap (λ (ds : List ℕ). flat_map digits_of_char (drop 4 s) ++ ds) (append-nil (flat_map digits_of_char (take 4 s))) ∙ sym (flat_map-append digits_of_char (drop 4 s) (take 4 s)) in
     let stays : front ≡ front % 97 = omega arith in
-    stays ∙ f [] ∙ b (flat_map digits_of_char (take 4 s) ++ []) ∙ ap (λ (ds : List ℕ). number_from_digits 10 ds % 97) e
+    stays ∙ f [] ∙ b (flat_map digits_of_char (take 4 s) ++ [])
+    ∙ ap (λ (ds : List ℕ). number_from_digits 10 ds % 97) e

@@ -16,7 +16,7 @@ pub enum ElementFault {
     /// 3: no identification of 1 to 35 characters.
     #[error("no identification")]
     BadId,
-    /// 4: no amount from 0.01 to 999999999.99.
+    /// 4: no amount from 0.01 to 999999999.99 (euro).
     #[error("no amount")]
     BadAmount,
     /// 5: no date of the form YYYY-MM-DD.

@@ -16,10 +16,12 @@ use arrayvec::ArrayString;
 /// A text that is none is refused 3 (BadId).
 pub type Id35 = Checked<IdentificationRule, 35>;
 
-/// A time stamp: 1 to 35 characters of the same set, slashes anywhere. A text that is none is refused 7 (BadStamp).
+/// A time stamp, where messages have an ISODateTime: 1 to 35 characters of the same set, slashes anywhere, of which no form
+/// is asked. A text that is none is refused 7 (BadStamp).
 pub type Stamp = Checked<StampRule, 35>;
 
-/// A code: 1 to 4 characters of `A-Z` and `0-9`. A text that is none is refused 9 (BadCode).
+/// A code (as the external codes of ISO 20022): 1 to 4 characters of `A-Z` and `0-9`. A text that is none is refused 9
+/// (BadCode).
 pub type Code4 = Checked<CodeRule, 4>;
 
 /// The rule of [`Id35`].

@@ -1,7 +1,8 @@
 //! The checked texts of interbank messages: each is read once, and is right from then on.
 //!
-//! A text is read by the `read` of its type, which answers the written form or the type's own fault. The written form is
-//! what `text` gives, what two values are compared by, and what is read as the same value again.
+//! A text is read by the `read` of its type, which answers the written form or the type's own fault; a name or remittance
+//! information, which takes memory, may answer want of it instead. The written form is what `text` gives, what two values
+//! are compared by (amounts by their cents), and what is read as the same value again.
 #![tactic(auto)]
 
 mod account;

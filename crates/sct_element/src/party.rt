@@ -36,7 +36,7 @@ impl<const MOST: usize> Model for FreeText<MOST> {
 }
 
 impl<const MOST: usize> FreeText<MOST> {
-    /// Reads a text. One that is empty or too long is refused 6 (BadText); 8 (Memory) is want of memory.
+    /// Reads a text. One that is empty or too long is refused 6 (BadText); 8 (Memory) is want of memory for another.
     pub fn read(alloc: Global, text: &str) -> Result<Self, ElementFault>
         ensures { ReadsFree MOST text.now result }
     {

@@ -1,3 +1,5 @@
+//! Texts that are read and refused, type by type.
+
 use crate::*;
 use std::alloc::{AllocError, Global};
 use std::test::Fail;
@@ -59,7 +61,7 @@ fn reads_banks(rt: HostRuntime) -> Result<(), Fail> {
         "BANKDEF ",
         "BANKDEÄ",
     ] {
-        assert_eq!(rt; number_of(Bic::read(text)), 1, "at {text}");
+        assert_eq!(rt; number_of(read_bic(text)), 1, "at {text}");
     }
     Ok(())
 }
@@ -118,7 +120,7 @@ fn refuses_accounts(rt: HostRuntime) {
         "GB82WEST1234569876543Ä",
         "DE360000000000000000000000000000000",
     ] {
-        assert_eq!(rt; number_of(Iban::read(text)), 2, "at {text}");
+        assert_eq!(rt; number_of(read_iban(text)), 2, "at {text}");
     }
 }
 
@@ -146,7 +148,7 @@ fn reads_identifications(rt: HostRuntime) -> Result<(), Fail> {
         "É",
         "123456789012345678901234567890123456",
     ] {
-        assert_eq!(rt; number_of(Id35::read(text)), 3, "at {text}");
+        assert_eq!(rt; number_of(read_identification(text)), 3, "at {text}");
     }
     assert!(rt; Id35::read("T1")? < Id35::read("T1 ")?);
     assert!(rt; Id35::read("T1 ")? < Id35::read("T10")?);
@@ -220,7 +222,7 @@ fn reads_days(rt: HostRuntime) -> Result<(), Fail> {
         "2024-05-02Z",
         "2024-0a-02",
     ] {
-        assert_eq!(rt; number_of(Day::read(text)), 5, "at {text}");
+        assert_eq!(rt; number_of(read_day(text)), 5, "at {text}");
     }
     assert!(rt; Day::read("2023-12-31")? < Day::read("2024-01-01")?);
     Ok(())
@@ -237,7 +239,7 @@ fn reads_stamps(rt: HostRuntime) -> Result<(), Fail> {
         assert_eq!(rt; Stamp::read(text)?.text(), text);
     }
     for text in ["", "2024_05_02", "2024-05-02T10:00:00.000000000+01:00Z"] {
-        assert_eq!(rt; number_of(Stamp::read(text)), 7, "at {text}");
+        assert_eq!(rt; number_of(read_stamp(text)), 7, "at {text}");
     }
     Ok(())
 }
@@ -248,7 +250,7 @@ fn reads_codes(rt: HostRuntime) -> Result<(), Fail> {
         assert_eq!(rt; Code4::read(text)?.text(), text);
     }
     for text in ["", "ABCDE", "a", "AC 4", "Ä"] {
-        assert_eq!(rt; number_of(Code4::read(text)), 9, "at {text}");
+        assert_eq!(rt; number_of(read_code(text)), 9, "at {text}");
     }
     assert!(rt; Code4::read("AC04")? < Code4::read("AM04")?);
     Ok(())
@@ -269,7 +271,7 @@ fn reads_names(rt: HostRuntime) -> Result<(), Fail> {
         assert!(rt; name.text() == longest.as_str(), "at {character}");
         let too_long = repeated(alloc, character, 71)?;
         assert_eq!(rt;
-            number_of(Name::read(alloc, too_long.as_str())),
+            number_of(read_name(alloc, too_long.as_str())),
             6,
             "at {character}"
         );
@@ -285,7 +287,7 @@ fn reads_remittances(rt: HostRuntime) -> Result<(), Fail> {
     let longest = repeated(alloc, 'r', 140)?;
     assert_eq!(rt; number_of(Remittance::read(alloc, longest.as_str())), 0);
     let too_long = repeated(alloc, 'r', 141)?;
-    assert_eq!(rt; number_of(Remittance::read(alloc, too_long.as_str())), 6);
+    assert_eq!(rt; number_of(read_remittance(alloc, too_long.as_str())), 6);
     assert_eq!(rt; number_of(Remittance::read(alloc, "")), 6);
     Ok(())
 }
