@@ -1,2 +1,3 @@
+-- The files of lemmas of this crate.
 mod Others
 mod Rows

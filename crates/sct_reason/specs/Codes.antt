@@ -1,4 +1,4 @@
--- The text of each reason.
+-- Read by an auditor: the text of each reason.
 use Rattle.std.specs.Prelude.{ℕ, List, [], ◌∷◌, codes}
 use Rattle.sct_reason.specs.declared.reasons.Reason.{Reason}
 use Rattle.sct_reason.specs.declared.reasons.Reason.TheVariants.{AB05, AB06, AB07, AB08, AB09, AB10, AC01, AC03, AC04, AC06, AG01, AG02, AG09, AG10, AG11, AM02, AM04, AM05, AM09, AM23, ARDT, BE04, CUST, DUPL, FF01, FOCR, FRAD, LEGL, MD07, MS02, MS03, NOAS, NOOR, RC01, RR01, RR02, RR03, RR04, TECH, TM01, Unlisted}
@@ -49,5 +49,8 @@ reason_text (Unlisted other) = other.code
 
 -- the listed reasons, in the order of their texts
 abbrev pub listed : List Reason
-listed = AB05 ∷ AB06 ∷ AB07 ∷ AB08 ∷ AB09 ∷ AB10 ∷ AC01 ∷ AC03 ∷ AC04 ∷ AC06 ∷ AG01 ∷ AG02 ∷ AG09 ∷ AG10 ∷ AG11 ∷ AM02 ∷ AM04 ∷ AM05 ∷ AM09 ∷ AM23
-    ∷ ARDT ∷ BE04 ∷ CUST ∷ DUPL ∷ FF01 ∷ FOCR ∷ FRAD ∷ LEGL ∷ MD07 ∷ MS02 ∷ MS03 ∷ NOAS ∷ NOOR ∷ RC01 ∷ RR01 ∷ RR02 ∷ RR03 ∷ RR04 ∷ TECH ∷ TM01 ∷ []
+listed =
+    AB05 ∷ AB06 ∷ AB07 ∷ AB08 ∷ AB09 ∷ AB10 ∷ AC01 ∷ AC03 ∷ AC04 ∷ AC06
+    ∷ AG01 ∷ AG02 ∷ AG09 ∷ AG10 ∷ AG11 ∷ AM02 ∷ AM04 ∷ AM05 ∷ AM09 ∷ AM23
+    ∷ ARDT ∷ BE04 ∷ CUST ∷ DUPL ∷ FF01 ∷ FOCR ∷ FRAD ∷ LEGL ∷ MD07 ∷ MS02
+    ∷ MS03 ∷ NOAS ∷ NOOR ∷ RC01 ∷ RR01 ∷ RR02 ∷ RR03 ∷ RR04 ∷ TECH ∷ TM01 ∷ []

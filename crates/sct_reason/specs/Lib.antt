@@ -1,3 +1,4 @@
+-- The files of definitions of this crate.
 pub mod Codes
 pub mod Listed
 pub mod ReasonLaws

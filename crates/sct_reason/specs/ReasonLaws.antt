@@ -1,4 +1,4 @@
--- Reasons and codes correspond: each reason is read from its text, and from no other text.
+-- Proof plumbing: that reasons and codes correspond, each reason being read from its text and from no other text.
 use Rattle.std.proofs.Common.{◌≡◌, ◌∙◌, refl, ap, sym, subst, ℕ, List, [], ◌∷◌, Option, Some, None, ◌&&◌, ◌||◌, Bool, true, false, not, if◌then◌else◌}
 use Rattle.std.specs.Prelude.{◌↔◌, find}
 use Rattle.std.specs.Option.{is_some}
@@ -24,7 +24,8 @@ use Rattle.sct_reason.specs.Reasons.{listed_reason, other_where, other_of, unlis
 -- ---- looking something up in a list
 
 -- what is found first passes, whether it stands at the head or behind it
-chosen : {X : Type 0} (p : X → Bool) (y x : X) (rest : Option X) (passes : Bool) → p y ≡ passes → (rest ≡ Some x → p x ≡ true)
+chosen : {X : Type 0} (p : X → Bool) (y x : X) (rest : Option X) (passes : Bool) → p y ≡ passes
+    → (rest ≡ Some x → p x ≡ true)
     → (if passes then Some y else rest) ≡ Some x → p x ≡ true
 chosen p y x rest true h later e = let same : y ≡ x = cc in subst (λ z. p z ≡ true) same h
 chosen p y x rest false h later e = later e
@@ -34,7 +35,8 @@ found_passes p [] x e = cc
 found_passes p (y ∷ ys) x e = chosen p y x (find p ys) (p y) refl (found_passes p ys x) e
 
 -- where nothing is found, nothing passes
-none_chosen : {X : Type 0} (y : X) (rest : Option X) (passes any : Bool) → (rest ≡ None → any ≡ false) → (if passes then Some y else rest) ≡ None → (passes || any) ≡ false
+none_chosen : {X : Type 0} (y : X) (rest : Option X) (passes any : Bool) → (rest ≡ None → any ≡ false)
+    → (if passes then Some y else rest) ≡ None → (passes || any) ≡ false
 none_chosen y rest true any later e = cc
 none_chosen y rest false any later e = later e
 
@@ -52,7 +54,8 @@ not_found p (y ∷ ys) e =
 
 listed_has_text : (s : List ℕ) (r : Reason) → listed_reason s ≡ Some r → reason_text r ≡ s
 unfolding listed_reason
-listed_has_text s r e = sym ((bytes_eq-Decides s (reason_text r)).0 (found_passes (λ (q : Reason). is_text s (reason_text q)) listed r e))
+listed_has_text s r e =
+    sym ((bytes_eq-Decides s (reason_text r)).0 (found_passes (λ (q : Reason). is_text s (reason_text q)) listed r e))
 
 not_listed_where_unfound : (s : List ℕ) → listed_reason s ≡ None → is_listed s ≡ false
 unfolding listed_reason is_listed
@@ -74,24 +77,32 @@ other_code s h = record { code = s; other = h }
 
 -- two of one text are one: the proofs that it is an other code do not count
 same_proof : (s : List ℕ) (p q : is_other_code s ≡ true) → other_code s p ≡ other_code s q
-same_proof s p q = let one : IsProp (is_other_code s ≡ true) = hlevel props in λ i. record { code = s; other = one p q i }
+same_proof s p q =
+    let one : IsProp (is_other_code s ≡ true) = hlevel props in λ i. record { code = s; other = one p q i }
 
-pub same_code : (s t : List ℕ) (p : is_other_code s ≡ true) (q : is_other_code t ≡ true) → s ≡ t → other_code s p ≡ other_code t q
-same_code s t p q e = subst (λ u. (h : is_other_code u ≡ true) → other_code s p ≡ other_code u h) e (same_proof s p) q
+pub same_code : (s t : List ℕ) (p : is_other_code s ≡ true) (q : is_other_code t ≡ true) → s ≡ t
+    → other_code s p ≡ other_code t q
+same_code s t p q e =
+    subst (λ u. (h : is_other_code u ≡ true) → other_code s p ≡ other_code u h) e (same_proof s p) q
 
-other_where_some : (s : List ℕ) (other : Bool) (e : is_other_code s ≡ other) (h : is_other_code s ≡ true) → other_where s other e ≡ Some (other_code s h)
+other_where_some : (s : List ℕ) (other : Bool) (e : is_other_code s ≡ other) (h : is_other_code s ≡ true)
+    → other_where s other e ≡ Some (other_code s h)
 other_where_some s true e h = ap (λ (o : OtherCode). Some o) (same_proof s e h)
 other_where_some s false e h = cc
 
-other_where_none : (s : List ℕ) (other : Bool) (e : is_other_code s ≡ other) → is_other_code s ≡ false → other_where s other e ≡ None
+other_where_none : (s : List ℕ) (other : Bool) (e : is_other_code s ≡ other) → is_other_code s ≡ false
+    → other_where s other e ≡ None
 other_where_none s true e h = cc
 other_where_none s false e h = refl
 
-other_where_text : (s : List ℕ) (other : Bool) (e : is_other_code s ≡ other) (o : OtherCode) → other_where s other e ≡ Some o → o.code ≡ s
-other_where_text s true e o h = let same : other_code s e ≡ o = cc in sym (ap (λ (c : OtherCode). c.code) same)
+other_where_text : (s : List ℕ) (other : Bool) (e : is_other_code s ≡ other) (o : OtherCode)
+    → other_where s other e ≡ Some o → o.code ≡ s
+other_where_text s true e o h =
+    let same : other_code s e ≡ o = cc in sym (ap (λ (c : OtherCode). c.code) same)
 other_where_text s false e o h = cc
 
-other_where_absent : (s : List ℕ) (other : Bool) (e : is_other_code s ≡ other) → other_where s other e ≡ None → is_other_code s ≡ false
+other_where_absent : (s : List ℕ) (other : Bool) (e : is_other_code s ≡ other) → other_where s other e ≡ None
+    → is_other_code s ≡ false
 other_where_absent s true e h = cc
 other_where_absent s false e h = e
 
@@ -118,13 +129,15 @@ not_listed false h = refl
 -- ---- the laws
 
 -- what a text is read as, by what is found in the list and what it is as an other code
-read_by : (s : List ℕ) (found : Option Reason) (other : Option OtherCode) → listed_reason s ≡ found → other_of s ≡ other → reason_of s ≡ or_else found (unlisted other)
+read_by : (s : List ℕ) (found : Option Reason) (other : Option OtherCode) → listed_reason s ≡ found
+    → other_of s ≡ other → reason_of s ≡ or_else found (unlisted other)
 unfolding reason_of
 read_by s found other e f = (λ i. or_else (e i) (unlisted (f i)))
 
 read_other : (s : List ℕ) (h : is_other_code s ≡ true) → reason_of s ≡ Some (Unlisted (other_code s h))
 unfolding is_other_code
-read_other s h = let parts : (is_some (written_code s) ≡ true) × (not (is_listed s) ≡ true) = and_parts _ _ h in
+read_other s h =
+    let parts : (is_some (written_code s) ≡ true) × (not (is_listed s) ≡ true) = and_parts _ _ h in
     read_by s None (Some (other_code s h)) (unfound_where_not_listed s (not_listed _ parts.1)) (other_some s h)
 
 pub text_is_read : (r : Reason) → reason_of (reason_text r) ≡ Some r
@@ -132,10 +145,12 @@ unfolding reason_of listed_reason
 text_is_read (Unlisted other) = read_other other.code other.other
 text_is_read r = refl
 
-text_by : (s : List ℕ) (r : Reason) (found : Option Reason) (other : Option OtherCode) → listed_reason s ≡ found → other_of s ≡ other
+text_by : (s : List ℕ) (r : Reason) (found : Option Reason) (other : Option OtherCode)
+    → listed_reason s ≡ found → other_of s ≡ other
     → or_else found (unlisted other) ≡ Some r → reason_text r ≡ s
 text_by s r (Some q) other e f h = let same : q ≡ r = cc in ap reason_text (sym same) ∙ listed_has_text s q e
-text_by s r None (Some o) e f h = let same : Unlisted o ≡ r = cc in ap reason_text (sym same) ∙ other_text s o f
+text_by s r None (Some o) e f h =
+    let same : Unlisted o ≡ r = cc in ap reason_text (sym same) ∙ other_text s o f
 text_by s r None None e f h = cc
 
 pub read_is_text : (s : List ℕ) (r : Reason) → reason_of s ≡ Some r → reason_text r ≡ s
@@ -146,24 +161,30 @@ no_code : (c : Option (List ℕ)) (b : Bool) → (is_some c && not b) ≡ false 
 no_code None b h e = refl
 no_code (Some t) b h e = cc
 
-none_by : (s : List ℕ) (found : Option Reason) (other : Option OtherCode) → listed_reason s ≡ found → other_of s ≡ other
+none_by : (s : List ℕ) (found : Option Reason) (other : Option OtherCode) → listed_reason s ≡ found
+    → other_of s ≡ other
     → or_else found (unlisted other) ≡ None → written_code s ≡ None
 unfolding is_other_code
 none_by s (Some q) other e f h = cc
 none_by s None (Some o) e f h = cc
-none_by s None None e f h = no_code (written_code s) (is_listed s) (other_absent s f) (not_listed_where_unfound s e)
+none_by s None None e f h =
+    no_code (written_code s) (is_listed s) (other_absent s f) (not_listed_where_unfound s e)
 
-none_where_no_code : (s : List ℕ) (found : Option Reason) → listed_reason s ≡ found → written_code s ≡ None → reason_of s ≡ None
+none_where_no_code : (s : List ℕ) (found : Option Reason) → listed_reason s ≡ found → written_code s ≡ None
+    → reason_of s ≡ None
 unfolding is_other_code
-none_where_no_code s None e h = read_by s None None e (other_none s (and_left _ _ (ap (λ (c : Option (List ℕ)). is_some c) h)))
+none_where_no_code s None e h =
+    read_by s None None e (other_none s (and_left _ _ (ap (λ (c : Option (List ℕ)). is_some c) h)))
 none_where_no_code s (Some q) e h =
     let none : is_some (written_code s) ≡ false = ap (λ (c : Option (List ℕ)). is_some c) h in
-    let some : is_some (written_code s) ≡ true = subst (λ (t : List ℕ). is_some (written_code t) ≡ true) (listed_has_text s q e) (text_is_code q) in
+    let some : is_some (written_code s) ≡ true =
+    subst (λ (t : List ℕ). is_some (written_code t) ≡ true) (listed_has_text s q e) (text_is_code q) in
     cc
 
 pub no_code_no_reason : (s : List ℕ) → (reason_of s ≡ None) ↔ (written_code s ≡ None)
 unfolding reason_of
-no_code_no_reason s = (none_by s (listed_reason s) (other_of s) refl refl, none_where_no_code s (listed_reason s) refl)
+no_code_no_reason s =
+    (none_by s (listed_reason s) (other_of s) refl refl, none_where_no_code s (listed_reason s) refl)
 
 inside : {q r : Reason} → Some q ≡ Some r → q ≡ r
 inside e = cc
@@ -183,5 +204,6 @@ is_eq_Equal Equal e = refl
 is_eq_Equal Greater e = cc
 
 -- what is told of a reason is told alike of two that are the same
-pub same_input : {X : Type 0} (told : Reason → X) (a b : Reason) → eq_by_cmp reason_order a b ≡ true → told a ≡ told b
+pub same_input : {X : Type 0} (told : Reason → X) (a b : Reason) → eq_by_cmp reason_order a b ≡ true
+    → told a ≡ told b
 same_input told a b e = ap told (reasons_same a b (is_eq_Equal (reason_order a b) e))

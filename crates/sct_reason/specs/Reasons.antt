@@ -1,4 +1,4 @@
--- The reason that a code is, and the order of reasons.
+-- Read by an auditor: the reason that a code is, and the order of reasons.
 use Rattle.std.specs.Prelude.{◌≡◌, ℕ, List, Bool, true, false, Option, Some, None, find, refl}
 use Rattle.std.specs.Ordering.{nat_cmp}
 use Rattle.std.specs.declared.cmp.Ordering.{Ordering}

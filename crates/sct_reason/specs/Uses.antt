@@ -1,4 +1,5 @@
--- The reasons that this project takes for usual in each use, and who asks for a recall (after the rulebook, EPC004-16).
+-- Read by an auditor: the reasons that this project takes for usual in each use, and who asks for a recall (after the
+-- rulebook, EPC004-16).
 use Rattle.std.specs.Prelude.{ℕ, List, [], ◌∷◌, Bool, if◌then◌else◌, codes}
 use Rattle.std.specs.List.{list_any}
 use Rattle.sct_reason.specs.declared.reasons.Reason.{Reason}
@@ -11,12 +12,17 @@ use Rattle.sct_reason.specs.Codes.{reason_text}
 
 -- the rows of the reason table
 abbrev pub usual_codes : Use → List (List ℕ)
-usual_codes Reject = codes "AB05" ∷ codes "AB06" ∷ codes "AB07" ∷ codes "AB08" ∷ codes "AB09" ∷ codes "AB10" ∷ codes "AC01" ∷ codes "AC04"
-    ∷ codes "AC06" ∷ codes "AG01" ∷ codes "AG02" ∷ codes "AG09" ∷ codes "AG10" ∷ codes "AG11" ∷ codes "AM02" ∷ codes "AM04"
-    ∷ codes "AM05" ∷ codes "AM09" ∷ codes "AM23" ∷ codes "BE04" ∷ codes "FF01" ∷ codes "MD07" ∷ codes "MS02" ∷ codes "MS03"
+usual_codes Reject =
+    codes "AB05" ∷ codes "AB06" ∷ codes "AB07" ∷ codes "AB08" ∷ codes "AB09" ∷ codes "AB10"
+    ∷ codes "AC01" ∷ codes "AC04" ∷ codes "AC06" ∷ codes "AG01" ∷ codes "AG02" ∷ codes "AG09"
+    ∷ codes "AG10" ∷ codes "AG11" ∷ codes "AM02" ∷ codes "AM04" ∷ codes "AM05" ∷ codes "AM09"
+    ∷ codes "AM23" ∷ codes "BE04" ∷ codes "FF01" ∷ codes "MD07" ∷ codes "MS02" ∷ codes "MS03"
     ∷ codes "RC01" ∷ codes "RR01" ∷ codes "RR02" ∷ codes "RR03" ∷ codes "RR04" ∷ codes "TM01" ∷ []
-usual_codes Recall = codes "DUPL" ∷ codes "TECH" ∷ codes "FRAD" ∷ codes "CUST" ∷ codes "AC03" ∷ codes "AM09" ∷ []
-usual_codes Refusal = codes "AC04" ∷ codes "AM04" ∷ codes "ARDT" ∷ codes "CUST" ∷ codes "LEGL" ∷ codes "NOAS" ∷ codes "NOOR" ∷ []
+usual_codes Recall =
+    codes "DUPL" ∷ codes "TECH" ∷ codes "FRAD" ∷ codes "CUST" ∷ codes "AC03" ∷ codes "AM09" ∷ []
+usual_codes Refusal =
+    codes "AC04" ∷ codes "AM04" ∷ codes "ARDT" ∷ codes "CUST" ∷ codes "LEGL" ∷ codes "NOAS"
+    ∷ codes "NOOR" ∷ []
 usual_codes Return = codes "FOCR" ∷ []
 
 -- the reason's text is one of these codes
@@ -36,4 +42,7 @@ abbrev pub originator_codes : List (List ℕ)
 originator_codes = codes "CUST" ∷ codes "AC03" ∷ codes "AM09" ∷ []
 
 unfoldable pub class_of : Reason → RecallClass
-class_of r = if is_among bank_codes r then Bank else if is_among originator_codes r then Originator else Unlisted
+class_of r =
+    if is_among bank_codes r then Bank
+    else if is_among originator_codes r then Originator
+    else Unlisted

@@ -1,9 +1,10 @@
 //! A code that the reason table does not list.
 ghost use Rattle.std.specs.Prelude.{◌≡◌, IsTrue};
+ghost use Rattle.sct_element.specs.Text.{where_read};
 ghost use Rattle.sct_reason.specs.Listed.{is_other_code};
 
 use crate::reasons::is_listed;
-use sct_element::Code4;
+use sct_element::{Code4, read_code};
 
 /// A code that is none of the listed reasons: 1 to 4 characters of `A-Z` and `0-9`.
 #[derive(Debug, Drop)]
@@ -19,12 +20,9 @@ impl OtherCode {
     pub fn read(text: &str) -> Option<OtherCode>
         ensures { result ≡ other_of text.now }
     {
-        if is_listed(text) {
-            return None;
-        }
-        match Code4::read(text) {
-            Ok(code) => Some(OtherCode { code }),
-            Err(_) => None,
+        match unlisted_code(text) {
+            Some(code) => Some(OtherCode { code }),
+            None => None,
         }
     }
 
@@ -42,5 +40,19 @@ impl OtherCode {
         OtherCode {
             code: self.code.copy(),
         }
+    }
+}
+
+/// The code that a text is, unless it is a listed one.
+#[tactic(auto, unfolding(crate::specs::Listed::is_other_code, sct_element::specs::Identification::written_code))]
+fn unlisted_code(text: &str) -> Option<Code4>
+    ensures { result ≡ where_read (is_other_code text.now) text.now }
+{
+    if is_listed(text) {
+        return None;
+    }
+    match read_code(text) {
+        Ok(code) => Some(code),
+        Err(_) => None,
     }
 }

@@ -28,7 +28,7 @@ pub enum RecallClass {
     Unlisted,
 }
 
-/// The reason table: the reasons that are usual in each use.
+/// The reason table, a row for each use: this project's choice among the codes of the rulebook (EPC004-16).
 macro_rules! usual {
     (Reject) => {
         Reason::AB05 | Reason::AB06 | Reason::AB07 | Reason::AB08 | Reason::AB09 | Reason::AB10
@@ -50,7 +50,7 @@ macro_rules! usual {
 }
 
 impl Reason {
-    /// Whether the reason is usual in this use. One that is not is shown with a `?` behind it.
+    /// Whether the reason stands in this use's row of the reason table. An unlisted one stands in none.
     #[tactic(auto, unfolding(crate::specs::Uses::is_usual, crate::specs::Uses::is_among), using(crate::proofs::Rows::other_is_unusual))]
     pub fn is_usual(&self, purpose: Use) -> bool
         ensures { result ≡ is_usual self.now purpose }
@@ -63,7 +63,7 @@ impl Reason {
         }
     }
 
-    /// Who asks for a recall for this reason.
+    /// Who asks for a recall for this reason (after the rulebook, EPC004-16).
     #[tactic(auto, unfolding(crate::specs::Uses::class_of, crate::specs::Uses::is_among), using(crate::proofs::Rows::other_has_no_class))]
     pub fn recall_class(&self) -> RecallClass
         ensures { result ≡ class_of self.now }

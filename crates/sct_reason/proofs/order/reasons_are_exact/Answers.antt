@@ -1,3 +1,4 @@
+-- The laws, clause by clause.
 use Rattle.sct_reason.specs.ReasonLaws.{text_is_read, read_is_text, no_code_no_reason, same_text, reason_total, reasons_same}
 use Rattle.sct_reason.proofs.order.reasons_are_exact.Goals as goal
 
