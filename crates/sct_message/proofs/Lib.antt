@@ -1,4 +1,7 @@
-pub mod AscendingLemmas
-mod Laws
-pub mod Members
+-- Lemmas: those that serve this crate alone, and those on ascending lists that the crates above cite too.
+mod AllRules
+mod FirstBroken
+mod KindTable
 mod Names
+pub mod AscendingLemmas
+pub mod Members

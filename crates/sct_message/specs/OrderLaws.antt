@@ -4,7 +4,7 @@ use Rattle.std.specs.Ordering.{ordering_then, is_eq, eq_by_cmp}
 use Rattle.std.specs.declared.cmp.Ordering.{Ordering}
 use Rattle.std.specs.declared.cmp.Ordering.TheVariants.{Less, Equal, Greater}
 use Rattle.std.specs.Option.{option_cmp}
-use Rattle.std.specs.Cmp.{IsTotalOrder, on_total, then_total, nat_cmp_total}
+use Rattle.std.specs.Cmp.{IsTotalOrder, on_total, then_total}
 use Rattle.std.specs.Cmp.Lexicographic.{nat_list_cmp_total, options_total, lists_total, pointwise, texts_ties}
 use Rattle.std.specs.FinSet.{IsAntisymmetric, nat_cmp-IsAntisymmetric, slice_cmp-IsAntisymmetric}
 use Rattle.std.proofs.lemmas.Cmp.{tied_itself}
@@ -19,7 +19,7 @@ use Rattle.sct_message.specs.Ranks.{message_from, message_back}
 use Rattle.sct_message.specs.declared.keys.Identity.{Identity}
 use Rattle.sct_message.specs.declared.keys.TransferKey.{TransferKey}
 use Rattle.sct_message.specs.declared.keys.RecallKey.{RecallKey}
-use Rattle.sct_message.specs.Order.{text_order, elements_order, ranks_of, message_order, kind_place, kind_order, identity_order, transfer_order, recall_order, same_identity, same_transfer, same_message}
+use Rattle.sct_message.specs.Order.{text_order, elements_order, ranks_of, message_order, kind_order, identity_order, transfer_order, recall_order, same_identity, same_transfer, same_message}
 
 pub then_assoc : (a b c : Ordering) → ordering_then (ordering_then a b) c ≡ ordering_then a (ordering_then b c)
 then_assoc Less b c = refl
@@ -100,62 +100,9 @@ both_tie Less s e = cc
 both_tie Equal s e = (refl, e)
 both_tie Greater s e = cc
 
-kind_at : ℕ → Kind
-kind_at place = if place == 0 then Camt029 else (if place == 1 then Camt056 else (if place == 2 then Pacs002 else (if place == 3 then Pacs004 else (if place == 4 then Pacs008 else (Pacs028)))))
-
-kind_at_place : (k : Kind) → kind_at (kind_place k) ≡ k
-unfolding kind_at
-kind_at_place Camt029 = refl
-kind_at_place Camt056 = refl
-kind_at_place Pacs002 = refl
-kind_at_place Pacs004 = refl
-kind_at_place Pacs008 = refl
-kind_at_place Pacs028 = refl
-
-places_same : (j k : Kind) → kind_place j ≡ kind_place k → j ≡ k
-places_same j k e = sym (kind_at_place j) ∙ ap kind_at e ∙ kind_at_place k
-
-pub kinds_by_text : (j k : Kind) → kind_order j k ≡ text_order (kind_text j) (kind_text k)
-kinds_by_text Camt029 Camt029 = refl
-kinds_by_text Camt029 Camt056 = refl
-kinds_by_text Camt029 Pacs002 = refl
-kinds_by_text Camt029 Pacs004 = refl
-kinds_by_text Camt029 Pacs008 = refl
-kinds_by_text Camt029 Pacs028 = refl
-kinds_by_text Camt056 Camt029 = refl
-kinds_by_text Camt056 Camt056 = refl
-kinds_by_text Camt056 Pacs002 = refl
-kinds_by_text Camt056 Pacs004 = refl
-kinds_by_text Camt056 Pacs008 = refl
-kinds_by_text Camt056 Pacs028 = refl
-kinds_by_text Pacs002 Camt029 = refl
-kinds_by_text Pacs002 Camt056 = refl
-kinds_by_text Pacs002 Pacs002 = refl
-kinds_by_text Pacs002 Pacs004 = refl
-kinds_by_text Pacs002 Pacs008 = refl
-kinds_by_text Pacs002 Pacs028 = refl
-kinds_by_text Pacs004 Camt029 = refl
-kinds_by_text Pacs004 Camt056 = refl
-kinds_by_text Pacs004 Pacs002 = refl
-kinds_by_text Pacs004 Pacs004 = refl
-kinds_by_text Pacs004 Pacs008 = refl
-kinds_by_text Pacs004 Pacs028 = refl
-kinds_by_text Pacs008 Camt029 = refl
-kinds_by_text Pacs008 Camt056 = refl
-kinds_by_text Pacs008 Pacs002 = refl
-kinds_by_text Pacs008 Pacs004 = refl
-kinds_by_text Pacs008 Pacs008 = refl
-kinds_by_text Pacs008 Pacs028 = refl
-kinds_by_text Pacs028 Camt029 = refl
-kinds_by_text Pacs028 Camt056 = refl
-kinds_by_text Pacs028 Pacs002 = refl
-kinds_by_text Pacs028 Pacs004 = refl
-kinds_by_text Pacs028 Pacs008 = refl
-kinds_by_text Pacs028 Pacs028 = refl
-
 pub identity_total : IsTotalOrder identity_order
 identity_total = then_total (on_total (λ (i : Identity). i.sender) nat_list_cmp_total)
-    (then_total (on_total (λ (i : Identity). kind_place i.kind) nat_cmp_total) (on_total (λ (i : Identity). i.msg_id) nat_list_cmp_total))
+    (then_total (on_total (λ (i : Identity). kind_text i.kind) nat_list_cmp_total) (on_total (λ (i : Identity). i.msg_id) nat_list_cmp_total))
 
 pub transfer_total : IsTotalOrder transfer_order
 transfer_total = then_total (on_total (λ (t : TransferKey). t.debtor_agent) nat_list_cmp_total) (on_total (λ (t : TransferKey). t.tx) nat_list_cmp_total)
@@ -168,7 +115,7 @@ identities_same i j e =
     let first : (text_order i.sender j.sender ≡ Equal) × (ordering_then (kind_order i.kind j.kind) (text_order i.msg_id j.msg_id) ≡ Equal) = both_tie _ _ e in
     let rest : (kind_order i.kind j.kind ≡ Equal) × (text_order i.msg_id j.msg_id ≡ Equal) = both_tie _ _ first.1 in
     let sender : i.sender ≡ j.sender = texts_same _ _ first.0 in
-    let kind : i.kind ≡ j.kind = places_same _ _ (nat_cmp-IsAntisymmetric _ _ rest.0) in
+    let kind : i.kind ≡ j.kind = kinds_same _ _ (texts_same _ _ rest.0) in
     let msg_id : i.msg_id ≡ j.msg_id = texts_same _ _ rest.1 in
     λ n. record { sender = sender n; kind = kind n; msg_id = msg_id n }
 

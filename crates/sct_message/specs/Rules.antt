@@ -1,21 +1,21 @@
--- The rules of each kind (EPC004-16), as facts on the elements, and the first of them that a draft breaks.
-use Rattle.std.specs.Prelude.{◌≡◌, ℕ, ◌≤◌, ◌&&◌, ◌⊎◌, List, not, nat_le, Bool, true, Option, Some, None, is_some, is_none, if◌then◌else◌, IsTrue, IsSome, IsNone, codes, ⊤}
+-- The rules of each kind (EPC004-16), when a draft breaks one, and the first that it breaks. Read by an auditor.
+use Rattle.std.specs.Prelude.{◌≡◌, ◌≢◌, ℕ, ◌<◌, ◌≤◌, ◌&&◌, ◌⊎◌, List, not, nat_le, Bool, true, Option, Some, None, is_some, is_none, if◌then◌else◌, IsTrue, IsFalse, IsSome, IsSomeAnd, IsNone, codes, ⊤}
 use Rattle.sct_reason.specs.declared.reasons.Reason.TheVariants.{FOCR}
 use Rattle.sct_reason.specs.Codes.{reason_text}
-use Rattle.sct_message.specs.declared.draft.CreditTransfer.{CreditTransfer as Transfer}
-use Rattle.sct_message.specs.declared.draft.StatusReport.{StatusReport as Report}
-use Rattle.sct_message.specs.declared.draft.CancellationRequest.{CancellationRequest as Recall}
-use Rattle.sct_message.specs.declared.draft.PaymentReturn.{PaymentReturn as Return}
-use Rattle.sct_message.specs.declared.draft.Resolution.{Resolution as Answer}
+use Rattle.sct_message.specs.declared.draft.CreditTransfer.{CreditTransfer}
+use Rattle.sct_message.specs.declared.draft.StatusReport.{StatusReport}
+use Rattle.sct_message.specs.declared.draft.CancellationRequest.{CancellationRequest}
+use Rattle.sct_message.specs.declared.draft.PaymentReturn.{PaymentReturn}
+use Rattle.sct_message.specs.declared.draft.Resolution.{Resolution}
 use Rattle.sct_message.specs.declared.draft.Original.{Original}
 use Rattle.sct_message.specs.declared.draft.Draft.{Draft}
-use Rattle.sct_message.specs.declared.draft.Draft.TheVariants.{CreditTransfer, StatusReport, StatusRequest, CancellationRequest, PaymentReturn, Resolution}
+use Rattle.sct_message.specs.declared.draft.Draft.TheVariants as draft
 use Rattle.sct_message.specs.declared.kinds.Kind.{Kind}
 use Rattle.sct_message.specs.declared.kinds.Kind.TheVariants.{Camt056, Pacs008}
 use Rattle.sct_message.specs.declared.rules.RuleFault.{RuleFault}
 use Rattle.sct_message.specs.declared.rules.RuleFault.TheVariants.{WrongName, WrongCurrency, WrongService, WrongInstrument, WrongCharge, WrongStatus, ReasonMissing, ReasonUnasked, ReturnAboveOriginal, WrongReturnReason, WrongAnswer, WrongOriginalName}
 use Rattle.sct_message.specs.Kinds.{is_text, is_name_of}
-use Rattle.sct_message.specs.Drafts.{kind_of, head_of, original_of}
+use Rattle.sct_message.specs.Drafts.{kind_of, head_of, original_of, currency_of, credit_transfer_of, status_report_of, payment_return_of, resolution_of}
 
 abbrev pub rule_number : RuleFault → ℕ
 rule_number WrongName = 10
@@ -34,37 +34,37 @@ rule_number WrongOriginalName = 21
 -- ---- the rules
 
 -- A transfer is in euro, at the service level SEPA, by the instrument INST, and each side bears its own charges.
-pub record TransferFollowsRules (d : Transfer) : Type 0 where
+pub record CreditTransferFollowsRules (d : CreditTransfer) : Type 0 where
   pub currency : d.currency ≡ codes "EUR"
   pub service : d.service_level ≡ codes "SEPA"
   pub instrument : d.local_instrument ≡ codes "INST"
   pub charges : d.charge_bearer ≡ codes "SLEV"
 
 -- A report confirms without a reason or rejects with one.
-pub record ReportFollowsRules (d : Report) : Type 0 where
+pub record StatusReportFollowsRules (d : StatusReport) : Type 0 where
   pub confirms : ((d.status ≡ codes "ACCP") × IsNone d.reason) ⊎ ((d.status ≡ codes "RJCT") × IsSome d.reason)
 
 -- A recall is in euro.
-pub record RecallFollowsRules (d : Recall) : Type 0 where
+pub record CancellationRequestFollowsRules (d : CancellationRequest) : Type 0 where
   pub currency : d.currency ≡ codes "EUR"
 
 -- A return is in euro, of at most the original amount, and follows a recall.
-pub record ReturnFollowsRules (d : Return) : Type 0 where
+pub record PaymentReturnFollowsRules (d : PaymentReturn) : Type 0 where
   pub currency : d.currency ≡ codes "EUR"
   pub amount : d.returned_amount ≤ d.original_amount
   pub reason : d.reason ≡ FOCR
 
 -- The resolution of a recall refuses it.
-pub record ResolutionFollowsRules (d : Answer) : Type 0 where
+pub record ResolutionFollowsRules (d : Resolution) : Type 0 where
   pub answer : d.confirmation ≡ codes "RJCR"
 
 abbrev pub FollowsRulesOfKind : Draft → Type 0
-FollowsRulesOfKind (CreditTransfer d) = TransferFollowsRules d
-FollowsRulesOfKind (StatusReport d) = ReportFollowsRules d
-FollowsRulesOfKind (StatusRequest d) = ⊤
-FollowsRulesOfKind (CancellationRequest d) = RecallFollowsRules d
-FollowsRulesOfKind (PaymentReturn d) = ReturnFollowsRules d
-FollowsRulesOfKind (Resolution d) = ResolutionFollowsRules d
+FollowsRulesOfKind (draft.CreditTransfer d) = CreditTransferFollowsRules d
+FollowsRulesOfKind (draft.StatusReport d) = StatusReportFollowsRules d
+FollowsRulesOfKind (draft.StatusRequest d) = ⊤
+FollowsRulesOfKind (draft.CancellationRequest d) = CancellationRequestFollowsRules d
+FollowsRulesOfKind (draft.PaymentReturn d) = PaymentReturnFollowsRules d
+FollowsRulesOfKind (draft.Resolution d) = ResolutionFollowsRules d
 
 -- A status request that names a recall is about the recall; every other later message is about the transfer.
 abbrev pub asked_about : Option (List ℕ) → Kind
@@ -72,12 +72,12 @@ asked_about None = Pacs008
 asked_about (Some recall) = Camt056
 
 abbrev pub kind_it_is_about : Draft → Kind
-kind_it_is_about (CreditTransfer d) = Pacs008
-kind_it_is_about (StatusReport d) = Pacs008
-kind_it_is_about (StatusRequest d) = asked_about d.cancellation_id
-kind_it_is_about (CancellationRequest d) = Pacs008
-kind_it_is_about (PaymentReturn d) = Pacs008
-kind_it_is_about (Resolution d) = Pacs008
+kind_it_is_about (draft.CreditTransfer d) = Pacs008
+kind_it_is_about (draft.StatusReport d) = Pacs008
+kind_it_is_about (draft.StatusRequest d) = asked_about d.cancellation_id
+kind_it_is_about (draft.CancellationRequest d) = Pacs008
+kind_it_is_about (draft.PaymentReturn d) = Pacs008
+kind_it_is_about (draft.Resolution d) = Pacs008
 
 -- the original message's name is a name of that kind; nothing is asked of a message with no original
 abbrev pub is_original_of : Kind → Option Original → Bool
@@ -93,43 +93,65 @@ pub record FollowsRules (d : Draft) : Type 0 where
   pub kind : FollowsRulesOfKind d
   pub original : IsTrue (names_its_original d)
 
+-- ---- the rules that a draft breaks
+
+-- One line a rule. Of a kind without the element the rule asks nothing.
+abbrev pub Breaks : RuleFault → Draft → Type 0
+Breaks WrongName d = IsFalse (is_name_of (kind_of d) (head_of d).message_name)
+Breaks WrongCurrency d = IsSomeAnd (currency_of d) (λ currency. currency ≢ codes "EUR")
+Breaks WrongService d = IsSomeAnd (credit_transfer_of d) (λ m. m.service_level ≢ codes "SEPA")
+Breaks WrongInstrument d = IsSomeAnd (credit_transfer_of d) (λ m. m.local_instrument ≢ codes "INST")
+Breaks WrongCharge d = IsSomeAnd (credit_transfer_of d) (λ m. m.charge_bearer ≢ codes "SLEV")
+Breaks WrongStatus d = IsSomeAnd (status_report_of d) (λ m. (m.status ≢ codes "ACCP") × (m.status ≢ codes "RJCT"))
+Breaks ReasonMissing d = IsSomeAnd (status_report_of d) (λ m. (m.status ≡ codes "RJCT") × IsNone m.reason)
+Breaks ReasonUnasked d = IsSomeAnd (status_report_of d) (λ m. (m.status ≡ codes "ACCP") × IsSome m.reason)
+Breaks ReturnAboveOriginal d = IsSomeAnd (payment_return_of d) (λ m. m.original_amount < m.returned_amount)
+Breaks WrongReturnReason d = IsSomeAnd (payment_return_of d) (λ m. m.reason ≢ FOCR)
+Breaks WrongAnswer d = IsSomeAnd (resolution_of d) (λ m. m.confirmation ≢ codes "RJCR")
+Breaks WrongOriginalName d = IsSomeAnd (original_of d) (λ o. IsFalse (is_name_of (kind_it_is_about d) o.message_name))
+
+-- the rule is broken, and no broken rule has a smaller number
+pub record IsFirstBroken (f : RuleFault) (d : Draft) : Type 0 where
+  pub broken : Breaks f d
+  pub least : (g : RuleFault) → Breaks g d → rule_number f ≤ rule_number g
+
 -- ---- the first rule that is broken
 
-unfoldable pub broken_in_transfer : Transfer → Option RuleFault
-broken_in_transfer d =
+unfoldable pub broken_in_credit_transfer : CreditTransfer → Option RuleFault
+broken_in_credit_transfer d =
     if not (is_text d.currency (codes "EUR")) then Some WrongCurrency
     else (if not (is_text d.service_level (codes "SEPA")) then Some WrongService
     else (if not (is_text d.local_instrument (codes "INST")) then Some WrongInstrument
     else (if not (is_text d.charge_bearer (codes "SLEV")) then Some WrongCharge
     else None)))
 
-unfoldable pub broken_in_report : Report → Option RuleFault
-broken_in_report d =
+unfoldable pub broken_in_status_report : StatusReport → Option RuleFault
+broken_in_status_report d =
     if not (is_text d.status (codes "ACCP")) && not (is_text d.status (codes "RJCT")) then Some WrongStatus
     else (if is_text d.status (codes "RJCT") && is_none d.reason then Some ReasonMissing
     else (if is_text d.status (codes "ACCP") && is_some d.reason then Some ReasonUnasked
     else None))
 
-unfoldable pub broken_in_recall : Recall → Option RuleFault
-broken_in_recall d = if not (is_text d.currency (codes "EUR")) then Some WrongCurrency else None
+unfoldable pub broken_in_cancellation_request : CancellationRequest → Option RuleFault
+broken_in_cancellation_request d = if not (is_text d.currency (codes "EUR")) then Some WrongCurrency else None
 
-unfoldable pub broken_in_return : Return → Option RuleFault
-broken_in_return d =
+unfoldable pub broken_in_payment_return : PaymentReturn → Option RuleFault
+broken_in_payment_return d =
     if not (is_text d.currency (codes "EUR")) then Some WrongCurrency
     else (if not (nat_le d.returned_amount d.original_amount) then Some ReturnAboveOriginal
     else (if not (is_text (reason_text d.reason) (codes "FOCR")) then Some WrongReturnReason
     else None))
 
-unfoldable pub broken_in_resolution : Answer → Option RuleFault
+unfoldable pub broken_in_resolution : Resolution → Option RuleFault
 broken_in_resolution d = if not (is_text d.confirmation (codes "RJCR")) then Some WrongAnswer else None
 
 abbrev pub broken_in_kind : Draft → Option RuleFault
-broken_in_kind (CreditTransfer d) = broken_in_transfer d
-broken_in_kind (StatusReport d) = broken_in_report d
-broken_in_kind (StatusRequest d) = None
-broken_in_kind (CancellationRequest d) = broken_in_recall d
-broken_in_kind (PaymentReturn d) = broken_in_return d
-broken_in_kind (Resolution d) = broken_in_resolution d
+broken_in_kind (draft.CreditTransfer d) = broken_in_credit_transfer d
+broken_in_kind (draft.StatusReport d) = broken_in_status_report d
+broken_in_kind (draft.StatusRequest d) = None
+broken_in_kind (draft.CancellationRequest d) = broken_in_cancellation_request d
+broken_in_kind (draft.PaymentReturn d) = broken_in_payment_return d
+broken_in_kind (draft.Resolution d) = broken_in_resolution d
 
 -- the first of two
 abbrev pub broken_first : Option RuleFault → Option RuleFault → Option RuleFault

@@ -3,7 +3,7 @@ ghost use Rattle.std.specs.Prelude.{◌≡◌, ◌↔◌};
 ghost use Rattle.std.specs.Cmp.{IsTotalOrder};
 ghost use Rattle.sct_message.specs.Drafts.{kind_of};
 ghost use Rattle.sct_message.specs.Kinds.{kind_text};
-ghost use Rattle.sct_message.specs.Order.{text_order, elements_order, elements_of, message_order, kind_order, identity_order, transfer_order, recall_order, same_identity, same_transfer};
+ghost use Rattle.sct_message.specs.Order.{text_order, by_elements, message_order, kind_order, identity_order, transfer_order, recall_order, same_identity, same_transfer};
 ghost use Rattle.std.specs.Ordering.{eq_by_cmp};
 ghost use Rattle.std.specs.FinSet.{IsAntisymmetric};
 ghost use Rattle.sct_message.specs.declared.kinds.Kind.{Kind as KindOf};
@@ -21,38 +21,44 @@ use crate::keys::{Identity, RecallKey, TransferKey};
 use crate::kinds::Kind;
 use std::cmp::Ordering;
 
-fn instruction_order(left: &CreditTransfer, right: &CreditTransfer) -> Ordering
-    ensures { result ≡ elements_order (elements_of (draft.CreditTransfer left.now)) (elements_of (draft.CreditTransfer right.now)) }
+/// The order of two pacs.008 by their elements in the order of its key table.
+fn credit_transfer_order(left: &CreditTransfer, right: &CreditTransfer) -> Ordering
+    ensures { result ≡ by_elements (draft.CreditTransfer left.now) (draft.CreditTransfer right.now) }
 {
     left.cmp(right)
 }
 
-fn report_order(left: &StatusReport, right: &StatusReport) -> Ordering
-    ensures { result ≡ elements_order (elements_of (draft.StatusReport left.now)) (elements_of (draft.StatusReport right.now)) }
+/// The order of two pacs.002 by their elements in the order of its key table.
+fn status_report_order(left: &StatusReport, right: &StatusReport) -> Ordering
+    ensures { result ≡ by_elements (draft.StatusReport left.now) (draft.StatusReport right.now) }
 {
     left.cmp(right)
 }
 
-fn request_order(left: &StatusRequest, right: &StatusRequest) -> Ordering
-    ensures { result ≡ elements_order (elements_of (draft.StatusRequest left.now)) (elements_of (draft.StatusRequest right.now)) }
+/// The order of two pacs.028 by their elements in the order of its key table.
+fn status_request_order(left: &StatusRequest, right: &StatusRequest) -> Ordering
+    ensures { result ≡ by_elements (draft.StatusRequest left.now) (draft.StatusRequest right.now) }
 {
     left.cmp(right)
 }
 
-fn recall_order(left: &CancellationRequest, right: &CancellationRequest) -> Ordering
-    ensures { result ≡ elements_order (elements_of (draft.CancellationRequest left.now)) (elements_of (draft.CancellationRequest right.now)) }
+/// The order of two camt.056 by their elements in the order of its key table.
+fn cancellation_request_order(left: &CancellationRequest, right: &CancellationRequest) -> Ordering
+    ensures { result ≡ by_elements (draft.CancellationRequest left.now) (draft.CancellationRequest right.now) }
 {
     left.cmp(right)
 }
 
-fn payment_order(left: &PaymentReturn, right: &PaymentReturn) -> Ordering
-    ensures { result ≡ elements_order (elements_of (draft.PaymentReturn left.now)) (elements_of (draft.PaymentReturn right.now)) }
+/// The order of two pacs.004 by their elements in the order of its key table.
+fn payment_return_order(left: &PaymentReturn, right: &PaymentReturn) -> Ordering
+    ensures { result ≡ by_elements (draft.PaymentReturn left.now) (draft.PaymentReturn right.now) }
 {
     left.cmp(right)
 }
 
+/// The order of two camt.029 by their elements in the order of its key table.
 fn resolution_order(left: &Resolution, right: &Resolution) -> Ordering
-    ensures { result ≡ elements_order (elements_of (draft.Resolution left.now)) (elements_of (draft.Resolution right.now)) }
+    ensures { result ≡ by_elements (draft.Resolution left.now) (draft.Resolution right.now) }
 {
     left.cmp(right)
 }
@@ -60,27 +66,27 @@ fn resolution_order(left: &Resolution, right: &Resolution) -> Ordering
 /// The order of two messages' elements, where they are of one kind.
 fn elements_order(left: &Draft, right: &Draft) -> Ordering
     requires { kind_of left.now ≡ kind_of right.now }
-    ensures { result ≡ elements_order (elements_of left.now) (elements_of right.now) }
+    ensures { result ≡ by_elements left.now right.now }
 {
     match left {
         Draft::CreditTransfer(left) => match right {
-            Draft::CreditTransfer(right) => instruction_order(left, right),
+            Draft::CreditTransfer(right) => credit_transfer_order(left, right),
             _ => unreachable!(),
         },
         Draft::StatusReport(left) => match right {
-            Draft::StatusReport(right) => report_order(left, right),
+            Draft::StatusReport(right) => status_report_order(left, right),
             _ => unreachable!(),
         },
         Draft::StatusRequest(left) => match right {
-            Draft::StatusRequest(right) => request_order(left, right),
+            Draft::StatusRequest(right) => status_request_order(left, right),
             _ => unreachable!(),
         },
         Draft::CancellationRequest(left) => match right {
-            Draft::CancellationRequest(right) => recall_order(left, right),
+            Draft::CancellationRequest(right) => cancellation_request_order(left, right),
             _ => unreachable!(),
         },
         Draft::PaymentReturn(left) => match right {
-            Draft::PaymentReturn(right) => payment_order(left, right),
+            Draft::PaymentReturn(right) => payment_return_order(left, right),
             _ => unreachable!(),
         },
         Draft::Resolution(left) => match right {
@@ -92,7 +98,7 @@ fn elements_order(left: &Draft, right: &Draft) -> Ordering
 
 /// The order of two messages' kinds, which is that of the kinds' texts.
 fn kind_order(left: Kind, right: Kind) -> Ordering
-    ensures order { result ≡ text_order (kind_text left) (kind_text right) }
+    ensures order { result ≡ kind_order left right }
     ensures same { result ≡ Ordering.Equal → left ≡ right }
 {
     left.cmp(&right)

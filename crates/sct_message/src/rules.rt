@@ -1,6 +1,6 @@
 //! The rules of each kind.
-ghost use Rattle.std.specs.Prelude.{◌≡◌, ◌↔◌, Option, None, IsTrue};
-ghost use Rattle.sct_message.specs.Rules.{rule_number, first_broken_rule, broken_in_transfer, broken_in_report, broken_in_recall, broken_in_return, broken_in_resolution, broken_in_kind, kind_it_is_about, names_its_original, FollowsRules};
+ghost use Rattle.std.specs.Prelude.{◌≡◌, ◌↔◌, Option, Some, None, IsTrue};
+ghost use Rattle.sct_message.specs.Rules.{rule_number, first_broken_rule, broken_in_credit_transfer, broken_in_status_report, broken_in_cancellation_request, broken_in_payment_return, broken_in_resolution, broken_in_kind, kind_it_is_about, names_its_original, FollowsRules, Breaks, IsFirstBroken};
 
 use crate::draft::{
     CancellationRequest, CreditTransfer, Draft, PaymentReturn, Resolution, StatusReport,
@@ -71,9 +71,9 @@ impl RuleFault {
     }
 }
 
-#[tactic(auto, unfolding(crate::specs::Rules::broken_in_transfer))]
-fn broken_in_transfer(transfer: &CreditTransfer) -> Option<RuleFault>
-    ensures { result ≡ broken_in_transfer transfer.now }
+#[tactic(auto, unfolding(crate::specs::Rules::broken_in_credit_transfer))]
+fn broken_in_credit_transfer(transfer: &CreditTransfer) -> Option<RuleFault>
+    ensures { result ≡ broken_in_credit_transfer transfer.now }
 {
     if transfer.currency.text() != "EUR" {
         Some(RuleFault::WrongCurrency)
@@ -88,9 +88,9 @@ fn broken_in_transfer(transfer: &CreditTransfer) -> Option<RuleFault>
     }
 }
 
-#[tactic(auto, unfolding(crate::specs::Rules::broken_in_report))]
-fn broken_in_report(report: &StatusReport) -> Option<RuleFault>
-    ensures { result ≡ broken_in_report report.now }
+#[tactic(auto, unfolding(crate::specs::Rules::broken_in_status_report))]
+fn broken_in_status_report(report: &StatusReport) -> Option<RuleFault>
+    ensures { result ≡ broken_in_status_report report.now }
 {
     let status = report.status.text();
     if status != "ACCP" && status != "RJCT" {
@@ -104,9 +104,9 @@ fn broken_in_report(report: &StatusReport) -> Option<RuleFault>
     }
 }
 
-#[tactic(auto, unfolding(crate::specs::Rules::broken_in_recall))]
-fn broken_in_recall(recall: &CancellationRequest) -> Option<RuleFault>
-    ensures { result ≡ broken_in_recall recall.now }
+#[tactic(auto, unfolding(crate::specs::Rules::broken_in_cancellation_request))]
+fn broken_in_cancellation_request(recall: &CancellationRequest) -> Option<RuleFault>
+    ensures { result ≡ broken_in_cancellation_request recall.now }
 {
     if recall.currency.text() != "EUR" {
         Some(RuleFault::WrongCurrency)
@@ -115,9 +115,9 @@ fn broken_in_recall(recall: &CancellationRequest) -> Option<RuleFault>
     }
 }
 
-#[tactic(auto, unfolding(crate::specs::Rules::broken_in_return))]
-fn broken_in_return(payment: &PaymentReturn) -> Option<RuleFault>
-    ensures { result ≡ broken_in_return payment.now }
+#[tactic(auto, unfolding(crate::specs::Rules::broken_in_payment_return))]
+fn broken_in_payment_return(payment: &PaymentReturn) -> Option<RuleFault>
+    ensures { result ≡ broken_in_payment_return payment.now }
 {
     if payment.currency.text() != "EUR" {
         Some(RuleFault::WrongCurrency)
@@ -146,11 +146,11 @@ fn broken_in_kind(draft: &Draft) -> Option<RuleFault>
     ensures { result ≡ broken_in_kind draft.now }
 {
     match draft {
-        Draft::CreditTransfer(transfer) => broken_in_transfer(transfer),
-        Draft::StatusReport(report) => broken_in_report(report),
+        Draft::CreditTransfer(transfer) => broken_in_credit_transfer(transfer),
+        Draft::StatusReport(report) => broken_in_status_report(report),
         Draft::StatusRequest(_) => None,
-        Draft::CancellationRequest(recall) => broken_in_recall(recall),
-        Draft::PaymentReturn(payment) => broken_in_return(payment),
+        Draft::CancellationRequest(recall) => broken_in_cancellation_request(recall),
+        Draft::PaymentReturn(payment) => broken_in_payment_return(payment),
         Draft::Resolution(resolution) => broken_in_resolution(resolution),
     }
 }
@@ -197,4 +197,11 @@ pub(crate) fn first_broken_rule(draft: &Draft) -> Option<RuleFault>
 /// No rule is broken exactly where all rules hold.
 pub fn all_rules_hold_where_none_is_broken()
     ensures { (draft : Draft) → (first_broken_rule draft ≡ None) ↔ FollowsRules draft }
+{}
+
+/// The rule that is told is broken, and no broken rule has a smaller number. It is told of no other rule, and none is
+/// told exactly where no rule is broken.
+pub fn first_broken_rule_is_told()
+    ensures told { (draft : Draft) (fault : RuleFault) → (first_broken_rule draft ≡ Some fault) ↔ IsFirstBroken fault draft }
+    ensures none { (draft : Draft) → (first_broken_rule draft ≡ None) ↔ ((fault : RuleFault) → ¬ Breaks fault draft) }
 {}

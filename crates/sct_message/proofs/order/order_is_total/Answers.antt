@@ -1,3 +1,4 @@
+-- The order of messages is total and answers Equal only at one message.
 use Rattle.sct_message.specs.OrderLaws.{message_total, message_same, message_itself}
 use Rattle.sct_message.proofs.order.order_is_total.Goals as goal
 

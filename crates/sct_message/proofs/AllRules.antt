@@ -3,20 +3,20 @@ use Rattle.std.proofs.Common.{◌≡◌, ap, sym, subst, refl, inl, inr, ℕ, Bo
 use Rattle.std.specs.Prelude.{◌&&◌, ◌⊎◌, ◌↔◌, not, is_some, is_none, IsSome, IsNone, codes}
 use Rattle.std.specs.Cmp.Lexicographic.{bytes_decides}
 use Rattle.std.proofs.lemmas.Bool.{leb-true, le-leb}
-use Rattle.sct_message.specs.declared.draft.CreditTransfer.{CreditTransfer as Transfer}
-use Rattle.sct_message.specs.declared.draft.StatusReport.{StatusReport as Report}
-use Rattle.sct_message.specs.declared.draft.CancellationRequest.{CancellationRequest as Recall}
-use Rattle.sct_message.specs.declared.draft.PaymentReturn.{PaymentReturn as Return}
-use Rattle.sct_message.specs.declared.draft.Resolution.{Resolution as Answer}
+use Rattle.sct_message.specs.declared.draft.CreditTransfer.{CreditTransfer}
+use Rattle.sct_message.specs.declared.draft.StatusReport.{StatusReport}
+use Rattle.sct_message.specs.declared.draft.CancellationRequest.{CancellationRequest}
+use Rattle.sct_message.specs.declared.draft.PaymentReturn.{PaymentReturn}
+use Rattle.sct_message.specs.declared.draft.Resolution.{Resolution}
 use Rattle.sct_message.specs.declared.draft.Draft.{Draft}
-use Rattle.sct_message.specs.declared.draft.Draft.TheVariants.{CreditTransfer, StatusReport, StatusRequest, CancellationRequest, PaymentReturn, Resolution}
+use Rattle.sct_message.specs.declared.draft.Draft.TheVariants as draft
 use Rattle.sct_message.specs.declared.rules.RuleFault.{RuleFault}
 use Rattle.sct_reason.specs.declared.reasons.Reason.{Reason}
 use Rattle.sct_reason.specs.declared.reasons.Reason.TheVariants.{FOCR}
 use Rattle.sct_reason.specs.Codes.{reason_text}
 use Rattle.sct_reason.specs.ReasonLaws.{same_text as same_reason}
 use Rattle.sct_message.specs.Kinds.{is_text}
-use Rattle.sct_message.specs.Rules.{FollowsRules, FollowsRulesOfKind, TransferFollowsRules, ReportFollowsRules, RecallFollowsRules, ReturnFollowsRules, ResolutionFollowsRules, broken_in_transfer, broken_in_report, broken_in_recall, broken_in_return, broken_in_resolution, broken_in_kind, broken_first, first_broken_rule}
+use Rattle.sct_message.specs.Rules.{FollowsRules, FollowsRulesOfKind, CreditTransferFollowsRules, StatusReportFollowsRules, CancellationRequestFollowsRules, PaymentReturnFollowsRules, ResolutionFollowsRules, broken_in_credit_transfer, broken_in_status_report, broken_in_cancellation_request, broken_in_payment_return, broken_in_resolution, broken_in_kind, broken_first, first_broken_rule}
 
 -- a rule that is kept is passed over
 kept_then : (b : Bool) (f : RuleFault) (rest : Option RuleFault) → ((if not b then Some f else rest) ≡ None) ↔ ((b ≡ true) × (rest ≡ None))
@@ -34,9 +34,9 @@ same_text s t e = (bytes_decides s t).0 e
 text_same : (s t : List ℕ) → s ≡ t → is_text s t ≡ true
 text_same s t e = (bytes_decides s t).1 e
 
-transfer_rules : (d : Transfer) → (broken_in_transfer d ≡ None) ↔ TransferFollowsRules d
-unfolding broken_in_transfer
-transfer_rules d = (
+credit_transfer_rules : (d : CreditTransfer) → (broken_in_credit_transfer d ≡ None) ↔ CreditTransferFollowsRules d
+unfolding broken_in_credit_transfer
+credit_transfer_rules d = (
   λ e.
       let one = (kept_then _ _ _).0 e in
       let two = (kept_then _ _ _).0 one.1 in
@@ -74,9 +74,9 @@ passed_by : (status : List ℕ) (reason : Option Reason) → Confirms status rea
 passed_by status reason (inl p) = subst (λ (s : List ℕ). Passed s reason) (sym p.0) (refl, refl, p.1)
 passed_by status reason (inr p) = subst (λ (s : List ℕ). Passed s reason) (sym p.0) (refl, none_is_no_some reason p.1, refl)
 
-report_rules : (d : Report) → (broken_in_report d ≡ None) ↔ ReportFollowsRules d
-unfolding broken_in_report
-report_rules d = (
+status_report_rules : (d : StatusReport) → (broken_in_status_report d ≡ None) ↔ StatusReportFollowsRules d
+unfolding broken_in_status_report
+status_report_rules d = (
   λ e.
       let one = (unmet_then _ _ _).0 e in
       let two = (unmet_then _ _ _).0 one.1 in
@@ -87,16 +87,16 @@ report_rules d = (
       (unmet_then _ _ _).1 (passed.0, (unmet_then _ _ _).1 (passed.1, (unmet_then _ _ _).1 (passed.2, refl))),
 )
 
-recall_rules : (d : Recall) → (broken_in_recall d ≡ None) ↔ RecallFollowsRules d
-unfolding broken_in_recall
-recall_rules d = (
+cancellation_request_rules : (d : CancellationRequest) → (broken_in_cancellation_request d ≡ None) ↔ CancellationRequestFollowsRules d
+unfolding broken_in_cancellation_request
+cancellation_request_rules d = (
   λ e. record { currency = same_text _ _ ((kept_then _ _ _).0 e).0 },
   λ r. (kept_then _ _ _).1 (text_same _ _ r.currency, refl),
 )
 
-return_rules : (d : Return) → (broken_in_return d ≡ None) ↔ ReturnFollowsRules d
-unfolding broken_in_return
-return_rules d = (
+payment_return_rules : (d : PaymentReturn) → (broken_in_payment_return d ≡ None) ↔ PaymentReturnFollowsRules d
+unfolding broken_in_payment_return
+payment_return_rules d = (
   λ e.
       let one = (kept_then _ _ _).0 e in
       let two = (kept_then _ _ _).0 one.1 in
@@ -109,7 +109,7 @@ return_rules d = (
   λ r. (kept_then _ _ _).1 (text_same _ _ r.currency, (kept_then _ _ _).1 (le-leb _ _ r.amount, (kept_then _ _ _).1 (text_same _ _ (ap reason_text r.reason), refl))),
 )
 
-resolution_rules : (d : Answer) → (broken_in_resolution d ≡ None) ↔ ResolutionFollowsRules d
+resolution_rules : (d : Resolution) → (broken_in_resolution d ≡ None) ↔ ResolutionFollowsRules d
 unfolding broken_in_resolution
 resolution_rules d = (
   λ e. record { answer = same_text _ _ ((kept_then _ _ _).0 e).0 },
@@ -117,12 +117,12 @@ resolution_rules d = (
 )
 
 kind_rules : (d : Draft) → (broken_in_kind d ≡ None) ↔ FollowsRulesOfKind d
-kind_rules (CreditTransfer d) = transfer_rules d
-kind_rules (StatusReport d) = report_rules d
-kind_rules (StatusRequest d) = (λ e. tt, λ r. refl)
-kind_rules (CancellationRequest d) = recall_rules d
-kind_rules (PaymentReturn d) = return_rules d
-kind_rules (Resolution d) = resolution_rules d
+kind_rules (draft.CreditTransfer d) = credit_transfer_rules d
+kind_rules (draft.StatusReport d) = status_report_rules d
+kind_rules (draft.StatusRequest d) = (λ e. tt, λ r. refl)
+kind_rules (draft.CancellationRequest d) = cancellation_request_rules d
+kind_rules (draft.PaymentReturn d) = payment_return_rules d
+kind_rules (draft.Resolution d) = resolution_rules d
 
 none_first : (a b : Option RuleFault) → (broken_first a b ≡ None) ↔ ((a ≡ None) × (b ≡ None))
 none_first None b = (λ e. (refl, e), λ p. p.1)

@@ -1,0 +1,273 @@
+-- The rule that is told is the first by number of those that a draft breaks.
+use Rattle.std.proofs.Common.{arith, ◌≡◌, ◌≢◌, ◌∙◌, ap, sym, subst, refl, ℕ, ◌≤◌, Bool, true, false, cond, List, [], ◌∷◌, Option, Some, None}
+use Rattle.std.specs.Prelude.{◌&&◌, ◌↔◌, ◌==◌, T, ◌<◌, not, is_some, is_none, IsFalse, IsSome, IsSomeAnd, IsNone, codes, nat_le}
+use Rattle.std.specs.Bool.{Decides}
+use Rattle.std.specs.List.{find, list_all, AllByRecursion}
+use Rattle.std.specs.Cmp.Lexicographic.{bytes_decides}
+use Rattle.std.proofs.lemmas.Bool.{leb-true, leb-false, and_parts, false≢true}
+use Rattle.std.proofs.lemmas.Bool.Decides.{nat_tests}
+use Rattle.sct_reason.specs.declared.reasons.Reason.{Reason}
+use Rattle.sct_reason.specs.declared.reasons.Reason.TheVariants.{FOCR}
+use Rattle.sct_reason.specs.Codes.{reason_text}
+use Rattle.sct_reason.specs.ReasonLaws.{same_text as same_reason}
+use Rattle.sct_message.specs.declared.draft.Draft.{Draft}
+use Rattle.sct_message.specs.declared.draft.Draft.TheVariants as draft
+use Rattle.sct_message.specs.declared.rules.RuleFault.{RuleFault}
+use Rattle.sct_message.specs.declared.rules.RuleFault.TheVariants.{WrongName, WrongCurrency, WrongService, WrongInstrument, WrongCharge, WrongStatus, ReasonMissing, ReasonUnasked, ReturnAboveOriginal, WrongReturnReason, WrongAnswer, WrongOriginalName}
+use Rattle.sct_message.specs.Kinds.{is_text, is_name_of}
+use Rattle.sct_message.specs.Drafts.{kind_of, head_of, original_of, currency_of, credit_transfer_of, status_report_of, payment_return_of, resolution_of}
+use Rattle.sct_message.specs.Rules.{rule_number, kind_it_is_about, names_its_original, Breaks, IsFirstBroken, broken_in_credit_transfer, broken_in_status_report, broken_in_cancellation_request, broken_in_payment_return, broken_in_resolution, broken_in_kind, broken_first, first_broken_rule}
+
+-- ---- a test of each rule
+
+abbrev some_and : {A : Type 0} → Option A → (A → Bool) → Bool
+some_and None test = false
+some_and (Some a) test = test a
+
+abbrev is_not : List ℕ → List ℕ → Bool
+is_not s t = not (is_text s t)
+
+abbrev breaks : RuleFault → Draft → Bool
+breaks WrongName d = not (is_name_of (kind_of d) (head_of d).message_name)
+breaks WrongCurrency d = some_and (currency_of d) (λ currency. is_not currency (codes "EUR"))
+breaks WrongService d = some_and (credit_transfer_of d) (λ m. is_not m.service_level (codes "SEPA"))
+breaks WrongInstrument d = some_and (credit_transfer_of d) (λ m. is_not m.local_instrument (codes "INST"))
+breaks WrongCharge d = some_and (credit_transfer_of d) (λ m. is_not m.charge_bearer (codes "SLEV"))
+breaks WrongStatus d = some_and (status_report_of d) (λ m. is_not m.status (codes "ACCP") && is_not m.status (codes "RJCT"))
+breaks ReasonMissing d = some_and (status_report_of d) (λ m. is_text m.status (codes "RJCT") && is_none m.reason)
+breaks ReasonUnasked d = some_and (status_report_of d) (λ m. is_text m.status (codes "ACCP") && is_some m.reason)
+breaks ReturnAboveOriginal d = some_and (payment_return_of d) (λ m. not (nat_le m.returned_amount m.original_amount))
+breaks WrongReturnReason d = some_and (payment_return_of d) (λ m. is_not (reason_text m.reason) (codes "FOCR"))
+breaks WrongAnswer d = some_and (resolution_of d) (λ m. is_not m.confirmation (codes "RJCR"))
+breaks WrongOriginalName d = some_and (original_of d) (λ o. not (is_name_of (kind_it_is_about d) o.message_name))
+
+-- ---- each test decides whether the rule is broken
+
+some_decides : {A : Type 0} (o : Option A) (test : A → Bool) (P : A → Type 0) → ((a : A) → Decides (test a) (P a))
+    → Decides (some_and o test) (IsSomeAnd o P)
+some_decides None test P each = (λ e. absurd (false≢true e), λ p. absurd p)
+some_decides (Some a) test P each = each a
+
+not_decides : (b : Bool) (P : Type 0) → Decides b P → Decides (not b) (¬ P)
+not_decides true P d = (λ e. absurd (false≢true e), λ none. absurd (none (d.0 refl)))
+not_decides false P d = (λ e p. false≢true (d.1 p), λ none. refl)
+
+false_decides : (b : Bool) → Decides (not b) (IsFalse b)
+false_decides true = (λ e. cc, λ e. cc)
+false_decides false = (λ e. refl, λ e. refl)
+
+and_decides : (a b : Bool) (P Q : Type 0) → Decides a P → Decides b Q → Decides (a && b) (P × Q)
+and_decides true b P Q p q = (λ e. (p.0 refl, q.0 e), λ both. q.1 both.1)
+and_decides false b P Q p q = (λ e. absurd (false≢true e), λ both. p.1 both.0)
+
+text_decides : (s t : List ℕ) → Decides (is_text s t) (s ≡ t)
+text_decides s t = bytes_decides s t
+
+not_text_decides : (s t : List ℕ) → Decides (is_not s t) (s ≢ t)
+not_text_decides s t = not_decides (is_text s t) (s ≡ t) (text_decides s t)
+
+above_decides : (returned original : ℕ) → Decides (not (nat_le returned original)) (original < returned)
+above_decides returned original =
+    (λ e. leb-false returned original ((false_decides _).0 e), λ below. grind (arith, nat_tests))
+
+reason_decides : (r : Reason) → Decides (is_not (reason_text r) (codes "FOCR")) (r ≢ FOCR)
+reason_decides r =
+    let same : Decides (is_text (reason_text r) (codes "FOCR")) (r ≡ FOCR) =
+    (λ e. same_reason r FOCR ((text_decides _ _).0 e), λ e. (text_decides _ _).1 (ap reason_text e)) in
+    not_decides _ _ same
+
+breaks_decides : (f : RuleFault) (d : Draft) → Decides (breaks f d) (Breaks f d)
+breaks_decides WrongName d = false_decides _
+breaks_decides WrongCurrency d = some_decides (currency_of d) _ _ (λ s. not_text_decides s _)
+breaks_decides WrongService d = some_decides (credit_transfer_of d) _ _ (λ m. not_text_decides m.service_level _)
+breaks_decides WrongInstrument d = some_decides (credit_transfer_of d) _ _ (λ m. not_text_decides m.local_instrument _)
+breaks_decides WrongCharge d = some_decides (credit_transfer_of d) _ _ (λ m. not_text_decides m.charge_bearer _)
+breaks_decides WrongStatus d = some_decides (status_report_of d) _ _
+    (λ m. and_decides _ _ _ _ (not_text_decides m.status _) (not_text_decides m.status _))
+breaks_decides ReasonMissing d = some_decides (status_report_of d) _ _
+    (λ m. and_decides _ _ _ _ (text_decides m.status _) (false_decides (is_some m.reason)))
+breaks_decides ReasonUnasked d = some_decides (status_report_of d) _ _
+    (λ m. and_decides _ _ _ _ (text_decides m.status _) (λ e. e, λ e. e))
+breaks_decides ReturnAboveOriginal d = some_decides (payment_return_of d) _ _
+    (λ m. above_decides m.returned_amount m.original_amount)
+breaks_decides WrongReturnReason d = some_decides (payment_return_of d) _ _ (λ m. reason_decides m.reason)
+breaks_decides WrongAnswer d = some_decides (resolution_of d) _ _ (λ m. not_text_decides m.confirmation _)
+breaks_decides WrongOriginalName d = some_decides (original_of d) _ _ (λ o. false_decides _)
+
+-- ---- the rule that is told is the first of the list that is broken
+
+abbrev all_rules : List RuleFault
+all_rules =
+    WrongName
+    ∷ WrongCurrency
+    ∷ WrongService
+    ∷ WrongInstrument
+    ∷ WrongCharge
+    ∷ WrongStatus
+    ∷ ReasonMissing
+    ∷ ReasonUnasked
+    ∷ ReturnAboveOriginal
+    ∷ WrongReturnReason
+    ∷ WrongAnswer
+    ∷ WrongOriginalName
+    ∷ []
+
+first_alone : (o : Option RuleFault) → broken_first o None ≡ o
+first_alone None = refl
+first_alone (Some f) = refl
+
+after_one : (a : Bool) (f : RuleFault) (later : Option RuleFault)
+    → broken_first (cond a (Some f) None) later ≡ cond a (Some f) later
+after_one true f later = refl
+after_one false f later = refl
+
+after_three : (a b c : Bool) (f g h : RuleFault) (later : Option RuleFault)
+    → broken_first (cond a (Some f) (cond b (Some g) (cond c (Some h) None))) later
+    ≡ cond a (Some f) (cond b (Some g) (cond c (Some h) later))
+after_three true b c f g h later = refl
+after_three false true c f g h later = refl
+after_three false false true f g h later = refl
+after_three false false false f g h later = refl
+
+-- what stands behind the rule of the name
+named : (b : Bool) {x y : Option RuleFault} → x ≡ y → cond b (Some WrongName) x ≡ cond b (Some WrongName) y
+named b e = ap (λ (o : Option RuleFault). cond b (Some WrongName) o) e
+
+abbrev name_wrong : Draft → Bool
+name_wrong d = breaks WrongName d
+
+-- the rule on the original message, which comes last
+abbrev original_wrong : Draft → Option RuleFault
+original_wrong d = cond (breaks WrongOriginalName d) (Some WrongOriginalName) None
+
+first_is_found : (d : Draft) → first_broken_rule d ≡ find (λ f. breaks f d) all_rules
+unfolding first_broken_rule broken_in_credit_transfer broken_in_status_report broken_in_cancellation_request broken_in_payment_return broken_in_resolution
+first_is_found (draft.CreditTransfer d) =
+    named (name_wrong (draft.CreditTransfer d)) (first_alone (broken_in_credit_transfer d))
+first_is_found (draft.StatusReport d) =
+    let m : Draft = draft.StatusReport d in
+    named (name_wrong m) (after_three (breaks WrongStatus m) (breaks ReasonMissing m) (breaks ReasonUnasked m) WrongStatus ReasonMissing ReasonUnasked (original_wrong m))
+first_is_found (draft.StatusRequest d) = refl
+first_is_found (draft.CancellationRequest d) =
+    let m : Draft = draft.CancellationRequest d in
+    named (name_wrong m) (after_one (breaks WrongCurrency m) WrongCurrency (original_wrong m))
+first_is_found (draft.PaymentReturn d) =
+    let m : Draft = draft.PaymentReturn d in
+    named (name_wrong m) (after_three (breaks WrongCurrency m) (breaks ReturnAboveOriginal m) (breaks WrongReturnReason m) WrongCurrency ReturnAboveOriginal WrongReturnReason (original_wrong m))
+first_is_found (draft.Resolution d) =
+    let m : Draft = draft.Resolution d in
+    named (name_wrong m) (after_one (breaks WrongAnswer m) WrongAnswer (original_wrong m))
+
+-- ---- of a list that ascends by number, the first that passes a test has the least number
+
+abbrev ascends : List RuleFault → Bool
+ascends [] = true
+ascends (f ∷ fs) = list_all (λ g. nat_le (rule_number f) (rule_number g)) fs && ascends fs
+
+inside : {f g : RuleFault} → Some f ≡ Some g → f ≡ g
+inside e = cc
+
+some_is_not_none : {f : RuleFault} → Some f ≡ None → ⊥
+some_is_not_none e = cc
+
+later_is_more : (test : RuleFault → Bool) (f : RuleFault) (fs : List RuleFault)
+    → list_all (λ g. nat_le (rule_number f) (rule_number g)) fs ≡ true
+    → AllByRecursion (λ g. test g ≡ true → rule_number f ≤ rule_number g) fs
+later_is_more test f [] e = tt
+later_is_more test f (g ∷ fs) e =
+    let parts : (nat_le (rule_number f) (rule_number g) ≡ true) × (list_all (λ k. nat_le (rule_number f) (rule_number k)) fs ≡ true) = and_parts _ _ e in
+    (λ passes. leb-true _ _ parts.0, later_is_more test f fs parts.1)
+
+found_passes : (test : RuleFault → Bool) (fs : List RuleFault) (f : RuleFault) → find test fs ≡ Some f → test f ≡ true
+found_passes test [] f e = cc
+found_passes test (g ∷ fs) f e =
+    elim (test g) as (λ b. test g ≡ b → cond b (Some g) (find test fs) ≡ Some f → test f ≡ true) [
+      | true ↦ λ passes here. sym (ap test (inside here)) ∙ passes
+      | false ↦ λ _ later. found_passes test fs f later
+    ] refl e
+
+found_is_least : (test : RuleFault → Bool) (fs : List RuleFault) (f : RuleFault) → ascends fs ≡ true → find test fs ≡ Some f
+    → AllByRecursion (λ g. test g ≡ true → rule_number f ≤ rule_number g) fs
+found_is_least test [] f rises e = tt
+found_is_least test (g ∷ fs) f rises e =
+    let parts : (list_all (λ k. nat_le (rule_number g) (rule_number k)) fs ≡ true) × (ascends fs ≡ true) = and_parts _ _ rises in
+    elim (test g) as (λ b. test g ≡ b → cond b (Some g) (find test fs) ≡ Some f → AllByRecursion (λ k. test k ≡ true → rule_number f ≤ rule_number k) (g ∷ fs)) [
+      | true ↦ λ passes here. subst (λ (k : RuleFault). AllByRecursion (λ x. test x ≡ true → rule_number k ≤ rule_number x) (g ∷ fs)) (inside here)
+          (λ _. omega arith, later_is_more test g fs parts.0)
+      | false ↦ λ fails later. (λ passes. absurd (false≢true (sym fails ∙ passes)), found_is_least test fs f parts.1 later)
+    ] refl e
+
+none_passes : (test : RuleFault → Bool) (fs : List RuleFault) → find test fs ≡ None → AllByRecursion (λ g. test g ≡ false) fs
+none_passes test [] e = tt
+none_passes test (g ∷ fs) e =
+    elim (test g) as (λ b. test g ≡ b → cond b (Some g) (find test fs) ≡ None → AllByRecursion (λ k. test k ≡ false) (g ∷ fs)) [
+      | true ↦ λ _ here. absurd (some_is_not_none here)
+      | false ↦ λ fails later. (fails, none_passes test fs later)
+    ] refl e
+
+-- what holds of each rule of the list holds of every rule
+among : (P : RuleFault → Type 0) (f : RuleFault) → AllByRecursion P all_rules → P f
+among P WrongName h = h.0
+among P WrongCurrency h = h.1.0
+among P WrongService h = h.1.1.0
+among P WrongInstrument h = h.1.1.1.0
+among P WrongCharge h = h.1.1.1.1.0
+among P WrongStatus h = h.1.1.1.1.1.0
+among P ReasonMissing h = h.1.1.1.1.1.1.0
+among P ReasonUnasked h = h.1.1.1.1.1.1.1.0
+among P ReturnAboveOriginal h = h.1.1.1.1.1.1.1.1.0
+among P WrongReturnReason h = h.1.1.1.1.1.1.1.1.1.0
+among P WrongAnswer h = h.1.1.1.1.1.1.1.1.1.1.0
+among P WrongOriginalName h = h.1.1.1.1.1.1.1.1.1.1.1.0
+
+-- rules of one number are one rule
+by_number : (f : RuleFault) → find (λ k. rule_number k == rule_number f) all_rules ≡ Some f
+by_number WrongName = refl
+by_number WrongCurrency = refl
+by_number WrongService = refl
+by_number WrongInstrument = refl
+by_number WrongCharge = refl
+by_number WrongStatus = refl
+by_number ReasonMissing = refl
+by_number ReasonUnasked = refl
+by_number ReturnAboveOriginal = refl
+by_number WrongReturnReason = refl
+by_number WrongAnswer = refl
+by_number WrongOriginalName = refl
+
+numbers_same : (f g : RuleFault) → rule_number f ≡ rule_number g → f ≡ g
+numbers_same f g e =
+    inside (sym (by_number f) ∙ ap (λ (n : ℕ). find (λ k. rule_number k == n) all_rules) e ∙ by_number g)
+
+-- ---- the laws
+
+told_is_first : (d : Draft) (f : RuleFault) → first_broken_rule d ≡ Some f → IsFirstBroken f d
+told_is_first d f e =
+    let found : find (λ g. breaks g d) all_rules ≡ Some f = sym (first_is_found d) ∙ e in
+    record {
+      broken = (breaks_decides f d).0 (found_passes (λ k. breaks k d) all_rules f found);
+      least = λ g broken. among (λ k. breaks k d ≡ true → rule_number f ≤ rule_number k) g (found_is_least (λ k. breaks k d) all_rules f refl found) ((breaks_decides g d).1 broken);
+    }
+
+none_is_broken : (d : Draft) → first_broken_rule d ≡ None → (f : RuleFault) → ¬ Breaks f d
+none_is_broken d e f broken =
+    let found : find (λ g. breaks g d) all_rules ≡ None = sym (first_is_found d) ∙ e in
+    false≢true (sym (among (λ g. breaks g d ≡ false) f (none_passes (λ g. breaks g d) all_rules found)) ∙ (breaks_decides f d).1 broken)
+
+first_is_told : (d : Draft) (f : RuleFault) (o : Option RuleFault) → first_broken_rule d ≡ o → IsFirstBroken f d → o ≡ Some f
+first_is_told d f None e first = absurd (none_is_broken d e f first.broken)
+first_is_told d f (Some g) e first =
+    let other : IsFirstBroken g d = told_is_first d g e in
+    let above : rule_number g ≤ rule_number f = other.least f first.broken in
+    let below : rule_number f ≤ rule_number g = first.least g other.broken in
+    ap (λ (k : RuleFault). Some k) (numbers_same g f (omega arith))
+
+none_is_told : (d : Draft) (o : Option RuleFault) → first_broken_rule d ≡ o → ((f : RuleFault) → ¬ Breaks f d) → o ≡ None
+none_is_told d None e none = refl
+none_is_told d (Some g) e none = absurd (none g (told_is_first d g e).broken)
+
+pub first_is_first : (d : Draft) (f : RuleFault) → (first_broken_rule d ≡ Some f) ↔ IsFirstBroken f d
+first_is_first d f = (told_is_first d f, first_is_told d f (first_broken_rule d) refl)
+
+pub none_where_none : (d : Draft) → (first_broken_rule d ≡ None) ↔ ((f : RuleFault) → ¬ Breaks f d)
+none_where_none d = (none_is_broken d, none_is_told d (first_broken_rule d) refl)

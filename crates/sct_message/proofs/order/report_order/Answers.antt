@@ -1,5 +1,0 @@
-use Rattle.sct_message.specs.OrderLaws.{then_assoc, then_equal, reasons_by_code}
-use Rattle.sct_message.proofs.order.report_order.Goals as goal
-
-pub returns : goal.returns
-returns c = simp (then_assoc, then_equal) (simp (then_assoc, then_equal, reasons_by_code) at c.cmp.ensures)
