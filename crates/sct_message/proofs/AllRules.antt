@@ -15,7 +15,7 @@ use Rattle.sct_reason.specs.declared.reasons.Reason.{Reason}
 use Rattle.sct_reason.specs.declared.reasons.Reason.TheVariants.{FOCR}
 use Rattle.sct_reason.specs.Codes.{reason_text}
 use Rattle.sct_reason.specs.ReasonLaws.{same_text as same_reason}
-use Rattle.sct_message.specs.Kinds.{is_text}
+use Rattle.sct_element.specs.Text.{is_text}
 use Rattle.sct_message.specs.Rules.{FollowsRules, FollowsRulesOfKind, CreditTransferFollowsRules, StatusReportFollowsRules, CancellationRequestFollowsRules, PaymentReturnFollowsRules, ResolutionFollowsRules, broken_in_credit_transfer, broken_in_status_report, broken_in_cancellation_request, broken_in_payment_return, broken_in_resolution, broken_in_kind, broken_first, first_broken_rule}
 
 -- a rule that is kept is passed over

@@ -1,4 +1,5 @@
--- What `ascending` does, under any total order that tells all keys apart.
+-- What `ascending` does, under any total order that tells all keys apart. It serves what is told of a set of messages:
+-- archives, cases, views and the texts of sites, whose crates cite it.
 use Rattle.std.proofs.Common.{◌≡◌, Bool, true, false, cond, ◌&&◌, ◌||◌, List, [], ◌∷◌, map, refl, sym, ap, subst, ◌∙◌, Ordering, Option, Some, None, filter}
 use Rattle.std.specs.Prelude.{is_some, T}
 use Rattle.std.specs.declared.cmp.Ordering.TheVariants.{Less, Equal, Greater}

@@ -14,7 +14,8 @@ use Rattle.sct_message.specs.declared.draft.Draft.{Draft}
 use Rattle.sct_message.specs.declared.draft.Draft.TheVariants as draft
 use Rattle.sct_message.specs.declared.rules.RuleFault.{RuleFault}
 use Rattle.sct_message.specs.declared.rules.RuleFault.TheVariants.{WrongName, WrongCurrency, WrongService, WrongInstrument, WrongCharge, WrongStatus, ReasonMissing, ReasonUnasked, ReturnAboveOriginal, WrongReturnReason, WrongAnswer, WrongOriginalName}
-use Rattle.sct_message.specs.Kinds.{is_text, is_name_of}
+use Rattle.sct_element.specs.Text.{is_text}
+use Rattle.sct_message.specs.Kinds.{is_name_of}
 use Rattle.sct_message.specs.Drafts.{kind_of, head_of, original_of, currency_of, credit_transfer_of, status_report_of, payment_return_of, resolution_of}
 use Rattle.sct_message.specs.Rules.{rule_number, kind_it_is_about, names_its_original, Breaks, IsFirstBroken, broken_in_credit_transfer, broken_in_status_report, broken_in_cancellation_request, broken_in_payment_return, broken_in_resolution, broken_in_kind, broken_first, first_broken_rule}
 

@@ -1,4 +1,5 @@
--- Lists with the same members, for any keys that a test tells apart.
+-- Lists with the same members pass the same tests, for keys of any type. It serves what is told of a set of messages:
+-- archives, cases, views and the texts of sites, whose crates cite it.
 use Rattle.std.proofs.Common.{◌≡◌, Bool, true, false, cond, ◌&&◌, ◌||◌, List, [], ◌∷◌, map, refl, sym, ap, ◌∙◌, Ordering, filter}
 use Rattle.std.specs.List.{list_any}
 use Rattle.std.specs.Ordering.{eq_by_cmp, is_eq}

@@ -1,4 +1,5 @@
--- The members of a list in ascending order, for keys of any kind.
+-- Read by an auditor: the members of a list in ascending order, for keys of any type. What tells of a set in order
+-- is stated by it: the contradictions of an archive, the cases of a transfer, the look-ups of a view, the status text.
 use Rattle.std.specs.Prelude.{List, map}
 use Rattle.std.specs.declared.cmp.Ordering.{Ordering}
 use Rattle.std.specs.FinMap as finite

@@ -1,4 +1,4 @@
--- The keys by which messages are filed.
+-- Read by an auditor: the keys by which messages are filed.
 use Rattle.std.specs.Prelude.{Option, option_map}
 use Rattle.sct_message.specs.declared.draft.Draft.{Draft}
 use Rattle.sct_message.specs.declared.keys.Identity.{Identity}

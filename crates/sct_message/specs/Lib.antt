@@ -1,3 +1,4 @@
+-- The definitions that contracts cite, and what their proofs stand on.
 pub mod Ascending
 pub mod Drafts
 pub mod Keys

@@ -1,4 +1,4 @@
--- The orders of messages, by identity and then by all elements, and of the keys. Read by an auditor.
+-- Read by an auditor: the orders of messages, by identity and then by all elements, and of the keys.
 use Rattle.std.specs.Prelude.{ℕ, Bool, List, [], ◌∷◌, ◌++◌, Option, Some, option_map}
 use Rattle.std.specs.Ordering.{nat_cmp, ordering_then, eq_by_cmp}
 use Rattle.std.specs.declared.cmp.Ordering.{Ordering}

@@ -1,4 +1,4 @@
--- The elements of a message in a row say which message it is: a message can be had back from them.
+-- Proof plumbing: a message can be had back from its elements in a row, so equal elements mean equal messages.
 use Rattle.std.proofs.Common.{◌≡◌, ap, refl, ℕ, List, [], ◌∷◌, drop, get_or, Option, Some, None, option_map}
 use Rattle.std.specs.Prelude.{option_and_then}
 use Rattle.sct_reason.specs.declared.reasons.Reason.{Reason}

@@ -1,4 +1,4 @@
--- The rules of each kind (EPC004-16), when a draft breaks one, and the first that it breaks. Read by an auditor.
+-- Read by an auditor: the rules of each kind (EPC004-16), when a draft breaks one, and the first that it breaks.
 use Rattle.std.specs.Prelude.{◌≡◌, ◌≢◌, ℕ, ◌<◌, ◌≤◌, ◌&&◌, ◌⊎◌, List, not, nat_le, Bool, true, Option, Some, None, is_some, is_none, if◌then◌else◌, IsTrue, IsFalse, IsSome, IsSomeAnd, IsNone, codes, ⊤}
 use Rattle.sct_reason.specs.declared.reasons.Reason.TheVariants.{FOCR}
 use Rattle.sct_reason.specs.Codes.{reason_text}
@@ -14,7 +14,8 @@ use Rattle.sct_message.specs.declared.kinds.Kind.{Kind}
 use Rattle.sct_message.specs.declared.kinds.Kind.TheVariants.{Camt056, Pacs008}
 use Rattle.sct_message.specs.declared.rules.RuleFault.{RuleFault}
 use Rattle.sct_message.specs.declared.rules.RuleFault.TheVariants.{WrongName, WrongCurrency, WrongService, WrongInstrument, WrongCharge, WrongStatus, ReasonMissing, ReasonUnasked, ReturnAboveOriginal, WrongReturnReason, WrongAnswer, WrongOriginalName}
-use Rattle.sct_message.specs.Kinds.{is_text, is_name_of}
+use Rattle.sct_element.specs.Text.{is_text}
+use Rattle.sct_message.specs.Kinds.{is_name_of}
 use Rattle.sct_message.specs.Drafts.{kind_of, head_of, original_of, currency_of, credit_transfer_of, status_report_of, payment_return_of, resolution_of}
 
 abbrev pub rule_number : RuleFault → ℕ

@@ -1,10 +1,9 @@
 //! The kinds of messages, and the names by which a message says its kind.
-ghost use Rattle.std.specs.Prelude.{◌≡◌, ◌&&◌, ◌||◌, ◌==◌, length, take, drop, slice_index, nat_eq, find};
-ghost use Rattle.std.specs.Cmp.Lexicographic.{pointwise};
-ghost use Rattle.std.specs.Char.{is_ascii_digit};
-ghost use Rattle.std.specs.List.{list_all};
+ghost use Rattle.std.specs.Prelude.{◌≡◌, find};
 ghost use Rattle.std.specs.Option.{option_copied};
 ghost use Rattle.sct_message.specs.Kinds.{kind_text, is_version, is_name_of, kind_named};
+
+use sct_element::are_digits;
 
 /// A kind of message (ISO 20022), ordered by its text.
 #[derive(Clone, Copy, Debug, PartialEq, Eq, PartialOrd, Ord, Hash)]
@@ -75,12 +74,7 @@ fn first_named<'a>(kinds: &'a [Kind], name: &str) -> Option<&'a Kind>
     kinds.iter().find(|kind| kind.is_named(name))
 }
 
-fn are_digits(bytes: &[u8]) -> bool
-    ensures { result ≡ list_all is_ascii_digit bytes.now }
-{
-    bytes.iter().all(|byte| byte.is_ascii_digit())
-}
-
+/// Whether the bytes are a point, three digits, a point and two digits.
 fn is_version(bytes: &[u8]) -> bool
     ensures { result ≡ is_version bytes.now }
 {
