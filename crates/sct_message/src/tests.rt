@@ -4,37 +4,61 @@ mod order;
 mod texts;
 
 use crate::*;
+use std::process::Abort;
 use std::test::Fail;
-use texts::{REQUEST, RequestTexts, read_instruction, read_request};
+use texts::{REQUEST, RequestTexts, broken, requests};
 
-/// The number of the first rule that the elements break, and 0 where they break none.
-fn broken(draft: Draft) -> u8 {
-    match Message::of(draft) {
-        Ok(_) => 0,
-        Err(fault) => fault.number(),
-    }
-}
-
-static NUMBERS: [(RuleFault, u8); 12] = [
-    (RuleFault::WrongName, 10),
-    (RuleFault::WrongCurrency, 11),
-    (RuleFault::WrongService, 12),
-    (RuleFault::WrongInstrument, 13),
-    (RuleFault::WrongCharge, 14),
-    (RuleFault::WrongStatus, 15),
-    (RuleFault::ReasonMissing, 16),
-    (RuleFault::ReasonUnasked, 17),
-    (RuleFault::ReturnAboveOriginal, 18),
-    (RuleFault::WrongReturnReason, 19),
-    (RuleFault::WrongAnswer, 20),
-    (RuleFault::WrongOriginalName, 21),
+static FAULTS: [(RuleFault, u8, &str); 12] = [
+    (
+        RuleFault::WrongName,
+        10,
+        "the message name is of another kind",
+    ),
+    (RuleFault::WrongCurrency, 11, "the currency is not EUR"),
+    (RuleFault::WrongService, 12, "the service level is not SEPA"),
+    (
+        RuleFault::WrongInstrument,
+        13,
+        "the local instrument is not INST",
+    ),
+    (RuleFault::WrongCharge, 14, "the charge bearer is not SLEV"),
+    (
+        RuleFault::WrongStatus,
+        15,
+        "the status is neither ACCP nor RJCT",
+    ),
+    (RuleFault::ReasonMissing, 16, "a rejection has no reason"),
+    (
+        RuleFault::ReasonUnasked,
+        17,
+        "a positive confirmation has a reason",
+    ),
+    (
+        RuleFault::ReturnAboveOriginal,
+        18,
+        "the returned amount is above the original amount",
+    ),
+    (
+        RuleFault::WrongReturnReason,
+        19,
+        "the reason of the return is not FOCR",
+    ),
+    (RuleFault::WrongAnswer, 20, "the confirmation is not RJCR"),
+    (
+        RuleFault::WrongOriginalName,
+        21,
+        "the original message name is of a wrong kind",
+    ),
 ];
 
 #[test]
-fn rules_have_their_numbers(rt: HostRuntime) {
-    for (fault, number) in &NUMBERS {
+fn rules_have_their_numbers_and_texts(rt: HostRuntime) -> Result<(), Fail> {
+    for (fault, number, text) in &FAULTS {
         assert_eq!(rt; fault.number(), *number, "{fault:?}");
+        let told = format!(in rt.alloc(); "{fault}")?;
+        assert_eq!(rt; told.as_str(), *text);
     }
+    Ok(())
 }
 
 static REQUEST_RULES: [(&str, &str, Option<&str>, u8); 9] = [
@@ -58,11 +82,7 @@ fn tells_the_first_rule_that_a_status_request_breaks(rt: HostRuntime) -> Result<
             recall: *recall,
             ..REQUEST
         };
-        assert_eq!(rt;
-            broken(read_request(&texts)?),
-            *number,
-            "at {name} {original} {recall:?}"
-        );
+        assert_eq!(rt; broken(&texts)?, *number, "at {name} {original} {recall:?}");
     }
     Ok(())
 }
@@ -103,87 +123,82 @@ static NAMES: [(&str, Option<Kind>); 29] = [
 fn knows_the_names_of_kinds(rt: HostRuntime) {
     for (name, kind) in &NAMES {
         assert_eq!(rt; Kind::of_name(name), *kind, "at {name}");
-        assert_eq!(rt;
-            Kind::Pacs008.is_named(name),
-            *kind == Some(Kind::Pacs008),
-            "at {name}"
-        );
+        assert!(rt; Kind::Pacs008.is_named(name) == (*kind == Some(Kind::Pacs008)));
     }
 }
 
-static TEXTS: [(Kind, &str); 6] = [
-    (Kind::Camt029, "camt.029"),
-    (Kind::Camt056, "camt.056"),
-    (Kind::Pacs002, "pacs.002"),
-    (Kind::Pacs004, "pacs.004"),
-    (Kind::Pacs008, "pacs.008"),
-    (Kind::Pacs028, "pacs.028"),
+static TEXTS: [&str; 6] = [
+    "camt.029", "camt.056", "pacs.002", "pacs.004", "pacs.008", "pacs.028",
 ];
 
 #[test]
 fn lists_kinds_by_their_text(rt: HostRuntime) {
-    for (kind, text) in &TEXTS {
+    for (kind, text) in Kind::ALL.iter().zip(&TEXTS) {
         assert_eq!(rt; kind.text(), *text);
     }
-    let [first, second, third, fourth, fifth, sixth] = Kind::ALL;
-    assert!(rt; first < second);
-    assert!(rt; second < third);
-    assert!(rt; third < fourth);
-    assert!(rt; fourth < fifth);
-    assert!(rt; fifth < sixth);
-    assert_eq!(rt; first.text(), "camt.029");
-    assert_eq!(rt; sixth.text(), "pacs.028");
 }
 
-#[test]
-fn files_a_transfer(rt: HostRuntime) -> Result<(), Fail> {
-    let message = Message::of(read_instruction(rt.alloc())?)?;
-    assert_eq!(rt; message.kind(), Kind::Pacs008);
-    let identity = message.identity();
-    assert_eq!(rt; identity.sender.text(), "BANKNL2AXXX");
-    assert_eq!(rt; identity.kind, Kind::Pacs008);
-    assert_eq!(rt; identity.msg_id.text(), "M1");
-    assert!(rt; identity.copy() == identity);
-    let transfer = message.transfer();
-    assert_eq!(rt; transfer.debtor_agent.text(), "BANKDEFFXXX");
-    assert_eq!(rt; transfer.tx.text(), "T1");
-    assert!(rt; transfer.copy() == transfer);
-    assert!(rt; message.recall().is_none());
-    Ok(())
-}
-
-#[test]
-fn files_a_request_about_a_recall(rt: HostRuntime) -> Result<(), Fail> {
-    let texts = RequestTexts {
+/// A request about a transfer, and one about a recall.
+static FILED: [RequestTexts; 2] = [
+    REQUEST,
+    RequestTexts {
         original: "camt.056",
         recall: Some("R1"),
-        receiver: Some("BANQFRPP"),
         ..REQUEST
-    };
-    let message = Message::of(read_request(&texts)?)?;
-    assert_eq!(rt; message.kind(), Kind::Pacs028);
-    let identity = message.identity();
+    },
+];
+
+fn assert_identity(rt: &impl Abort, identity: &Identity) {
     assert_eq!(rt; identity.sender.text(), "BANKDEFFXXX");
+    assert_eq!(rt; identity.kind, Kind::Pacs028);
     assert_eq!(rt; identity.msg_id.text(), "S1");
-    let Some(recall) = message.recall() else {
-        return Err(Fail::new("a request about a recall names none"));
-    };
-    assert_eq!(rt; recall.cxl.text(), "R1");
-    assert_eq!(rt; recall.transfer.debtor_agent.text(), "BANKNL2AXXX");
-    assert_eq!(rt; recall.transfer.tx.text(), "T1");
+}
+
+fn assert_transfer(rt: &impl Abort, transfer: &TransferKey) {
+    assert_eq!(rt; transfer.debtor_agent.text(), "BANKNL2AXXX");
+    assert_eq!(rt; transfer.tx.text(), "T1");
+}
+
+/// That a message is filed by these keys, the last one the identification of its recall.
+fn assert_filed(rt: &impl Abort, message: &Message, recall: Option<&str>) {
+    assert_identity(rt, &message.identity().copy());
+    assert_transfer(rt, &message.transfer().copy());
+    let key = message.recall();
+    assert!(rt; key.as_ref().map(|key| key.cxl.text()) == recall);
+}
+
+#[test]
+fn files_status_requests(rt: HostRuntime) -> Result<(), Fail> {
+    let messages = requests(rt.alloc(), &FILED)?;
+    assert_eq!(rt; messages.len(), 2);
+    for (message, recall) in messages.iter().zip([None, Some("R1")]) {
+        assert_filed(&rt, message, recall);
+    }
     Ok(())
+}
+
+fn assert_kept(rt: &impl Abort, draft: &Draft) {
+    assert_eq!(rt; draft.kind(), Kind::Pacs028);
+    assert_eq!(rt; draft.head().message_name.text(), "pacs.028");
+    assert_eq!(rt; draft.debtor_agent().text(), "BANKNL2AXXX");
+    assert_eq!(rt; draft.transaction_id().text(), "T1");
+    assert!(rt;
+        draft
+            .original()
+            .is_some_and(|original| original.message_id.text() == "M1")
+    );
+    assert!(rt;
+        draft
+            .cancellation_id()
+            .is_none_or(|recall| recall.text() == "R1")
+    );
 }
 
 #[test]
 fn keeps_the_elements(rt: HostRuntime) -> Result<(), Fail> {
-    let message = Message::of(read_request(&REQUEST)?)?;
-    let Draft::StatusRequest(kept) = message.draft() else {
-        return Err(Fail::new("a status request became a message of another kind"));
-    };
-    assert_eq!(rt; kept.head.message_name.text(), "pacs.028");
-    assert_eq!(rt; kept.original.message_id.text(), "M1");
-    assert!(rt; kept.original.end_to_end_id.is_none());
-    assert!(rt; kept.cancellation_id.is_none());
-    assert!(rt; message.recall().is_none());
+    for message in &requests(rt.alloc(), &FILED)? {
+        assert_eq!(rt; message.kind(), Kind::Pacs028);
+        assert_kept(&rt, message.draft());
+    }
     Ok(())
 }

@@ -1,10 +1,8 @@
 //! Messages and keys in their orders.
 
-use super::texts::{REQUEST, RequestTexts, read_instruction, read_request};
+use super::texts::{REQUEST, RequestTexts, requests};
 use crate::*;
 use sct_element::{Bic, ElementFault, Id35};
-use std::alloc::Global;
-use std::cmp::Ordering;
 use std::process::Abort;
 use std::test::Fail;
 
@@ -12,8 +10,8 @@ use std::test::Fail;
 fn assert_place(rt: &impl Abort, ascending: &[Message], place: usize, message: &Message) {
     for (at, other) in ascending.iter().enumerate() {
         assert_eq!(rt; message.order(other), place.cmp(&at), "at {place} and {at}");
-        assert_eq!(rt; message.same(other), place == at, "at {place} and {at}");
-        assert_eq!(rt; message == other, place == at, "at {place} and {at}");
+        assert!(rt; message.same(other) == (place == at));
+        assert!(rt; (message == other) == (place == at));
     }
 }
 
@@ -23,83 +21,49 @@ fn assert_ascending(rt: &impl Abort, messages: &[Message]) {
     }
 }
 
-fn requests(alloc: Global, rows: &[RequestTexts]) -> Result<Vec<Message>, Fail> {
-    let mut messages = Vec::new(alloc);
-    for texts in rows {
-        messages.push(Message::of(read_request(texts)?)?)?;
-    }
-    Ok(messages)
-}
+/// By sender, kind and message identification, then by the elements in the order of the key table, an absent one first.
+static ASCENDING: [RequestTexts; 9] = [
+    RequestTexts {
+        sender: "AANKDEFF",
+        msg_id: "S9",
+        tx: "T9",
+        ..REQUEST
+    },
+    RequestTexts {
+        sender: "BANKDEFF001",
+        msg_id: "S0",
+        ..REQUEST
+    },
+    REQUEST,
+    RequestTexts {
+        bank: "BANQFRPP",
+        ..REQUEST
+    },
+    RequestTexts {
+        tx: "T1 ",
+        ..REQUEST
+    },
+    RequestTexts {
+        tx: "T10",
+        ..REQUEST
+    },
+    RequestTexts {
+        reference: Some("E1"),
+        ..REQUEST
+    },
+    RequestTexts {
+        name: "pacs.028.001.03",
+        ..REQUEST
+    },
+    RequestTexts {
+        msg_id: "S2",
+        ..REQUEST
+    },
+];
 
 #[test]
 fn orders_messages_by_identity_and_then_by_elements(rt: HostRuntime) -> Result<(), Fail> {
-    let rows = [
-        RequestTexts {
-            sender: "AANKDEFF",
-            msg_id: "S9",
-            tx: "T9",
-            ..REQUEST
-        },
-        RequestTexts {
-            sender: "BANKDEFF001",
-            msg_id: "S0",
-            ..REQUEST
-        },
-        REQUEST,
-        RequestTexts {
-            tx: "T1 ",
-            ..REQUEST
-        },
-        RequestTexts {
-            tx: "T10",
-            ..REQUEST
-        },
-        RequestTexts {
-            name: "pacs.028.001.03",
-            ..REQUEST
-        },
-        RequestTexts {
-            msg_id: "S2",
-            ..REQUEST
-        },
-    ];
-    assert_ascending(&rt, &requests(rt.alloc(), &rows)?);
-    Ok(())
-}
-
-#[test]
-fn orders_kinds_before_identifications(rt: HostRuntime) -> Result<(), Fail> {
-    let texts = RequestTexts {
-        sender: "BANKNL2A",
-        msg_id: "A1",
-        ..REQUEST
-    };
-    let request = Message::of(read_request(&texts)?)?;
-    let instruction = Message::of(read_instruction(rt.alloc())?)?;
-    assert_eq!(rt; instruction.order(&request), Ordering::Less);
-    assert_eq!(rt; request.order(&instruction), Ordering::Greater);
-    assert!(rt; !request.same(&instruction));
-    Ok(())
-}
-
-#[test]
-fn puts_an_absent_element_first(rt: HostRuntime) -> Result<(), Fail> {
-    let rows = [
-        REQUEST,
-        RequestTexts {
-            bank: "BANQFRPP",
-            ..REQUEST
-        },
-        RequestTexts {
-            reference: Some("E1"),
-            ..REQUEST
-        },
-        RequestTexts {
-            receiver: Some("BANQFRPP"),
-            ..REQUEST
-        },
-    ];
-    assert_ascending(&rt, &requests(rt.alloc(), &rows)?);
+    assert_ascending(&rt, &requests(rt.alloc(), &ASCENDING)?);
     Ok(())
 }
 
@@ -129,7 +93,7 @@ fn identity(sender: &str, kind: Kind, msg_id: &str) -> Result<Identity, ElementF
 fn assert_key_place<K: Ord>(rt: &impl Abort, ascending: &[K], place: usize, key: &K) {
     for (at, other) in ascending.iter().enumerate() {
         assert_eq!(rt; key.cmp(other), place.cmp(&at), "at {place} and {at}");
-        assert_eq!(rt; key == other, place == at, "at {place} and {at}");
+        assert!(rt; (key == other) == (place == at));
     }
 }
 
@@ -139,52 +103,58 @@ fn assert_keys_ascend<K: Ord>(rt: &impl Abort, keys: &[K]) {
     }
 }
 
+static IDENTITIES: [(&str, Kind, &str); 9] = [
+    ("BANKDEFF", Kind::Camt029, "M9"),
+    ("BANKDEFF", Kind::Camt056, "M9"),
+    ("BANKDEFF", Kind::Pacs002, "M2"),
+    ("BANKDEFF", Kind::Pacs004, "M1"),
+    ("BANKDEFF", Kind::Pacs008, "M1"),
+    ("BANKDEFF", Kind::Pacs008, "M10"),
+    ("BANKDEFF", Kind::Pacs008, "M2"),
+    ("BANKDEFF", Kind::Pacs028, "M0"),
+    ("BANQFRPP", Kind::Camt029, "M1"),
+];
+
 #[test]
 fn orders_identities_by_sender_kind_and_id(rt: HostRuntime) -> Result<(), Fail> {
     let mut keys = Vec::new(rt.alloc());
-    for (sender, kind, msg_id) in [
-        ("BANKDEFF", Kind::Camt029, "M9"),
-        ("BANKDEFF", Kind::Camt056, "M9"),
-        ("BANKDEFF", Kind::Pacs002, "M2"),
-        ("BANKDEFF", Kind::Pacs004, "M1"),
-        ("BANKDEFF", Kind::Pacs008, "M1"),
-        ("BANKDEFF", Kind::Pacs008, "M10"),
-        ("BANKDEFF", Kind::Pacs008, "M2"),
-        ("BANKDEFF", Kind::Pacs028, "M0"),
-        ("BANQFRPP", Kind::Camt029, "M1"),
-    ] {
-        keys.push(identity(sender, kind, msg_id)?)?;
+    for (sender, kind, msg_id) in &IDENTITIES {
+        keys.push(identity(sender, *kind, msg_id)?)?;
     }
     assert_keys_ascend(&rt, &keys);
     Ok(())
 }
 
+static TRANSFERS: [(&str, &str); 5] = [
+    ("BANKDEFF", "T1"),
+    ("BANKDEFF", "T1 "),
+    ("BANKDEFF", "T10"),
+    ("BANKDEFF", "T9"),
+    ("BANQFRPP", "T0"),
+];
+
 #[test]
 fn orders_transfer_keys_by_bank_and_id(rt: HostRuntime) -> Result<(), Fail> {
     let mut keys = Vec::new(rt.alloc());
-    for (bank, tx) in [
-        ("BANKDEFF", "T1"),
-        ("BANKDEFF", "T1 "),
-        ("BANKDEFF", "T10"),
-        ("BANKDEFF", "T9"),
-        ("BANQFRPP", "T0"),
-    ] {
+    for (bank, tx) in &TRANSFERS {
         keys.push(transfer_key(bank, tx)?)?;
     }
     assert_keys_ascend(&rt, &keys);
     Ok(())
 }
 
+static RECALLS: [(&str, &str, &str); 5] = [
+    ("BANKDEFF", "T1", "R1"),
+    ("BANKDEFF", "T1", "R10"),
+    ("BANKDEFF", "T1", "R2"),
+    ("BANKDEFF", "T1 ", "R0"),
+    ("BANQFRPP", "T0", "R0"),
+];
+
 #[test]
 fn orders_recall_keys_by_transfer_and_id(rt: HostRuntime) -> Result<(), Fail> {
     let mut keys = Vec::new(rt.alloc());
-    for (bank, tx, cxl) in [
-        ("BANKDEFF", "T1", "R1"),
-        ("BANKDEFF", "T1", "R10"),
-        ("BANKDEFF", "T1", "R2"),
-        ("BANKDEFF", "T1 ", "R0"),
-        ("BANQFRPP", "T0", "R0"),
-    ] {
+    for (bank, tx, cxl) in &RECALLS {
         keys.push(recall_key(bank, tx, cxl)?)?;
     }
     assert_keys_ascend(&rt, &keys);

@@ -1,8 +1,9 @@
-//! Elements of messages, read from the texts of worked examples.
+//! Status requests, read from the texts of worked examples.
 
 use crate::*;
-use sct_element::{Amount, Bic, Code4, Day, ElementFault, Iban, Id35, Name, Stamp};
+use sct_element::{Bic, ElementFault, Id35, Stamp};
 use std::alloc::Global;
+use std::test::Fail;
 
 /// The texts of a status request that the tests vary.
 #[derive(Clone, Copy)]
@@ -10,7 +11,6 @@ pub(crate) struct RequestTexts {
     pub(crate) name: &'static str,
     pub(crate) msg_id: &'static str,
     pub(crate) sender: &'static str,
-    pub(crate) receiver: Option<&'static str>,
     pub(crate) original: &'static str,
     pub(crate) reference: Option<&'static str>,
     pub(crate) tx: &'static str,
@@ -23,7 +23,6 @@ pub(crate) const REQUEST: RequestTexts = RequestTexts {
     name: "pacs.028",
     msg_id: "S1",
     sender: "BANKDEFF",
-    receiver: None,
     original: "pacs.008",
     reference: None,
     tx: "T1",
@@ -38,25 +37,13 @@ fn optional_id(text: Option<&str>) -> Result<Option<Id35>, ElementFault> {
     }
 }
 
-fn optional_bank(text: Option<&str>) -> Result<Option<Bic>, ElementFault> {
-    match text {
-        Some(text) => Ok(Some(Bic::read(text)?)),
-        None => Ok(None),
-    }
-}
-
-fn head(
-    name: &str,
-    msg_id: &str,
-    sender: &str,
-    receiver: Option<&str>,
-) -> Result<Head, ElementFault> {
+fn head(texts: &RequestTexts) -> Result<Head, ElementFault> {
     Ok(Head {
-        message_name: Id35::read(name)?,
-        message_id: Id35::read(msg_id)?,
+        message_name: Id35::read(texts.name)?,
+        message_id: Id35::read(texts.msg_id)?,
         creation_time: Stamp::read("2024-05-02T10:00:00Z")?,
-        instructing_agent: Bic::read(sender)?,
-        instructed_agent: optional_bank(receiver)?,
+        instructing_agent: Bic::read(texts.sender)?,
+        instructed_agent: None,
     })
 }
 
@@ -69,73 +56,36 @@ fn original(texts: &RequestTexts) -> Result<Original, ElementFault> {
     })
 }
 
-pub(crate) fn read_request(texts: &RequestTexts) -> Result<Draft, ElementFault> {
-    Ok(Draft::StatusRequest(StatusRequest {
-        head: head(texts.name, texts.msg_id, texts.sender, texts.receiver)?,
+fn read_request(texts: &RequestTexts) -> Result<StatusRequest, ElementFault> {
+    Ok(StatusRequest {
+        head: head(texts)?,
         original: original(texts)?,
         cancellation_id: optional_id(texts.recall)?,
         debtor_agent: Bic::read(texts.bank)?,
-    }))
-}
-
-/// The debtor, the creditor, and their accounts and banks.
-#[derive(Drop)]
-struct Parties {
-    debtor: Name,
-    creditor: Name,
-    debtor_account: Iban,
-    creditor_account: Iban,
-    debtor_agent: Bic,
-    creditor_agent: Bic,
-}
-
-fn read_parties(alloc: Global) -> Result<Parties, ElementFault> {
-    let debtor_account = Iban::read("DE89370400440532013000")?;
-    let creditor_account = Iban::read("BE68539007547034")?;
-    let debtor_agent = Bic::read("BANKDEFF")?;
-    let creditor_agent = Bic::read("BANQFRPP")?;
-    let debtor = Name::read(alloc, "Anna Weber")?;
-    let creditor = Name::read(alloc, "Bo Maes")?;
-    Ok(Parties {
-        debtor,
-        creditor,
-        debtor_account,
-        creditor_account,
-        debtor_agent,
-        creditor_agent,
     })
 }
 
-/// An instruction with no optional element but its receiver.
-pub(crate) fn read_instruction(alloc: Global) -> Result<Draft, ElementFault> {
-    let head = head("pacs.008", "M1", "BANKNL2A", Some("BANQFRPP"))?;
-    let settlement_date = Day::read("2024-05-02")?;
-    let service_level = Code4::read("SEPA")?;
-    let local_instrument = Code4::read("INST")?;
-    let end_to_end_id = Id35::read("E1")?;
-    let transaction_id = Id35::read("T1")?;
-    let settlement_amount = Amount::read("9.00")?;
-    let currency = Code4::read("EUR")?;
-    let charge_bearer = Code4::read("SLEV")?;
-    let parties = read_parties(alloc)?;
-    Ok(Draft::CreditTransfer(CreditTransfer {
-        head,
-        settlement_date,
-        service_level,
-        local_instrument,
-        instruction_id: None,
-        end_to_end_id,
-        transaction_id,
-        settlement_amount,
-        currency,
-        charge_bearer,
-        acceptance_time: None,
-        debtor: parties.debtor,
-        debtor_account: parties.debtor_account,
-        debtor_agent: parties.debtor_agent,
-        creditor_agent: parties.creditor_agent,
-        creditor: parties.creditor,
-        creditor_account: parties.creditor_account,
-        remittance: None,
-    }))
+/// The number of the first rule that the elements break, and 0 where they break none.
+pub(crate) fn broken(texts: &RequestTexts) -> Result<u8, ElementFault> {
+    let request = read_request(texts)?;
+    Ok(
+        Message::of(Draft::StatusRequest(request))
+            .err()
+            .map_or(0, RuleFault::number),
+    )
+}
+
+fn push_request(messages: &mut Vec<Message>, texts: &RequestTexts) -> Result<(), Fail> {
+    let request = read_request(texts)?;
+    messages.push(Message::of(Draft::StatusRequest(request))?)?;
+    Ok(())
+}
+
+/// The messages of these texts.
+pub(crate) fn requests(alloc: Global, rows: &[RequestTexts]) -> Result<Vec<Message>, Fail> {
+    let mut messages = Vec::new(alloc);
+    for texts in rows {
+        push_request(&mut messages, texts)?;
+    }
+    Ok(messages)
 }
