@@ -1,5 +1,5 @@
--- What `ascending` does, under any total order that tells all keys apart. It serves what is told of a set of messages:
--- archives, cases, views and the texts of sites, whose crates cite it.
+-- What `ascending` does, under any total order that tells all keys apart.
+-- It serves what is told of a set of messages: archives, cases, views and the texts of sites, whose crates cite it.
 use Rattle.std.proofs.Common.{◌≡◌, Bool, true, false, cond, ◌&&◌, ◌||◌, List, [], ◌∷◌, map, refl, sym, ap, subst, ◌∙◌, Ordering, Option, Some, None, filter}
 use Rattle.std.specs.Prelude.{is_some, T}
 use Rattle.std.specs.declared.cmp.Ordering.TheVariants.{Less, Equal, Greater}
@@ -113,7 +113,8 @@ module _ {K : Type 0} {R : K → K → Ordering} (o : IsTotalOrder R) (apart : I
   get-holding ks q = ap is_some (get-from_entries o (alone ks) q) ∙ find-alone R q ks
 
   -- what stands in the ascending list is what stands in the list
-  pub members_ascending : (ks : List K) (q : K) → list_any (eq_by_cmp R q) (ascending R ks) ≡ list_any (eq_by_cmp R q) ks
+  pub members_ascending : (ks : List K) (q : K)
+      → list_any (eq_by_cmp R q) (ascending R ks) ≡ list_any (eq_by_cmp R q) ks
   unfolding ascending
   members_ascending ks q = sym (contains_key-keys (holding ks) q) ∙ get-holding ks q
 
@@ -122,7 +123,9 @@ module _ {K : Type 0} {R : K → K → Ordering} (o : IsTotalOrder R) (apart : I
   any_ascending p ks = same_any o apart p (ascending R ks) ks (members_ascending ks)
 
   -- lists with the same members give the same ascending list
-  pub ascending-same : (ks js : List K) → ((q : K) → list_any (eq_by_cmp R q) ks ≡ list_any (eq_by_cmp R q) js) → ascending R ks ≡ ascending R js
+  pub ascending-same : (ks js : List K)
+      → ((q : K) → list_any (eq_by_cmp R q) ks ≡ list_any (eq_by_cmp R q) js)
+      → ascending R ks ≡ ascending R js
   unfolding ascending
   ascending-same ks js same =
       ap finite.keys (same_map o apart (holding ks) (holding js) (λ q. marked _ _ (get-holding ks q ∙ same q ∙ sym (get-holding js q))))
@@ -148,8 +151,10 @@ module _ {K : Type 0} {R : K → K → Ordering} (o : IsTotalOrder R) (apart : I
       ascending-same (filter p ks) (filter p (ascending R ks)) (λ q. list_any-filter (eq_by_cmp R q) p ks ∙ sym (any_ascending _ ks) ∙ sym (list_any-filter (eq_by_cmp R q) p (ascending R ks)))
       ∙ ascending-sorted (filter p (ascending R ks)) (IsStrictlySortedBy-filter R p _ (ascending_rises ks))
 
-  -- a list in order of its keys, without its repeats, has the keys of the list that it was sorted from, each once and in order
-  pub ascending-sort_dedup : {V : Type 0} (f : V → K) (E : V → V → Bool) → ((x y : V) → E x y ≡ eq_by_cmp R (f x) (f y)) → (xs ys : List V)
+  -- a list in order of its keys, without its repeats, has the keys of the list that it was sorted from,
+  -- each once and in order
+  pub ascending-sort_dedup : {V : Type 0} (f : V → K) (E : V → V → Bool)
+      → ((x y : V) → E x y ≡ eq_by_cmp R (f x) (f y)) → (xs ys : List V)
       → IsPermutation xs ys → IsSorted (λ x y. R (f x) (f y)) ys → map f (dedup E ys) ≡ ascending R (map f xs)
   ascending-sort_dedup f E ties xs ys moved sorted =
       let rises = strictly-map R f _ (IsStrictlySortedBy-dedup (on_total f o) ties ys sorted) in

@@ -34,7 +34,8 @@ breaks WrongCurrency d = some_and (currency_of d) (λ currency. is_not currency 
 breaks WrongService d = some_and (credit_transfer_of d) (λ m. is_not m.service_level (codes "SEPA"))
 breaks WrongInstrument d = some_and (credit_transfer_of d) (λ m. is_not m.local_instrument (codes "INST"))
 breaks WrongCharge d = some_and (credit_transfer_of d) (λ m. is_not m.charge_bearer (codes "SLEV"))
-breaks WrongStatus d = some_and (status_report_of d) (λ m. is_not m.status (codes "ACCP") && is_not m.status (codes "RJCT"))
+breaks WrongStatus d = some_and (status_report_of d)
+    (λ m. is_not m.status (codes "ACCP") && is_not m.status (codes "RJCT"))
 breaks ReasonMissing d = some_and (status_report_of d) (λ m. is_text m.status (codes "RJCT") && is_none m.reason)
 breaks ReasonUnasked d = some_and (status_report_of d) (λ m. is_text m.status (codes "ACCP") && is_some m.reason)
 breaks ReturnAboveOriginal d = some_and (payment_return_of d) (λ m. not (nat_le m.returned_amount m.original_amount))
@@ -44,7 +45,8 @@ breaks WrongOriginalName d = some_and (original_of d) (λ o. not (is_name_of (ki
 
 -- ---- each test decides whether the rule is broken
 
-some_decides : {A : Type 0} (o : Option A) (test : A → Bool) (P : A → Type 0) → ((a : A) → Decides (test a) (P a))
+some_decides : {A : Type 0} (o : Option A) (test : A → Bool) (P : A → Type 0)
+    → ((a : A) → Decides (test a) (P a))
     → Decides (some_and o test) (IsSomeAnd o P)
 some_decides None test P each = (λ e. absurd (false≢true e), λ p. absurd p)
 some_decides (Some a) test P each = each a
@@ -147,14 +149,16 @@ first_is_found (draft.CreditTransfer d) =
     named (name_wrong (draft.CreditTransfer d)) (first_alone (broken_in_credit_transfer d))
 first_is_found (draft.StatusReport d) =
     let m : Draft = draft.StatusReport d in
-    named (name_wrong m) (after_three (breaks WrongStatus m) (breaks ReasonMissing m) (breaks ReasonUnasked m) WrongStatus ReasonMissing ReasonUnasked (original_wrong m))
+    named (name_wrong m) (after_three (breaks WrongStatus m) (breaks ReasonMissing m) (breaks ReasonUnasked m)
+    WrongStatus ReasonMissing ReasonUnasked (original_wrong m))
 first_is_found (draft.StatusRequest d) = refl
 first_is_found (draft.CancellationRequest d) =
     let m : Draft = draft.CancellationRequest d in
     named (name_wrong m) (after_one (breaks WrongCurrency m) WrongCurrency (original_wrong m))
 first_is_found (draft.PaymentReturn d) =
     let m : Draft = draft.PaymentReturn d in
-    named (name_wrong m) (after_three (breaks WrongCurrency m) (breaks ReturnAboveOriginal m) (breaks WrongReturnReason m) WrongCurrency ReturnAboveOriginal WrongReturnReason (original_wrong m))
+    named (name_wrong m) (after_three (breaks WrongCurrency m) (breaks ReturnAboveOriginal m) (breaks WrongReturnReason m)
+    WrongCurrency ReturnAboveOriginal WrongReturnReason (original_wrong m))
 first_is_found (draft.Resolution d) =
     let m : Draft = draft.Resolution d in
     named (name_wrong m) (after_one (breaks WrongAnswer m) WrongAnswer (original_wrong m))

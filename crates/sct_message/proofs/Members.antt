@@ -1,5 +1,5 @@
--- Lists with the same members pass the same tests, for keys of any type. It serves what is told of a set of messages:
--- archives, cases, views and the texts of sites, whose crates cite it.
+-- Lists with the same members pass the same tests, for keys of any type.
+-- It serves what is told of a set of messages: archives, cases, views and the texts of sites, whose crates cite it.
 use Rattle.std.proofs.Common.{◌≡◌, Bool, true, false, cond, ◌&&◌, ◌||◌, List, [], ◌∷◌, map, refl, sym, ap, ◌∙◌, Ordering, filter}
 use Rattle.std.specs.List.{list_any}
 use Rattle.std.specs.Ordering.{eq_by_cmp, is_eq}
@@ -13,7 +13,8 @@ or_true false = refl
 
 module _ {K : Type 0} where
   -- a member that passes a test is found by it
-  pub list_any-found : (E : K → K → Bool) → ((x y : K) → E x y ≡ true → x ≡ y) → (p : K → Bool) (q : K) (ks : List K) → list_any (E q) ks ≡ true → p q ≡ true → list_any p ks ≡ true
+  pub list_any-found : (E : K → K → Bool) → ((x y : K) → E x y ≡ true → x ≡ y)
+      → (p : K → Bool) (q : K) (ks : List K) → list_any (E q) ks ≡ true → p q ≡ true → list_any p ks ≡ true
   list_any-found E apart p q [] among passes = absurd (false≢true among)
   list_any-found E apart p q (k ∷ ks) among passes =
       elim (E q k) as (λ b. E q k ≡ b → (b || list_any (E q) ks) ≡ true → (p k || list_any p ks) ≡ true) [
@@ -22,7 +23,8 @@ module _ {K : Type 0} where
       ] refl among
 
   -- a test that is passed is passed by every longer list of members
-  pub list_any-covered : (E : K → K → Bool) → ((x : K) → E x x ≡ true) → ((x y : K) → E x y ≡ true → x ≡ y) → (p : K → Bool) (ks js : List K)
+  pub list_any-covered : (E : K → K → Bool) → ((x : K) → E x x ≡ true)
+      → ((x y : K) → E x y ≡ true → x ≡ y) → (p : K → Bool) (ks js : List K)
       → ((q : K) → list_any (E q) ks ≡ true → list_any (E q) js ≡ true) → list_any p ks ≡ true → list_any p js ≡ true
   list_any-covered E itself apart p [] js covers passes = absurd (false≢true passes)
   list_any-covered E itself apart p (k ∷ ks) js covers passes =
@@ -34,7 +36,8 @@ module _ {K : Type 0} where
       ] refl passes
 
   -- lists with the same members pass the same tests
-  pub list_any-same : (E : K → K → Bool) → ((x : K) → E x x ≡ true) → ((x y : K) → E x y ≡ true → x ≡ y) → (p : K → Bool) (ks js : List K)
+  pub list_any-same : (E : K → K → Bool) → ((x : K) → E x x ≡ true)
+      → ((x y : K) → E x y ≡ true → x ≡ y) → (p : K → Bool) (ks js : List K)
       → ((q : K) → list_any (E q) ks ≡ list_any (E q) js) → list_any p ks ≡ list_any p js
   list_any-same E itself apart p ks js same =
       both_ways _ _
@@ -50,7 +53,8 @@ module _ {K : Type 0} where
         | false ↦ list_any-filter q p ks
       ]
 
-pub list_any-map : {K J : Type 0} (q : J → Bool) (f : K → J) (ks : List K) → list_any q (map f ks) ≡ list_any (λ k. q (f k)) ks
+pub list_any-map : {K J : Type 0} (q : J → Bool) (f : K → J) (ks : List K)
+    → list_any q (map f ks) ≡ list_any (λ k. q (f k)) ks
 list_any-map q f [] = refl
 list_any-map q f (k ∷ ks) = ap (λ b. q (f k) || b) (list_any-map q f ks)
 
@@ -62,5 +66,6 @@ module _ {K : Type 0} {R : K → K → Ordering} (o : IsTotalOrder R) (same : Is
   ties_itself x = ap is_eq (tied_itself o x)
 
   -- lists with the same members, by an order that tells all keys apart, pass the same tests
-  pub same_any : (p : K → Bool) (ks js : List K) → ((q : K) → list_any (eq_by_cmp R q) ks ≡ list_any (eq_by_cmp R q) js) → list_any p ks ≡ list_any p js
+  pub same_any : (p : K → Bool) (ks js : List K)
+      → ((q : K) → list_any (eq_by_cmp R q) ks ≡ list_any (eq_by_cmp R q) js) → list_any p ks ≡ list_any p js
   same_any p ks js = list_any-same (eq_by_cmp R) ties_itself tie_is p ks js

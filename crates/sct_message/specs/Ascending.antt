@@ -1,5 +1,6 @@
--- Read by an auditor: the members of a list in ascending order, for keys of any type. What tells of a set in order
--- is stated by it: the contradictions of an archive, the cases of a transfer, the look-ups of a view, the status text.
+-- Read by an auditor: the members of a list in ascending order, for keys of any type.
+-- It serves what tells of a set in order: the contradictions of an archive, the findings of a transfer,
+-- the look-ups of a view and the texts of a site. The crates above cite it from here.
 use Rattle.std.specs.Prelude.{List, map}
 use Rattle.std.specs.declared.cmp.Ordering.{Ordering}
 use Rattle.std.specs.FinMap as finite

@@ -8,7 +8,11 @@ use Rattle.sct_message.specs.Drafts.{kind_of, head_of, debtor_agent_of, transact
 
 -- a message's sender, kind and identification
 abbrev pub identity_of : Draft → Identity
-identity_of d = record { sender = (head_of d).instructing_agent; kind = kind_of d; msg_id = (head_of d).message_id }
+identity_of d = record {
+  sender = (head_of d).instructing_agent;
+  kind = kind_of d;
+  msg_id = (head_of d).message_id;
+}
 
 -- the transfer that a message is, or is about
 abbrev pub transfer_of : Draft → TransferKey

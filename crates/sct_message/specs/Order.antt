@@ -24,7 +24,8 @@ text_order = slice_cmp nat_cmp
 abbrev pub elements_order : List (Option (List ℕ)) → List (Option (List ℕ)) → Ordering
 elements_order = slice_cmp (option_cmp text_order)
 
--- ---- the elements of each kind in the order of its key table; an amount counts by its cents, a reason by its code
+-- ---- the elements of each kind in the order of its key table
+-- An amount counts by its cents, a reason by its code.
 
 abbrev pub head_elements : Head → List (Option (List ℕ))
 head_elements h =
@@ -117,7 +118,11 @@ by_elements a b = elements_order (elements_of a) (elements_of b)
 
 -- sender, kind and message identification, and then all elements
 abbrev pub ranks_of : Draft → List (Option (List ℕ))
-ranks_of d = Some (head_of d).instructing_agent ∷ Some (kind_text (kind_of d)) ∷ Some (head_of d).message_id ∷ elements_of d
+ranks_of d =
+    Some (head_of d).instructing_agent
+    ∷ Some (kind_text (kind_of d))
+    ∷ Some (head_of d).message_id
+    ∷ elements_of d
 
 -- messages by identity, and then by the elements; it answers Equal exactly where all elements are the same
 unfoldable pub message_order : Draft → Draft → Ordering

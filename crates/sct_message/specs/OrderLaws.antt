@@ -32,7 +32,8 @@ then_equal Equal = refl
 then_equal Greater = refl
 
 -- reasons compare as their codes do
-pub reasons_by_code : (r s : Option Reason) → option_cmp reason_order r s ≡ option_cmp text_order (option_map reason_text r) (option_map reason_text s)
+pub reasons_by_code : (r s : Option Reason)
+    → option_cmp reason_order r s ≡ option_cmp text_order (option_map reason_text r) (option_map reason_text s)
 reasons_by_code None None = refl
 reasons_by_code None (Some s) = refl
 reasons_by_code (Some r) None = refl
@@ -102,17 +103,21 @@ both_tie Greater s e = cc
 
 pub identity_total : IsTotalOrder identity_order
 identity_total = then_total (on_total (λ (i : Identity). i.sender) nat_list_cmp_total)
-    (then_total (on_total (λ (i : Identity). kind_text i.kind) nat_list_cmp_total) (on_total (λ (i : Identity). i.msg_id) nat_list_cmp_total))
+    (then_total (on_total (λ (i : Identity). kind_text i.kind) nat_list_cmp_total)
+    (on_total (λ (i : Identity). i.msg_id) nat_list_cmp_total))
 
 pub transfer_total : IsTotalOrder transfer_order
-transfer_total = then_total (on_total (λ (t : TransferKey). t.debtor_agent) nat_list_cmp_total) (on_total (λ (t : TransferKey). t.tx) nat_list_cmp_total)
+transfer_total = then_total (on_total (λ (t : TransferKey). t.debtor_agent) nat_list_cmp_total)
+    (on_total (λ (t : TransferKey). t.tx) nat_list_cmp_total)
 
 pub recall_total : IsTotalOrder recall_order
-recall_total = then_total (on_total (λ (r : RecallKey). r.transfer) transfer_total) (on_total (λ (r : RecallKey). r.cxl) nat_list_cmp_total)
+recall_total = then_total (on_total (λ (r : RecallKey). r.transfer) transfer_total)
+    (on_total (λ (r : RecallKey). r.cxl) nat_list_cmp_total)
 
 pub identities_same : IsAntisymmetric identity_order
 identities_same i j e =
-    let first : (text_order i.sender j.sender ≡ Equal) × (ordering_then (kind_order i.kind j.kind) (text_order i.msg_id j.msg_id) ≡ Equal) = both_tie _ _ e in
+    let first : (text_order i.sender j.sender ≡ Equal)
+    × (ordering_then (kind_order i.kind j.kind) (text_order i.msg_id j.msg_id) ≡ Equal) = both_tie _ _ e in
     let rest : (kind_order i.kind j.kind ≡ Equal) × (text_order i.msg_id j.msg_id ≡ Equal) = both_tie _ _ first.1 in
     let sender : i.sender ≡ j.sender = texts_same _ _ first.0 in
     let kind : i.kind ≡ j.kind = kinds_same _ _ (texts_same _ _ rest.0) in
@@ -140,12 +145,14 @@ and_ties Less b = refl
 and_ties Equal b = refl
 and_ties Greater b = refl
 
-pub transfer_ties : (s t : TransferKey) → (pointwise nat_eq s.debtor_agent t.debtor_agent && pointwise nat_eq s.tx t.tx) ≡ same_transfer s t
+pub transfer_ties : (s t : TransferKey)
+    → (pointwise nat_eq s.debtor_agent t.debtor_agent && pointwise nat_eq s.tx t.tx) ≡ same_transfer s t
 transfer_ties s t = (λ i. texts_ties s.debtor_agent t.debtor_agent i && texts_ties s.tx t.tx i) ∙ and_ties _ _
 
 pub identity_ties : (kinds : Bool) (i j : Identity) → kinds ≡ eq_by_cmp kind_order i.kind j.kind
     → (pointwise nat_eq i.sender j.sender && (kinds && pointwise nat_eq i.msg_id j.msg_id)) ≡ same_identity i j
 identity_ties kinds i j e =
     (λ n. texts_ties i.sender j.sender n && (e n && texts_ties i.msg_id j.msg_id n))
-    ∙ ap (λ (b : Bool). is_eq (text_order i.sender j.sender) && b) (and_ties (kind_order i.kind j.kind) (text_order i.msg_id j.msg_id))
+    ∙ ap (λ (b : Bool). is_eq (text_order i.sender j.sender) && b)
+    (and_ties (kind_order i.kind j.kind) (text_order i.msg_id j.msg_id))
     ∙ and_ties _ _

@@ -1,4 +1,4 @@
--- Read by an auditor: the rules of each kind (EPC004-16), when a draft breaks one, and the first that it breaks.
+-- Read by an auditor: the rules of each kind (EPC004-16), when a draft breaks one, and the first broken one.
 use Rattle.std.specs.Prelude.{◌≡◌, ◌≢◌, ℕ, ◌<◌, ◌≤◌, ◌&&◌, ◌⊎◌, List, not, nat_le, Bool, true, Option, Some, None, is_some, is_none, if◌then◌else◌, IsTrue, IsFalse, IsSome, IsSomeAnd, IsNone, codes, ⊤}
 use Rattle.sct_reason.specs.declared.reasons.Reason.TheVariants.{FOCR}
 use Rattle.sct_reason.specs.Codes.{reason_text}
@@ -34,14 +34,14 @@ rule_number WrongOriginalName = 21
 
 -- ---- the rules
 
--- A transfer is in euro, at the service level SEPA, by the instrument INST, and each side bears its own charges.
+-- A transfer is in euro, at the service level SEPA, by the instrument INST; each side bears its own charges.
 pub record CreditTransferFollowsRules (d : CreditTransfer) : Type 0 where
   pub currency : d.currency ≡ codes "EUR"
   pub service : d.service_level ≡ codes "SEPA"
   pub instrument : d.local_instrument ≡ codes "INST"
   pub charges : d.charge_bearer ≡ codes "SLEV"
 
--- A report confirms without a reason or rejects with one.
+-- A status report confirms without a reason or rejects with one.
 pub record StatusReportFollowsRules (d : StatusReport) : Type 0 where
   pub confirms : ((d.status ≡ codes "ACCP") × IsNone d.reason) ⊎ ((d.status ≡ codes "RJCT") × IsSome d.reason)
 
@@ -96,20 +96,27 @@ pub record FollowsRules (d : Draft) : Type 0 where
 
 -- ---- the rules that a draft breaks
 
+-- the text is no name of the kind
+abbrev pub IsNoName : Kind → List ℕ → Type 0
+IsNoName kind s = IsFalse (is_name_of kind s)
+
+abbrev pub IsNeither : List ℕ → List ℕ → List ℕ → Type 0
+IsNeither s t u = (s ≢ t) × (s ≢ u)
+
 -- One line a rule. Of a kind without the element the rule asks nothing.
 abbrev pub Breaks : RuleFault → Draft → Type 0
-Breaks WrongName d = IsFalse (is_name_of (kind_of d) (head_of d).message_name)
+Breaks WrongName d = IsNoName (kind_of d) (head_of d).message_name
 Breaks WrongCurrency d = IsSomeAnd (currency_of d) (λ currency. currency ≢ codes "EUR")
 Breaks WrongService d = IsSomeAnd (credit_transfer_of d) (λ m. m.service_level ≢ codes "SEPA")
 Breaks WrongInstrument d = IsSomeAnd (credit_transfer_of d) (λ m. m.local_instrument ≢ codes "INST")
 Breaks WrongCharge d = IsSomeAnd (credit_transfer_of d) (λ m. m.charge_bearer ≢ codes "SLEV")
-Breaks WrongStatus d = IsSomeAnd (status_report_of d) (λ m. (m.status ≢ codes "ACCP") × (m.status ≢ codes "RJCT"))
+Breaks WrongStatus d = IsSomeAnd (status_report_of d) (λ m. IsNeither m.status (codes "ACCP") (codes "RJCT"))
 Breaks ReasonMissing d = IsSomeAnd (status_report_of d) (λ m. (m.status ≡ codes "RJCT") × IsNone m.reason)
 Breaks ReasonUnasked d = IsSomeAnd (status_report_of d) (λ m. (m.status ≡ codes "ACCP") × IsSome m.reason)
 Breaks ReturnAboveOriginal d = IsSomeAnd (payment_return_of d) (λ m. m.original_amount < m.returned_amount)
 Breaks WrongReturnReason d = IsSomeAnd (payment_return_of d) (λ m. m.reason ≢ FOCR)
 Breaks WrongAnswer d = IsSomeAnd (resolution_of d) (λ m. m.confirmation ≢ codes "RJCR")
-Breaks WrongOriginalName d = IsSomeAnd (original_of d) (λ o. IsFalse (is_name_of (kind_it_is_about d) o.message_name))
+Breaks WrongOriginalName d = IsSomeAnd (original_of d) (λ o. IsNoName (kind_it_is_about d) o.message_name)
 
 -- the rule is broken, and no broken rule has a smaller number
 pub record IsFirstBroken (f : RuleFault) (d : Draft) : Type 0 where

@@ -21,7 +21,8 @@ pub struct Head {
     pub instructed_agent: Option<Bic>,
 }
 
-/// The transfer that a later message is about (OriginalGroupInformation and the original transaction's identifications).
+/// The transfer that a later message is about (OriginalGroupInformation, and the original identifications of the
+/// transaction).
 #[derive(Debug, Drop, PartialEq, Eq, PartialOrd, Ord, Hash)]
 pub struct Original {
     /// OrgnlMsgId: the identification of the original message.
@@ -186,7 +187,8 @@ pub enum Draft {
 }
 
 impl Draft {
-    ghost use Rattle.sct_message.specs.Drafts.{kind_of, head_of, debtor_agent_of, transaction_of, cancellation_of, original_of};
+    ghost use Rattle.sct_message.specs.Drafts.{kind_of, head_of, debtor_agent_of};
+    ghost use Rattle.sct_message.specs.Drafts.{transaction_of, cancellation_of, original_of};
 
     /// The kind.
     pub fn kind(&self) -> Kind
@@ -207,11 +209,11 @@ impl Draft {
         ensures { result.now ≡ head_of self.now }
     {
         match self {
-            Draft::CreditTransfer(transfer) => &transfer.head,
-            Draft::StatusReport(report) => &report.head,
-            Draft::StatusRequest(request) => &request.head,
-            Draft::CancellationRequest(recall) => &recall.head,
-            Draft::PaymentReturn(payment) => &payment.head,
+            Draft::CreditTransfer(credit_transfer) => &credit_transfer.head,
+            Draft::StatusReport(status_report) => &status_report.head,
+            Draft::StatusRequest(status_request) => &status_request.head,
+            Draft::CancellationRequest(cancellation_request) => &cancellation_request.head,
+            Draft::PaymentReturn(payment_return) => &payment_return.head,
             Draft::Resolution(resolution) => &resolution.head,
         }
     }
@@ -221,11 +223,11 @@ impl Draft {
         ensures { result.now ≡ debtor_agent_of self.now }
     {
         match self {
-            Draft::CreditTransfer(transfer) => &transfer.debtor_agent,
-            Draft::StatusReport(report) => &report.debtor_agent,
-            Draft::StatusRequest(request) => &request.debtor_agent,
-            Draft::CancellationRequest(recall) => &recall.debtor_agent,
-            Draft::PaymentReturn(payment) => &payment.debtor_agent,
+            Draft::CreditTransfer(credit_transfer) => &credit_transfer.debtor_agent,
+            Draft::StatusReport(status_report) => &status_report.debtor_agent,
+            Draft::StatusRequest(status_request) => &status_request.debtor_agent,
+            Draft::CancellationRequest(cancellation_request) => &cancellation_request.debtor_agent,
+            Draft::PaymentReturn(payment_return) => &payment_return.debtor_agent,
             Draft::Resolution(resolution) => &resolution.debtor_agent,
         }
     }
@@ -235,37 +237,45 @@ impl Draft {
         ensures { result.now ≡ transaction_of self.now }
     {
         match self {
-            Draft::CreditTransfer(transfer) => &transfer.transaction_id,
-            Draft::StatusReport(report) => &report.original.transaction_id,
-            Draft::StatusRequest(request) => &request.original.transaction_id,
-            Draft::CancellationRequest(recall) => &recall.original.transaction_id,
-            Draft::PaymentReturn(payment) => &payment.original.transaction_id,
+            Draft::CreditTransfer(credit_transfer) => &credit_transfer.transaction_id,
+            Draft::StatusReport(status_report) => &status_report.original.transaction_id,
+            Draft::StatusRequest(status_request) => &status_request.original.transaction_id,
+            Draft::CancellationRequest(cancellation_request) => &cancellation_request
+                .original
+                .transaction_id,
+            Draft::PaymentReturn(payment_return) => &payment_return.original.transaction_id,
             Draft::Resolution(resolution) => &resolution.original.transaction_id,
         }
     }
 
-    /// CxlId of a camt.056, in the other kinds OrgnlCxlId: the recall that the message is, or is about.
+    /// CxlId of a camt.056, in the other kinds OrgnlCxlId: the recall that the message is, or is about. None for a
+    /// pacs.008, a pacs.002, and a pacs.028 about a transfer.
     pub fn cancellation_id(&self) -> Option<&Id35>
         ensures { option_copied result ≡ cancellation_of self.now }
     {
         match self {
             Draft::CreditTransfer(_) | Draft::StatusReport(_) => None,
-            Draft::StatusRequest(request) => request.cancellation_id.as_ref(),
-            Draft::CancellationRequest(recall) => Some(&recall.cancellation_id),
-            Draft::PaymentReturn(payment) => Some(&payment.cancellation_id),
+            Draft::StatusRequest(status_request) => status_request.cancellation_id.as_ref(),
+            Draft::CancellationRequest(cancellation_request) => Some(
+                &cancellation_request.cancellation_id,
+            ),
+            Draft::PaymentReturn(payment_return) => Some(&payment_return.cancellation_id),
             Draft::Resolution(resolution) => Some(&resolution.cancellation_id),
         }
     }
+
     /// What a later message says of its original message; none for a pacs.008.
     pub fn original(&self) -> Option<&Original>
         ensures { option_copied result ≡ original_of self.now }
     {
         match self {
             Draft::CreditTransfer(_) => None,
-            Draft::StatusReport(report) => Some(&report.original),
-            Draft::StatusRequest(request) => Some(&request.original),
-            Draft::CancellationRequest(recall) => Some(&recall.original),
-            Draft::PaymentReturn(payment) => Some(&payment.original),
+            Draft::StatusReport(status_report) => Some(&status_report.original),
+            Draft::StatusRequest(status_request) => Some(&status_request.original),
+            Draft::CancellationRequest(cancellation_request) => Some(
+                &cancellation_request.original,
+            ),
+            Draft::PaymentReturn(payment_return) => Some(&payment_return.original),
             Draft::Resolution(resolution) => Some(&resolution.original),
         }
     }

@@ -5,14 +5,14 @@ use crate::kinds::Kind;
 use sct_element::{Bic, Id35};
 
 /// What a sender must give to one message only: two differing messages of one identity contradict each other.
-/// Ordered by sender, kind and message identification.
+/// Ordered by sender, kind and message identification, kinds by their text.
 #[derive(Debug, Drop, PartialEq, Eq, PartialOrd, Ord, Hash)]
 pub struct Identity {
-    /// InstgAgt.
+    /// InstgAgt: the bank that sent the message, 11 characters.
     pub sender: Bic,
     /// The message's kind.
     pub kind: Kind,
-    /// MsgId.
+    /// MsgId: 1 to 35 characters.
     pub msg_id: Id35,
 }
 
@@ -20,9 +20,9 @@ pub struct Identity {
 /// Ordered by bank and then by identification.
 #[derive(Debug, Drop, PartialEq, Eq, PartialOrd, Ord, Hash)]
 pub struct TransferKey {
-    /// DbtrAgt.
+    /// DbtrAgt: the originator bank, 11 characters.
     pub debtor_agent: Bic,
-    /// TxId, in the other kinds OrgnlTxId.
+    /// TxId, in the other kinds OrgnlTxId: 1 to 35 characters.
     pub tx: Id35,
 }
 
@@ -31,7 +31,7 @@ pub struct TransferKey {
 pub struct RecallKey {
     /// The transfer that is recalled.
     pub transfer: TransferKey,
-    /// CxlId of a camt.056, in the other kinds OrgnlCxlId.
+    /// CxlId of a camt.056, in the other kinds OrgnlCxlId: 1 to 35 characters.
     pub cxl: Id35,
 }
 

@@ -5,7 +5,7 @@ ghost use Rattle.sct_message.specs.Kinds.{kind_text, is_version, is_name_of, kin
 
 use sct_element::are_digits;
 
-/// A kind of message (ISO 20022), ordered by its text.
+/// A kind of message (ISO 20022, as EPC004-16 uses it), ordered by its text.
 #[derive(Clone, Copy, Debug, PartialEq, Eq, PartialOrd, Ord, Hash)]
 pub enum Kind {
     /// camt.029, ResolutionOfInvestigation: refuses a recall.
@@ -23,7 +23,7 @@ pub enum Kind {
 }
 
 impl Kind {
-    /// Every kind.
+    /// Every kind, in the order of the texts.
     pub const ALL: [Kind; 6] = [
         Kind::Camt029,
         Kind::Camt056,
@@ -33,7 +33,7 @@ impl Kind {
         Kind::Pacs028,
     ];
 
-    /// The kind's text, as `pacs.008`.
+    /// The kind's text of 8 characters, as `pacs.008`.
     pub fn text(self) -> &'static str
         ensures { result.now ≡ kind_text self }
     {
@@ -47,7 +47,8 @@ impl Kind {
         }
     }
 
-    /// Whether a text names this kind: the kind alone, or with a version behind it, as `pacs.008.001.08`.
+    /// Whether a text names this kind: the kind alone, or with a version behind it, a point, three digits, a point and
+    /// two digits, as `pacs.008.001.08`.
     #[tactic(auto, using(crate::proofs::Names::too_short))]
     pub fn is_named(self, name: &str) -> bool
         ensures { result ≡ is_name_of self name.now }
@@ -60,7 +61,7 @@ impl Kind {
         kind == self.text().as_bytes() && (version.is_empty() || is_version(version))
     }
 
-    /// The kind that a text names.
+    /// The kind that a text names, none where it is no name of a kind.
     pub fn of_name(name: &str) -> Option<Kind>
         ensures { result ≡ kind_named name.now }
     {
@@ -68,6 +69,7 @@ impl Kind {
     }
 }
 
+/// The first of these kinds that a text names.
 fn first_named<'a>(kinds: &'a [Kind], name: &str) -> Option<&'a Kind>
     ensures { option_copied result ≡ find (λ kind. is_name_of kind name.now) kinds.now }
 {

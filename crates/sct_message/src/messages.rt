@@ -13,7 +13,8 @@ use std::cmp::Ordering;
 use std::hash::{Hash, Hasher};
 use std::marker::Model;
 
-/// A message of one of the kinds, whose elements follow the rules of that kind. None of its calls takes memory.
+/// A message of one of the six kinds, whose elements follow the rules of that kind (EPC004-16). Its calls take no
+/// memory.
 #[derive(Debug, Drop)]
 pub struct Message {
     draft: Draft,
@@ -37,7 +38,8 @@ impl Message {
     ghost use Rattle.sct_message.specs.Rules.{first_broken_rule};
     ghost use Rattle.sct_message.specs.Keys.{identity_of, transfer_of, recall_of};
 
-    /// A message of these elements, or the first rule by number that they break (10 to 21); then they are dropped.
+    /// A message of these elements. Where they break a rule of their kind it answers the first such rule by number, 10
+    /// `WrongName` to 21 `WrongOriginalName`, and drops the elements.
     pub fn of(draft: Draft) -> Result<Message, RuleFault>
         ensures { MatchOption (first_broken_rule draft) (result ≡ Ok draft) (λ fault. result ≡ Err fault) }
     {
@@ -47,7 +49,7 @@ impl Message {
         }
     }
 
-    /// The elements.
+    /// The elements, as `of` was given them.
     pub fn draft(&self) -> &Draft
         ensures elements { result.now ≡ self.now }
         ensures rules { first_broken_rule result.now ≡ None }
@@ -62,7 +64,7 @@ impl Message {
         self.draft.kind()
     }
 
-    /// The sender, the kind and the message identification.
+    /// The sender (InstgAgt), the kind and the message identification (MsgId).
     pub fn identity(&self) -> Identity
         ensures { result ≡ identity_of self.now }
     {
@@ -74,7 +76,7 @@ impl Message {
         }
     }
 
-    /// The transfer that the message is, or is about.
+    /// The transfer that the message is, or is about: DbtrAgt with TxId, in the other kinds with OrgnlTxId.
     pub fn transfer(&self) -> TransferKey
         ensures { result ≡ transfer_of self.now }
     {
@@ -84,7 +86,8 @@ impl Message {
         }
     }
 
-    /// The recall that the message is, or is about; none for a pacs.008, a pacs.002, and a pacs.028 about a transfer.
+    /// The recall that the message is, or is about: its transfer with CxlId, in the other kinds with OrgnlCxlId. None
+    /// for a pacs.008, a pacs.002, and a pacs.028 about a transfer.
     pub fn recall(&self) -> Option<RecallKey>
         ensures { result ≡ recall_of self.now }
     {
@@ -100,14 +103,14 @@ impl Message {
     ghost use Rattle.sct_message.specs.Order.{message_order as order_of};
 
     /// Compares by sender, kind and message identification, and then by the elements in the order of the kind's key
-    /// table, an absent one first. It answers Equal exactly where all elements are the same.
+    /// table: texts by their bytes, amounts by their cents, an absent element first. Equal exactly where `same`.
     pub fn order(&self, other: &Message) -> Ordering
         ensures { result ≡ order_of self.now other.now }
     {
         order(&self.draft, &other.draft)
     }
 
-    /// Whether all elements are the same, MsgNmId as it was written included.
+    /// Whether all elements are the same, MsgNmId as it was written included (`pacs.008` and `pacs.008.001.08` differ).
     #[tactic(auto, using(crate::specs::OrderLaws::message_same, crate::specs::OrderLaws::message_itself))]
     pub fn same(&self, other: &Message) -> bool
         ensures { IsTrue result ↔ (self.now ≡ other.now) }

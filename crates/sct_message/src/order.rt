@@ -127,7 +127,8 @@ pub(crate) fn order(left: &Draft, right: &Draft) -> Ordering
     elements_order(left, right)
 }
 
-/// Keys are totally ordered, kinds by their text, and keys come out equal only where all their parts are the same.
+/// A law: keys are totally ordered, by their parts in turn and kinds by their text, and compare Equal only where
+/// all their parts are the same.
 pub fn keys_are_ordered()
     ensures kinds { (j k : KindOf) → ⟦<Kind as Ord>⟧.cmp j k ≡ text_order (kind_text j) (kind_text k) }
     ensures identities { (i j : IdentityOf) → ⟦<Identity as Ord>⟧.cmp i j ≡ identity_order i j }
@@ -144,7 +145,7 @@ pub fn keys_are_ordered()
     ensures recalls_same { IsAntisymmetric recall_order }
 {}
 
-/// Messages are totally ordered, and come out equal only where all their elements are the same.
+/// A law: messages are totally ordered, and compare Equal exactly where all their elements are the same.
 pub fn order_is_total()
     ensures total { IsTotalOrder message_order }
     ensures same { (a b : Elements) → (message_order a b ≡ Ordering.Equal) ↔ (a ≡ b) }

@@ -8,7 +8,7 @@ use crate::draft::{
 use crate::kinds::Kind;
 use thiserror::Error;
 
-/// A rule that a message's elements break, of those of its kind the first by number.
+/// A rule that a message's elements break, of those of its kind the first by number (EPC004-16).
 #[derive(Clone, Copy, Debug, PartialEq, Eq, Error)]
 pub enum RuleFault {
     /// 10: MsgNmId is no name of the message's kind.
@@ -71,65 +71,70 @@ impl RuleFault {
     }
 }
 
+/// The first of the rules 11 to 14 that a pacs.008 breaks.
 #[tactic(auto, unfolding(crate::specs::Rules::broken_in_credit_transfer))]
-fn broken_in_credit_transfer(transfer: &CreditTransfer) -> Option<RuleFault>
-    ensures { result ≡ broken_in_credit_transfer transfer.now }
+fn broken_in_credit_transfer(credit_transfer: &CreditTransfer) -> Option<RuleFault>
+    ensures { result ≡ broken_in_credit_transfer credit_transfer.now }
 {
-    if transfer.currency.text() != "EUR" {
+    if credit_transfer.currency.text() != "EUR" {
         Some(RuleFault::WrongCurrency)
-    } else if transfer.service_level.text() != "SEPA" {
+    } else if credit_transfer.service_level.text() != "SEPA" {
         Some(RuleFault::WrongService)
-    } else if transfer.local_instrument.text() != "INST" {
+    } else if credit_transfer.local_instrument.text() != "INST" {
         Some(RuleFault::WrongInstrument)
-    } else if transfer.charge_bearer.text() != "SLEV" {
+    } else if credit_transfer.charge_bearer.text() != "SLEV" {
         Some(RuleFault::WrongCharge)
     } else {
         None
     }
 }
 
+/// The first of the rules 15 to 17 that a pacs.002 breaks.
 #[tactic(auto, unfolding(crate::specs::Rules::broken_in_status_report))]
-fn broken_in_status_report(report: &StatusReport) -> Option<RuleFault>
-    ensures { result ≡ broken_in_status_report report.now }
+fn broken_in_status_report(status_report: &StatusReport) -> Option<RuleFault>
+    ensures { result ≡ broken_in_status_report status_report.now }
 {
-    let status = report.status.text();
+    let status = status_report.status.text();
     if status != "ACCP" && status != "RJCT" {
         Some(RuleFault::WrongStatus)
-    } else if status == "RJCT" && report.reason.is_none() {
+    } else if status == "RJCT" && status_report.reason.is_none() {
         Some(RuleFault::ReasonMissing)
-    } else if status == "ACCP" && report.reason.is_some() {
+    } else if status == "ACCP" && status_report.reason.is_some() {
         Some(RuleFault::ReasonUnasked)
     } else {
         None
     }
 }
 
+/// Rule 11, if a camt.056 breaks it.
 #[tactic(auto, unfolding(crate::specs::Rules::broken_in_cancellation_request))]
-fn broken_in_cancellation_request(recall: &CancellationRequest) -> Option<RuleFault>
-    ensures { result ≡ broken_in_cancellation_request recall.now }
+fn broken_in_cancellation_request(cancellation_request: &CancellationRequest) -> Option<RuleFault>
+    ensures { result ≡ broken_in_cancellation_request cancellation_request.now }
 {
-    if recall.currency.text() != "EUR" {
+    if cancellation_request.currency.text() != "EUR" {
         Some(RuleFault::WrongCurrency)
     } else {
         None
     }
 }
 
+/// The first of the rules 11, 18 and 19 that a pacs.004 breaks.
 #[tactic(auto, unfolding(crate::specs::Rules::broken_in_payment_return))]
-fn broken_in_payment_return(payment: &PaymentReturn) -> Option<RuleFault>
-    ensures { result ≡ broken_in_payment_return payment.now }
+fn broken_in_payment_return(payment_return: &PaymentReturn) -> Option<RuleFault>
+    ensures { result ≡ broken_in_payment_return payment_return.now }
 {
-    if payment.currency.text() != "EUR" {
+    if payment_return.currency.text() != "EUR" {
         Some(RuleFault::WrongCurrency)
-    } else if payment.returned_amount.cents() > payment.original_amount.cents() {
+    } else if payment_return.returned_amount.cents() > payment_return.original_amount.cents() {
         Some(RuleFault::ReturnAboveOriginal)
-    } else if payment.reason.text() != "FOCR" {
+    } else if payment_return.reason.text() != "FOCR" {
         Some(RuleFault::WrongReturnReason)
     } else {
         None
     }
 }
 
+/// Rule 20, if a camt.029 breaks it.
 #[tactic(auto, unfolding(crate::specs::Rules::broken_in_resolution))]
 fn broken_in_resolution(resolution: &Resolution) -> Option<RuleFault>
     ensures { result ≡ broken_in_resolution resolution.now }
@@ -146,21 +151,24 @@ fn broken_in_kind(draft: &Draft) -> Option<RuleFault>
     ensures { result ≡ broken_in_kind draft.now }
 {
     match draft {
-        Draft::CreditTransfer(transfer) => broken_in_credit_transfer(transfer),
-        Draft::StatusReport(report) => broken_in_status_report(report),
+        Draft::CreditTransfer(credit_transfer) => broken_in_credit_transfer(credit_transfer),
+        Draft::StatusReport(status_report) => broken_in_status_report(status_report),
         Draft::StatusRequest(_) => None,
-        Draft::CancellationRequest(recall) => broken_in_cancellation_request(recall),
-        Draft::PaymentReturn(payment) => broken_in_payment_return(payment),
+        Draft::CancellationRequest(cancellation_request) => broken_in_cancellation_request(
+            cancellation_request,
+        ),
+        Draft::PaymentReturn(payment_return) => broken_in_payment_return(payment_return),
         Draft::Resolution(resolution) => broken_in_resolution(resolution),
     }
 }
 
-/// The kind of message that a later message is about: a status request that names a recall is about the recall.
+/// The kind of message that a later message is about: pacs.008, for a pacs.028 that names a recall camt.056.
 fn kind_it_is_about(draft: &Draft) -> Kind
     ensures { result ≡ kind_it_is_about draft.now }
 {
     match draft {
-        Draft::StatusRequest(request) if request.cancellation_id.is_some() => Kind::Camt056,
+        Draft::StatusRequest(status_request) if status_request.cancellation_id.is_some() =>
+            Kind::Camt056,
         _ => Kind::Pacs008,
     }
 }
@@ -194,14 +202,14 @@ pub(crate) fn first_broken_rule(draft: &Draft) -> Option<RuleFault>
     }
 }
 
-/// No rule is broken exactly where all rules hold.
+/// A law: no rule is broken exactly where all rules of the kind hold.
 pub fn all_rules_hold_where_none_is_broken()
     ensures { (draft : Draft) → (first_broken_rule draft ≡ None) ↔ FollowsRules draft }
 {}
 
-/// The rule that is told is broken, and no broken rule has a smaller number. It is told of no other rule, and none is
-/// told exactly where no rule is broken.
+/// A law: the rule that `Message::of` tells is broken, and no broken rule has a smaller number. It tells none
+/// exactly where no rule is broken.
 pub fn first_broken_rule_is_told()
-    ensures told { (draft : Draft) (fault : RuleFault) → (first_broken_rule draft ≡ Some fault) ↔ IsFirstBroken fault draft }
-    ensures none { (draft : Draft) → (first_broken_rule draft ≡ None) ↔ ((fault : RuleFault) → ¬ Breaks fault draft) }
+    ensures told { (d : Draft) (f : RuleFault) → (first_broken_rule d ≡ Some f) ↔ IsFirstBroken f d }
+    ensures none { (d : Draft) → (first_broken_rule d ≡ None) ↔ ((f : RuleFault) → ¬ Breaks f d) }
 {}

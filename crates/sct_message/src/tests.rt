@@ -1,4 +1,5 @@
-//! Messages made of the elements of worked examples. The rules of each kind are tried on JSON texts, in sct_json.
+//! Messages made of the elements of worked examples. The rules of each kind are tried on JSON texts,
+//! in sct_json.
 
 mod order;
 mod texts;

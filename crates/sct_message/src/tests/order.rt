@@ -21,7 +21,8 @@ fn assert_ascending(rt: &impl Abort, messages: &[Message]) {
     }
 }
 
-/// By sender, kind and message identification, then by the elements in the order of the key table, an absent one first.
+/// By sender, kind and message identification, then by the elements in the order of the key table,
+/// an absent one first.
 static ASCENDING: [RequestTexts; 9] = [
     RequestTexts {
         sender: "AANKDEFF",
