@@ -9,10 +9,10 @@ use Rattle.serde_json.specs.Data.{Data, string, Members, no_members, member, put
 use Rattle.serde_json.specs.Read.{read, max_depth}
 use Rattle.serde_json.specs.Written.{has_float, members_have_float}
 use Rattle.sct_message.specs.declared.draft.Draft.{Draft}
-use Rattle.sct_message.specs.declared.draft.Draft.TheVariants.{CreditTransfer, StatusReport, StatusRequest, CancellationRequest, PaymentReturn, Resolution}
+use Rattle.sct_message.specs.declared.draft.Draft.TheVariants as draft
 use Rattle.sct_json.specs.Keys.{key_text}
 use Rattle.sct_json.specs.Form.{StandsFor}
-use Rattle.sct_json.specs.Writing.{Row, with_rows, with_elements, written_object, head_rows, original_rows, transfer_rows, report_rows, request_rows, recall_rows, return_rows, answer_rows, with_head, with_original}
+use Rattle.sct_json.specs.Writing.{Row, with_rows, with_elements, written_object, head_rows, original_rows, credit_transfer_rows, status_report_rows, status_request_rows, cancellation_request_rows, payment_return_rows, resolution_rows, with_head, with_original}
 
 -- no member is a float, and none has members of its own
 abbrev pub IsFlat : Members → Type 0
@@ -41,12 +41,12 @@ flat_rows ((k, None) ∷ rs) ms flat = flat_rows rs ms flat
 flat_rows ((k, Some s) ∷ rs) ms flat = flat_rows rs (put (key_text k) (string s) ms) (flat_put (key_text k) s ms flat)
 
 pub flat_written : (m : Draft) → IsFlat (with_elements m no_members)
-flat_written (CreditTransfer m) = flat_rows (transfer_rows m) (with_head m.head no_members) (flat_rows (head_rows m.head) no_members (refl, refl))
-flat_written (StatusReport m) = flat_rows (report_rows m) (with_original m.original (with_head m.head no_members)) (flat_rows (original_rows m.original) (with_head m.head no_members) (flat_rows (head_rows m.head) no_members (refl, refl)))
-flat_written (StatusRequest m) = flat_rows (request_rows m) (with_original m.original (with_head m.head no_members)) (flat_rows (original_rows m.original) (with_head m.head no_members) (flat_rows (head_rows m.head) no_members (refl, refl)))
-flat_written (CancellationRequest m) = flat_rows (recall_rows m) (with_head m.head no_members) (flat_rows (head_rows m.head) no_members (refl, refl))
-flat_written (PaymentReturn m) = flat_rows (return_rows m) (with_head m.head no_members) (flat_rows (head_rows m.head) no_members (refl, refl))
-flat_written (Resolution m) = flat_rows (answer_rows m) (with_head m.head no_members) (flat_rows (head_rows m.head) no_members (refl, refl))
+flat_written (draft.CreditTransfer m) = flat_rows (credit_transfer_rows m) (with_head m.head no_members) (flat_rows (head_rows m.head) no_members (refl, refl))
+flat_written (draft.StatusReport m) = flat_rows (status_report_rows m) (with_original m.original (with_head m.head no_members)) (flat_rows (original_rows m.original) (with_head m.head no_members) (flat_rows (head_rows m.head) no_members (refl, refl)))
+flat_written (draft.StatusRequest m) = flat_rows (status_request_rows m) (with_original m.original (with_head m.head no_members)) (flat_rows (original_rows m.original) (with_head m.head no_members) (flat_rows (head_rows m.head) no_members (refl, refl)))
+flat_written (draft.CancellationRequest m) = flat_rows (cancellation_request_rows m) (with_head m.head no_members) (flat_rows (head_rows m.head) no_members (refl, refl))
+flat_written (draft.PaymentReturn m) = flat_rows (payment_return_rows m) (with_head m.head no_members) (flat_rows (head_rows m.head) no_members (refl, refl))
+flat_written (draft.Resolution m) = flat_rows (resolution_rows m) (with_head m.head no_members) (flat_rows (head_rows m.head) no_members (refl, refl))
 
 pub no_float_written : (m : Draft) → has_float (written_object m) ≡ false
 no_float_written m = (flat_written m).0

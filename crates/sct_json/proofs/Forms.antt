@@ -19,14 +19,14 @@ use Rattle.sct_message.specs.declared.kinds.Kind.{Kind}
 use Rattle.sct_message.specs.declared.kinds.Kind.TheVariants.{Camt029, Camt056, Pacs002, Pacs004, Pacs008, Pacs028}
 use Rattle.sct_message.specs.declared.draft.Head.{Head}
 use Rattle.sct_message.specs.declared.draft.Original.{Original}
-use Rattle.sct_message.specs.declared.draft.CreditTransfer.{CreditTransfer as Transfer}
-use Rattle.sct_message.specs.declared.draft.StatusReport.{StatusReport as Report}
-use Rattle.sct_message.specs.declared.draft.StatusRequest.{StatusRequest as Request}
-use Rattle.sct_message.specs.declared.draft.CancellationRequest.{CancellationRequest as Recall}
-use Rattle.sct_message.specs.declared.draft.PaymentReturn.{PaymentReturn as Return}
-use Rattle.sct_message.specs.declared.draft.Resolution.{Resolution as Answer}
+use Rattle.sct_message.specs.declared.draft.CreditTransfer.{CreditTransfer}
+use Rattle.sct_message.specs.declared.draft.StatusReport.{StatusReport}
+use Rattle.sct_message.specs.declared.draft.StatusRequest.{StatusRequest}
+use Rattle.sct_message.specs.declared.draft.CancellationRequest.{CancellationRequest}
+use Rattle.sct_message.specs.declared.draft.PaymentReturn.{PaymentReturn}
+use Rattle.sct_message.specs.declared.draft.Resolution.{Resolution}
 use Rattle.sct_message.specs.declared.draft.Draft.{Draft}
-use Rattle.sct_message.specs.declared.draft.Draft.TheVariants.{CreditTransfer, StatusReport, StatusRequest, CancellationRequest, PaymentReturn, Resolution}
+use Rattle.sct_message.specs.declared.draft.Draft.TheVariants as draft
 use Rattle.sct_message.specs.declared.rules.RuleFault.{RuleFault}
 use Rattle.sct_message.specs.Drafts.{kind_of, head_of}
 use Rattle.sct_message.specs.Kinds.{kind_text, is_name_of, kind_named}
@@ -37,7 +37,7 @@ use Rattle.sct_json.specs.declared.faults.JsonFault.{JsonFault}
 use Rattle.sct_json.specs.declared.faults.JsonFault.TheVariants as fault
 use Rattle.sct_json.specs.Keys.{key_text, is_key_of}
 use Rattle.sct_json.specs.Reading.{◌>>=◌, name_of, remittance_of, required_as, optional_as, required, optional, head_in, original_in, credit_transfer_in, status_report_in, status_request_in, cancellation_request_in, payment_return_in, resolution_in, draft_in, names_of, first_extra, kind_in, passes_unless, follows_unless, object_in}
-use Rattle.sct_json.specs.Form.{Holds, MayHold, HoldsHead, HoldsOriginal, HoldsTransfer, HoldsReport, HoldsRequest, HoldsRecall, HoldsReturn, HoldsAnswer, HoldsElements, HasKeysOf, IsFormOf}
+use Rattle.sct_json.specs.Form.{Holds, MayHold, HoldsHead, HoldsOriginal, HoldsCreditTransfer, HoldsStatusReport, HoldsStatusRequest, HoldsCancellationRequest, HoldsPaymentReturn, HoldsResolution, HoldsElements, HasKeysOf, IsFormOf}
 
 -- ---- one step after another
 
@@ -162,9 +162,9 @@ holds_original d m h =
     bind_from _ _ _ _ (holds_required _ _ _ _ _ h.transaction_id) (
     refl))))
 
-transfer_holds : (d : Data) (m : Transfer) → credit_transfer_in d ≡ Ok m → HoldsTransfer d m
+credit_transfer_holds : (d : Data) (m : CreditTransfer) → credit_transfer_in d ≡ Ok m → HoldsCreditTransfer d m
 unfolding credit_transfer_in
-transfer_holds d m e0 =
+credit_transfer_holds d m e0 =
     bind_then (head_in d) _ _ e0 (λ x1 r1 e1.
     bind_then (required written_day element.BadDay key.IntrBkSttlmDt d) _ _ e1 (λ x2 r2 e2.
     bind_then (required written_code element.BadCode key.SvcLvl d) _ _ e2 (λ x3 r3 e3.
@@ -184,29 +184,29 @@ transfer_holds d m e0 =
     bind_then (required written_iban element.BadIban key.CdtrAcct d) _ _ e16 (λ x17 r17 e17.
     bind_then (optional remittance_of element.BadText key.Ustrd d) _ _ e17 (λ x18 r18 e18.
     ok_then _ _ e18 (λ same. record {
-      head = head_holds d _ (r1 ∙ ap (λ (m : Transfer). Ok m.head) same);
-      settlement_date = required_holds written_day element.BadDay key.IntrBkSttlmDt d m.settlement_date (r2 ∙ ap (λ (m : Transfer). Ok m.settlement_date) same);
-      service_level = required_holds written_code element.BadCode key.SvcLvl d m.service_level (r3 ∙ ap (λ (m : Transfer). Ok m.service_level) same);
-      local_instrument = required_holds written_code element.BadCode key.LclInstrm d m.local_instrument (r4 ∙ ap (λ (m : Transfer). Ok m.local_instrument) same);
-      instruction_id = optional_holds written_identification element.BadId key.InstrId d m.instruction_id (r5 ∙ ap (λ (m : Transfer). Ok m.instruction_id) same);
-      end_to_end_id = required_holds written_identification element.BadId key.EndToEndId d m.end_to_end_id (r6 ∙ ap (λ (m : Transfer). Ok m.end_to_end_id) same);
-      transaction_id = required_holds written_identification element.BadId key.TxId d m.transaction_id (r7 ∙ ap (λ (m : Transfer). Ok m.transaction_id) same);
-      settlement_amount = required_holds cents_of element.BadAmount key.IntrBkSttlmAmt d m.settlement_amount (r8 ∙ ap (λ (m : Transfer). Ok m.settlement_amount) same);
-      currency = required_holds written_code element.BadCode key.Ccy d m.currency (r9 ∙ ap (λ (m : Transfer). Ok m.currency) same);
-      charge_bearer = required_holds written_code element.BadCode key.ChrgBr d m.charge_bearer (r10 ∙ ap (λ (m : Transfer). Ok m.charge_bearer) same);
-      acceptance_time = optional_holds written_stamp element.BadStamp key.AccptncDtTm d m.acceptance_time (r11 ∙ ap (λ (m : Transfer). Ok m.acceptance_time) same);
-      debtor = required_holds name_of element.BadText key.Dbtr d m.debtor (r12 ∙ ap (λ (m : Transfer). Ok m.debtor) same);
-      debtor_account = required_holds written_iban element.BadIban key.DbtrAcct d m.debtor_account (r13 ∙ ap (λ (m : Transfer). Ok m.debtor_account) same);
-      debtor_agent = required_holds written_bic element.BadBic key.DbtrAgt d m.debtor_agent (r14 ∙ ap (λ (m : Transfer). Ok m.debtor_agent) same);
-      creditor_agent = required_holds written_bic element.BadBic key.CdtrAgt d m.creditor_agent (r15 ∙ ap (λ (m : Transfer). Ok m.creditor_agent) same);
-      creditor = required_holds name_of element.BadText key.Cdtr d m.creditor (r16 ∙ ap (λ (m : Transfer). Ok m.creditor) same);
-      creditor_account = required_holds written_iban element.BadIban key.CdtrAcct d m.creditor_account (r17 ∙ ap (λ (m : Transfer). Ok m.creditor_account) same);
-      remittance = optional_holds remittance_of element.BadText key.Ustrd d m.remittance (r18 ∙ ap (λ (m : Transfer). Ok m.remittance) same);
+      head = head_holds d _ (r1 ∙ ap (λ (m : CreditTransfer). Ok m.head) same);
+      settlement_date = required_holds written_day element.BadDay key.IntrBkSttlmDt d m.settlement_date (r2 ∙ ap (λ (m : CreditTransfer). Ok m.settlement_date) same);
+      service_level = required_holds written_code element.BadCode key.SvcLvl d m.service_level (r3 ∙ ap (λ (m : CreditTransfer). Ok m.service_level) same);
+      local_instrument = required_holds written_code element.BadCode key.LclInstrm d m.local_instrument (r4 ∙ ap (λ (m : CreditTransfer). Ok m.local_instrument) same);
+      instruction_id = optional_holds written_identification element.BadId key.InstrId d m.instruction_id (r5 ∙ ap (λ (m : CreditTransfer). Ok m.instruction_id) same);
+      end_to_end_id = required_holds written_identification element.BadId key.EndToEndId d m.end_to_end_id (r6 ∙ ap (λ (m : CreditTransfer). Ok m.end_to_end_id) same);
+      transaction_id = required_holds written_identification element.BadId key.TxId d m.transaction_id (r7 ∙ ap (λ (m : CreditTransfer). Ok m.transaction_id) same);
+      settlement_amount = required_holds cents_of element.BadAmount key.IntrBkSttlmAmt d m.settlement_amount (r8 ∙ ap (λ (m : CreditTransfer). Ok m.settlement_amount) same);
+      currency = required_holds written_code element.BadCode key.Ccy d m.currency (r9 ∙ ap (λ (m : CreditTransfer). Ok m.currency) same);
+      charge_bearer = required_holds written_code element.BadCode key.ChrgBr d m.charge_bearer (r10 ∙ ap (λ (m : CreditTransfer). Ok m.charge_bearer) same);
+      acceptance_time = optional_holds written_stamp element.BadStamp key.AccptncDtTm d m.acceptance_time (r11 ∙ ap (λ (m : CreditTransfer). Ok m.acceptance_time) same);
+      debtor = required_holds name_of element.BadText key.Dbtr d m.debtor (r12 ∙ ap (λ (m : CreditTransfer). Ok m.debtor) same);
+      debtor_account = required_holds written_iban element.BadIban key.DbtrAcct d m.debtor_account (r13 ∙ ap (λ (m : CreditTransfer). Ok m.debtor_account) same);
+      debtor_agent = required_holds written_bic element.BadBic key.DbtrAgt d m.debtor_agent (r14 ∙ ap (λ (m : CreditTransfer). Ok m.debtor_agent) same);
+      creditor_agent = required_holds written_bic element.BadBic key.CdtrAgt d m.creditor_agent (r15 ∙ ap (λ (m : CreditTransfer). Ok m.creditor_agent) same);
+      creditor = required_holds name_of element.BadText key.Cdtr d m.creditor (r16 ∙ ap (λ (m : CreditTransfer). Ok m.creditor) same);
+      creditor_account = required_holds written_iban element.BadIban key.CdtrAcct d m.creditor_account (r17 ∙ ap (λ (m : CreditTransfer). Ok m.creditor_account) same);
+      remittance = optional_holds remittance_of element.BadText key.Ustrd d m.remittance (r18 ∙ ap (λ (m : CreditTransfer). Ok m.remittance) same);
     })))))))))))))))))))
 
-holds_transfer : (d : Data) (m : Transfer) → HoldsTransfer d m → credit_transfer_in d ≡ Ok m
+holds_credit_transfer : (d : Data) (m : CreditTransfer) → HoldsCreditTransfer d m → credit_transfer_in d ≡ Ok m
 unfolding credit_transfer_in
-holds_transfer d m h =
+holds_credit_transfer d m h =
     bind_from _ _ _ _ (holds_head d _ h.head) (
     bind_from _ _ _ _ (holds_required _ _ _ _ _ h.settlement_date) (
     bind_from _ _ _ _ (holds_required _ _ _ _ _ h.service_level) (
@@ -227,25 +227,25 @@ holds_transfer d m h =
     bind_from _ _ _ _ (holds_optional _ _ _ _ _ h.remittance) (
     refl))))))))))))))))))
 
-report_holds : (d : Data) (m : Report) → status_report_in d ≡ Ok m → HoldsReport d m
+status_report_holds : (d : Data) (m : StatusReport) → status_report_in d ≡ Ok m → HoldsStatusReport d m
 unfolding status_report_in
-report_holds d m e0 =
+status_report_holds d m e0 =
     bind_then (head_in d) _ _ e0 (λ x1 r1 e1.
     bind_then (original_in d) _ _ e1 (λ x2 r2 e2.
     bind_then (required written_code element.BadCode key.TxSts d) _ _ e2 (λ x3 r3 e3.
     bind_then (optional reason_of element.BadCode key.Rsn d) _ _ e3 (λ x4 r4 e4.
     bind_then (required written_bic element.BadBic key.DbtrAgt d) _ _ e4 (λ x5 r5 e5.
     ok_then _ _ e5 (λ same. record {
-      head = head_holds d _ (r1 ∙ ap (λ (m : Report). Ok m.head) same);
-      original = original_holds d _ (r2 ∙ ap (λ (m : Report). Ok m.original) same);
-      status = required_holds written_code element.BadCode key.TxSts d m.status (r3 ∙ ap (λ (m : Report). Ok m.status) same);
-      reason = optional_holds reason_of element.BadCode key.Rsn d m.reason (r4 ∙ ap (λ (m : Report). Ok m.reason) same);
-      debtor_agent = required_holds written_bic element.BadBic key.DbtrAgt d m.debtor_agent (r5 ∙ ap (λ (m : Report). Ok m.debtor_agent) same);
+      head = head_holds d _ (r1 ∙ ap (λ (m : StatusReport). Ok m.head) same);
+      original = original_holds d _ (r2 ∙ ap (λ (m : StatusReport). Ok m.original) same);
+      status = required_holds written_code element.BadCode key.TxSts d m.status (r3 ∙ ap (λ (m : StatusReport). Ok m.status) same);
+      reason = optional_holds reason_of element.BadCode key.Rsn d m.reason (r4 ∙ ap (λ (m : StatusReport). Ok m.reason) same);
+      debtor_agent = required_holds written_bic element.BadBic key.DbtrAgt d m.debtor_agent (r5 ∙ ap (λ (m : StatusReport). Ok m.debtor_agent) same);
     }))))))
 
-holds_report : (d : Data) (m : Report) → HoldsReport d m → status_report_in d ≡ Ok m
+holds_status_report : (d : Data) (m : StatusReport) → HoldsStatusReport d m → status_report_in d ≡ Ok m
 unfolding status_report_in
-holds_report d m h =
+holds_status_report d m h =
     bind_from _ _ _ _ (holds_head d _ h.head) (
     bind_from _ _ _ _ (holds_original d _ h.original) (
     bind_from _ _ _ _ (holds_required _ _ _ _ _ h.status) (
@@ -253,32 +253,32 @@ holds_report d m h =
     bind_from _ _ _ _ (holds_required _ _ _ _ _ h.debtor_agent) (
     refl)))))
 
-request_holds : (d : Data) (m : Request) → status_request_in d ≡ Ok m → HoldsRequest d m
+status_request_holds : (d : Data) (m : StatusRequest) → status_request_in d ≡ Ok m → HoldsStatusRequest d m
 unfolding status_request_in
-request_holds d m e0 =
+status_request_holds d m e0 =
     bind_then (head_in d) _ _ e0 (λ x1 r1 e1.
     bind_then (original_in d) _ _ e1 (λ x2 r2 e2.
     bind_then (optional written_identification element.BadId key.OrgnlCxlId d) _ _ e2 (λ x3 r3 e3.
     bind_then (required written_bic element.BadBic key.DbtrAgt d) _ _ e3 (λ x4 r4 e4.
     ok_then _ _ e4 (λ same. record {
-      head = head_holds d _ (r1 ∙ ap (λ (m : Request). Ok m.head) same);
-      original = original_holds d _ (r2 ∙ ap (λ (m : Request). Ok m.original) same);
-      cancellation_id = optional_holds written_identification element.BadId key.OrgnlCxlId d m.cancellation_id (r3 ∙ ap (λ (m : Request). Ok m.cancellation_id) same);
-      debtor_agent = required_holds written_bic element.BadBic key.DbtrAgt d m.debtor_agent (r4 ∙ ap (λ (m : Request). Ok m.debtor_agent) same);
+      head = head_holds d _ (r1 ∙ ap (λ (m : StatusRequest). Ok m.head) same);
+      original = original_holds d _ (r2 ∙ ap (λ (m : StatusRequest). Ok m.original) same);
+      cancellation_id = optional_holds written_identification element.BadId key.OrgnlCxlId d m.cancellation_id (r3 ∙ ap (λ (m : StatusRequest). Ok m.cancellation_id) same);
+      debtor_agent = required_holds written_bic element.BadBic key.DbtrAgt d m.debtor_agent (r4 ∙ ap (λ (m : StatusRequest). Ok m.debtor_agent) same);
     })))))
 
-holds_request : (d : Data) (m : Request) → HoldsRequest d m → status_request_in d ≡ Ok m
+holds_status_request : (d : Data) (m : StatusRequest) → HoldsStatusRequest d m → status_request_in d ≡ Ok m
 unfolding status_request_in
-holds_request d m h =
+holds_status_request d m h =
     bind_from _ _ _ _ (holds_head d _ h.head) (
     bind_from _ _ _ _ (holds_original d _ h.original) (
     bind_from _ _ _ _ (holds_optional _ _ _ _ _ h.cancellation_id) (
     bind_from _ _ _ _ (holds_required _ _ _ _ _ h.debtor_agent) (
     refl))))
 
-recall_holds : (d : Data) (m : Recall) → cancellation_request_in d ≡ Ok m → HoldsRecall d m
+cancellation_request_holds : (d : Data) (m : CancellationRequest) → cancellation_request_in d ≡ Ok m → HoldsCancellationRequest d m
 unfolding cancellation_request_in
-recall_holds d m e0 =
+cancellation_request_holds d m e0 =
     bind_then (head_in d) _ _ e0 (λ x1 r1 e1.
     bind_then (required written_identification element.BadId key.CxlId d) _ _ e1 (λ x2 r2 e2.
     bind_then (original_in d) _ _ e2 (λ x3 r3 e3.
@@ -288,19 +288,19 @@ recall_holds d m e0 =
     bind_then (required reason_of element.BadCode key.Rsn d) _ _ e6 (λ x7 r7 e7.
     bind_then (required written_bic element.BadBic key.DbtrAgt d) _ _ e7 (λ x8 r8 e8.
     ok_then _ _ e8 (λ same. record {
-      head = head_holds d _ (r1 ∙ ap (λ (m : Recall). Ok m.head) same);
-      cancellation_id = required_holds written_identification element.BadId key.CxlId d m.cancellation_id (r2 ∙ ap (λ (m : Recall). Ok m.cancellation_id) same);
-      original = original_holds d _ (r3 ∙ ap (λ (m : Recall). Ok m.original) same);
-      original_amount = required_holds cents_of element.BadAmount key.OrgnlIntrBkSttlmAmt d m.original_amount (r4 ∙ ap (λ (m : Recall). Ok m.original_amount) same);
-      currency = required_holds written_code element.BadCode key.Ccy d m.currency (r5 ∙ ap (λ (m : Recall). Ok m.currency) same);
-      original_settlement_date = optional_holds written_day element.BadDay key.OrgnlIntrBkSttlmDt d m.original_settlement_date (r6 ∙ ap (λ (m : Recall). Ok m.original_settlement_date) same);
-      reason = required_holds reason_of element.BadCode key.Rsn d m.reason (r7 ∙ ap (λ (m : Recall). Ok m.reason) same);
-      debtor_agent = required_holds written_bic element.BadBic key.DbtrAgt d m.debtor_agent (r8 ∙ ap (λ (m : Recall). Ok m.debtor_agent) same);
+      head = head_holds d _ (r1 ∙ ap (λ (m : CancellationRequest). Ok m.head) same);
+      cancellation_id = required_holds written_identification element.BadId key.CxlId d m.cancellation_id (r2 ∙ ap (λ (m : CancellationRequest). Ok m.cancellation_id) same);
+      original = original_holds d _ (r3 ∙ ap (λ (m : CancellationRequest). Ok m.original) same);
+      original_amount = required_holds cents_of element.BadAmount key.OrgnlIntrBkSttlmAmt d m.original_amount (r4 ∙ ap (λ (m : CancellationRequest). Ok m.original_amount) same);
+      currency = required_holds written_code element.BadCode key.Ccy d m.currency (r5 ∙ ap (λ (m : CancellationRequest). Ok m.currency) same);
+      original_settlement_date = optional_holds written_day element.BadDay key.OrgnlIntrBkSttlmDt d m.original_settlement_date (r6 ∙ ap (λ (m : CancellationRequest). Ok m.original_settlement_date) same);
+      reason = required_holds reason_of element.BadCode key.Rsn d m.reason (r7 ∙ ap (λ (m : CancellationRequest). Ok m.reason) same);
+      debtor_agent = required_holds written_bic element.BadBic key.DbtrAgt d m.debtor_agent (r8 ∙ ap (λ (m : CancellationRequest). Ok m.debtor_agent) same);
     })))))))))
 
-holds_recall : (d : Data) (m : Recall) → HoldsRecall d m → cancellation_request_in d ≡ Ok m
+holds_cancellation_request : (d : Data) (m : CancellationRequest) → HoldsCancellationRequest d m → cancellation_request_in d ≡ Ok m
 unfolding cancellation_request_in
-holds_recall d m h =
+holds_cancellation_request d m h =
     bind_from _ _ _ _ (holds_head d _ h.head) (
     bind_from _ _ _ _ (holds_required _ _ _ _ _ h.cancellation_id) (
     bind_from _ _ _ _ (holds_original d _ h.original) (
@@ -311,9 +311,9 @@ holds_recall d m h =
     bind_from _ _ _ _ (holds_required _ _ _ _ _ h.debtor_agent) (
     refl))))))))
 
-return_holds : (d : Data) (m : Return) → payment_return_in d ≡ Ok m → HoldsReturn d m
+payment_return_holds : (d : Data) (m : PaymentReturn) → payment_return_in d ≡ Ok m → HoldsPaymentReturn d m
 unfolding payment_return_in
-return_holds d m e0 =
+payment_return_holds d m e0 =
     bind_then (head_in d) _ _ e0 (λ x1 r1 e1.
     bind_then (required written_identification element.BadId key.RtrId d) _ _ e1 (λ x2 r2 e2.
     bind_then (required written_identification element.BadId key.OrgnlCxlId d) _ _ e2 (λ x3 r3 e3.
@@ -325,21 +325,21 @@ return_holds d m e0 =
     bind_then (required reason_of element.BadCode key.Rsn d) _ _ e8 (λ x9 r9 e9.
     bind_then (required written_bic element.BadBic key.DbtrAgt d) _ _ e9 (λ x10 r10 e10.
     ok_then _ _ e10 (λ same. record {
-      head = head_holds d _ (r1 ∙ ap (λ (m : Return). Ok m.head) same);
-      return_id = required_holds written_identification element.BadId key.RtrId d m.return_id (r2 ∙ ap (λ (m : Return). Ok m.return_id) same);
-      cancellation_id = required_holds written_identification element.BadId key.OrgnlCxlId d m.cancellation_id (r3 ∙ ap (λ (m : Return). Ok m.cancellation_id) same);
-      original = original_holds d _ (r4 ∙ ap (λ (m : Return). Ok m.original) same);
-      original_amount = required_holds cents_of element.BadAmount key.OrgnlIntrBkSttlmAmt d m.original_amount (r5 ∙ ap (λ (m : Return). Ok m.original_amount) same);
-      returned_amount = required_holds cents_of element.BadAmount key.RtrdIntrBkSttlmAmt d m.returned_amount (r6 ∙ ap (λ (m : Return). Ok m.returned_amount) same);
-      currency = required_holds written_code element.BadCode key.Ccy d m.currency (r7 ∙ ap (λ (m : Return). Ok m.currency) same);
-      settlement_date = required_holds written_day element.BadDay key.IntrBkSttlmDt d m.settlement_date (r8 ∙ ap (λ (m : Return). Ok m.settlement_date) same);
-      reason = required_holds reason_of element.BadCode key.Rsn d m.reason (r9 ∙ ap (λ (m : Return). Ok m.reason) same);
-      debtor_agent = required_holds written_bic element.BadBic key.DbtrAgt d m.debtor_agent (r10 ∙ ap (λ (m : Return). Ok m.debtor_agent) same);
+      head = head_holds d _ (r1 ∙ ap (λ (m : PaymentReturn). Ok m.head) same);
+      return_id = required_holds written_identification element.BadId key.RtrId d m.return_id (r2 ∙ ap (λ (m : PaymentReturn). Ok m.return_id) same);
+      cancellation_id = required_holds written_identification element.BadId key.OrgnlCxlId d m.cancellation_id (r3 ∙ ap (λ (m : PaymentReturn). Ok m.cancellation_id) same);
+      original = original_holds d _ (r4 ∙ ap (λ (m : PaymentReturn). Ok m.original) same);
+      original_amount = required_holds cents_of element.BadAmount key.OrgnlIntrBkSttlmAmt d m.original_amount (r5 ∙ ap (λ (m : PaymentReturn). Ok m.original_amount) same);
+      returned_amount = required_holds cents_of element.BadAmount key.RtrdIntrBkSttlmAmt d m.returned_amount (r6 ∙ ap (λ (m : PaymentReturn). Ok m.returned_amount) same);
+      currency = required_holds written_code element.BadCode key.Ccy d m.currency (r7 ∙ ap (λ (m : PaymentReturn). Ok m.currency) same);
+      settlement_date = required_holds written_day element.BadDay key.IntrBkSttlmDt d m.settlement_date (r8 ∙ ap (λ (m : PaymentReturn). Ok m.settlement_date) same);
+      reason = required_holds reason_of element.BadCode key.Rsn d m.reason (r9 ∙ ap (λ (m : PaymentReturn). Ok m.reason) same);
+      debtor_agent = required_holds written_bic element.BadBic key.DbtrAgt d m.debtor_agent (r10 ∙ ap (λ (m : PaymentReturn). Ok m.debtor_agent) same);
     })))))))))))
 
-holds_return : (d : Data) (m : Return) → HoldsReturn d m → payment_return_in d ≡ Ok m
+holds_payment_return : (d : Data) (m : PaymentReturn) → HoldsPaymentReturn d m → payment_return_in d ≡ Ok m
 unfolding payment_return_in
-holds_return d m h =
+holds_payment_return d m h =
     bind_from _ _ _ _ (holds_head d _ h.head) (
     bind_from _ _ _ _ (holds_required _ _ _ _ _ h.return_id) (
     bind_from _ _ _ _ (holds_required _ _ _ _ _ h.cancellation_id) (
@@ -352,9 +352,9 @@ holds_return d m h =
     bind_from _ _ _ _ (holds_required _ _ _ _ _ h.debtor_agent) (
     refl))))))))))
 
-answer_holds : (d : Data) (m : Answer) → resolution_in d ≡ Ok m → HoldsAnswer d m
+resolution_holds : (d : Data) (m : Resolution) → resolution_in d ≡ Ok m → HoldsResolution d m
 unfolding resolution_in
-answer_holds d m e0 =
+resolution_holds d m e0 =
     bind_then (head_in d) _ _ e0 (λ x1 r1 e1.
     bind_then (required written_identification element.BadId key.CxlStsId d) _ _ e1 (λ x2 r2 e2.
     bind_then (required written_identification element.BadId key.OrgnlCxlId d) _ _ e2 (λ x3 r3 e3.
@@ -363,18 +363,18 @@ answer_holds d m e0 =
     bind_then (required reason_of element.BadCode key.Rsn d) _ _ e5 (λ x6 r6 e6.
     bind_then (required written_bic element.BadBic key.DbtrAgt d) _ _ e6 (λ x7 r7 e7.
     ok_then _ _ e7 (λ same. record {
-      head = head_holds d _ (r1 ∙ ap (λ (m : Answer). Ok m.head) same);
-      resolution_id = required_holds written_identification element.BadId key.CxlStsId d m.resolution_id (r2 ∙ ap (λ (m : Answer). Ok m.resolution_id) same);
-      cancellation_id = required_holds written_identification element.BadId key.OrgnlCxlId d m.cancellation_id (r3 ∙ ap (λ (m : Answer). Ok m.cancellation_id) same);
-      original = original_holds d _ (r4 ∙ ap (λ (m : Answer). Ok m.original) same);
-      confirmation = required_holds written_code element.BadCode key.Conf d m.confirmation (r5 ∙ ap (λ (m : Answer). Ok m.confirmation) same);
-      reason = required_holds reason_of element.BadCode key.Rsn d m.reason (r6 ∙ ap (λ (m : Answer). Ok m.reason) same);
-      debtor_agent = required_holds written_bic element.BadBic key.DbtrAgt d m.debtor_agent (r7 ∙ ap (λ (m : Answer). Ok m.debtor_agent) same);
+      head = head_holds d _ (r1 ∙ ap (λ (m : Resolution). Ok m.head) same);
+      resolution_id = required_holds written_identification element.BadId key.CxlStsId d m.resolution_id (r2 ∙ ap (λ (m : Resolution). Ok m.resolution_id) same);
+      cancellation_id = required_holds written_identification element.BadId key.OrgnlCxlId d m.cancellation_id (r3 ∙ ap (λ (m : Resolution). Ok m.cancellation_id) same);
+      original = original_holds d _ (r4 ∙ ap (λ (m : Resolution). Ok m.original) same);
+      confirmation = required_holds written_code element.BadCode key.Conf d m.confirmation (r5 ∙ ap (λ (m : Resolution). Ok m.confirmation) same);
+      reason = required_holds reason_of element.BadCode key.Rsn d m.reason (r6 ∙ ap (λ (m : Resolution). Ok m.reason) same);
+      debtor_agent = required_holds written_bic element.BadBic key.DbtrAgt d m.debtor_agent (r7 ∙ ap (λ (m : Resolution). Ok m.debtor_agent) same);
     }))))))))
 
-holds_answer : (d : Data) (m : Answer) → HoldsAnswer d m → resolution_in d ≡ Ok m
+holds_resolution : (d : Data) (m : Resolution) → HoldsResolution d m → resolution_in d ≡ Ok m
 unfolding resolution_in
-holds_answer d m h =
+holds_resolution d m h =
     bind_from _ _ _ _ (holds_head d _ h.head) (
     bind_from _ _ _ _ (holds_required _ _ _ _ _ h.resolution_id) (
     bind_from _ _ _ _ (holds_required _ _ _ _ _ h.cancellation_id) (
@@ -385,28 +385,28 @@ holds_answer d m h =
     refl)))))))
 
 draft_holds : (kind : Kind) (d : Data) (m : Draft) → draft_in kind d ≡ Ok m → (kind ≡ kind_of m) × HoldsElements d m
-draft_holds Camt029 d m e = bind_then (resolution_in d) _ _ e (λ t r e1. subst (λ (n : Draft). (Camt029 ≡ kind_of n) × HoldsElements d n) (ok_same _ _ e1) (refl, answer_holds d t r))
-draft_holds Camt056 d m e = bind_then (cancellation_request_in d) _ _ e (λ t r e1. subst (λ (n : Draft). (Camt056 ≡ kind_of n) × HoldsElements d n) (ok_same _ _ e1) (refl, recall_holds d t r))
-draft_holds Pacs002 d m e = bind_then (status_report_in d) _ _ e (λ t r e1. subst (λ (n : Draft). (Pacs002 ≡ kind_of n) × HoldsElements d n) (ok_same _ _ e1) (refl, report_holds d t r))
-draft_holds Pacs004 d m e = bind_then (payment_return_in d) _ _ e (λ t r e1. subst (λ (n : Draft). (Pacs004 ≡ kind_of n) × HoldsElements d n) (ok_same _ _ e1) (refl, return_holds d t r))
-draft_holds Pacs008 d m e = bind_then (credit_transfer_in d) _ _ e (λ t r e1. subst (λ (n : Draft). (Pacs008 ≡ kind_of n) × HoldsElements d n) (ok_same _ _ e1) (refl, transfer_holds d t r))
-draft_holds Pacs028 d m e = bind_then (status_request_in d) _ _ e (λ t r e1. subst (λ (n : Draft). (Pacs028 ≡ kind_of n) × HoldsElements d n) (ok_same _ _ e1) (refl, request_holds d t r))
+draft_holds Camt029 d m e = bind_then (resolution_in d) _ _ e (λ t r e1. subst (λ (n : Draft). (Camt029 ≡ kind_of n) × HoldsElements d n) (ok_same _ _ e1) (refl, resolution_holds d t r))
+draft_holds Camt056 d m e = bind_then (cancellation_request_in d) _ _ e (λ t r e1. subst (λ (n : Draft). (Camt056 ≡ kind_of n) × HoldsElements d n) (ok_same _ _ e1) (refl, cancellation_request_holds d t r))
+draft_holds Pacs002 d m e = bind_then (status_report_in d) _ _ e (λ t r e1. subst (λ (n : Draft). (Pacs002 ≡ kind_of n) × HoldsElements d n) (ok_same _ _ e1) (refl, status_report_holds d t r))
+draft_holds Pacs004 d m e = bind_then (payment_return_in d) _ _ e (λ t r e1. subst (λ (n : Draft). (Pacs004 ≡ kind_of n) × HoldsElements d n) (ok_same _ _ e1) (refl, payment_return_holds d t r))
+draft_holds Pacs008 d m e = bind_then (credit_transfer_in d) _ _ e (λ t r e1. subst (λ (n : Draft). (Pacs008 ≡ kind_of n) × HoldsElements d n) (ok_same _ _ e1) (refl, credit_transfer_holds d t r))
+draft_holds Pacs028 d m e = bind_then (status_request_in d) _ _ e (λ t r e1. subst (λ (n : Draft). (Pacs028 ≡ kind_of n) × HoldsElements d n) (ok_same _ _ e1) (refl, status_request_holds d t r))
 
 holds_draft : (d : Data) (m : Draft) → HoldsElements d m → draft_in (kind_of m) d ≡ Ok m
-holds_draft d (CreditTransfer m) h = bind_from _ _ _ _ (holds_transfer d m h) refl
-holds_draft d (StatusReport m) h = bind_from _ _ _ _ (holds_report d m h) refl
-holds_draft d (StatusRequest m) h = bind_from _ _ _ _ (holds_request d m h) refl
-holds_draft d (CancellationRequest m) h = bind_from _ _ _ _ (holds_recall d m h) refl
-holds_draft d (PaymentReturn m) h = bind_from _ _ _ _ (holds_return d m h) refl
-holds_draft d (Resolution m) h = bind_from _ _ _ _ (holds_answer d m h) refl
+holds_draft d (draft.CreditTransfer m) h = bind_from _ _ _ _ (holds_credit_transfer d m h) refl
+holds_draft d (draft.StatusReport m) h = bind_from _ _ _ _ (holds_status_report d m h) refl
+holds_draft d (draft.StatusRequest m) h = bind_from _ _ _ _ (holds_status_request d m h) refl
+holds_draft d (draft.CancellationRequest m) h = bind_from _ _ _ _ (holds_cancellation_request d m h) refl
+holds_draft d (draft.PaymentReturn m) h = bind_from _ _ _ _ (holds_payment_return d m h) refl
+holds_draft d (draft.Resolution m) h = bind_from _ _ _ _ (holds_resolution d m h) refl
 
 holds_its_head : (d : Data) (m : Draft) → HoldsElements d m → HoldsHead d (head_of m)
-holds_its_head d (CreditTransfer m) h = h.head
-holds_its_head d (StatusReport m) h = h.head
-holds_its_head d (StatusRequest m) h = h.head
-holds_its_head d (CancellationRequest m) h = h.head
-holds_its_head d (PaymentReturn m) h = h.head
-holds_its_head d (Resolution m) h = h.head
+holds_its_head d (draft.CreditTransfer m) h = h.head
+holds_its_head d (draft.StatusReport m) h = h.head
+holds_its_head d (draft.StatusRequest m) h = h.head
+holds_its_head d (draft.CancellationRequest m) h = h.head
+holds_its_head d (draft.PaymentReturn m) h = h.head
+holds_its_head d (draft.Resolution m) h = h.head
 
 -- ---- the kind
 

@@ -81,9 +81,9 @@ original_spares d =
     then_spares _ _ (required_spares _ _ _ d) (λ x4.
     ok_spares _))))
 
-transfer_spares : (d : Data) → Spares (credit_transfer_in d)
+credit_transfer_spares : (d : Data) → Spares (credit_transfer_in d)
 unfolding credit_transfer_in
-transfer_spares d =
+credit_transfer_spares d =
     then_spares _ _ (head_spares d) (λ x1.
     then_spares _ _ (required_spares _ _ _ d) (λ x2.
     then_spares _ _ (required_spares _ _ _ d) (λ x3.
@@ -104,9 +104,9 @@ transfer_spares d =
     then_spares _ _ (optional_spares _ _ _ d) (λ x18.
     ok_spares _))))))))))))))))))
 
-report_spares : (d : Data) → Spares (status_report_in d)
+status_report_spares : (d : Data) → Spares (status_report_in d)
 unfolding status_report_in
-report_spares d =
+status_report_spares d =
     then_spares _ _ (head_spares d) (λ x1.
     then_spares _ _ (original_spares d) (λ x2.
     then_spares _ _ (required_spares _ _ _ d) (λ x3.
@@ -114,18 +114,18 @@ report_spares d =
     then_spares _ _ (required_spares _ _ _ d) (λ x5.
     ok_spares _)))))
 
-request_spares : (d : Data) → Spares (status_request_in d)
+status_request_spares : (d : Data) → Spares (status_request_in d)
 unfolding status_request_in
-request_spares d =
+status_request_spares d =
     then_spares _ _ (head_spares d) (λ x1.
     then_spares _ _ (original_spares d) (λ x2.
     then_spares _ _ (optional_spares _ _ _ d) (λ x3.
     then_spares _ _ (required_spares _ _ _ d) (λ x4.
     ok_spares _))))
 
-recall_spares : (d : Data) → Spares (cancellation_request_in d)
+cancellation_request_spares : (d : Data) → Spares (cancellation_request_in d)
 unfolding cancellation_request_in
-recall_spares d =
+cancellation_request_spares d =
     then_spares _ _ (head_spares d) (λ x1.
     then_spares _ _ (required_spares _ _ _ d) (λ x2.
     then_spares _ _ (original_spares d) (λ x3.
@@ -136,9 +136,9 @@ recall_spares d =
     then_spares _ _ (required_spares _ _ _ d) (λ x8.
     ok_spares _))))))))
 
-return_spares : (d : Data) → Spares (payment_return_in d)
+payment_return_spares : (d : Data) → Spares (payment_return_in d)
 unfolding payment_return_in
-return_spares d =
+payment_return_spares d =
     then_spares _ _ (head_spares d) (λ x1.
     then_spares _ _ (required_spares _ _ _ d) (λ x2.
     then_spares _ _ (required_spares _ _ _ d) (λ x3.
@@ -151,9 +151,9 @@ return_spares d =
     then_spares _ _ (required_spares _ _ _ d) (λ x10.
     ok_spares _))))))))))
 
-answer_spares : (d : Data) → Spares (resolution_in d)
+resolution_spares : (d : Data) → Spares (resolution_in d)
 unfolding resolution_in
-answer_spares d =
+resolution_spares d =
     then_spares _ _ (head_spares d) (λ x1.
     then_spares _ _ (required_spares _ _ _ d) (λ x2.
     then_spares _ _ (required_spares _ _ _ d) (λ x3.
@@ -164,12 +164,12 @@ answer_spares d =
     ok_spares _)))))))
 
 draft_spares : (kind : Kind) (d : Data) → Spares (draft_in kind d)
-draft_spares Camt029 d = then_spares _ _ (answer_spares d) (λ m. ok_spares _)
-draft_spares Camt056 d = then_spares _ _ (recall_spares d) (λ m. ok_spares _)
-draft_spares Pacs002 d = then_spares _ _ (report_spares d) (λ m. ok_spares _)
-draft_spares Pacs004 d = then_spares _ _ (return_spares d) (λ m. ok_spares _)
-draft_spares Pacs008 d = then_spares _ _ (transfer_spares d) (λ m. ok_spares _)
-draft_spares Pacs028 d = then_spares _ _ (request_spares d) (λ m. ok_spares _)
+draft_spares Camt029 d = then_spares _ _ (resolution_spares d) (λ m. ok_spares _)
+draft_spares Camt056 d = then_spares _ _ (cancellation_request_spares d) (λ m. ok_spares _)
+draft_spares Pacs002 d = then_spares _ _ (status_report_spares d) (λ m. ok_spares _)
+draft_spares Pacs004 d = then_spares _ _ (payment_return_spares d) (λ m. ok_spares _)
+draft_spares Pacs008 d = then_spares _ _ (credit_transfer_spares d) (λ m. ok_spares _)
+draft_spares Pacs028 d = then_spares _ _ (status_request_spares d) (λ m. ok_spares _)
 
 -- ---- the whole object
 

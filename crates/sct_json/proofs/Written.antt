@@ -17,14 +17,14 @@ use Rattle.sct_reason.specs.Reasons.{reason_of}
 use Rattle.sct_message.specs.declared.kinds.Kind.TheVariants.{Camt029, Camt056, Pacs002, Pacs004, Pacs008, Pacs028}
 use Rattle.sct_message.specs.declared.draft.Head.{Head}
 use Rattle.sct_message.specs.declared.draft.Original.{Original}
-use Rattle.sct_message.specs.declared.draft.CreditTransfer.{CreditTransfer as Transfer}
-use Rattle.sct_message.specs.declared.draft.StatusReport.{StatusReport as Report}
-use Rattle.sct_message.specs.declared.draft.StatusRequest.{StatusRequest as Request}
-use Rattle.sct_message.specs.declared.draft.CancellationRequest.{CancellationRequest as Recall}
-use Rattle.sct_message.specs.declared.draft.PaymentReturn.{PaymentReturn as Return}
-use Rattle.sct_message.specs.declared.draft.Resolution.{Resolution as Answer}
+use Rattle.sct_message.specs.declared.draft.CreditTransfer.{CreditTransfer}
+use Rattle.sct_message.specs.declared.draft.StatusReport.{StatusReport}
+use Rattle.sct_message.specs.declared.draft.StatusRequest.{StatusRequest}
+use Rattle.sct_message.specs.declared.draft.CancellationRequest.{CancellationRequest}
+use Rattle.sct_message.specs.declared.draft.PaymentReturn.{PaymentReturn}
+use Rattle.sct_message.specs.declared.draft.Resolution.{Resolution}
 use Rattle.sct_message.specs.declared.draft.Draft.{Draft}
-use Rattle.sct_message.specs.declared.draft.Draft.TheVariants.{CreditTransfer, StatusReport, StatusRequest, CancellationRequest, PaymentReturn, Resolution}
+use Rattle.sct_message.specs.declared.draft.Draft.TheVariants as draft
 use Rattle.sct_message.specs.Drafts.{kind_of}
 use Rattle.sct_message.specs.Kinds.{is_text}
 use Rattle.sct_message.specs.Rules.{first_broken_rule}
@@ -32,8 +32,8 @@ use Rattle.sct_json.specs.declared.keys.Key.{Key}
 use Rattle.sct_json.specs.declared.keys.Key.TheVariants as key
 use Rattle.sct_json.specs.Keys.{key_text, is_among, is_key_of}
 use Rattle.sct_json.specs.Reading.{name_of, remittance_of, names_of, object_in}
-use Rattle.sct_json.specs.Form.{Holds, MayHold, HoldsHead, HoldsOriginal, HoldsTransfer, HoldsReport, HoldsRequest, HoldsRecall, HoldsReturn, HoldsAnswer, HoldsElements, HasKeysOf}
-use Rattle.sct_json.specs.Writing.{Row, with_text, with_rows, with_elements, written_object, head_rows, original_rows, transfer_rows, report_rows, request_rows, recall_rows, return_rows, answer_rows, with_head, with_original, ReadsBack, MayReadBack, HeadReadsBack, OriginalReadsBack, TransferReadsBack, ReportReadsBack, RequestReadsBack, RecallReadsBack, ReturnReadsBack, AnswerReadsBack, ElementsReadBack}
+use Rattle.sct_json.specs.Form.{Holds, MayHold, HoldsHead, HoldsOriginal, HoldsCreditTransfer, HoldsStatusReport, HoldsStatusRequest, HoldsCancellationRequest, HoldsPaymentReturn, HoldsResolution, HoldsElements, HasKeysOf}
+use Rattle.sct_json.specs.Writing.{Row, with_text, with_rows, with_elements, written_object, head_rows, original_rows, credit_transfer_rows, status_report_rows, status_request_rows, cancellation_request_rows, payment_return_rows, resolution_rows, with_head, with_original, ReadsBack, MayReadBack, HeadReadsBack, OriginalReadsBack, CreditTransferReadsBack, StatusReportReadsBack, StatusRequestReadsBack, CancellationRequestReadsBack, PaymentReturnReadsBack, ResolutionReadsBack, ElementsReadBack}
 use Rattle.sct_json.proofs.Forms.{held_is_read}
 
 -- ---- what stands at a key once rows were put
@@ -91,69 +91,69 @@ names_with p [] ms rows all = all
 names_with p ((k, None) ∷ rs) ms rows all = names_with p rs ms (and_parts _ _ rows).1 all
 names_with p ((k, Some s) ∷ rs) ms rows all = names_with p rs (put (key_text k) (string s) ms) (and_parts _ _ rows).1 (names_put p (key_text k) (string s) ms (and_parts _ _ rows).0 all)
 
-head_rows_in_transfer : (m : Head) → are_rows_of (is_key_of Pacs008) (head_rows m) ≡ true
+head_rows_in_credit_transfer : (m : Head) → are_rows_of (is_key_of Pacs008) (head_rows m) ≡ true
 unfolding is_among
-head_rows_in_transfer m = refl
+head_rows_in_credit_transfer m = refl
 
-transfer_rows_in_transfer : (m : Transfer) → are_rows_of (is_key_of Pacs008) (transfer_rows m) ≡ true
+credit_transfer_rows_in_credit_transfer : (m : CreditTransfer) → are_rows_of (is_key_of Pacs008) (credit_transfer_rows m) ≡ true
 unfolding is_among
-transfer_rows_in_transfer m = refl
+credit_transfer_rows_in_credit_transfer m = refl
 
-head_rows_in_report : (m : Head) → are_rows_of (is_key_of Pacs002) (head_rows m) ≡ true
+head_rows_in_status_report : (m : Head) → are_rows_of (is_key_of Pacs002) (head_rows m) ≡ true
 unfolding is_among
-head_rows_in_report m = refl
+head_rows_in_status_report m = refl
 
-original_rows_in_report : (m : Original) → are_rows_of (is_key_of Pacs002) (original_rows m) ≡ true
+original_rows_in_status_report : (m : Original) → are_rows_of (is_key_of Pacs002) (original_rows m) ≡ true
 unfolding is_among
-original_rows_in_report m = refl
+original_rows_in_status_report m = refl
 
-report_rows_in_report : (m : Report) → are_rows_of (is_key_of Pacs002) (report_rows m) ≡ true
+status_report_rows_in_status_report : (m : StatusReport) → are_rows_of (is_key_of Pacs002) (status_report_rows m) ≡ true
 unfolding is_among
-report_rows_in_report m = refl
+status_report_rows_in_status_report m = refl
 
-head_rows_in_request : (m : Head) → are_rows_of (is_key_of Pacs028) (head_rows m) ≡ true
+head_rows_in_status_request : (m : Head) → are_rows_of (is_key_of Pacs028) (head_rows m) ≡ true
 unfolding is_among
-head_rows_in_request m = refl
+head_rows_in_status_request m = refl
 
-original_rows_in_request : (m : Original) → are_rows_of (is_key_of Pacs028) (original_rows m) ≡ true
+original_rows_in_status_request : (m : Original) → are_rows_of (is_key_of Pacs028) (original_rows m) ≡ true
 unfolding is_among
-original_rows_in_request m = refl
+original_rows_in_status_request m = refl
 
-request_rows_in_request : (m : Request) → are_rows_of (is_key_of Pacs028) (request_rows m) ≡ true
+status_request_rows_in_status_request : (m : StatusRequest) → are_rows_of (is_key_of Pacs028) (status_request_rows m) ≡ true
 unfolding is_among
-request_rows_in_request m = refl
+status_request_rows_in_status_request m = refl
 
-head_rows_in_recall : (m : Head) → are_rows_of (is_key_of Camt056) (head_rows m) ≡ true
+head_rows_in_cancellation_request : (m : Head) → are_rows_of (is_key_of Camt056) (head_rows m) ≡ true
 unfolding is_among
-head_rows_in_recall m = refl
+head_rows_in_cancellation_request m = refl
 
-recall_rows_in_recall : (m : Recall) → are_rows_of (is_key_of Camt056) (recall_rows m) ≡ true
+cancellation_request_rows_in_cancellation_request : (m : CancellationRequest) → are_rows_of (is_key_of Camt056) (cancellation_request_rows m) ≡ true
 unfolding is_among
-recall_rows_in_recall m = refl
+cancellation_request_rows_in_cancellation_request m = refl
 
-head_rows_in_return : (m : Head) → are_rows_of (is_key_of Pacs004) (head_rows m) ≡ true
+head_rows_in_payment_return : (m : Head) → are_rows_of (is_key_of Pacs004) (head_rows m) ≡ true
 unfolding is_among
-head_rows_in_return m = refl
+head_rows_in_payment_return m = refl
 
-return_rows_in_return : (m : Return) → are_rows_of (is_key_of Pacs004) (return_rows m) ≡ true
+payment_return_rows_in_payment_return : (m : PaymentReturn) → are_rows_of (is_key_of Pacs004) (payment_return_rows m) ≡ true
 unfolding is_among
-return_rows_in_return m = refl
+payment_return_rows_in_payment_return m = refl
 
-head_rows_in_answer : (m : Head) → are_rows_of (is_key_of Camt029) (head_rows m) ≡ true
+head_rows_in_resolution : (m : Head) → are_rows_of (is_key_of Camt029) (head_rows m) ≡ true
 unfolding is_among
-head_rows_in_answer m = refl
+head_rows_in_resolution m = refl
 
-answer_rows_in_answer : (m : Answer) → are_rows_of (is_key_of Camt029) (answer_rows m) ≡ true
+resolution_rows_in_resolution : (m : Resolution) → are_rows_of (is_key_of Camt029) (resolution_rows m) ≡ true
 unfolding is_among
-answer_rows_in_answer m = refl
+resolution_rows_in_resolution m = refl
 
 keys_written : (m : Draft) → HasKeysOf (kind_of m) (written_object m)
-keys_written (CreditTransfer m) = (with_elements (CreditTransfer m) no_members, refl, names_with (is_key_of Pacs008) (transfer_rows m) (with_head m.head no_members) (transfer_rows_in_transfer m) (names_with (is_key_of Pacs008) (head_rows m.head) no_members (head_rows_in_transfer m.head) refl))
-keys_written (StatusReport m) = (with_elements (StatusReport m) no_members, refl, names_with (is_key_of Pacs002) (report_rows m) (with_original m.original (with_head m.head no_members)) (report_rows_in_report m) (names_with (is_key_of Pacs002) (original_rows m.original) (with_head m.head no_members) (original_rows_in_report m.original) (names_with (is_key_of Pacs002) (head_rows m.head) no_members (head_rows_in_report m.head) refl)))
-keys_written (StatusRequest m) = (with_elements (StatusRequest m) no_members, refl, names_with (is_key_of Pacs028) (request_rows m) (with_original m.original (with_head m.head no_members)) (request_rows_in_request m) (names_with (is_key_of Pacs028) (original_rows m.original) (with_head m.head no_members) (original_rows_in_request m.original) (names_with (is_key_of Pacs028) (head_rows m.head) no_members (head_rows_in_request m.head) refl)))
-keys_written (CancellationRequest m) = (with_elements (CancellationRequest m) no_members, refl, names_with (is_key_of Camt056) (recall_rows m) (with_head m.head no_members) (recall_rows_in_recall m) (names_with (is_key_of Camt056) (head_rows m.head) no_members (head_rows_in_recall m.head) refl))
-keys_written (PaymentReturn m) = (with_elements (PaymentReturn m) no_members, refl, names_with (is_key_of Pacs004) (return_rows m) (with_head m.head no_members) (return_rows_in_return m) (names_with (is_key_of Pacs004) (head_rows m.head) no_members (head_rows_in_return m.head) refl))
-keys_written (Resolution m) = (with_elements (Resolution m) no_members, refl, names_with (is_key_of Camt029) (answer_rows m) (with_head m.head no_members) (answer_rows_in_answer m) (names_with (is_key_of Camt029) (head_rows m.head) no_members (head_rows_in_answer m.head) refl))
+keys_written (draft.CreditTransfer m) = (with_elements (draft.CreditTransfer m) no_members, refl, names_with (is_key_of Pacs008) (credit_transfer_rows m) (with_head m.head no_members) (credit_transfer_rows_in_credit_transfer m) (names_with (is_key_of Pacs008) (head_rows m.head) no_members (head_rows_in_credit_transfer m.head) refl))
+keys_written (draft.StatusReport m) = (with_elements (draft.StatusReport m) no_members, refl, names_with (is_key_of Pacs002) (status_report_rows m) (with_original m.original (with_head m.head no_members)) (status_report_rows_in_status_report m) (names_with (is_key_of Pacs002) (original_rows m.original) (with_head m.head no_members) (original_rows_in_status_report m.original) (names_with (is_key_of Pacs002) (head_rows m.head) no_members (head_rows_in_status_report m.head) refl)))
+keys_written (draft.StatusRequest m) = (with_elements (draft.StatusRequest m) no_members, refl, names_with (is_key_of Pacs028) (status_request_rows m) (with_original m.original (with_head m.head no_members)) (status_request_rows_in_status_request m) (names_with (is_key_of Pacs028) (original_rows m.original) (with_head m.head no_members) (original_rows_in_status_request m.original) (names_with (is_key_of Pacs028) (head_rows m.head) no_members (head_rows_in_status_request m.head) refl)))
+keys_written (draft.CancellationRequest m) = (with_elements (draft.CancellationRequest m) no_members, refl, names_with (is_key_of Camt056) (cancellation_request_rows m) (with_head m.head no_members) (cancellation_request_rows_in_cancellation_request m) (names_with (is_key_of Camt056) (head_rows m.head) no_members (head_rows_in_cancellation_request m.head) refl))
+keys_written (draft.PaymentReturn m) = (with_elements (draft.PaymentReturn m) no_members, refl, names_with (is_key_of Pacs004) (payment_return_rows m) (with_head m.head no_members) (payment_return_rows_in_payment_return m) (names_with (is_key_of Pacs004) (head_rows m.head) no_members (head_rows_in_payment_return m.head) refl))
+keys_written (draft.Resolution m) = (with_elements (draft.Resolution m) no_members, refl, names_with (is_key_of Camt029) (resolution_rows m) (with_head m.head no_members) (resolution_rows_in_resolution m) (names_with (is_key_of Camt029) (head_rows m.head) no_members (head_rows_in_resolution m.head) refl))
 
 -- ---- the elements of what is written
 
@@ -185,107 +185,107 @@ original_written d m back at0 at1 at2 at3 = record {
   transaction_id = holds_text written_identification (λ s. s) key.OrgnlTxId d m.transaction_id back.transaction_id at3;
 }
 
-in_transfer : (m : Transfer) (k : Key) → get (key_text k) (written_object (CreditTransfer m)) ≡ found (key_text k) (transfer_rows m) (found (key_text k) (head_rows m.head) None)
-in_transfer m k = get_with (key_text k) (transfer_rows m) (with_head m.head no_members) ∙ ap (found (key_text k) (transfer_rows m)) (get_with (key_text k) (head_rows m.head) no_members)
+in_credit_transfer : (m : CreditTransfer) (k : Key) → get (key_text k) (written_object (draft.CreditTransfer m)) ≡ found (key_text k) (credit_transfer_rows m) (found (key_text k) (head_rows m.head) None)
+in_credit_transfer m k = get_with (key_text k) (credit_transfer_rows m) (with_head m.head no_members) ∙ ap (found (key_text k) (credit_transfer_rows m)) (get_with (key_text k) (head_rows m.head) no_members)
 
-transfer_written : (m : Transfer) → TransferReadsBack m → HoldsTransfer (written_object (CreditTransfer m)) m
-transfer_written m back = let d : Data = written_object (CreditTransfer m) in record {
-  head = head_written d m.head back.head (in_transfer m key.MsgNmId) (in_transfer m key.MsgId) (in_transfer m key.CreDtTm) (in_transfer m key.InstgAgt) (in_transfer m key.InstdAgt);
-  settlement_date = holds_text written_day (λ s. s) key.IntrBkSttlmDt d m.settlement_date back.settlement_date (in_transfer m key.IntrBkSttlmDt);
-  service_level = holds_text written_code (λ s. s) key.SvcLvl d m.service_level back.service_level (in_transfer m key.SvcLvl);
-  local_instrument = holds_text written_code (λ s. s) key.LclInstrm d m.local_instrument back.local_instrument (in_transfer m key.LclInstrm);
-  instruction_id = may_hold_text written_identification key.InstrId d m.instruction_id back.instruction_id (in_transfer m key.InstrId);
-  end_to_end_id = holds_text written_identification (λ s. s) key.EndToEndId d m.end_to_end_id back.end_to_end_id (in_transfer m key.EndToEndId);
-  transaction_id = holds_text written_identification (λ s. s) key.TxId d m.transaction_id back.transaction_id (in_transfer m key.TxId);
-  settlement_amount = holds_text cents_of amount_text key.IntrBkSttlmAmt d m.settlement_amount back.settlement_amount (in_transfer m key.IntrBkSttlmAmt);
-  currency = holds_text written_code (λ s. s) key.Ccy d m.currency back.currency (in_transfer m key.Ccy);
-  charge_bearer = holds_text written_code (λ s. s) key.ChrgBr d m.charge_bearer back.charge_bearer (in_transfer m key.ChrgBr);
-  acceptance_time = may_hold_text written_stamp key.AccptncDtTm d m.acceptance_time back.acceptance_time (in_transfer m key.AccptncDtTm);
-  debtor = holds_text name_of (λ s. s) key.Dbtr d m.debtor back.debtor (in_transfer m key.Dbtr);
-  debtor_account = holds_text written_iban (λ s. s) key.DbtrAcct d m.debtor_account back.debtor_account (in_transfer m key.DbtrAcct);
-  debtor_agent = holds_text written_bic (λ s. s) key.DbtrAgt d m.debtor_agent back.debtor_agent (in_transfer m key.DbtrAgt);
-  creditor_agent = holds_text written_bic (λ s. s) key.CdtrAgt d m.creditor_agent back.creditor_agent (in_transfer m key.CdtrAgt);
-  creditor = holds_text name_of (λ s. s) key.Cdtr d m.creditor back.creditor (in_transfer m key.Cdtr);
-  creditor_account = holds_text written_iban (λ s. s) key.CdtrAcct d m.creditor_account back.creditor_account (in_transfer m key.CdtrAcct);
-  remittance = may_hold_text remittance_of key.Ustrd d m.remittance back.remittance (in_transfer m key.Ustrd);
+credit_transfer_written : (m : CreditTransfer) → CreditTransferReadsBack m → HoldsCreditTransfer (written_object (draft.CreditTransfer m)) m
+credit_transfer_written m back = let d : Data = written_object (draft.CreditTransfer m) in record {
+  head = head_written d m.head back.head (in_credit_transfer m key.MsgNmId) (in_credit_transfer m key.MsgId) (in_credit_transfer m key.CreDtTm) (in_credit_transfer m key.InstgAgt) (in_credit_transfer m key.InstdAgt);
+  settlement_date = holds_text written_day (λ s. s) key.IntrBkSttlmDt d m.settlement_date back.settlement_date (in_credit_transfer m key.IntrBkSttlmDt);
+  service_level = holds_text written_code (λ s. s) key.SvcLvl d m.service_level back.service_level (in_credit_transfer m key.SvcLvl);
+  local_instrument = holds_text written_code (λ s. s) key.LclInstrm d m.local_instrument back.local_instrument (in_credit_transfer m key.LclInstrm);
+  instruction_id = may_hold_text written_identification key.InstrId d m.instruction_id back.instruction_id (in_credit_transfer m key.InstrId);
+  end_to_end_id = holds_text written_identification (λ s. s) key.EndToEndId d m.end_to_end_id back.end_to_end_id (in_credit_transfer m key.EndToEndId);
+  transaction_id = holds_text written_identification (λ s. s) key.TxId d m.transaction_id back.transaction_id (in_credit_transfer m key.TxId);
+  settlement_amount = holds_text cents_of amount_text key.IntrBkSttlmAmt d m.settlement_amount back.settlement_amount (in_credit_transfer m key.IntrBkSttlmAmt);
+  currency = holds_text written_code (λ s. s) key.Ccy d m.currency back.currency (in_credit_transfer m key.Ccy);
+  charge_bearer = holds_text written_code (λ s. s) key.ChrgBr d m.charge_bearer back.charge_bearer (in_credit_transfer m key.ChrgBr);
+  acceptance_time = may_hold_text written_stamp key.AccptncDtTm d m.acceptance_time back.acceptance_time (in_credit_transfer m key.AccptncDtTm);
+  debtor = holds_text name_of (λ s. s) key.Dbtr d m.debtor back.debtor (in_credit_transfer m key.Dbtr);
+  debtor_account = holds_text written_iban (λ s. s) key.DbtrAcct d m.debtor_account back.debtor_account (in_credit_transfer m key.DbtrAcct);
+  debtor_agent = holds_text written_bic (λ s. s) key.DbtrAgt d m.debtor_agent back.debtor_agent (in_credit_transfer m key.DbtrAgt);
+  creditor_agent = holds_text written_bic (λ s. s) key.CdtrAgt d m.creditor_agent back.creditor_agent (in_credit_transfer m key.CdtrAgt);
+  creditor = holds_text name_of (λ s. s) key.Cdtr d m.creditor back.creditor (in_credit_transfer m key.Cdtr);
+  creditor_account = holds_text written_iban (λ s. s) key.CdtrAcct d m.creditor_account back.creditor_account (in_credit_transfer m key.CdtrAcct);
+  remittance = may_hold_text remittance_of key.Ustrd d m.remittance back.remittance (in_credit_transfer m key.Ustrd);
 }
 
-in_report : (m : Report) (k : Key) → get (key_text k) (written_object (StatusReport m)) ≡ found (key_text k) (report_rows m) (found (key_text k) (original_rows m.original) (found (key_text k) (head_rows m.head) None))
-in_report m k = get_with (key_text k) (report_rows m) (with_original m.original (with_head m.head no_members)) ∙ ap (found (key_text k) (report_rows m)) (get_with (key_text k) (original_rows m.original) (with_head m.head no_members) ∙ ap (found (key_text k) (original_rows m.original)) (get_with (key_text k) (head_rows m.head) no_members))
+in_status_report : (m : StatusReport) (k : Key) → get (key_text k) (written_object (draft.StatusReport m)) ≡ found (key_text k) (status_report_rows m) (found (key_text k) (original_rows m.original) (found (key_text k) (head_rows m.head) None))
+in_status_report m k = get_with (key_text k) (status_report_rows m) (with_original m.original (with_head m.head no_members)) ∙ ap (found (key_text k) (status_report_rows m)) (get_with (key_text k) (original_rows m.original) (with_head m.head no_members) ∙ ap (found (key_text k) (original_rows m.original)) (get_with (key_text k) (head_rows m.head) no_members))
 
-report_written : (m : Report) → ReportReadsBack m → HoldsReport (written_object (StatusReport m)) m
-report_written m back = let d : Data = written_object (StatusReport m) in record {
-  head = head_written d m.head back.head (in_report m key.MsgNmId) (in_report m key.MsgId) (in_report m key.CreDtTm) (in_report m key.InstgAgt) (in_report m key.InstdAgt);
-  original = original_written d m.original back.original (in_report m key.OrgnlMsgId) (in_report m key.OrgnlMsgNmId) (in_report m key.OrgnlEndToEndId) (in_report m key.OrgnlTxId);
-  status = holds_text written_code (λ s. s) key.TxSts d m.status back.status (in_report m key.TxSts);
-  reason = may_hold_written reason_of reason_text key.Rsn d m.reason back.reason (in_report m key.Rsn);
-  debtor_agent = holds_text written_bic (λ s. s) key.DbtrAgt d m.debtor_agent back.debtor_agent (in_report m key.DbtrAgt);
+status_report_written : (m : StatusReport) → StatusReportReadsBack m → HoldsStatusReport (written_object (draft.StatusReport m)) m
+status_report_written m back = let d : Data = written_object (draft.StatusReport m) in record {
+  head = head_written d m.head back.head (in_status_report m key.MsgNmId) (in_status_report m key.MsgId) (in_status_report m key.CreDtTm) (in_status_report m key.InstgAgt) (in_status_report m key.InstdAgt);
+  original = original_written d m.original back.original (in_status_report m key.OrgnlMsgId) (in_status_report m key.OrgnlMsgNmId) (in_status_report m key.OrgnlEndToEndId) (in_status_report m key.OrgnlTxId);
+  status = holds_text written_code (λ s. s) key.TxSts d m.status back.status (in_status_report m key.TxSts);
+  reason = may_hold_written reason_of reason_text key.Rsn d m.reason back.reason (in_status_report m key.Rsn);
+  debtor_agent = holds_text written_bic (λ s. s) key.DbtrAgt d m.debtor_agent back.debtor_agent (in_status_report m key.DbtrAgt);
 }
 
-in_request : (m : Request) (k : Key) → get (key_text k) (written_object (StatusRequest m)) ≡ found (key_text k) (request_rows m) (found (key_text k) (original_rows m.original) (found (key_text k) (head_rows m.head) None))
-in_request m k = get_with (key_text k) (request_rows m) (with_original m.original (with_head m.head no_members)) ∙ ap (found (key_text k) (request_rows m)) (get_with (key_text k) (original_rows m.original) (with_head m.head no_members) ∙ ap (found (key_text k) (original_rows m.original)) (get_with (key_text k) (head_rows m.head) no_members))
+in_status_request : (m : StatusRequest) (k : Key) → get (key_text k) (written_object (draft.StatusRequest m)) ≡ found (key_text k) (status_request_rows m) (found (key_text k) (original_rows m.original) (found (key_text k) (head_rows m.head) None))
+in_status_request m k = get_with (key_text k) (status_request_rows m) (with_original m.original (with_head m.head no_members)) ∙ ap (found (key_text k) (status_request_rows m)) (get_with (key_text k) (original_rows m.original) (with_head m.head no_members) ∙ ap (found (key_text k) (original_rows m.original)) (get_with (key_text k) (head_rows m.head) no_members))
 
-request_written : (m : Request) → RequestReadsBack m → HoldsRequest (written_object (StatusRequest m)) m
-request_written m back = let d : Data = written_object (StatusRequest m) in record {
-  head = head_written d m.head back.head (in_request m key.MsgNmId) (in_request m key.MsgId) (in_request m key.CreDtTm) (in_request m key.InstgAgt) (in_request m key.InstdAgt);
-  original = original_written d m.original back.original (in_request m key.OrgnlMsgId) (in_request m key.OrgnlMsgNmId) (in_request m key.OrgnlEndToEndId) (in_request m key.OrgnlTxId);
-  cancellation_id = may_hold_text written_identification key.OrgnlCxlId d m.cancellation_id back.cancellation_id (in_request m key.OrgnlCxlId);
-  debtor_agent = holds_text written_bic (λ s. s) key.DbtrAgt d m.debtor_agent back.debtor_agent (in_request m key.DbtrAgt);
+status_request_written : (m : StatusRequest) → StatusRequestReadsBack m → HoldsStatusRequest (written_object (draft.StatusRequest m)) m
+status_request_written m back = let d : Data = written_object (draft.StatusRequest m) in record {
+  head = head_written d m.head back.head (in_status_request m key.MsgNmId) (in_status_request m key.MsgId) (in_status_request m key.CreDtTm) (in_status_request m key.InstgAgt) (in_status_request m key.InstdAgt);
+  original = original_written d m.original back.original (in_status_request m key.OrgnlMsgId) (in_status_request m key.OrgnlMsgNmId) (in_status_request m key.OrgnlEndToEndId) (in_status_request m key.OrgnlTxId);
+  cancellation_id = may_hold_text written_identification key.OrgnlCxlId d m.cancellation_id back.cancellation_id (in_status_request m key.OrgnlCxlId);
+  debtor_agent = holds_text written_bic (λ s. s) key.DbtrAgt d m.debtor_agent back.debtor_agent (in_status_request m key.DbtrAgt);
 }
 
-in_recall : (m : Recall) (k : Key) → get (key_text k) (written_object (CancellationRequest m)) ≡ found (key_text k) (recall_rows m) (found (key_text k) (head_rows m.head) None)
-in_recall m k = get_with (key_text k) (recall_rows m) (with_head m.head no_members) ∙ ap (found (key_text k) (recall_rows m)) (get_with (key_text k) (head_rows m.head) no_members)
+in_cancellation_request : (m : CancellationRequest) (k : Key) → get (key_text k) (written_object (draft.CancellationRequest m)) ≡ found (key_text k) (cancellation_request_rows m) (found (key_text k) (head_rows m.head) None)
+in_cancellation_request m k = get_with (key_text k) (cancellation_request_rows m) (with_head m.head no_members) ∙ ap (found (key_text k) (cancellation_request_rows m)) (get_with (key_text k) (head_rows m.head) no_members)
 
-recall_written : (m : Recall) → RecallReadsBack m → HoldsRecall (written_object (CancellationRequest m)) m
-recall_written m back = let d : Data = written_object (CancellationRequest m) in record {
-  head = head_written d m.head back.head (in_recall m key.MsgNmId) (in_recall m key.MsgId) (in_recall m key.CreDtTm) (in_recall m key.InstgAgt) (in_recall m key.InstdAgt);
-  cancellation_id = holds_text written_identification (λ s. s) key.CxlId d m.cancellation_id back.cancellation_id (in_recall m key.CxlId);
-  original = original_written d m.original back.original (in_recall m key.OrgnlMsgId) (in_recall m key.OrgnlMsgNmId) (in_recall m key.OrgnlEndToEndId) (in_recall m key.OrgnlTxId);
-  original_amount = holds_text cents_of amount_text key.OrgnlIntrBkSttlmAmt d m.original_amount back.original_amount (in_recall m key.OrgnlIntrBkSttlmAmt);
-  currency = holds_text written_code (λ s. s) key.Ccy d m.currency back.currency (in_recall m key.Ccy);
-  original_settlement_date = may_hold_text written_day key.OrgnlIntrBkSttlmDt d m.original_settlement_date back.original_settlement_date (in_recall m key.OrgnlIntrBkSttlmDt);
-  reason = holds_text reason_of reason_text key.Rsn d m.reason back.reason (in_recall m key.Rsn);
-  debtor_agent = holds_text written_bic (λ s. s) key.DbtrAgt d m.debtor_agent back.debtor_agent (in_recall m key.DbtrAgt);
+cancellation_request_written : (m : CancellationRequest) → CancellationRequestReadsBack m → HoldsCancellationRequest (written_object (draft.CancellationRequest m)) m
+cancellation_request_written m back = let d : Data = written_object (draft.CancellationRequest m) in record {
+  head = head_written d m.head back.head (in_cancellation_request m key.MsgNmId) (in_cancellation_request m key.MsgId) (in_cancellation_request m key.CreDtTm) (in_cancellation_request m key.InstgAgt) (in_cancellation_request m key.InstdAgt);
+  cancellation_id = holds_text written_identification (λ s. s) key.CxlId d m.cancellation_id back.cancellation_id (in_cancellation_request m key.CxlId);
+  original = original_written d m.original back.original (in_cancellation_request m key.OrgnlMsgId) (in_cancellation_request m key.OrgnlMsgNmId) (in_cancellation_request m key.OrgnlEndToEndId) (in_cancellation_request m key.OrgnlTxId);
+  original_amount = holds_text cents_of amount_text key.OrgnlIntrBkSttlmAmt d m.original_amount back.original_amount (in_cancellation_request m key.OrgnlIntrBkSttlmAmt);
+  currency = holds_text written_code (λ s. s) key.Ccy d m.currency back.currency (in_cancellation_request m key.Ccy);
+  original_settlement_date = may_hold_text written_day key.OrgnlIntrBkSttlmDt d m.original_settlement_date back.original_settlement_date (in_cancellation_request m key.OrgnlIntrBkSttlmDt);
+  reason = holds_text reason_of reason_text key.Rsn d m.reason back.reason (in_cancellation_request m key.Rsn);
+  debtor_agent = holds_text written_bic (λ s. s) key.DbtrAgt d m.debtor_agent back.debtor_agent (in_cancellation_request m key.DbtrAgt);
 }
 
-in_return : (m : Return) (k : Key) → get (key_text k) (written_object (PaymentReturn m)) ≡ found (key_text k) (return_rows m) (found (key_text k) (head_rows m.head) None)
-in_return m k = get_with (key_text k) (return_rows m) (with_head m.head no_members) ∙ ap (found (key_text k) (return_rows m)) (get_with (key_text k) (head_rows m.head) no_members)
+in_payment_return : (m : PaymentReturn) (k : Key) → get (key_text k) (written_object (draft.PaymentReturn m)) ≡ found (key_text k) (payment_return_rows m) (found (key_text k) (head_rows m.head) None)
+in_payment_return m k = get_with (key_text k) (payment_return_rows m) (with_head m.head no_members) ∙ ap (found (key_text k) (payment_return_rows m)) (get_with (key_text k) (head_rows m.head) no_members)
 
-return_written : (m : Return) → ReturnReadsBack m → HoldsReturn (written_object (PaymentReturn m)) m
-return_written m back = let d : Data = written_object (PaymentReturn m) in record {
-  head = head_written d m.head back.head (in_return m key.MsgNmId) (in_return m key.MsgId) (in_return m key.CreDtTm) (in_return m key.InstgAgt) (in_return m key.InstdAgt);
-  return_id = holds_text written_identification (λ s. s) key.RtrId d m.return_id back.return_id (in_return m key.RtrId);
-  cancellation_id = holds_text written_identification (λ s. s) key.OrgnlCxlId d m.cancellation_id back.cancellation_id (in_return m key.OrgnlCxlId);
-  original = original_written d m.original back.original (in_return m key.OrgnlMsgId) (in_return m key.OrgnlMsgNmId) (in_return m key.OrgnlEndToEndId) (in_return m key.OrgnlTxId);
-  original_amount = holds_text cents_of amount_text key.OrgnlIntrBkSttlmAmt d m.original_amount back.original_amount (in_return m key.OrgnlIntrBkSttlmAmt);
-  returned_amount = holds_text cents_of amount_text key.RtrdIntrBkSttlmAmt d m.returned_amount back.returned_amount (in_return m key.RtrdIntrBkSttlmAmt);
-  currency = holds_text written_code (λ s. s) key.Ccy d m.currency back.currency (in_return m key.Ccy);
-  settlement_date = holds_text written_day (λ s. s) key.IntrBkSttlmDt d m.settlement_date back.settlement_date (in_return m key.IntrBkSttlmDt);
-  reason = holds_text reason_of reason_text key.Rsn d m.reason back.reason (in_return m key.Rsn);
-  debtor_agent = holds_text written_bic (λ s. s) key.DbtrAgt d m.debtor_agent back.debtor_agent (in_return m key.DbtrAgt);
+payment_return_written : (m : PaymentReturn) → PaymentReturnReadsBack m → HoldsPaymentReturn (written_object (draft.PaymentReturn m)) m
+payment_return_written m back = let d : Data = written_object (draft.PaymentReturn m) in record {
+  head = head_written d m.head back.head (in_payment_return m key.MsgNmId) (in_payment_return m key.MsgId) (in_payment_return m key.CreDtTm) (in_payment_return m key.InstgAgt) (in_payment_return m key.InstdAgt);
+  return_id = holds_text written_identification (λ s. s) key.RtrId d m.return_id back.return_id (in_payment_return m key.RtrId);
+  cancellation_id = holds_text written_identification (λ s. s) key.OrgnlCxlId d m.cancellation_id back.cancellation_id (in_payment_return m key.OrgnlCxlId);
+  original = original_written d m.original back.original (in_payment_return m key.OrgnlMsgId) (in_payment_return m key.OrgnlMsgNmId) (in_payment_return m key.OrgnlEndToEndId) (in_payment_return m key.OrgnlTxId);
+  original_amount = holds_text cents_of amount_text key.OrgnlIntrBkSttlmAmt d m.original_amount back.original_amount (in_payment_return m key.OrgnlIntrBkSttlmAmt);
+  returned_amount = holds_text cents_of amount_text key.RtrdIntrBkSttlmAmt d m.returned_amount back.returned_amount (in_payment_return m key.RtrdIntrBkSttlmAmt);
+  currency = holds_text written_code (λ s. s) key.Ccy d m.currency back.currency (in_payment_return m key.Ccy);
+  settlement_date = holds_text written_day (λ s. s) key.IntrBkSttlmDt d m.settlement_date back.settlement_date (in_payment_return m key.IntrBkSttlmDt);
+  reason = holds_text reason_of reason_text key.Rsn d m.reason back.reason (in_payment_return m key.Rsn);
+  debtor_agent = holds_text written_bic (λ s. s) key.DbtrAgt d m.debtor_agent back.debtor_agent (in_payment_return m key.DbtrAgt);
 }
 
-in_answer : (m : Answer) (k : Key) → get (key_text k) (written_object (Resolution m)) ≡ found (key_text k) (answer_rows m) (found (key_text k) (head_rows m.head) None)
-in_answer m k = get_with (key_text k) (answer_rows m) (with_head m.head no_members) ∙ ap (found (key_text k) (answer_rows m)) (get_with (key_text k) (head_rows m.head) no_members)
+in_resolution : (m : Resolution) (k : Key) → get (key_text k) (written_object (draft.Resolution m)) ≡ found (key_text k) (resolution_rows m) (found (key_text k) (head_rows m.head) None)
+in_resolution m k = get_with (key_text k) (resolution_rows m) (with_head m.head no_members) ∙ ap (found (key_text k) (resolution_rows m)) (get_with (key_text k) (head_rows m.head) no_members)
 
-answer_written : (m : Answer) → AnswerReadsBack m → HoldsAnswer (written_object (Resolution m)) m
-answer_written m back = let d : Data = written_object (Resolution m) in record {
-  head = head_written d m.head back.head (in_answer m key.MsgNmId) (in_answer m key.MsgId) (in_answer m key.CreDtTm) (in_answer m key.InstgAgt) (in_answer m key.InstdAgt);
-  resolution_id = holds_text written_identification (λ s. s) key.CxlStsId d m.resolution_id back.resolution_id (in_answer m key.CxlStsId);
-  cancellation_id = holds_text written_identification (λ s. s) key.OrgnlCxlId d m.cancellation_id back.cancellation_id (in_answer m key.OrgnlCxlId);
-  original = original_written d m.original back.original (in_answer m key.OrgnlMsgId) (in_answer m key.OrgnlMsgNmId) (in_answer m key.OrgnlEndToEndId) (in_answer m key.OrgnlTxId);
-  confirmation = holds_text written_code (λ s. s) key.Conf d m.confirmation back.confirmation (in_answer m key.Conf);
-  reason = holds_text reason_of reason_text key.Rsn d m.reason back.reason (in_answer m key.Rsn);
-  debtor_agent = holds_text written_bic (λ s. s) key.DbtrAgt d m.debtor_agent back.debtor_agent (in_answer m key.DbtrAgt);
+resolution_written : (m : Resolution) → ResolutionReadsBack m → HoldsResolution (written_object (draft.Resolution m)) m
+resolution_written m back = let d : Data = written_object (draft.Resolution m) in record {
+  head = head_written d m.head back.head (in_resolution m key.MsgNmId) (in_resolution m key.MsgId) (in_resolution m key.CreDtTm) (in_resolution m key.InstgAgt) (in_resolution m key.InstdAgt);
+  resolution_id = holds_text written_identification (λ s. s) key.CxlStsId d m.resolution_id back.resolution_id (in_resolution m key.CxlStsId);
+  cancellation_id = holds_text written_identification (λ s. s) key.OrgnlCxlId d m.cancellation_id back.cancellation_id (in_resolution m key.OrgnlCxlId);
+  original = original_written d m.original back.original (in_resolution m key.OrgnlMsgId) (in_resolution m key.OrgnlMsgNmId) (in_resolution m key.OrgnlEndToEndId) (in_resolution m key.OrgnlTxId);
+  confirmation = holds_text written_code (λ s. s) key.Conf d m.confirmation back.confirmation (in_resolution m key.Conf);
+  reason = holds_text reason_of reason_text key.Rsn d m.reason back.reason (in_resolution m key.Rsn);
+  debtor_agent = holds_text written_bic (λ s. s) key.DbtrAgt d m.debtor_agent back.debtor_agent (in_resolution m key.DbtrAgt);
 }
 
 elements_written : (m : Draft) → ElementsReadBack m → HoldsElements (written_object m) m
-elements_written (CreditTransfer m) back = transfer_written m back
-elements_written (StatusReport m) back = report_written m back
-elements_written (StatusRequest m) back = request_written m back
-elements_written (CancellationRequest m) back = recall_written m back
-elements_written (PaymentReturn m) back = return_written m back
-elements_written (Resolution m) back = answer_written m back
+elements_written (draft.CreditTransfer m) back = credit_transfer_written m back
+elements_written (draft.StatusReport m) back = status_report_written m back
+elements_written (draft.StatusRequest m) back = status_request_written m back
+elements_written (draft.CancellationRequest m) back = cancellation_request_written m back
+elements_written (draft.PaymentReturn m) back = payment_return_written m back
+elements_written (draft.Resolution m) back = resolution_written m back
 
 pub written_is_read : (m : Draft) → ElementsReadBack m → first_broken_rule m ≡ None → object_in (written_object m) ≡ Ok m
 written_is_read m back rules = held_is_read (written_object m) m (keys_written m) (elements_written m back) rules

@@ -13,14 +13,14 @@ use Rattle.sct_reason.specs.Reasons.{reason_of}
 use Rattle.sct_message.specs.declared.kinds.Kind.{Kind}
 use Rattle.sct_message.specs.declared.draft.Head.{Head}
 use Rattle.sct_message.specs.declared.draft.Original.{Original}
-use Rattle.sct_message.specs.declared.draft.CreditTransfer.{CreditTransfer as Transfer}
-use Rattle.sct_message.specs.declared.draft.StatusReport.{StatusReport as Report}
-use Rattle.sct_message.specs.declared.draft.StatusRequest.{StatusRequest as Request}
-use Rattle.sct_message.specs.declared.draft.CancellationRequest.{CancellationRequest as Recall}
-use Rattle.sct_message.specs.declared.draft.PaymentReturn.{PaymentReturn as Return}
-use Rattle.sct_message.specs.declared.draft.Resolution.{Resolution as Answer}
+use Rattle.sct_message.specs.declared.draft.CreditTransfer.{CreditTransfer}
+use Rattle.sct_message.specs.declared.draft.StatusReport.{StatusReport}
+use Rattle.sct_message.specs.declared.draft.StatusRequest.{StatusRequest}
+use Rattle.sct_message.specs.declared.draft.CancellationRequest.{CancellationRequest}
+use Rattle.sct_message.specs.declared.draft.PaymentReturn.{PaymentReturn}
+use Rattle.sct_message.specs.declared.draft.Resolution.{Resolution}
 use Rattle.sct_message.specs.declared.draft.Draft.{Draft}
-use Rattle.sct_message.specs.declared.draft.Draft.TheVariants.{CreditTransfer, StatusReport, StatusRequest, CancellationRequest, PaymentReturn, Resolution}
+use Rattle.sct_message.specs.declared.draft.Draft.TheVariants as draft
 use Rattle.sct_message.specs.Drafts.{kind_of}
 use Rattle.sct_message.specs.Rules.{FollowsRules}
 use Rattle.sct_json.specs.declared.keys.Key.{Key}
@@ -53,7 +53,7 @@ pub record HoldsOriginal (d : Data) (m : Original) : Type 0 where
   pub transaction_id : Holds written_identification key.OrgnlTxId d m.transaction_id
 
 -- The object holds the elements of a pacs.008.
-pub record HoldsTransfer (d : Data) (m : Transfer) : Type 0 where
+pub record HoldsCreditTransfer (d : Data) (m : CreditTransfer) : Type 0 where
   pub head : HoldsHead d m.head
   pub settlement_date : Holds written_day key.IntrBkSttlmDt d m.settlement_date
   pub service_level : Holds written_code key.SvcLvl d m.service_level
@@ -74,7 +74,7 @@ pub record HoldsTransfer (d : Data) (m : Transfer) : Type 0 where
   pub remittance : MayHold remittance_of key.Ustrd d m.remittance
 
 -- The object holds the elements of a pacs.002.
-pub record HoldsReport (d : Data) (m : Report) : Type 0 where
+pub record HoldsStatusReport (d : Data) (m : StatusReport) : Type 0 where
   pub head : HoldsHead d m.head
   pub original : HoldsOriginal d m.original
   pub status : Holds written_code key.TxSts d m.status
@@ -82,14 +82,14 @@ pub record HoldsReport (d : Data) (m : Report) : Type 0 where
   pub debtor_agent : Holds written_bic key.DbtrAgt d m.debtor_agent
 
 -- The object holds the elements of a pacs.028.
-pub record HoldsRequest (d : Data) (m : Request) : Type 0 where
+pub record HoldsStatusRequest (d : Data) (m : StatusRequest) : Type 0 where
   pub head : HoldsHead d m.head
   pub original : HoldsOriginal d m.original
   pub cancellation_id : MayHold written_identification key.OrgnlCxlId d m.cancellation_id
   pub debtor_agent : Holds written_bic key.DbtrAgt d m.debtor_agent
 
 -- The object holds the elements of a camt.056.
-pub record HoldsRecall (d : Data) (m : Recall) : Type 0 where
+pub record HoldsCancellationRequest (d : Data) (m : CancellationRequest) : Type 0 where
   pub head : HoldsHead d m.head
   pub cancellation_id : Holds written_identification key.CxlId d m.cancellation_id
   pub original : HoldsOriginal d m.original
@@ -100,7 +100,7 @@ pub record HoldsRecall (d : Data) (m : Recall) : Type 0 where
   pub debtor_agent : Holds written_bic key.DbtrAgt d m.debtor_agent
 
 -- The object holds the elements of a pacs.004.
-pub record HoldsReturn (d : Data) (m : Return) : Type 0 where
+pub record HoldsPaymentReturn (d : Data) (m : PaymentReturn) : Type 0 where
   pub head : HoldsHead d m.head
   pub return_id : Holds written_identification key.RtrId d m.return_id
   pub cancellation_id : Holds written_identification key.OrgnlCxlId d m.cancellation_id
@@ -113,7 +113,7 @@ pub record HoldsReturn (d : Data) (m : Return) : Type 0 where
   pub debtor_agent : Holds written_bic key.DbtrAgt d m.debtor_agent
 
 -- The object holds the elements of a camt.029.
-pub record HoldsAnswer (d : Data) (m : Answer) : Type 0 where
+pub record HoldsResolution (d : Data) (m : Resolution) : Type 0 where
   pub head : HoldsHead d m.head
   pub resolution_id : Holds written_identification key.CxlStsId d m.resolution_id
   pub cancellation_id : Holds written_identification key.OrgnlCxlId d m.cancellation_id
@@ -123,12 +123,12 @@ pub record HoldsAnswer (d : Data) (m : Answer) : Type 0 where
   pub debtor_agent : Holds written_bic key.DbtrAgt d m.debtor_agent
 
 abbrev pub HoldsElements : Data → Draft → Type 0
-HoldsElements d (CreditTransfer m) = HoldsTransfer d m
-HoldsElements d (StatusReport m) = HoldsReport d m
-HoldsElements d (StatusRequest m) = HoldsRequest d m
-HoldsElements d (CancellationRequest m) = HoldsRecall d m
-HoldsElements d (PaymentReturn m) = HoldsReturn d m
-HoldsElements d (Resolution m) = HoldsAnswer d m
+HoldsElements d (draft.CreditTransfer m) = HoldsCreditTransfer d m
+HoldsElements d (draft.StatusReport m) = HoldsStatusReport d m
+HoldsElements d (draft.StatusRequest m) = HoldsStatusRequest d m
+HoldsElements d (draft.CancellationRequest m) = HoldsCancellationRequest d m
+HoldsElements d (draft.PaymentReturn m) = HoldsPaymentReturn d m
+HoldsElements d (draft.Resolution m) = HoldsResolution d m
 
 -- The value is an object with keys of the kind alone.
 abbrev pub HasKeysOf : Kind → Data → Type 0

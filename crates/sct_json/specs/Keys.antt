@@ -53,23 +53,23 @@ head_keys = MsgNmId ∷ MsgId ∷ CreDtTm ∷ InstgAgt ∷ InstdAgt ∷ []
 abbrev pub original_keys : List Key
 original_keys = OrgnlMsgId ∷ OrgnlMsgNmId ∷ OrgnlEndToEndId ∷ OrgnlTxId ∷ []
 
-abbrev pub transfer_keys : List Key
-transfer_keys = IntrBkSttlmDt ∷ SvcLvl ∷ LclInstrm ∷ InstrId ∷ EndToEndId ∷ TxId ∷ IntrBkSttlmAmt ∷ Ccy ∷ ChrgBr ∷ AccptncDtTm ∷ Dbtr ∷ DbtrAcct ∷ DbtrAgt ∷ CdtrAgt ∷ Cdtr ∷ CdtrAcct ∷ Ustrd ∷ []
+abbrev pub credit_transfer_keys : List Key
+credit_transfer_keys = IntrBkSttlmDt ∷ SvcLvl ∷ LclInstrm ∷ InstrId ∷ EndToEndId ∷ TxId ∷ IntrBkSttlmAmt ∷ Ccy ∷ ChrgBr ∷ AccptncDtTm ∷ Dbtr ∷ DbtrAcct ∷ DbtrAgt ∷ CdtrAgt ∷ Cdtr ∷ CdtrAcct ∷ Ustrd ∷ []
 
-abbrev pub report_keys : List Key
-report_keys = TxSts ∷ Rsn ∷ DbtrAgt ∷ []
+abbrev pub status_report_keys : List Key
+status_report_keys = TxSts ∷ Rsn ∷ DbtrAgt ∷ []
 
-abbrev pub request_keys : List Key
-request_keys = OrgnlCxlId ∷ DbtrAgt ∷ []
+abbrev pub status_request_keys : List Key
+status_request_keys = OrgnlCxlId ∷ DbtrAgt ∷ []
 
-abbrev pub recall_keys : List Key
-recall_keys = CxlId ∷ OrgnlIntrBkSttlmAmt ∷ Ccy ∷ OrgnlIntrBkSttlmDt ∷ Rsn ∷ DbtrAgt ∷ []
+abbrev pub cancellation_request_keys : List Key
+cancellation_request_keys = CxlId ∷ OrgnlIntrBkSttlmAmt ∷ Ccy ∷ OrgnlIntrBkSttlmDt ∷ Rsn ∷ DbtrAgt ∷ []
 
-abbrev pub return_keys : List Key
-return_keys = RtrId ∷ OrgnlCxlId ∷ OrgnlIntrBkSttlmAmt ∷ RtrdIntrBkSttlmAmt ∷ Ccy ∷ IntrBkSttlmDt ∷ Rsn ∷ DbtrAgt ∷ []
+abbrev pub payment_return_keys : List Key
+payment_return_keys = RtrId ∷ OrgnlCxlId ∷ OrgnlIntrBkSttlmAmt ∷ RtrdIntrBkSttlmAmt ∷ Ccy ∷ IntrBkSttlmDt ∷ Rsn ∷ DbtrAgt ∷ []
 
-abbrev pub answer_keys : List Key
-answer_keys = CxlStsId ∷ OrgnlCxlId ∷ Conf ∷ Rsn ∷ DbtrAgt ∷ []
+abbrev pub resolution_keys : List Key
+resolution_keys = CxlStsId ∷ OrgnlCxlId ∷ Conf ∷ Rsn ∷ DbtrAgt ∷ []
 
 -- a name is the text of one of these keys
 unfoldable pub is_among : List Key → List ℕ → Bool
@@ -77,9 +77,9 @@ is_among keys name = list_any (λ key. is_text name (key_text key)) keys
 
 -- the keys that a message of a kind may have
 abbrev pub is_key_of : Kind → List ℕ → Bool
-is_key_of Camt029 name = is_among head_keys name || is_among original_keys name || is_among answer_keys name
-is_key_of Camt056 name = is_among head_keys name || is_among original_keys name || is_among recall_keys name
-is_key_of Pacs002 name = is_among head_keys name || is_among original_keys name || is_among report_keys name
-is_key_of Pacs004 name = is_among head_keys name || is_among original_keys name || is_among return_keys name
-is_key_of Pacs008 name = is_among head_keys name || is_among transfer_keys name
-is_key_of Pacs028 name = is_among head_keys name || is_among original_keys name || is_among request_keys name
+is_key_of Camt029 name = is_among head_keys name || is_among original_keys name || is_among resolution_keys name
+is_key_of Camt056 name = is_among head_keys name || is_among original_keys name || is_among cancellation_request_keys name
+is_key_of Pacs002 name = is_among head_keys name || is_among original_keys name || is_among status_report_keys name
+is_key_of Pacs004 name = is_among head_keys name || is_among original_keys name || is_among payment_return_keys name
+is_key_of Pacs008 name = is_among head_keys name || is_among credit_transfer_keys name
+is_key_of Pacs028 name = is_among head_keys name || is_among original_keys name || is_among status_request_keys name

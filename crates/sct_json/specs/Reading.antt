@@ -18,14 +18,14 @@ use Rattle.sct_message.specs.declared.kinds.Kind.{Kind}
 use Rattle.sct_message.specs.declared.kinds.Kind.TheVariants.{Camt029, Camt056, Pacs002, Pacs004, Pacs008, Pacs028}
 use Rattle.sct_message.specs.declared.draft.Head.{Head}
 use Rattle.sct_message.specs.declared.draft.Original.{Original}
-use Rattle.sct_message.specs.declared.draft.CreditTransfer.{CreditTransfer as Transfer}
-use Rattle.sct_message.specs.declared.draft.StatusReport.{StatusReport as Report}
-use Rattle.sct_message.specs.declared.draft.StatusRequest.{StatusRequest as Request}
-use Rattle.sct_message.specs.declared.draft.CancellationRequest.{CancellationRequest as Recall}
-use Rattle.sct_message.specs.declared.draft.PaymentReturn.{PaymentReturn as Return}
-use Rattle.sct_message.specs.declared.draft.Resolution.{Resolution as Answer}
+use Rattle.sct_message.specs.declared.draft.CreditTransfer.{CreditTransfer}
+use Rattle.sct_message.specs.declared.draft.StatusReport.{StatusReport}
+use Rattle.sct_message.specs.declared.draft.StatusRequest.{StatusRequest}
+use Rattle.sct_message.specs.declared.draft.CancellationRequest.{CancellationRequest}
+use Rattle.sct_message.specs.declared.draft.PaymentReturn.{PaymentReturn}
+use Rattle.sct_message.specs.declared.draft.Resolution.{Resolution}
 use Rattle.sct_message.specs.declared.draft.Draft.{Draft}
-use Rattle.sct_message.specs.declared.draft.Draft.TheVariants.{CreditTransfer, StatusReport, StatusRequest, CancellationRequest, PaymentReturn, Resolution}
+use Rattle.sct_message.specs.declared.draft.Draft.TheVariants as draft
 use Rattle.sct_message.specs.declared.rules.RuleFault.{RuleFault}
 use Rattle.sct_message.specs.Kinds.{kind_named}
 use Rattle.sct_message.specs.Rules.{first_broken_rule}
@@ -111,7 +111,7 @@ original_in d = do
   Ok (record { message_id = message_id; message_name = message_name; end_to_end_id = end_to_end_id; transaction_id = transaction_id })
 
 -- pacs.008
-unfoldable pub credit_transfer_in : Data → Result Transfer JsonFault
+unfoldable pub credit_transfer_in : Data → Result CreditTransfer JsonFault
 credit_transfer_in d = do
   head ← head_in d
   settlement_date ← required written_day element.BadDay key.IntrBkSttlmDt d
@@ -134,7 +134,7 @@ credit_transfer_in d = do
   Ok (record { head = head; settlement_date = settlement_date; service_level = service_level; local_instrument = local_instrument; instruction_id = instruction_id; end_to_end_id = end_to_end_id; transaction_id = transaction_id; settlement_amount = settlement_amount; currency = currency; charge_bearer = charge_bearer; acceptance_time = acceptance_time; debtor = debtor; debtor_account = debtor_account; debtor_agent = debtor_agent; creditor_agent = creditor_agent; creditor = creditor; creditor_account = creditor_account; remittance = remittance })
 
 -- pacs.002
-unfoldable pub status_report_in : Data → Result Report JsonFault
+unfoldable pub status_report_in : Data → Result StatusReport JsonFault
 status_report_in d = do
   head ← head_in d
   original ← original_in d
@@ -144,7 +144,7 @@ status_report_in d = do
   Ok (record { head = head; original = original; status = status; reason = reason; debtor_agent = debtor_agent })
 
 -- pacs.028
-unfoldable pub status_request_in : Data → Result Request JsonFault
+unfoldable pub status_request_in : Data → Result StatusRequest JsonFault
 status_request_in d = do
   head ← head_in d
   original ← original_in d
@@ -153,7 +153,7 @@ status_request_in d = do
   Ok (record { head = head; original = original; cancellation_id = cancellation_id; debtor_agent = debtor_agent })
 
 -- camt.056
-unfoldable pub cancellation_request_in : Data → Result Recall JsonFault
+unfoldable pub cancellation_request_in : Data → Result CancellationRequest JsonFault
 cancellation_request_in d = do
   head ← head_in d
   cancellation_id ← required written_identification element.BadId key.CxlId d
@@ -166,7 +166,7 @@ cancellation_request_in d = do
   Ok (record { head = head; cancellation_id = cancellation_id; original = original; original_amount = original_amount; currency = currency; original_settlement_date = original_settlement_date; reason = reason; debtor_agent = debtor_agent })
 
 -- pacs.004
-unfoldable pub payment_return_in : Data → Result Return JsonFault
+unfoldable pub payment_return_in : Data → Result PaymentReturn JsonFault
 payment_return_in d = do
   head ← head_in d
   return_id ← required written_identification element.BadId key.RtrId d
@@ -181,7 +181,7 @@ payment_return_in d = do
   Ok (record { head = head; return_id = return_id; cancellation_id = cancellation_id; original = original; original_amount = original_amount; returned_amount = returned_amount; currency = currency; settlement_date = settlement_date; reason = reason; debtor_agent = debtor_agent })
 
 -- camt.029
-unfoldable pub resolution_in : Data → Result Answer JsonFault
+unfoldable pub resolution_in : Data → Result Resolution JsonFault
 resolution_in d = do
   head ← head_in d
   resolution_id ← required written_identification element.BadId key.CxlStsId d
@@ -193,12 +193,12 @@ resolution_in d = do
   Ok (record { head = head; resolution_id = resolution_id; cancellation_id = cancellation_id; original = original; confirmation = confirmation; reason = reason; debtor_agent = debtor_agent })
 
 abbrev pub draft_in : Kind → Data → Result Draft JsonFault
-draft_in Camt029 d = resolution_in d >>= λ m. Ok (Resolution m)
-draft_in Camt056 d = cancellation_request_in d >>= λ m. Ok (CancellationRequest m)
-draft_in Pacs002 d = status_report_in d >>= λ m. Ok (StatusReport m)
-draft_in Pacs004 d = payment_return_in d >>= λ m. Ok (PaymentReturn m)
-draft_in Pacs008 d = credit_transfer_in d >>= λ m. Ok (CreditTransfer m)
-draft_in Pacs028 d = status_request_in d >>= λ m. Ok (StatusRequest m)
+draft_in Camt029 d = resolution_in d >>= λ m. Ok (draft.Resolution m)
+draft_in Camt056 d = cancellation_request_in d >>= λ m. Ok (draft.CancellationRequest m)
+draft_in Pacs002 d = status_report_in d >>= λ m. Ok (draft.StatusReport m)
+draft_in Pacs004 d = payment_return_in d >>= λ m. Ok (draft.PaymentReturn m)
+draft_in Pacs008 d = credit_transfer_in d >>= λ m. Ok (draft.CreditTransfer m)
+draft_in Pacs028 d = status_request_in d >>= λ m. Ok (draft.StatusRequest m)
 
 -- ---- the whole object
 

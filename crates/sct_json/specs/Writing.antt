@@ -11,14 +11,14 @@ use Rattle.sct_reason.specs.Codes.{reason_text}
 use Rattle.sct_reason.specs.Reasons.{reason_of}
 use Rattle.sct_message.specs.declared.draft.Head.{Head}
 use Rattle.sct_message.specs.declared.draft.Original.{Original}
-use Rattle.sct_message.specs.declared.draft.CreditTransfer.{CreditTransfer as Transfer}
-use Rattle.sct_message.specs.declared.draft.StatusReport.{StatusReport as Report}
-use Rattle.sct_message.specs.declared.draft.StatusRequest.{StatusRequest as Request}
-use Rattle.sct_message.specs.declared.draft.CancellationRequest.{CancellationRequest as Recall}
-use Rattle.sct_message.specs.declared.draft.PaymentReturn.{PaymentReturn as Return}
-use Rattle.sct_message.specs.declared.draft.Resolution.{Resolution as Answer}
+use Rattle.sct_message.specs.declared.draft.CreditTransfer.{CreditTransfer}
+use Rattle.sct_message.specs.declared.draft.StatusReport.{StatusReport}
+use Rattle.sct_message.specs.declared.draft.StatusRequest.{StatusRequest}
+use Rattle.sct_message.specs.declared.draft.CancellationRequest.{CancellationRequest}
+use Rattle.sct_message.specs.declared.draft.PaymentReturn.{PaymentReturn}
+use Rattle.sct_message.specs.declared.draft.Resolution.{Resolution}
 use Rattle.sct_message.specs.declared.draft.Draft.{Draft}
-use Rattle.sct_message.specs.declared.draft.Draft.TheVariants.{CreditTransfer, StatusReport, StatusRequest, CancellationRequest, PaymentReturn, Resolution}
+use Rattle.sct_message.specs.declared.draft.Draft.TheVariants as draft
 use Rattle.sct_json.specs.declared.keys.Key.{Key}
 use Rattle.sct_json.specs.declared.keys.Key.TheVariants as key
 use Rattle.sct_json.specs.Keys.{key_text}
@@ -46,28 +46,28 @@ abbrev pub original_rows : Original → List Row
 original_rows m = (key.OrgnlMsgId, Some m.message_id) ∷ (key.OrgnlMsgNmId, Some m.message_name) ∷ (key.OrgnlEndToEndId, m.end_to_end_id) ∷ (key.OrgnlTxId, Some m.transaction_id) ∷ []
 
 -- pacs.008, without its head
-abbrev pub transfer_rows : Transfer → List Row
-transfer_rows m = (key.IntrBkSttlmDt, Some m.settlement_date) ∷ (key.SvcLvl, Some m.service_level) ∷ (key.LclInstrm, Some m.local_instrument) ∷ (key.InstrId, m.instruction_id) ∷ (key.EndToEndId, Some m.end_to_end_id) ∷ (key.TxId, Some m.transaction_id) ∷ (key.IntrBkSttlmAmt, Some (amount_text m.settlement_amount)) ∷ (key.Ccy, Some m.currency) ∷ (key.ChrgBr, Some m.charge_bearer) ∷ (key.AccptncDtTm, m.acceptance_time) ∷ (key.Dbtr, Some m.debtor) ∷ (key.DbtrAcct, Some m.debtor_account) ∷ (key.DbtrAgt, Some m.debtor_agent) ∷ (key.CdtrAgt, Some m.creditor_agent) ∷ (key.Cdtr, Some m.creditor) ∷ (key.CdtrAcct, Some m.creditor_account) ∷ (key.Ustrd, m.remittance) ∷ []
+abbrev pub credit_transfer_rows : CreditTransfer → List Row
+credit_transfer_rows m = (key.IntrBkSttlmDt, Some m.settlement_date) ∷ (key.SvcLvl, Some m.service_level) ∷ (key.LclInstrm, Some m.local_instrument) ∷ (key.InstrId, m.instruction_id) ∷ (key.EndToEndId, Some m.end_to_end_id) ∷ (key.TxId, Some m.transaction_id) ∷ (key.IntrBkSttlmAmt, Some (amount_text m.settlement_amount)) ∷ (key.Ccy, Some m.currency) ∷ (key.ChrgBr, Some m.charge_bearer) ∷ (key.AccptncDtTm, m.acceptance_time) ∷ (key.Dbtr, Some m.debtor) ∷ (key.DbtrAcct, Some m.debtor_account) ∷ (key.DbtrAgt, Some m.debtor_agent) ∷ (key.CdtrAgt, Some m.creditor_agent) ∷ (key.Cdtr, Some m.creditor) ∷ (key.CdtrAcct, Some m.creditor_account) ∷ (key.Ustrd, m.remittance) ∷ []
 
 -- pacs.002, without its head and its original message
-abbrev pub report_rows : Report → List Row
-report_rows m = (key.TxSts, Some m.status) ∷ (key.Rsn, option_map reason_text m.reason) ∷ (key.DbtrAgt, Some m.debtor_agent) ∷ []
+abbrev pub status_report_rows : StatusReport → List Row
+status_report_rows m = (key.TxSts, Some m.status) ∷ (key.Rsn, option_map reason_text m.reason) ∷ (key.DbtrAgt, Some m.debtor_agent) ∷ []
 
 -- pacs.028, without its head and its original message
-abbrev pub request_rows : Request → List Row
-request_rows m = (key.OrgnlCxlId, m.cancellation_id) ∷ (key.DbtrAgt, Some m.debtor_agent) ∷ []
+abbrev pub status_request_rows : StatusRequest → List Row
+status_request_rows m = (key.OrgnlCxlId, m.cancellation_id) ∷ (key.DbtrAgt, Some m.debtor_agent) ∷ []
 
 -- camt.056, without its head
-abbrev pub recall_rows : Recall → List Row
-recall_rows m = (key.CxlId, Some m.cancellation_id) ∷ original_rows m.original ++ (key.OrgnlIntrBkSttlmAmt, Some (amount_text m.original_amount)) ∷ (key.Ccy, Some m.currency) ∷ (key.OrgnlIntrBkSttlmDt, m.original_settlement_date) ∷ (key.Rsn, Some (reason_text m.reason)) ∷ (key.DbtrAgt, Some m.debtor_agent) ∷ []
+abbrev pub cancellation_request_rows : CancellationRequest → List Row
+cancellation_request_rows m = (key.CxlId, Some m.cancellation_id) ∷ original_rows m.original ++ (key.OrgnlIntrBkSttlmAmt, Some (amount_text m.original_amount)) ∷ (key.Ccy, Some m.currency) ∷ (key.OrgnlIntrBkSttlmDt, m.original_settlement_date) ∷ (key.Rsn, Some (reason_text m.reason)) ∷ (key.DbtrAgt, Some m.debtor_agent) ∷ []
 
 -- pacs.004, without its head
-abbrev pub return_rows : Return → List Row
-return_rows m = (key.RtrId, Some m.return_id) ∷ (key.OrgnlCxlId, Some m.cancellation_id) ∷ original_rows m.original ++ (key.OrgnlIntrBkSttlmAmt, Some (amount_text m.original_amount)) ∷ (key.RtrdIntrBkSttlmAmt, Some (amount_text m.returned_amount)) ∷ (key.Ccy, Some m.currency) ∷ (key.IntrBkSttlmDt, Some m.settlement_date) ∷ (key.Rsn, Some (reason_text m.reason)) ∷ (key.DbtrAgt, Some m.debtor_agent) ∷ []
+abbrev pub payment_return_rows : PaymentReturn → List Row
+payment_return_rows m = (key.RtrId, Some m.return_id) ∷ (key.OrgnlCxlId, Some m.cancellation_id) ∷ original_rows m.original ++ (key.OrgnlIntrBkSttlmAmt, Some (amount_text m.original_amount)) ∷ (key.RtrdIntrBkSttlmAmt, Some (amount_text m.returned_amount)) ∷ (key.Ccy, Some m.currency) ∷ (key.IntrBkSttlmDt, Some m.settlement_date) ∷ (key.Rsn, Some (reason_text m.reason)) ∷ (key.DbtrAgt, Some m.debtor_agent) ∷ []
 
 -- camt.029, without its head
-abbrev pub answer_rows : Answer → List Row
-answer_rows m = (key.CxlStsId, Some m.resolution_id) ∷ (key.OrgnlCxlId, Some m.cancellation_id) ∷ original_rows m.original ++ (key.Conf, Some m.confirmation) ∷ (key.Rsn, Some (reason_text m.reason)) ∷ (key.DbtrAgt, Some m.debtor_agent) ∷ []
+abbrev pub resolution_rows : Resolution → List Row
+resolution_rows m = (key.CxlStsId, Some m.resolution_id) ∷ (key.OrgnlCxlId, Some m.cancellation_id) ∷ original_rows m.original ++ (key.Conf, Some m.confirmation) ∷ (key.Rsn, Some (reason_text m.reason)) ∷ (key.DbtrAgt, Some m.debtor_agent) ∷ []
 
 -- the members that a part puts beside others
 abbrev pub with_head : Head → Members → Members
@@ -76,31 +76,31 @@ with_head m ms = with_rows (head_rows m) ms
 abbrev pub with_original : Original → Members → Members
 with_original m ms = with_rows (original_rows m) ms
 
-abbrev pub with_transfer : Transfer → Members → Members
-with_transfer m ms = with_rows (transfer_rows m) (with_head m.head ms)
+abbrev pub with_credit_transfer : CreditTransfer → Members → Members
+with_credit_transfer m ms = with_rows (credit_transfer_rows m) (with_head m.head ms)
 
-abbrev pub with_report : Report → Members → Members
-with_report m ms = with_rows (report_rows m) (with_original m.original (with_head m.head ms))
+abbrev pub with_status_report : StatusReport → Members → Members
+with_status_report m ms = with_rows (status_report_rows m) (with_original m.original (with_head m.head ms))
 
-abbrev pub with_request : Request → Members → Members
-with_request m ms = with_rows (request_rows m) (with_original m.original (with_head m.head ms))
+abbrev pub with_status_request : StatusRequest → Members → Members
+with_status_request m ms = with_rows (status_request_rows m) (with_original m.original (with_head m.head ms))
 
-abbrev pub with_recall : Recall → Members → Members
-with_recall m ms = with_rows (recall_rows m) (with_head m.head ms)
+abbrev pub with_cancellation_request : CancellationRequest → Members → Members
+with_cancellation_request m ms = with_rows (cancellation_request_rows m) (with_head m.head ms)
 
-abbrev pub with_return : Return → Members → Members
-with_return m ms = with_rows (return_rows m) (with_head m.head ms)
+abbrev pub with_payment_return : PaymentReturn → Members → Members
+with_payment_return m ms = with_rows (payment_return_rows m) (with_head m.head ms)
 
-abbrev pub with_answer : Answer → Members → Members
-with_answer m ms = with_rows (answer_rows m) (with_head m.head ms)
+abbrev pub with_resolution : Resolution → Members → Members
+with_resolution m ms = with_rows (resolution_rows m) (with_head m.head ms)
 
 abbrev pub with_elements : Draft → Members → Members
-with_elements (CreditTransfer m) ms = with_transfer m ms
-with_elements (StatusReport m) ms = with_report m ms
-with_elements (StatusRequest m) ms = with_request m ms
-with_elements (CancellationRequest m) ms = with_recall m ms
-with_elements (PaymentReturn m) ms = with_return m ms
-with_elements (Resolution m) ms = with_answer m ms
+with_elements (draft.CreditTransfer m) ms = with_credit_transfer m ms
+with_elements (draft.StatusReport m) ms = with_status_report m ms
+with_elements (draft.StatusRequest m) ms = with_status_request m ms
+with_elements (draft.CancellationRequest m) ms = with_cancellation_request m ms
+with_elements (draft.PaymentReturn m) ms = with_payment_return m ms
+with_elements (draft.Resolution m) ms = with_resolution m ms
 
 -- the object that is written for a message, and its text
 abbrev pub written_object : Draft → Data
@@ -131,7 +131,7 @@ pub record OriginalReadsBack (m : Original) : Type 0 where
   pub end_to_end_id : MayReadBack written_identification (λ s. s) m.end_to_end_id
   pub transaction_id : ReadsBack written_identification (λ s. s) m.transaction_id
 
-pub record TransferReadsBack (m : Transfer) : Type 0 where
+pub record CreditTransferReadsBack (m : CreditTransfer) : Type 0 where
   pub head : HeadReadsBack m.head
   pub settlement_date : ReadsBack written_day (λ s. s) m.settlement_date
   pub service_level : ReadsBack written_code (λ s. s) m.service_level
@@ -151,20 +151,20 @@ pub record TransferReadsBack (m : Transfer) : Type 0 where
   pub creditor_account : ReadsBack written_iban (λ s. s) m.creditor_account
   pub remittance : MayReadBack remittance_of (λ s. s) m.remittance
 
-pub record ReportReadsBack (m : Report) : Type 0 where
+pub record StatusReportReadsBack (m : StatusReport) : Type 0 where
   pub head : HeadReadsBack m.head
   pub original : OriginalReadsBack m.original
   pub status : ReadsBack written_code (λ s. s) m.status
   pub reason : MayReadBack reason_of reason_text m.reason
   pub debtor_agent : ReadsBack written_bic (λ s. s) m.debtor_agent
 
-pub record RequestReadsBack (m : Request) : Type 0 where
+pub record StatusRequestReadsBack (m : StatusRequest) : Type 0 where
   pub head : HeadReadsBack m.head
   pub original : OriginalReadsBack m.original
   pub cancellation_id : MayReadBack written_identification (λ s. s) m.cancellation_id
   pub debtor_agent : ReadsBack written_bic (λ s. s) m.debtor_agent
 
-pub record RecallReadsBack (m : Recall) : Type 0 where
+pub record CancellationRequestReadsBack (m : CancellationRequest) : Type 0 where
   pub head : HeadReadsBack m.head
   pub cancellation_id : ReadsBack written_identification (λ s. s) m.cancellation_id
   pub original : OriginalReadsBack m.original
@@ -174,7 +174,7 @@ pub record RecallReadsBack (m : Recall) : Type 0 where
   pub reason : ReadsBack reason_of reason_text m.reason
   pub debtor_agent : ReadsBack written_bic (λ s. s) m.debtor_agent
 
-pub record ReturnReadsBack (m : Return) : Type 0 where
+pub record PaymentReturnReadsBack (m : PaymentReturn) : Type 0 where
   pub head : HeadReadsBack m.head
   pub return_id : ReadsBack written_identification (λ s. s) m.return_id
   pub cancellation_id : ReadsBack written_identification (λ s. s) m.cancellation_id
@@ -186,7 +186,7 @@ pub record ReturnReadsBack (m : Return) : Type 0 where
   pub reason : ReadsBack reason_of reason_text m.reason
   pub debtor_agent : ReadsBack written_bic (λ s. s) m.debtor_agent
 
-pub record AnswerReadsBack (m : Answer) : Type 0 where
+pub record ResolutionReadsBack (m : Resolution) : Type 0 where
   pub head : HeadReadsBack m.head
   pub resolution_id : ReadsBack written_identification (λ s. s) m.resolution_id
   pub cancellation_id : ReadsBack written_identification (λ s. s) m.cancellation_id
@@ -196,9 +196,9 @@ pub record AnswerReadsBack (m : Answer) : Type 0 where
   pub debtor_agent : ReadsBack written_bic (λ s. s) m.debtor_agent
 
 abbrev pub ElementsReadBack : Draft → Type 0
-ElementsReadBack (CreditTransfer m) = TransferReadsBack m
-ElementsReadBack (StatusReport m) = ReportReadsBack m
-ElementsReadBack (StatusRequest m) = RequestReadsBack m
-ElementsReadBack (CancellationRequest m) = RecallReadsBack m
-ElementsReadBack (PaymentReturn m) = ReturnReadsBack m
-ElementsReadBack (Resolution m) = AnswerReadsBack m
+ElementsReadBack (draft.CreditTransfer m) = CreditTransferReadsBack m
+ElementsReadBack (draft.StatusReport m) = StatusReportReadsBack m
+ElementsReadBack (draft.StatusRequest m) = StatusRequestReadsBack m
+ElementsReadBack (draft.CancellationRequest m) = CancellationRequestReadsBack m
+ElementsReadBack (draft.PaymentReturn m) = PaymentReturnReadsBack m
+ElementsReadBack (draft.Resolution m) = ResolutionReadsBack m

@@ -4,7 +4,7 @@ ghost use Rattle.sct_message.specs.declared.kinds.Kind.TheVariants.{Camt056};
 ghost use Rattle.sct_json.specs.Keys.{is_key_of};
 ghost use Rattle.serde_json.specs.View.{view, members_view};
 ghost use Rattle.sct_json.specs.Reading.{Gives, cancellation_request_in};
-ghost use Rattle.sct_json.specs.Writing.{with_recall, RecallReadsBack};
+ghost use Rattle.sct_json.specs.Writing.{with_cancellation_request, CancellationRequestReadsBack};
 
 use crate::faults::JsonFault;
 use crate::keys::{Key, is_among};
@@ -48,11 +48,11 @@ pub(crate) fn is_key(name: &str) -> bool
 /// Puts the elements into an object, each at its key.
 pub(crate) fn put_all(
     alloc: Global,
-    recall: &CancellationRequest,
+    cancellation_request: &CancellationRequest,
     object: &mut Map<String, Value>,
 ) -> Result<(), AllocError>
-    ensures put { OnOk result (members_view object.new.entries ≡ with_recall recall.now (members_view object.old.entries)) }
-    ensures reads_back { OnOk result (RecallReadsBack recall.now) }
+    ensures put { OnOk result (members_view object.new.entries ≡ with_cancellation_request cancellation_request.now (members_view object.old.entries)) }
+    ensures reads_back { OnOk result (CancellationRequestReadsBack cancellation_request.now) }
 {
-    cancellation_request_table!(put_table! { alloc, recall, object })
+    cancellation_request_table!(put_table! { alloc, cancellation_request, object })
 }

@@ -4,7 +4,7 @@ ghost use Rattle.sct_message.specs.declared.kinds.Kind.TheVariants.{Pacs008};
 ghost use Rattle.sct_json.specs.Keys.{is_key_of};
 ghost use Rattle.serde_json.specs.View.{view, members_view};
 ghost use Rattle.sct_json.specs.Reading.{Gives, credit_transfer_in};
-ghost use Rattle.sct_json.specs.Writing.{with_transfer, TransferReadsBack};
+ghost use Rattle.sct_json.specs.Writing.{with_credit_transfer, CreditTransferReadsBack};
 
 use crate::faults::JsonFault;
 use crate::head;
@@ -58,11 +58,11 @@ pub(crate) fn is_key(name: &str) -> bool
 /// Puts the elements into an object, each at its key.
 pub(crate) fn put_all(
     alloc: Global,
-    transfer: &CreditTransfer,
+    credit_transfer: &CreditTransfer,
     object: &mut Map<String, Value>,
 ) -> Result<(), AllocError>
-    ensures put { OnOk result (members_view object.new.entries ≡ with_transfer transfer.now (members_view object.old.entries)) }
-    ensures reads_back { OnOk result (TransferReadsBack transfer.now) }
+    ensures put { OnOk result (members_view object.new.entries ≡ with_credit_transfer credit_transfer.now (members_view object.old.entries)) }
+    ensures reads_back { OnOk result (CreditTransferReadsBack credit_transfer.now) }
 {
-    credit_transfer_table!(put_table! { alloc, transfer, object })
+    credit_transfer_table!(put_table! { alloc, credit_transfer, object })
 }

@@ -4,7 +4,7 @@ ghost use Rattle.sct_message.specs.declared.kinds.Kind.TheVariants.{Pacs004};
 ghost use Rattle.sct_json.specs.Keys.{is_key_of};
 ghost use Rattle.serde_json.specs.View.{view, members_view};
 ghost use Rattle.sct_json.specs.Reading.{Gives, payment_return_in};
-ghost use Rattle.sct_json.specs.Writing.{with_return, ReturnReadsBack};
+ghost use Rattle.sct_json.specs.Writing.{with_payment_return, PaymentReturnReadsBack};
 
 use crate::faults::JsonFault;
 use crate::keys::{Key, is_among};
@@ -50,11 +50,11 @@ pub(crate) fn is_key(name: &str) -> bool
 /// Puts the elements into an object, each at its key.
 pub(crate) fn put_all(
     alloc: Global,
-    payment: &PaymentReturn,
+    payment_return: &PaymentReturn,
     object: &mut Map<String, Value>,
 ) -> Result<(), AllocError>
-    ensures put { OnOk result (members_view object.new.entries ≡ with_return payment.now (members_view object.old.entries)) }
-    ensures reads_back { OnOk result (ReturnReadsBack payment.now) }
+    ensures put { OnOk result (members_view object.new.entries ≡ with_payment_return payment_return.now (members_view object.old.entries)) }
+    ensures reads_back { OnOk result (PaymentReturnReadsBack payment_return.now) }
 {
-    payment_return_table!(put_table! { alloc, payment, object })
+    payment_return_table!(put_table! { alloc, payment_return, object })
 }

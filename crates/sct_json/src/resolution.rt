@@ -4,7 +4,7 @@ ghost use Rattle.sct_message.specs.declared.kinds.Kind.TheVariants.{Camt029};
 ghost use Rattle.sct_json.specs.Keys.{is_key_of};
 ghost use Rattle.serde_json.specs.View.{view, members_view};
 ghost use Rattle.sct_json.specs.Reading.{Gives, resolution_in};
-ghost use Rattle.sct_json.specs.Writing.{with_answer, AnswerReadsBack};
+ghost use Rattle.sct_json.specs.Writing.{with_resolution, ResolutionReadsBack};
 
 use crate::faults::JsonFault;
 use crate::keys::{Key, is_among};
@@ -50,8 +50,8 @@ pub(crate) fn put_all(
     resolution: &Resolution,
     object: &mut Map<String, Value>,
 ) -> Result<(), AllocError>
-    ensures put { OnOk result (members_view object.new.entries ≡ with_answer resolution.now (members_view object.old.entries)) }
-    ensures reads_back { OnOk result (AnswerReadsBack resolution.now) }
+    ensures put { OnOk result (members_view object.new.entries ≡ with_resolution resolution.now (members_view object.old.entries)) }
+    ensures reads_back { OnOk result (ResolutionReadsBack resolution.now) }
 {
     resolution_table!(put_table! { alloc, resolution, object })
 }

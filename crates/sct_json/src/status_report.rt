@@ -4,7 +4,7 @@ ghost use Rattle.sct_message.specs.declared.kinds.Kind.TheVariants.{Pacs002};
 ghost use Rattle.sct_json.specs.Keys.{is_key_of};
 ghost use Rattle.serde_json.specs.View.{view, members_view};
 ghost use Rattle.sct_json.specs.Reading.{Gives, status_report_in};
-ghost use Rattle.sct_json.specs.Writing.{with_report, ReportReadsBack};
+ghost use Rattle.sct_json.specs.Writing.{with_status_report, StatusReportReadsBack};
 
 use crate::faults::JsonFault;
 use crate::keys::{Key, is_among};
@@ -45,11 +45,11 @@ pub(crate) fn is_key(name: &str) -> bool
 /// Puts the elements into an object, each at its key.
 pub(crate) fn put_all(
     alloc: Global,
-    report: &StatusReport,
+    status_report: &StatusReport,
     object: &mut Map<String, Value>,
 ) -> Result<(), AllocError>
-    ensures put { OnOk result (members_view object.new.entries ≡ with_report report.now (members_view object.old.entries)) }
-    ensures reads_back { OnOk result (ReportReadsBack report.now) }
+    ensures put { OnOk result (members_view object.new.entries ≡ with_status_report status_report.now (members_view object.old.entries)) }
+    ensures reads_back { OnOk result (StatusReportReadsBack status_report.now) }
 {
-    status_report_table!(put_table! { alloc, report, object })
+    status_report_table!(put_table! { alloc, status_report, object })
 }

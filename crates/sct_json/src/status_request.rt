@@ -4,7 +4,7 @@ ghost use Rattle.sct_message.specs.declared.kinds.Kind.TheVariants.{Pacs028};
 ghost use Rattle.sct_json.specs.Keys.{is_key_of};
 ghost use Rattle.serde_json.specs.View.{view, members_view};
 ghost use Rattle.sct_json.specs.Reading.{Gives, status_request_in};
-ghost use Rattle.sct_json.specs.Writing.{with_request, RequestReadsBack};
+ghost use Rattle.sct_json.specs.Writing.{with_status_request, StatusRequestReadsBack};
 
 use crate::faults::JsonFault;
 use crate::keys::{Key, is_among};
@@ -44,11 +44,11 @@ pub(crate) fn is_key(name: &str) -> bool
 /// Puts the elements into an object, each at its key.
 pub(crate) fn put_all(
     alloc: Global,
-    request: &StatusRequest,
+    status_request: &StatusRequest,
     object: &mut Map<String, Value>,
 ) -> Result<(), AllocError>
-    ensures put { OnOk result (members_view object.new.entries ≡ with_request request.now (members_view object.old.entries)) }
-    ensures reads_back { OnOk result (RequestReadsBack request.now) }
+    ensures put { OnOk result (members_view object.new.entries ≡ with_status_request status_request.now (members_view object.old.entries)) }
+    ensures reads_back { OnOk result (StatusRequestReadsBack status_request.now) }
 {
-    status_request_table!(put_table! { alloc, request, object })
+    status_request_table!(put_table! { alloc, status_request, object })
 }

@@ -24,11 +24,27 @@ fn put_elements(
     ensures reads_back { OnOk result (ElementsReadBack draft.now) }
 {
     match draft {
-        Draft::CreditTransfer(transfer) => credit_transfer::put_all(alloc, transfer, object),
-        Draft::StatusReport(report) => status_report::put_all(alloc, report, object),
-        Draft::StatusRequest(request) => status_request::put_all(alloc, request, object),
-        Draft::CancellationRequest(recall) => cancellation_request::put_all(alloc, recall, object),
-        Draft::PaymentReturn(payment) => payment_return::put_all(alloc, payment, object),
+        Draft::CreditTransfer(credit_transfer) => credit_transfer::put_all(
+            alloc,
+            credit_transfer,
+            object,
+        ),
+        Draft::StatusReport(status_report) => status_report::put_all(alloc, status_report, object),
+        Draft::StatusRequest(status_request) => status_request::put_all(
+            alloc,
+            status_request,
+            object,
+        ),
+        Draft::CancellationRequest(cancellation_request) => cancellation_request::put_all(
+            alloc,
+            cancellation_request,
+            object,
+        ),
+        Draft::PaymentReturn(payment_return) => payment_return::put_all(
+            alloc,
+            payment_return,
+            object,
+        ),
         Draft::Resolution(resolution) => resolution::put_all(alloc, resolution, object),
     }
 }
