@@ -1,5 +1,5 @@
 -- What an object is read as: the message of which it is a form, or the first reason why it is a form of none.
-use Rattle.std.specs.Prelude.{◌≡◌, ℕ, List, [], ◌∷◌, not, if◌then◌else◌, Option, Some, None, option_and_then, find, Result, Ok, Err, ok_or, ⊤}
+use Rattle.std.specs.Prelude.{◌≡◌, ℕ, List, [], ◌∷◌, Bool, true, false, not, if◌then◌else◌, IsTrue, Option, Some, None, option_and_then, find, Result, Ok, Err, ok_or, ⊤}
 use Rattle.std.specs.Str.{is_utf8}
 use Rattle.serde_json.specs.Data.{Data, Members, no_members, member}
 use Rattle.serde_json.specs.Read.{read}
@@ -41,20 +41,44 @@ abbrev pub ◌>>=◌ : {X Y : Type 0} → Result X JsonFault → (X → Result Y
 (Ok x) >>= f = f x
 (Err e) >>= f = Err e
 
--- What a function of the code answered is what is read, but for want of memory.
-abbrev pub Fails : {X : Type 0} → JsonFault → Result X JsonFault → Type 0
-Fails fault.Memory read = Unit {0}
-Fails e read = read ≡ Err e
+-- What a function of the code answered is what is read. Want of memory may be answered in its place, but only where the
+-- function takes memory.
+abbrev pub FailsWhere : {X : Type 0} → Bool → JsonFault → Result X JsonFault → Type 0
+FailsWhere takes_memory fault.Memory read = IsTrue takes_memory
+FailsWhere takes_memory e read = read ≡ Err e
 
+abbrev pub GivesWhere : {X : Type 0} → Bool → Result X JsonFault → Result X JsonFault → Type 0
+GivesWhere takes_memory (Ok x) read = read ≡ Ok x
+GivesWhere takes_memory (Err e) read = FailsWhere takes_memory e read
+
+-- the same of a function that may always take memory, and of one that never does
 abbrev pub Gives : {X : Type 0} → Result X JsonFault → Result X JsonFault → Type 0
-Gives (Ok x) read = read ≡ Ok x
-Gives (Err e) read = Fails e read
+Gives answered read = GivesWhere true answered read
 
--- A text read as an element, or the fault of the element's type, but for want of memory.
-abbrev pub ReadsElement : {X : Type 0} → Option X → ElementFault → Result X ElementFault → Type 0
-ReadsElement found refusal (Ok x) = found ≡ Some x
-ReadsElement found refusal (Err element.Memory) = Unit {0}
-ReadsElement found refusal (Err e) = (found ≡ None) × (e ≡ refusal)
+abbrev pub GivesWithoutMemory : {X : Type 0} → Result X JsonFault → Result X JsonFault → Type 0
+GivesWithoutMemory answered read = GivesWhere false answered read
+
+-- A text is read as an element, or refused with the fault of the element's type. Want of memory is an answer only where
+-- reading the element takes memory.
+abbrev pub ReadsElement : {X : Type 0} → Bool → Option X → ElementFault → Result X ElementFault → Type 0
+ReadsElement takes_memory found refusal (Ok x) = found ≡ Some x
+ReadsElement takes_memory found refusal (Err element.Memory) = IsTrue takes_memory
+ReadsElement takes_memory found refusal (Err e) = (found ≡ None) × (e ≡ refusal)
+
+-- the fault is want of memory; it is that of no type of element
+abbrev pub is_want_of_memory : ElementFault → Bool
+is_want_of_memory element.Memory = true
+is_want_of_memory e = false
+
+-- names and remittance information are kept where they were read into, and a pacs.008 alone has such; every other
+-- element takes no memory
+abbrev pub has_free_texts : Kind → Bool
+has_free_texts Camt029 = false
+has_free_texts Camt056 = false
+has_free_texts Pacs002 = false
+has_free_texts Pacs004 = false
+has_free_texts Pacs008 = true
+has_free_texts Pacs028 = false
 
 -- a name and remittance information are read as they stand
 abbrev pub name_of : List ℕ → Option (List ℕ)

@@ -2,14 +2,17 @@
 ghost use Rattle.std.specs.Prelude.{◌≡◌, OnOk};
 ghost use Rattle.sct_message.specs.declared.kinds.Kind.TheVariants.{Camt056};
 ghost use Rattle.sct_json.specs.Keys.{is_key_of};
-ghost use Rattle.serde_json.specs.View.{view, members_view};
-ghost use Rattle.sct_json.specs.Reading.{Gives, cancellation_request_in};
-ghost use Rattle.sct_json.specs.Writing.{with_cancellation_request, CancellationRequestReadsBack};
+ghost use Rattle.serde_json.specs.View.{view};
+ghost use Rattle.sct_json.specs.Reading.{GivesWithoutMemory, cancellation_request_in};
+ghost use Rattle.sct_json.specs.Writing.{with_cancellation_request, Puts, CancellationRequestReadsBack};
 
 use crate::faults::JsonFault;
 use crate::keys::{Key, is_among};
-use crate::members::{optional, put, put_optional, required};
-use crate::tables::{has_key, own_key, put_member, put_table, read_member, read_table};
+use crate::members::{may_read_back, optional, put, put_optional, reads_back, required};
+use crate::tables::{
+    has_key, own_key, put_member, put_table, read_back_member, read_back_table, read_member,
+    read_table,
+};
 use crate::{head, original};
 use sct_message::CancellationRequest;
 use serde_json::{Map, Value};
@@ -33,7 +36,7 @@ macro_rules! cancellation_request_table {
 
 #[tactic(auto, unfolding(crate::specs::Reading::cancellation_request_in))]
 pub(crate) fn read(alloc: Global, object: &Value) -> Result<CancellationRequest, JsonFault>
-    ensures { Gives result (cancellation_request_in (view object.now)) }
+    ensures { GivesWithoutMemory result (cancellation_request_in (view object.now)) }
 {
     cancellation_request_table!(read_table! { alloc, object })
 }
@@ -51,8 +54,14 @@ pub(crate) fn put_all(
     cancellation_request: &CancellationRequest,
     object: &mut Map<String, Value>,
 ) -> Result<(), AllocError>
-    ensures put { OnOk result (members_view object.new.entries ≡ with_cancellation_request cancellation_request.now (members_view object.old.entries)) }
-    ensures reads_back { OnOk result (CancellationRequestReadsBack cancellation_request.now) }
+    ensures { OnOk result (Puts (with_cancellation_request cancellation_request.now) object.old.entries object.new.entries) }
 {
     cancellation_request_table!(put_table! { alloc, cancellation_request, object })
+}
+
+/// A law: the written form of each element is read as the element.
+pub(crate) fn elements_read_back(cancellation_request: &CancellationRequest)
+    ensures { CancellationRequestReadsBack cancellation_request.now }
+{
+    cancellation_request_table!(read_back_table! { cancellation_request })
 }

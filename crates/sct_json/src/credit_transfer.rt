@@ -2,15 +2,18 @@
 ghost use Rattle.std.specs.Prelude.{◌≡◌, OnOk};
 ghost use Rattle.sct_message.specs.declared.kinds.Kind.TheVariants.{Pacs008};
 ghost use Rattle.sct_json.specs.Keys.{is_key_of};
-ghost use Rattle.serde_json.specs.View.{view, members_view};
+ghost use Rattle.serde_json.specs.View.{view};
 ghost use Rattle.sct_json.specs.Reading.{Gives, credit_transfer_in};
-ghost use Rattle.sct_json.specs.Writing.{with_credit_transfer, CreditTransferReadsBack};
+ghost use Rattle.sct_json.specs.Writing.{with_credit_transfer, Puts, CreditTransferReadsBack};
 
 use crate::faults::JsonFault;
 use crate::head;
 use crate::keys::{Key, is_among};
-use crate::members::{optional, put, put_optional, required};
-use crate::tables::{has_key, own_key, put_member, put_table, read_member, read_table};
+use crate::members::{may_read_back, optional, put, put_optional, reads_back, required};
+use crate::tables::{
+    has_key, own_key, put_member, put_table, read_back_member, read_back_table, read_member,
+    read_table,
+};
 use sct_message::CreditTransfer;
 use serde_json::{Map, Value};
 use std::alloc::{AllocError, Global};
@@ -61,8 +64,14 @@ pub(crate) fn put_all(
     credit_transfer: &CreditTransfer,
     object: &mut Map<String, Value>,
 ) -> Result<(), AllocError>
-    ensures put { OnOk result (members_view object.new.entries ≡ with_credit_transfer credit_transfer.now (members_view object.old.entries)) }
-    ensures reads_back { OnOk result (CreditTransferReadsBack credit_transfer.now) }
+    ensures { OnOk result (Puts (with_credit_transfer credit_transfer.now) object.old.entries object.new.entries) }
 {
     credit_transfer_table!(put_table! { alloc, credit_transfer, object })
+}
+
+/// A law: the written form of each element is read as the element.
+pub(crate) fn elements_read_back(credit_transfer: &CreditTransfer)
+    ensures { CreditTransferReadsBack credit_transfer.now }
+{
+    credit_transfer_table!(read_back_table! { credit_transfer })
 }

@@ -1,5 +1,5 @@
 //! The elements that a key's text may be read as.
-ghost use Rattle.std.specs.Prelude.{◌≡◌, ℕ, List, Option, Some, IfOk};
+ghost use Rattle.std.specs.Prelude.{◌≡◌, ℕ, List, Bool, true, false, Option, IfOk};
 ghost use Rattle.serde_json.specs.Data.{string};
 ghost use Rattle.serde_json.specs.View.{view};
 ghost use Rattle.sct_element.specs.Text.{where_read};
@@ -9,7 +9,8 @@ ghost use Rattle.sct_element.specs.declared.faults.ElementFault.{ElementFault};
 ghost use Rattle.sct_element.specs.declared.faults.ElementFault.TheVariants.{BadAmount, BadCode, BadText};
 ghost use Rattle.sct_reason.specs.Codes.{reason_text};
 ghost use Rattle.sct_reason.specs.Reasons.{reason_of};
-ghost use Rattle.sct_json.specs.Reading.{ReadsElement};
+ghost use Rattle.sct_json.specs.Reading.{ReadsElement, is_want_of_memory};
+ghost use Rattle.sct_json.specs.Writing.{ReadsBack};
 
 use sct_element::{Amount, Checked, ElementFault, FreeText, Rule};
 use sct_reason::Reason;
@@ -24,13 +25,19 @@ pub(crate) trait Element: Drop {
 
     ghost written: { Self → List ℕ };
 
+    // Whether reading a text takes memory.
+    ghost takes_memory: { Bool };
+
     fn read_element(alloc: Global, text: &str) -> Result<Self, ElementFault>
-        ensures { ReadsElement (reads text.now) refusal result };
+        ensures { ReadsElement takes_memory (reads text.now) refusal result };
 
     /// The written form as a JSON text.
     fn to_value(&self, alloc: Global) -> Result<Value, AllocError>
-        ensures text { IfOk result (λ value. view value ≡ string (written self.now)) }
-        ensures reads_back { reads (written self.now) ≡ Some self.now };
+        ensures { IfOk result (λ value. view value ≡ string (written self.now)) };
+
+    /// A law: the written form is read as the element.
+    fn reads_back(&self)
+        ensures { ReadsBack reads written self.now };
 }
 
 impl<R: Rule<N>, const N: usize> Element for Checked<R, N> {
@@ -40,12 +47,19 @@ impl<R: Rule<N>, const N: usize> Element for Checked<R, N> {
 
     ghost written = { λ s. s };
 
+    // Its type's own fault is never want of memory.
+    ghost takes_memory = { is_want_of_memory R.fault };
+
     fn read_element(_alloc: Global, text: &str) -> Result<Self, ElementFault> {
         Checked::read(text)
     }
 
     fn to_value(&self, alloc: Global) -> Result<Value, AllocError> {
         Ok(Value::String(String::from_str(alloc, self.text())?))
+    }
+
+    fn reads_back(&self) {
+        let _ = self.text();
     }
 }
 
@@ -56,6 +70,8 @@ impl Element for Reason {
 
     ghost written = { reason_text };
 
+    ghost takes_memory = { false };
+
     fn read_element(_alloc: Global, text: &str) -> Result<Self, ElementFault> {
         Reason::read(text).ok_or(ElementFault::BadCode)
     }
@@ -63,6 +79,8 @@ impl Element for Reason {
     fn to_value(&self, alloc: Global) -> Result<Value, AllocError> {
         Ok(Value::String(String::from_str(alloc, self.text())?))
     }
+
+    fn reads_back(&self) {}
 }
 
 impl Element for Amount {
@@ -72,12 +90,18 @@ impl Element for Amount {
 
     ghost written = { amount_text };
 
+    ghost takes_memory = { false };
+
     fn read_element(_alloc: Global, text: &str) -> Result<Self, ElementFault> {
         Amount::read(text)
     }
 
     fn to_value(&self, alloc: Global) -> Result<Value, AllocError> {
         Ok(Value::String(String::from_str(alloc, self.text().as_str())?))
+    }
+
+    fn reads_back(&self) {
+        let _ = self.text();
     }
 }
 
@@ -88,11 +112,17 @@ impl<const MOST: usize> Element for FreeText<MOST> {
 
     ghost written = { λ s. s };
 
+    ghost takes_memory = { true };
+
     fn read_element(alloc: Global, text: &str) -> Result<Self, ElementFault> {
         FreeText::read(alloc, text)
     }
 
     fn to_value(&self, alloc: Global) -> Result<Value, AllocError> {
         Ok(Value::String(String::from_str(alloc, self.text())?))
+    }
+
+    fn reads_back(&self) {
+        let _ = self.text();
     }
 }

@@ -1,14 +1,17 @@
 //! What every message begins with.
 ghost use Rattle.std.specs.Prelude.{◌≡◌, OnOk};
 ghost use Rattle.sct_json.specs.Keys.{head_keys, is_among};
-ghost use Rattle.serde_json.specs.View.{view, members_view};
-ghost use Rattle.sct_json.specs.Reading.{Gives, head_in};
-ghost use Rattle.sct_json.specs.Writing.{with_head, HeadReadsBack};
+ghost use Rattle.serde_json.specs.View.{view};
+ghost use Rattle.sct_json.specs.Reading.{GivesWithoutMemory, head_in};
+ghost use Rattle.sct_json.specs.Writing.{with_head, Puts, HeadReadsBack};
 
 use crate::faults::JsonFault;
 use crate::keys::{Key, is_among};
-use crate::members::{optional, put, put_optional, required};
-use crate::tables::{has_key, own_key, put_member, put_table, read_member, read_table};
+use crate::members::{may_read_back, optional, put, put_optional, reads_back, required};
+use crate::tables::{
+    has_key, own_key, put_member, put_table, read_back_member, read_back_table, read_member,
+    read_table,
+};
 use sct_message::Head;
 use serde_json::{Map, Value};
 use std::alloc::{AllocError, Global};
@@ -28,7 +31,7 @@ macro_rules! head_table {
 
 #[tactic(auto, unfolding(crate::specs::Reading::head_in))]
 pub(crate) fn read(alloc: Global, object: &Value) -> Result<Head, JsonFault>
-    ensures { Gives result (head_in (view object.now)) }
+    ensures { GivesWithoutMemory result (head_in (view object.now)) }
 {
     head_table!(read_table! { alloc, object })
 }
@@ -46,8 +49,14 @@ pub(crate) fn put_all(
     head: &Head,
     object: &mut Map<String, Value>,
 ) -> Result<(), AllocError>
-    ensures put { OnOk result (members_view object.new.entries ≡ with_head head.now (members_view object.old.entries)) }
-    ensures reads_back { OnOk result (HeadReadsBack head.now) }
+    ensures { OnOk result (Puts (with_head head.now) object.old.entries object.new.entries) }
 {
     head_table!(put_table! { alloc, head, object })
+}
+
+/// A law: the written form of each element is read as the element.
+pub(crate) fn elements_read_back(head: &Head)
+    ensures { HeadReadsBack head.now }
+{
+    head_table!(read_back_table! { head })
 }

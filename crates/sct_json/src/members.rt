@@ -1,8 +1,8 @@
 //! One key of an object: read as an element, and written.
-ghost use Rattle.std.specs.Prelude.{◌≡◌, Some, OnOk, option_map};
-ghost use Rattle.serde_json.specs.View.{view, members_view};
-ghost use Rattle.sct_json.specs.Reading.{Gives, required, optional, value_as};
-ghost use Rattle.sct_json.specs.Writing.{with_text, ReadsBack, MayReadBack};
+ghost use Rattle.std.specs.Prelude.{Some, OnOk, option_map};
+ghost use Rattle.serde_json.specs.View.{view};
+ghost use Rattle.sct_json.specs.Reading.{GivesWhere, required, optional, value_as};
+ghost use Rattle.sct_json.specs.Writing.{with_text, Puts, ReadsBack, MayReadBack};
 
 use crate::elements::Element;
 use crate::faults::JsonFault;
@@ -13,7 +13,7 @@ use std::alloc::{AllocError, Global};
 
 /// The element that a key's value is read as.
 fn value_as<E: Element>(alloc: Global, key: Key, value: &Value) -> Result<E, JsonFault>
-    ensures { Gives result (value_as E.reads E.refusal key (view value.now)) }
+    ensures { GivesWhere E.takes_memory result (value_as E.reads E.refusal key (view value.now)) }
 {
     let text = match value.as_str() {
         Some(text) => text,
@@ -29,7 +29,7 @@ fn value_as<E: Element>(alloc: Global, key: Key, value: &Value) -> Result<E, Jso
 /// The element at a key that each message of the kind has.
 #[tactic(auto, unfolding(crate::specs::Reading::required))]
 pub(crate) fn required<E: Element>(alloc: Global, key: Key, object: &Value) -> Result<E, JsonFault>
-    ensures { Gives result (required E.reads E.refusal key (view object.now)) }
+    ensures { GivesWhere E.takes_memory result (required E.reads E.refusal key (view object.now)) }
 {
     match object.get(key.text()) {
         Some(value) => value_as(alloc, key, value),
@@ -44,7 +44,7 @@ pub(crate) fn optional<E: Element>(
     key: Key,
     object: &Value,
 ) -> Result<Option<E>, JsonFault>
-    ensures { Gives result (optional E.reads E.refusal key (view object.now)) }
+    ensures { GivesWhere E.takes_memory result (optional E.reads E.refusal key (view object.now)) }
 {
     match object.get(key.text()) {
         Some(value) => {
@@ -62,8 +62,7 @@ pub(crate) fn put<E: Element>(
     element: &E,
     object: &mut Map<String, Value>,
 ) -> Result<(), AllocError>
-    ensures put { OnOk result (members_view object.new.entries ≡ with_text key (Some (E.written element.now)) (members_view object.old.entries)) }
-    ensures reads_back { OnOk result (ReadsBack E.reads E.written element.now) }
+    ensures { OnOk result (Puts (with_text key (Some (E.written element.now))) object.old.entries object.new.entries) }
 {
     let value = element.to_value(alloc)?;
     serde_json::put(object, alloc, key.text(), value)
@@ -76,11 +75,26 @@ pub(crate) fn put_optional<E: Element>(
     element: &Option<E>,
     object: &mut Map<String, Value>,
 ) -> Result<(), AllocError>
-    ensures put { OnOk result (members_view object.new.entries ≡ with_text key (option_map E.written element.now) (members_view object.old.entries)) }
-    ensures reads_back { OnOk result (MayReadBack E.reads E.written element.now) }
+    ensures { OnOk result (Puts (with_text key (option_map E.written element.now)) object.old.entries object.new.entries) }
 {
     match element {
         Some(element) => put(alloc, key, element, object),
         None => Ok(()),
+    }
+}
+
+/// A law: the written form of an element is read as the element.
+pub(crate) fn reads_back<E: Element>(element: &E)
+    ensures { ReadsBack E.reads E.written element.now }
+{
+    element.reads_back();
+}
+
+/// The same of an element that may be absent.
+pub(crate) fn may_read_back<E: Element>(element: &Option<E>)
+    ensures { MayReadBack E.reads E.written element.now }
+{
+    if let Some(element) = element {
+        element.reads_back();
     }
 }

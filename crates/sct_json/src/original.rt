@@ -1,14 +1,17 @@
 //! The transfer that a later message is about.
 ghost use Rattle.std.specs.Prelude.{◌≡◌, OnOk};
 ghost use Rattle.sct_json.specs.Keys.{original_keys, is_among};
-ghost use Rattle.serde_json.specs.View.{view, members_view};
-ghost use Rattle.sct_json.specs.Reading.{Gives, original_in};
-ghost use Rattle.sct_json.specs.Writing.{with_original, OriginalReadsBack};
+ghost use Rattle.serde_json.specs.View.{view};
+ghost use Rattle.sct_json.specs.Reading.{GivesWithoutMemory, original_in};
+ghost use Rattle.sct_json.specs.Writing.{with_original, Puts, OriginalReadsBack};
 
 use crate::faults::JsonFault;
 use crate::keys::{Key, is_among};
-use crate::members::{optional, put, put_optional, required};
-use crate::tables::{has_key, own_key, put_member, put_table, read_member, read_table};
+use crate::members::{may_read_back, optional, put, put_optional, reads_back, required};
+use crate::tables::{
+    has_key, own_key, put_member, put_table, read_back_member, read_back_table, read_member,
+    read_table,
+};
 use sct_message::Original;
 use serde_json::{Map, Value};
 use std::alloc::{AllocError, Global};
@@ -27,7 +30,7 @@ macro_rules! original_table {
 
 #[tactic(auto, unfolding(crate::specs::Reading::original_in))]
 pub(crate) fn read(alloc: Global, object: &Value) -> Result<Original, JsonFault>
-    ensures { Gives result (original_in (view object.now)) }
+    ensures { GivesWithoutMemory result (original_in (view object.now)) }
 {
     original_table!(read_table! { alloc, object })
 }
@@ -45,8 +48,14 @@ pub(crate) fn put_all(
     original: &Original,
     object: &mut Map<String, Value>,
 ) -> Result<(), AllocError>
-    ensures put { OnOk result (members_view object.new.entries ≡ with_original original.now (members_view object.old.entries)) }
-    ensures reads_back { OnOk result (OriginalReadsBack original.now) }
+    ensures { OnOk result (Puts (with_original original.now) object.old.entries object.new.entries) }
 {
     original_table!(put_table! { alloc, original, object })
+}
+
+/// A law: the written form of each element is read as the element.
+pub(crate) fn elements_read_back(original: &Original)
+    ensures { OriginalReadsBack original.now }
+{
+    original_table!(read_back_table! { original })
 }

@@ -2,14 +2,17 @@
 ghost use Rattle.std.specs.Prelude.{◌≡◌, OnOk};
 ghost use Rattle.sct_message.specs.declared.kinds.Kind.TheVariants.{Pacs004};
 ghost use Rattle.sct_json.specs.Keys.{is_key_of};
-ghost use Rattle.serde_json.specs.View.{view, members_view};
-ghost use Rattle.sct_json.specs.Reading.{Gives, payment_return_in};
-ghost use Rattle.sct_json.specs.Writing.{with_payment_return, PaymentReturnReadsBack};
+ghost use Rattle.serde_json.specs.View.{view};
+ghost use Rattle.sct_json.specs.Reading.{GivesWithoutMemory, payment_return_in};
+ghost use Rattle.sct_json.specs.Writing.{with_payment_return, Puts, PaymentReturnReadsBack};
 
 use crate::faults::JsonFault;
 use crate::keys::{Key, is_among};
-use crate::members::{optional, put, put_optional, required};
-use crate::tables::{has_key, own_key, put_member, put_table, read_member, read_table};
+use crate::members::{may_read_back, optional, put, put_optional, reads_back, required};
+use crate::tables::{
+    has_key, own_key, put_member, put_table, read_back_member, read_back_table, read_member,
+    read_table,
+};
 use crate::{head, original};
 use sct_message::PaymentReturn;
 use serde_json::{Map, Value};
@@ -35,7 +38,7 @@ macro_rules! payment_return_table {
 
 #[tactic(auto, unfolding(crate::specs::Reading::payment_return_in))]
 pub(crate) fn read(alloc: Global, object: &Value) -> Result<PaymentReturn, JsonFault>
-    ensures { Gives result (payment_return_in (view object.now)) }
+    ensures { GivesWithoutMemory result (payment_return_in (view object.now)) }
 {
     payment_return_table!(read_table! { alloc, object })
 }
@@ -53,8 +56,14 @@ pub(crate) fn put_all(
     payment_return: &PaymentReturn,
     object: &mut Map<String, Value>,
 ) -> Result<(), AllocError>
-    ensures put { OnOk result (members_view object.new.entries ≡ with_payment_return payment_return.now (members_view object.old.entries)) }
-    ensures reads_back { OnOk result (PaymentReturnReadsBack payment_return.now) }
+    ensures { OnOk result (Puts (with_payment_return payment_return.now) object.old.entries object.new.entries) }
 {
     payment_return_table!(put_table! { alloc, payment_return, object })
+}
+
+/// A law: the written form of each element is read as the element.
+pub(crate) fn elements_read_back(payment_return: &PaymentReturn)
+    ensures { PaymentReturnReadsBack payment_return.now }
+{
+    payment_return_table!(read_back_table! { payment_return })
 }

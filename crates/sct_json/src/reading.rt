@@ -1,10 +1,10 @@
 //! From the bytes of an object to its message.
-ghost use Rattle.std.specs.Prelude.{◌≡◌, find, not, option_map, string_bytes};
+ghost use Rattle.std.specs.Prelude.{◌≡◌, find, not, option_map, is_some, string_bytes};
 ghost use Rattle.std.specs.Option.{option_copied};
 ghost use Rattle.std.specs.BTreeMap.{keys};
 ghost use Rattle.serde_json.specs.View.{view, members_view};
 ghost use Rattle.sct_json.specs.Keys.{is_key_of};
-ghost use Rattle.sct_json.specs.Reading.{Gives, draft_in, kind_in, first_extra, passes_unless, object_in, message_in};
+ghost use Rattle.sct_json.specs.Reading.{Gives, GivesWhere, has_free_texts, draft_in, kind_in, first_extra, passes_unless, object_in, message_in};
 
 use crate::faults::{ExtraKey, JsonFault};
 use crate::keys::Key;
@@ -26,7 +26,7 @@ fn kind_in(object: &Value) -> Option<Kind>
 
 /// The elements of a message of a kind.
 fn read_draft(alloc: Global, kind: Kind, object: &Value) -> Result<Draft, JsonFault>
-    ensures { Gives result (draft_in kind (view object.now)) }
+    ensures { GivesWhere (has_free_texts kind) result (draft_in kind (view object.now)) }
 {
     match kind {
         Kind::Pacs008 => Ok(Draft::CreditTransfer(credit_transfer::read(alloc, object)?)),
@@ -61,7 +61,7 @@ fn first_other(kind: Kind, object: &Map<String, Value>) -> Option<&String>
 
 /// Refuses an object with a key that is none of its kind.
 fn refuse_extra(alloc: Global, kind: Kind, object: &Map<String, Value>) -> Result<(), JsonFault>
-    ensures { Gives result (passes_unless (first_extra kind (members_view object.now.entries))) }
+    ensures { let extra = first_extra kind (members_view object.now.entries) in GivesWhere (is_some extra) result (passes_unless extra) }
 {
     match first_other(kind, object) {
         None => Ok(()),

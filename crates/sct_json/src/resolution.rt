@@ -2,14 +2,17 @@
 ghost use Rattle.std.specs.Prelude.{◌≡◌, OnOk};
 ghost use Rattle.sct_message.specs.declared.kinds.Kind.TheVariants.{Camt029};
 ghost use Rattle.sct_json.specs.Keys.{is_key_of};
-ghost use Rattle.serde_json.specs.View.{view, members_view};
-ghost use Rattle.sct_json.specs.Reading.{Gives, resolution_in};
-ghost use Rattle.sct_json.specs.Writing.{with_resolution, ResolutionReadsBack};
+ghost use Rattle.serde_json.specs.View.{view};
+ghost use Rattle.sct_json.specs.Reading.{GivesWithoutMemory, resolution_in};
+ghost use Rattle.sct_json.specs.Writing.{with_resolution, Puts, ResolutionReadsBack};
 
 use crate::faults::JsonFault;
 use crate::keys::{Key, is_among};
-use crate::members::{optional, put, put_optional, required};
-use crate::tables::{has_key, own_key, put_member, put_table, read_member, read_table};
+use crate::members::{may_read_back, optional, put, put_optional, reads_back, required};
+use crate::tables::{
+    has_key, own_key, put_member, put_table, read_back_member, read_back_table, read_member,
+    read_table,
+};
 use crate::{head, original};
 use sct_message::Resolution;
 use serde_json::{Map, Value};
@@ -32,7 +35,7 @@ macro_rules! resolution_table {
 
 #[tactic(auto, unfolding(crate::specs::Reading::resolution_in))]
 pub(crate) fn read(alloc: Global, object: &Value) -> Result<Resolution, JsonFault>
-    ensures { Gives result (resolution_in (view object.now)) }
+    ensures { GivesWithoutMemory result (resolution_in (view object.now)) }
 {
     resolution_table!(read_table! { alloc, object })
 }
@@ -50,8 +53,14 @@ pub(crate) fn put_all(
     resolution: &Resolution,
     object: &mut Map<String, Value>,
 ) -> Result<(), AllocError>
-    ensures put { OnOk result (members_view object.new.entries ≡ with_resolution resolution.now (members_view object.old.entries)) }
-    ensures reads_back { OnOk result (ResolutionReadsBack resolution.now) }
+    ensures { OnOk result (Puts (with_resolution resolution.now) object.old.entries object.new.entries) }
 {
     resolution_table!(put_table! { alloc, resolution, object })
+}
+
+/// A law: the written form of each element is read as the element.
+pub(crate) fn elements_read_back(resolution: &Resolution)
+    ensures { ResolutionReadsBack resolution.now }
+{
+    resolution_table!(read_back_table! { resolution })
 }

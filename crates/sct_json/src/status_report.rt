@@ -2,14 +2,17 @@
 ghost use Rattle.std.specs.Prelude.{◌≡◌, OnOk};
 ghost use Rattle.sct_message.specs.declared.kinds.Kind.TheVariants.{Pacs002};
 ghost use Rattle.sct_json.specs.Keys.{is_key_of};
-ghost use Rattle.serde_json.specs.View.{view, members_view};
-ghost use Rattle.sct_json.specs.Reading.{Gives, status_report_in};
-ghost use Rattle.sct_json.specs.Writing.{with_status_report, StatusReportReadsBack};
+ghost use Rattle.serde_json.specs.View.{view};
+ghost use Rattle.sct_json.specs.Reading.{GivesWithoutMemory, status_report_in};
+ghost use Rattle.sct_json.specs.Writing.{with_status_report, Puts, StatusReportReadsBack};
 
 use crate::faults::JsonFault;
 use crate::keys::{Key, is_among};
-use crate::members::{optional, put, put_optional, required};
-use crate::tables::{has_key, own_key, put_member, put_table, read_member, read_table};
+use crate::members::{may_read_back, optional, put, put_optional, reads_back, required};
+use crate::tables::{
+    has_key, own_key, put_member, put_table, read_back_member, read_back_table, read_member,
+    read_table,
+};
 use crate::{head, original};
 use sct_message::StatusReport;
 use serde_json::{Map, Value};
@@ -30,7 +33,7 @@ macro_rules! status_report_table {
 
 #[tactic(auto, unfolding(crate::specs::Reading::status_report_in))]
 pub(crate) fn read(alloc: Global, object: &Value) -> Result<StatusReport, JsonFault>
-    ensures { Gives result (status_report_in (view object.now)) }
+    ensures { GivesWithoutMemory result (status_report_in (view object.now)) }
 {
     status_report_table!(read_table! { alloc, object })
 }
@@ -48,8 +51,14 @@ pub(crate) fn put_all(
     status_report: &StatusReport,
     object: &mut Map<String, Value>,
 ) -> Result<(), AllocError>
-    ensures put { OnOk result (members_view object.new.entries ≡ with_status_report status_report.now (members_view object.old.entries)) }
-    ensures reads_back { OnOk result (StatusReportReadsBack status_report.now) }
+    ensures { OnOk result (Puts (with_status_report status_report.now) object.old.entries object.new.entries) }
 {
     status_report_table!(put_table! { alloc, status_report, object })
+}
+
+/// A law: the written form of each element is read as the element.
+pub(crate) fn elements_read_back(status_report: &StatusReport)
+    ensures { StatusReportReadsBack status_report.now }
+{
+    status_report_table!(read_back_table! { status_report })
 }

@@ -62,9 +62,30 @@ macro_rules! put_member {
     };
 }
 
+/// Shows of each element of a record that its written form is read as the element.
+macro_rules! read_back_table {
+    ([$record:ident] $name:ident { $($field:ident: $form:ident $key:ident,)* }) => {{
+        $(read_back_member!($form, $record, $field, $key);)*
+    }};
+}
+
+macro_rules! read_back_member {
+    (required, $record:ident, $field:ident, $key:ident) => {
+        reads_back(&$record.$field)
+    };
+    (optional, $record:ident, $field:ident, $key:ident) => {
+        may_read_back(&$record.$field)
+    };
+    (part, $record:ident, $field:ident, $part:ident) => {
+        $part::elements_read_back(&$record.$field)
+    };
+}
+
 pub(crate) use has_key;
 pub(crate) use own_key;
 pub(crate) use put_member;
 pub(crate) use put_table;
+pub(crate) use read_back_member;
+pub(crate) use read_back_table;
 pub(crate) use read_member;
 pub(crate) use read_table;

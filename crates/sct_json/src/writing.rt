@@ -1,9 +1,9 @@
 //! From a message to its written form.
 ghost use Rattle.std.specs.Prelude.{◌≡◌, Ok, OnOk, IfOk, IfErr};
-ghost use Rattle.serde_json.specs.View.{view, members_view};
+ghost use Rattle.serde_json.specs.View.{view};
 ghost use Rattle.sct_json.specs.Reading.{message_in};
 ghost use Rattle.sct_json.specs.Form.{StandsFor};
-ghost use Rattle.sct_json.specs.Writing.{with_elements, written_object, written_text, ElementsReadBack};
+ghost use Rattle.sct_json.specs.Writing.{with_elements, written_object, written_text, Puts, ElementsReadBack};
 
 use crate::faults::JsonFault;
 use crate::{
@@ -20,8 +20,7 @@ fn put_elements(
     draft: &Draft,
     object: &mut Map<String, Value>,
 ) -> Result<(), AllocError>
-    ensures put { OnOk result (members_view object.new.entries ≡ with_elements draft.now (members_view object.old.entries)) }
-    ensures reads_back { OnOk result (ElementsReadBack draft.now) }
+    ensures { OnOk result (Puts (with_elements draft.now) object.old.entries object.new.entries) }
 {
     match draft {
         Draft::CreditTransfer(credit_transfer) => credit_transfer::put_all(
@@ -51,8 +50,7 @@ fn put_elements(
 
 /// The object of a message.
 fn object_of(alloc: Global, draft: &Draft) -> Result<Value, AllocError>
-    ensures object { IfOk result (λ value. view value ≡ written_object draft.now) }
-    ensures reads_back { OnOk result (ElementsReadBack draft.now) }
+    ensures { IfOk result (λ value. view value ≡ written_object draft.now) }
 {
     let mut members = Map::new(alloc);
     put_elements(alloc, draft, &mut members)?;
@@ -64,10 +62,26 @@ fn object_of(alloc: Global, draft: &Draft) -> Result<Value, AllocError>
 fn text_of(alloc: Global, draft: &Draft) -> Result<Vec<u8>, AllocError>
     ensures text { IfOk result (λ text. text.items ≡ written_text draft.now) }
     ensures stands { IfOk result (λ text. StandsFor text.items (written_object draft.now)) }
-    ensures reads_back { OnOk result (ElementsReadBack draft.now) }
 {
     let object = object_of(alloc, draft)?;
     object.to_vec(alloc)
+}
+
+/// A law: the written form of each element of a message is read as the element.
+pub(crate) fn elements_read_back(draft: &Draft)
+    ensures { ElementsReadBack draft.now }
+{
+    match draft {
+        Draft::CreditTransfer(credit_transfer) => credit_transfer::elements_read_back(
+            credit_transfer,
+        ),
+        Draft::StatusReport(status_report) => status_report::elements_read_back(status_report),
+        Draft::StatusRequest(status_request) => status_request::elements_read_back(status_request),
+        Draft::CancellationRequest(cancellation_request) =>
+            cancellation_request::elements_read_back(cancellation_request),
+        Draft::PaymentReturn(payment_return) => payment_return::elements_read_back(payment_return),
+        Draft::Resolution(resolution) => resolution::elements_read_back(resolution),
+    }
 }
 
 /// Writes the one written form of a message: one line with no spaces, its keys in the order of their bytes, each element
@@ -77,7 +91,9 @@ pub fn write_message(alloc: Global, message: &Message) -> Result<Vec<u8>, JsonFa
     ensures reads_back { IfOk result (λ text. message_in text.items ≡ Ok message.now) }
     ensures memory { IfErr result (λ fault. fault ≡ JsonFault.Memory) }
 {
-    match text_of(alloc, message.draft()) {
+    let elements = message.draft();
+    elements_read_back(elements);
+    match text_of(alloc, elements) {
         Ok(text) => Ok(text),
         Err(_) => Err(JsonFault::Memory),
     }
