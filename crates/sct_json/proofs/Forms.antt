@@ -29,7 +29,7 @@ use Rattle.sct_message.specs.declared.draft.Draft.{Draft}
 use Rattle.sct_message.specs.declared.draft.Draft.TheVariants as draft
 use Rattle.sct_message.specs.declared.rules.RuleFault.{RuleFault}
 use Rattle.sct_message.specs.Drafts.{kind_of, head_of}
-use Rattle.sct_message.specs.Kinds.{kind_text, is_name_of, kind_named}
+use Rattle.sct_message.specs.Kinds.{kind_text, is_name_of, kinds, kind_named}
 use Rattle.sct_message.specs.Rules.{FollowsRules, first_broken_rule}
 use Rattle.sct_json.specs.declared.keys.Key.{Key}
 use Rattle.sct_json.specs.declared.keys.Key.TheVariants as key
@@ -50,7 +50,7 @@ bind_from r f x y e g = ap (λ (s : Result _ JsonFault). s >>= f) e ∙ g
 
 -- ---- one key
 
-ok_or_ok : {X : Type 0} (o : Option X) (e : JsonFault) (x : X) → ok_or o e ≡ Ok x → o ≡ Some x
+pub ok_or_ok : {X : Type 0} (o : Option X) (e : JsonFault) (x : X) → ok_or o e ≡ Ok x → o ≡ Some x
 ok_or_ok None e x h = cc
 ok_or_ok (Some y) e x h = cc
 
@@ -384,7 +384,7 @@ holds_resolution d m h =
     bind_from _ _ _ _ (holds_required _ _ _ _ _ h.debtor_agent) (
     refl)))))))
 
-draft_holds : (kind : Kind) (d : Data) (m : Draft) → draft_in kind d ≡ Ok m → (kind ≡ kind_of m) × HoldsElements d m
+pub draft_holds : (kind : Kind) (d : Data) (m : Draft) → draft_in kind d ≡ Ok m → (kind ≡ kind_of m) × HoldsElements d m
 draft_holds Camt029 d m e = bind_then (resolution_in d) _ _ e (λ t r e1. subst (λ (n : Draft). (Camt029 ≡ kind_of n) × HoldsElements d n) (ok_same _ _ e1) (refl, resolution_holds d t r))
 draft_holds Camt056 d m e = bind_then (cancellation_request_in d) _ _ e (λ t r e1. subst (λ (n : Draft). (Camt056 ≡ kind_of n) × HoldsElements d n) (ok_same _ _ e1) (refl, cancellation_request_holds d t r))
 draft_holds Pacs002 d m e = bind_then (status_report_in d) _ _ e (λ t r e1. subst (λ (n : Draft). (Pacs002 ≡ kind_of n) × HoldsElements d n) (ok_same _ _ e1) (refl, status_report_holds d t r))
@@ -456,9 +456,27 @@ kind_held d m h named =
     ap (λ (o : Option Data). option_and_then kind_named (option_and_then as_str o)) name.1
     ∙ kind_of_name (kind_of m) name.0 (subst (λ (s : List ℕ). is_name_of (kind_of m) s ≡ true) (sym (kept_as_read _ _ name.2)) named)
 
+same_kind : (j k : Kind) → ◌≡◌ {A = Option Kind} (Some j) (Some k) → j ≡ k
+same_kind j k e = cc
+
+passes_at : (b : Bool) (p : Kind → Bool) (j k : Kind) (later : Option Kind) → p j ≡ b → cond b (Some j) later ≡ Some k → (later ≡ Some k → p k ≡ true) → p k ≡ true
+passes_at true p j k later passes h next = subst (λ (i : Kind). p i ≡ true) (same_kind j k h) passes
+passes_at false p j k later fails h next = next h
+
+found_passes : (p : Kind → Bool) (ks : List Kind) (k : Kind) → find p ks ≡ Some k → p k ≡ true
+found_passes p [] k h = cc
+found_passes p (j ∷ ks) k h = passes_at (p j) p j k (find p ks) refl h (found_passes p ks k)
+
+-- the text at MsgNmId is a name of the kind that it names, and is the element
+pub named_as_its_kind : (d : Data) (m : Draft) → HoldsElements d m → kind_in d ≡ Some (kind_of m) → is_name_of (kind_of m) (head_of m).message_name ≡ true
+named_as_its_kind d m elements at =
+    let name : Holds written_identification key.MsgNmId d (head_of m).message_name = (holds_its_head d m elements).message_name in
+    let named : kind_named name.0 ≡ Some (kind_of m) = sym (ap (λ (o : Option Data). option_and_then kind_named (option_and_then as_str o)) name.1) ∙ at in
+    subst (λ (s : List ℕ). is_name_of (kind_of m) s ≡ true) (kept_as_read _ _ name.2) (found_passes (λ k. is_name_of k name.0) kinds (kind_of m) named)
+
 -- ---- the keys and the rules
 
-is_object : (d : Data) (ms : Members) → as_object d ≡ Some ms → d ≡ object ms
+pub is_object : (d : Data) (ms : Members) → as_object d ≡ Some ms → d ≡ object ms
 is_object null ms e = cc
 is_object (boolean b) ms e = cc
 is_object (number n) ms e = cc

@@ -2,5 +2,7 @@ pub mod Bytes
 pub mod Extra
 pub mod Flat
 pub mod Forms
-pub mod Spares
+pub mod NameRule
+pub mod Names
+pub mod Refusals
 pub mod Written

@@ -1,5 +1,6 @@
 pub mod Faults
 pub mod Form
 pub mod Keys
+pub mod Names
 pub mod Reading
 pub mod Writing

@@ -1,10 +1,13 @@
 //! What the definitions of reading and of the form have to do with each other. These functions do nothing; their contracts
 //! are laws.
-ghost use Rattle.std.specs.Prelude.{◌≡◌, ◌≢◌, ◌↔◌, ℕ, List, Ok, Err};
+ghost use Rattle.std.specs.Prelude.{◌≡◌, ◌≢◌, ◌↔◌, ℕ, List, Some, Ok, Err};
 ghost use Rattle.sct_json.specs.declared.faults.JsonFault.TheVariants as fault;
-ghost use Rattle.serde_json.specs.Data.{Data};
+ghost use Rattle.serde_json.specs.Data.{Data, Members, object};
+ghost use Rattle.serde_json.specs.Read.{read};
+ghost use Rattle.sct_message.specs.declared.rules.RuleFault.TheVariants.{WrongName};
 ghost use Rattle.sct_message.specs.declared.draft.Draft.{Draft as Elements};
-ghost use Rattle.sct_json.specs.Reading.{object_in, message_in};
+ghost use Rattle.sct_json.specs.Names.{AscendByBytes, HasLeastExtraKey};
+ghost use Rattle.sct_json.specs.Reading.{names_of, object_in, message_in};
 ghost use Rattle.sct_json.specs.Form.{IsFormOf, StandsFor};
 
 use sct_message::all_rules_hold_where_none_is_broken;
@@ -15,6 +18,23 @@ pub fn an_object_is_read_where_it_is_a_form()
 {
     all_rules_hold_where_none_is_broken();
 }
+
+/// The names of an object that was read ascend by their bytes, each once.
+pub fn names_that_were_read_ascend()
+    ensures { (bytes : List ℕ) (members : Members) → read bytes ≡ Some (object members) → AscendByBytes (names_of members) }
+{}
+
+/// Where an extra key is told, it is a key of the object that is none of its kind, and each other such key is greater by
+/// its bytes.
+pub fn the_extra_key_told_is_the_least()
+    ensures { (bytes name : List ℕ) → message_in bytes ≡ Err (fault.Extra name) → HasLeastExtraKey bytes name }
+{}
+
+/// No message is refused for its name (the rule fault 10): an object whose `MsgNmId` is no name of a kind is refused
+/// before its rules are looked at.
+pub fn no_message_is_refused_for_its_name()
+    ensures { (bytes : List ℕ) → message_in bytes ≢ Err (fault.Rule WrongName) }
+{}
 
 /// Reading bytes has an answer of its own: want of memory is a fault of the call, and never what the bytes are read as.
 pub fn reading_never_wants_memory()

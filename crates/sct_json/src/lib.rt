@@ -27,7 +27,9 @@ pub use faults::{ExtraKey, JsonFault};
 pub use keys::Key;
 pub use laws::{
     an_object_is_a_form_of_one_message, an_object_is_read_where_it_is_a_form,
-    bytes_are_read_where_they_stand_for_a_form, reading_never_wants_memory,
+    bytes_are_read_where_they_stand_for_a_form, names_that_were_read_ascend,
+    no_message_is_refused_for_its_name, reading_never_wants_memory,
+    the_extra_key_told_is_the_least,
 };
 pub use reading::read_message;
 pub use writing::write_message;
