@@ -9,10 +9,9 @@ use Rattle.serde_json.specs.Data.{Data, string, Members, no_members, member, put
 use Rattle.serde_json.specs.Read.{read, max_depth}
 use Rattle.serde_json.specs.Written.{has_float, members_have_float}
 use Rattle.sct_message.specs.declared.draft.Draft.{Draft}
-use Rattle.sct_message.specs.declared.draft.Draft.TheVariants as draft
-use Rattle.sct_json.specs.Keys.{key_text}
 use Rattle.sct_json.specs.Form.{StandsFor}
-use Rattle.sct_json.specs.Writing.{Row, with_rows, with_elements, written_object, head_rows, original_rows, credit_transfer_rows, status_report_rows, status_request_rows, cancellation_request_rows, payment_return_rows, resolution_rows, with_head, with_original}
+use Rattle.sct_json.specs.Writing.{with_elements, written_object}
+use Rattle.sct_json.proofs.Rows.{kept_written}
 
 -- no member is a float, and none has members of its own
 abbrev pub IsFlat : Members → Type 0
@@ -35,18 +34,8 @@ flat_put : (k s : List ℕ) (ms : Members) → IsFlat ms → IsFlat (put k (stri
 flat_put k s no_members flat = (refl, refl)
 flat_put k s (member l e ms) flat = flat_at (slice_cmp nat_cmp k l) k l s e ms flat (flat_put k s ms ((neither _ _ flat.0).1, omega (arith, flat.1)))
 
-flat_rows : (rs : List Row) (ms : Members) → IsFlat ms → IsFlat (with_rows rs ms)
-flat_rows [] ms flat = flat
-flat_rows ((k, None) ∷ rs) ms flat = flat_rows rs ms flat
-flat_rows ((k, Some s) ∷ rs) ms flat = flat_rows rs (put (key_text k) (string s) ms) (flat_put (key_text k) s ms flat)
-
-pub flat_written : (m : Draft) → IsFlat (with_elements m no_members)
-flat_written (draft.CreditTransfer m) = flat_rows (credit_transfer_rows m) (with_head m.head no_members) (flat_rows (head_rows m.head) no_members (refl, refl))
-flat_written (draft.StatusReport m) = flat_rows (status_report_rows m) (with_original m.original (with_head m.head no_members)) (flat_rows (original_rows m.original) (with_head m.head no_members) (flat_rows (head_rows m.head) no_members (refl, refl)))
-flat_written (draft.StatusRequest m) = flat_rows (status_request_rows m) (with_original m.original (with_head m.head no_members)) (flat_rows (original_rows m.original) (with_head m.head no_members) (flat_rows (head_rows m.head) no_members (refl, refl)))
-flat_written (draft.CancellationRequest m) = flat_rows (cancellation_request_rows m) (with_head m.head no_members) (flat_rows (head_rows m.head) no_members (refl, refl))
-flat_written (draft.PaymentReturn m) = flat_rows (payment_return_rows m) (with_head m.head no_members) (flat_rows (head_rows m.head) no_members (refl, refl))
-flat_written (draft.Resolution m) = flat_rows (resolution_rows m) (with_head m.head no_members) (flat_rows (head_rows m.head) no_members (refl, refl))
+flat_written : (m : Draft) → IsFlat (with_elements m no_members)
+flat_written m = kept_written IsFlat flat_put (refl, refl) m
 
 pub no_float_written : (m : Draft) → has_float (written_object m) ≡ false
 no_float_written m = (flat_written m).0

@@ -5,4 +5,6 @@ pub mod Forms
 pub mod NameRule
 pub mod Names
 pub mod Refusals
+pub mod Rows
+pub mod Texts
 pub mod Written

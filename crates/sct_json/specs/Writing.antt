@@ -1,6 +1,7 @@
 -- The written form of a message: one line with no spaces, its keys in the order of their bytes, absent elements left out.
-use Rattle.std.specs.Prelude.{◌≡◌, ℕ, List, [], ◌∷◌, ◌++◌, Option, Some, None, option_map, String}
+use Rattle.std.specs.Prelude.{◌≡◌, ℕ, ◌==◌, Bool, not, List, [], ◌∷◌, ◌++◌, Option, Some, None, option_map, String}
 use Rattle.std.specs.declared.alloc.Global.{Global}
+use Rattle.std.specs.List.{list_all}
 use Rattle.serde_json.specs.Data.{Data, string, object, Members, no_members, put}
 use Rattle.serde_json.specs.View.{members_view}
 use Rattle.serde_json.specs.Written.{compact_text}
@@ -115,6 +116,10 @@ written_object m = object (with_elements m no_members)
 
 unfoldable pub written_text : Draft → List ℕ
 written_text m = compact_text (written_object m)
+
+-- no byte of the text is a line feed
+abbrev pub has_no_line_feed : List ℕ → Bool
+has_no_line_feed text = list_all (λ byte. not (byte == 10)) text
 
 -- ---- The written form of each element is read as the element.
 

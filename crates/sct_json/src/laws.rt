@@ -1,16 +1,19 @@
 //! What the definitions of reading and of the form have to do with each other. These functions do nothing; their contracts
 //! are laws.
-ghost use Rattle.std.specs.Prelude.{◌≡◌, ◌≢◌, ◌↔◌, ℕ, List, Some, Ok, Err};
+ghost use Rattle.std.specs.Prelude.{◌≡◌, ◌≢◌, ◌↔◌, ℕ, List, ◌∷◌, Some, Ok, Err, IsTrue};
 ghost use Rattle.sct_json.specs.declared.faults.JsonFault.TheVariants as fault;
 ghost use Rattle.serde_json.specs.Data.{Data, Members, object};
 ghost use Rattle.serde_json.specs.Read.{read};
+ghost use Rattle.serde_json.specs.Written.{compact_text};
 ghost use Rattle.sct_message.specs.declared.rules.RuleFault.TheVariants.{WrongName};
 ghost use Rattle.sct_message.specs.declared.draft.Draft.{Draft as Elements};
 ghost use Rattle.sct_json.specs.Names.{AscendByBytes, HasLeastExtraKey};
 ghost use Rattle.sct_json.specs.Reading.{names_of, object_in, message_in};
 ghost use Rattle.sct_json.specs.Form.{IsFormOf, StandsFor};
+ghost use Rattle.sct_json.specs.Writing.{written_text, has_no_line_feed};
 
-use sct_message::all_rules_hold_where_none_is_broken;
+use crate::writing::elements_read_back;
+use sct_message::{Message, all_rules_hold_where_none_is_broken};
 
 /// An object is read as the message of which it is a form. So a refusal says that it is a form of no message.
 pub fn an_object_is_read_where_it_is_a_form()
@@ -53,4 +56,25 @@ pub fn bytes_are_read_where_they_stand_for_a_form()
     ensures { (bytes : List ℕ) (draft : Elements) → (message_in bytes ≡ Ok draft) ↔ ((object : Data) × StandsFor bytes object × IsFormOf object draft) }
 {
     all_rules_hold_where_none_is_broken();
+}
+
+/// A written text has the keys of its object in ascending order by their bytes, each once.
+pub fn the_keys_of_a_written_text_ascend()
+    ensures { (draft : Elements) → (members : Members) × (written_text draft ≡ compact_text (object members)) × AscendByBytes (names_of members) }
+{}
+
+/// A written text is one line, and not a blank one: it has no line feed, and begins with `{` (byte 123).
+pub fn a_written_text_is_one_line()
+    ensures no_line_feed { (draft : Elements) → IsTrue (has_no_line_feed (written_text draft)) }
+    ensures begins { (draft : Elements) → (rest : List ℕ) × (written_text draft ≡ 123 ∷ rest) }
+{}
+
+/// A text is written for one message alone: two messages with the same written text are the same message.
+pub fn a_text_is_written_for_one_message(left: &Message, right: &Message)
+    ensures { written_text left.now ≡ written_text right.now → left.now ≡ right.now }
+{
+    let left_elements = left.draft();
+    let right_elements = right.draft();
+    elements_read_back(left_elements);
+    elements_read_back(right_elements);
 }

@@ -26,10 +26,11 @@ mod writing;
 pub use faults::{ExtraKey, JsonFault};
 pub use keys::Key;
 pub use laws::{
+    a_text_is_written_for_one_message, a_written_text_is_one_line,
     an_object_is_a_form_of_one_message, an_object_is_read_where_it_is_a_form,
     bytes_are_read_where_they_stand_for_a_form, names_that_were_read_ascend,
     no_message_is_refused_for_its_name, reading_never_wants_memory,
-    the_extra_key_told_is_the_least,
+    the_extra_key_told_is_the_least, the_keys_of_a_written_text_ascend,
 };
 pub use reading::read_message;
 pub use writing::write_message;
