@@ -1,3 +1,4 @@
+-- The lemmas behind the JSON form.
 pub mod Bytes
 pub mod Extra
 pub mod Flat

@@ -1,4 +1,4 @@
--- The numbers by which a refused object is told.
+-- The numbers by which a refused object is told. Read by an auditor.
 use Rattle.std.specs.Prelude.{ℕ}
 use Rattle.sct_json.specs.declared.faults.JsonFault.{JsonFault}
 use Rattle.sct_json.specs.declared.faults.JsonFault.TheVariants.{Memory, NotJson, NotObject, UnknownKind, Missing, NotText, Element, Extra, Rule}

@@ -1,4 +1,4 @@
--- The JSON form of a message, as a relation between an object and the message. It names no order of reading.
+-- The JSON form of a message, as a relation between an object and it, with no order of reading. Read by an auditor.
 use Rattle.std.specs.Prelude.{◌≡◌, ℕ, List, Option, Some, None, IsTrue, IsUtf8}
 use Rattle.std.specs.List.{list_all}
 use Rattle.serde_json.specs.Data.{Data, string, object, Members}
@@ -134,8 +134,8 @@ HoldsElements d (draft.Resolution m) = HoldsResolution d m
 abbrev pub HasKeysOf : Kind → Data → Type 0
 HasKeysOf kind d = (ms : Members) × (d ≡ object ms) × IsTrue (list_all (is_key_of kind) (names_of ms))
 
--- An object is a form of a message where its keys are keys of the message's kind, each element is what its key's text is
--- read as, absent keys are exactly the absent elements, and the elements follow the rules of the kind.
+-- An object is a form of a message where its keys are keys of the message's kind, each element is what its key's
+-- text is read as, absent keys are exactly the absent elements, and the elements follow the rules of the kind.
 pub record IsFormOf (d : Data) (m : Draft) : Type 0 where
   pub keys : HasKeysOf (kind_of m) d
   pub elements : HoldsElements d m

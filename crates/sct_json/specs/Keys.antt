@@ -1,4 +1,4 @@
--- The keys of the JSON form (short names of ISO 20022), and those of each kind.
+-- The keys of the JSON form (short names of ISO 20022), and those of each kind. Read by an auditor.
 use Rattle.std.specs.Prelude.{ℕ, List, [], ◌∷◌, ◌||◌, Bool, codes}
 use Rattle.std.specs.List.{list_any}
 use Rattle.sct_message.specs.declared.kinds.Kind.{Kind}
@@ -54,7 +54,9 @@ abbrev pub original_keys : List Key
 original_keys = OrgnlMsgId ∷ OrgnlMsgNmId ∷ OrgnlEndToEndId ∷ OrgnlTxId ∷ []
 
 abbrev pub credit_transfer_keys : List Key
-credit_transfer_keys = IntrBkSttlmDt ∷ SvcLvl ∷ LclInstrm ∷ InstrId ∷ EndToEndId ∷ TxId ∷ IntrBkSttlmAmt ∷ Ccy ∷ ChrgBr ∷ AccptncDtTm ∷ Dbtr ∷ DbtrAcct ∷ DbtrAgt ∷ CdtrAgt ∷ Cdtr ∷ CdtrAcct ∷ Ustrd ∷ []
+credit_transfer_keys =
+    IntrBkSttlmDt ∷ SvcLvl ∷ LclInstrm ∷ InstrId ∷ EndToEndId ∷ TxId ∷ IntrBkSttlmAmt ∷ Ccy ∷
+    ChrgBr ∷ AccptncDtTm ∷ Dbtr ∷ DbtrAcct ∷ DbtrAgt ∷ CdtrAgt ∷ Cdtr ∷ CdtrAcct ∷ Ustrd ∷ []
 
 abbrev pub status_report_keys : List Key
 status_report_keys = TxSts ∷ Rsn ∷ DbtrAgt ∷ []
@@ -66,7 +68,9 @@ abbrev pub cancellation_request_keys : List Key
 cancellation_request_keys = CxlId ∷ OrgnlIntrBkSttlmAmt ∷ Ccy ∷ OrgnlIntrBkSttlmDt ∷ Rsn ∷ DbtrAgt ∷ []
 
 abbrev pub payment_return_keys : List Key
-payment_return_keys = RtrId ∷ OrgnlCxlId ∷ OrgnlIntrBkSttlmAmt ∷ RtrdIntrBkSttlmAmt ∷ Ccy ∷ IntrBkSttlmDt ∷ Rsn ∷ DbtrAgt ∷ []
+payment_return_keys =
+    RtrId ∷ OrgnlCxlId ∷ OrgnlIntrBkSttlmAmt ∷ RtrdIntrBkSttlmAmt ∷ Ccy ∷ IntrBkSttlmDt ∷ Rsn ∷
+    DbtrAgt ∷ []
 
 abbrev pub resolution_keys : List Key
 resolution_keys = CxlStsId ∷ OrgnlCxlId ∷ Conf ∷ Rsn ∷ DbtrAgt ∷ []
@@ -77,9 +81,14 @@ is_among keys name = list_any (λ key. is_text name (key_text key)) keys
 
 -- the keys that a message of a kind may have
 abbrev pub is_key_of : Kind → List ℕ → Bool
-is_key_of Camt029 name = is_among head_keys name || is_among original_keys name || is_among resolution_keys name
-is_key_of Camt056 name = is_among head_keys name || is_among original_keys name || is_among cancellation_request_keys name
-is_key_of Pacs002 name = is_among head_keys name || is_among original_keys name || is_among status_report_keys name
-is_key_of Pacs004 name = is_among head_keys name || is_among original_keys name || is_among payment_return_keys name
+is_key_of Camt029 name =
+    is_among head_keys name || is_among original_keys name || is_among resolution_keys name
+is_key_of Camt056 name =
+    is_among head_keys name || is_among original_keys name || is_among cancellation_request_keys name
+is_key_of Pacs002 name =
+    is_among head_keys name || is_among original_keys name || is_among status_report_keys name
+is_key_of Pacs004 name =
+    is_among head_keys name || is_among original_keys name || is_among payment_return_keys name
 is_key_of Pacs008 name = is_among head_keys name || is_among credit_transfer_keys name
-is_key_of Pacs028 name = is_among head_keys name || is_among original_keys name || is_among status_request_keys name
+is_key_of Pacs028 name =
+    is_among head_keys name || is_among original_keys name || is_among status_request_keys name

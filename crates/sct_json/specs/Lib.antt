@@ -1,3 +1,4 @@
+-- The definitions of the JSON form.
 pub mod Faults
 pub mod Form
 pub mod Keys

@@ -1,4 +1,4 @@
--- What an object is read as: the message of which it is a form, or the first reason why it is a form of none.
+-- What an object is read as: its message, or the first reason why it is a form of none. Read by an auditor.
 use Rattle.std.specs.Prelude.{◌≡◌, ℕ, List, [], ◌∷◌, Bool, true, false, not, if◌then◌else◌, IsTrue, Option, Some, None, option_and_then, find, Result, Ok, Err, ok_or, ⊤}
 use Rattle.std.specs.Str.{is_utf8}
 use Rattle.serde_json.specs.Data.{Data, Members, no_members, member}
@@ -41,8 +41,8 @@ abbrev pub ◌>>=◌ : {X Y : Type 0} → Result X JsonFault → (X → Result Y
 (Ok x) >>= f = f x
 (Err e) >>= f = Err e
 
--- What a function of the code answered is what is read. Want of memory may be answered in its place, but only where the
--- function takes memory.
+-- What a function of the code answered is what is read. Want of memory may be answered in its place, but only
+-- where the function takes memory.
 abbrev pub FailsWhere : {X : Type 0} → Bool → JsonFault → Result X JsonFault → Type 0
 FailsWhere takes_memory fault.Memory read = IsTrue takes_memory
 FailsWhere takes_memory e read = read ≡ Err e
@@ -58,8 +58,8 @@ Gives answered read = GivesWhere true answered read
 abbrev pub GivesWithoutMemory : {X : Type 0} → Result X JsonFault → Result X JsonFault → Type 0
 GivesWithoutMemory answered read = GivesWhere false answered read
 
--- A text is read as an element, or refused with the fault of the element's type. Want of memory is an answer only where
--- reading the element takes memory.
+-- A text is read as an element, or refused with the fault of the element's type. Want of memory is an answer only
+-- where reading the element takes memory.
 abbrev pub ReadsElement : {X : Type 0} → Bool → Option X → ElementFault → Result X ElementFault → Type 0
 ReadsElement takes_memory found refusal (Ok x) = found ≡ Some x
 ReadsElement takes_memory found refusal (Err element.Memory) = IsTrue takes_memory
@@ -70,8 +70,8 @@ abbrev pub is_want_of_memory : ElementFault → Bool
 is_want_of_memory element.Memory = true
 is_want_of_memory e = false
 
--- names and remittance information are kept where they were read into, and a pacs.008 alone has such; every other
--- element takes no memory
+-- a pacs.008 alone has names and remittance information, which are kept in memory of their own; every other element
+-- takes no memory
 abbrev pub has_free_texts : Kind → Bool
 has_free_texts Camt029 = false
 has_free_texts Camt056 = false
@@ -90,18 +90,21 @@ remittance_of s = where_read (has_characters 140 s) s
 -- ---- one key
 
 -- the element that a key's text is read as
-abbrev pub text_as : {X : Type 0} → (List ℕ → Option X) → ElementFault → Key → Option (List ℕ) → Result X JsonFault
+abbrev pub text_as :
+    {X : Type 0} → (List ℕ → Option X) → ElementFault → Key → Option (List ℕ) → Result X JsonFault
 text_as reads refusal k None = Err (fault.NotText k)
 text_as reads refusal k (Some s) = ok_or (reads s) (fault.Element k refusal)
 
 abbrev pub value_as : {X : Type 0} → (List ℕ → Option X) → ElementFault → Key → Data → Result X JsonFault
 value_as reads refusal k d = text_as reads refusal k (as_str d)
 
-abbrev pub required_as : {X : Type 0} → (List ℕ → Option X) → ElementFault → Key → Option Data → Result X JsonFault
+abbrev pub required_as :
+    {X : Type 0} → (List ℕ → Option X) → ElementFault → Key → Option Data → Result X JsonFault
 required_as reads refusal k None = Err (fault.Missing k)
 required_as reads refusal k (Some d) = value_as reads refusal k d
 
-abbrev pub optional_as : {X : Type 0} → (List ℕ → Option X) → ElementFault → Key → Option Data → Result (Option X) JsonFault
+abbrev pub optional_as :
+    {X : Type 0} → (List ℕ → Option X) → ElementFault → Key → Option Data → Result (Option X) JsonFault
 optional_as reads refusal k None = Ok None
 optional_as reads refusal k (Some d) = value_as reads refusal k d >>= λ x. Ok (Some x)
 
@@ -110,7 +113,8 @@ unfoldable pub required : {X : Type 0} → (List ℕ → Option X) → ElementFa
 required reads refusal k d = required_as reads refusal k (get (key_text k) d)
 
 -- a key that may be absent
-unfoldable pub optional : {X : Type 0} → (List ℕ → Option X) → ElementFault → Key → Data → Result (Option X) JsonFault
+unfoldable pub optional :
+    {X : Type 0} → (List ℕ → Option X) → ElementFault → Key → Data → Result (Option X) JsonFault
 optional reads refusal k d = optional_as reads refusal k (get (key_text k) d)
 
 -- ---- the key tables, each key in its order
@@ -123,7 +127,13 @@ head_in d = do
   creation_time ← required written_stamp element.BadStamp key.CreDtTm d
   instructing_agent ← required written_bic element.BadBic key.InstgAgt d
   instructed_agent ← optional written_bic element.BadBic key.InstdAgt d
-  Ok (record { message_name = message_name; message_id = message_id; creation_time = creation_time; instructing_agent = instructing_agent; instructed_agent = instructed_agent })
+  Ok (record {
+    message_name = message_name;
+    message_id = message_id;
+    creation_time = creation_time;
+    instructing_agent = instructing_agent;
+    instructed_agent = instructed_agent;
+  })
 
 -- the transfer that a later message is about
 unfoldable pub original_in : Data → Result Original JsonFault
@@ -132,7 +142,12 @@ original_in d = do
   message_name ← required written_identification element.BadId key.OrgnlMsgNmId d
   end_to_end_id ← optional written_identification element.BadId key.OrgnlEndToEndId d
   transaction_id ← required written_identification element.BadId key.OrgnlTxId d
-  Ok (record { message_id = message_id; message_name = message_name; end_to_end_id = end_to_end_id; transaction_id = transaction_id })
+  Ok (record {
+    message_id = message_id;
+    message_name = message_name;
+    end_to_end_id = end_to_end_id;
+    transaction_id = transaction_id;
+  })
 
 -- pacs.008
 unfoldable pub credit_transfer_in : Data → Result CreditTransfer JsonFault
@@ -155,7 +170,26 @@ credit_transfer_in d = do
   creditor ← required name_of element.BadText key.Cdtr d
   creditor_account ← required written_iban element.BadIban key.CdtrAcct d
   remittance ← optional remittance_of element.BadText key.Ustrd d
-  Ok (record { head = head; settlement_date = settlement_date; service_level = service_level; local_instrument = local_instrument; instruction_id = instruction_id; end_to_end_id = end_to_end_id; transaction_id = transaction_id; settlement_amount = settlement_amount; currency = currency; charge_bearer = charge_bearer; acceptance_time = acceptance_time; debtor = debtor; debtor_account = debtor_account; debtor_agent = debtor_agent; creditor_agent = creditor_agent; creditor = creditor; creditor_account = creditor_account; remittance = remittance })
+  Ok (record {
+    head = head;
+    settlement_date = settlement_date;
+    service_level = service_level;
+    local_instrument = local_instrument;
+    instruction_id = instruction_id;
+    end_to_end_id = end_to_end_id;
+    transaction_id = transaction_id;
+    settlement_amount = settlement_amount;
+    currency = currency;
+    charge_bearer = charge_bearer;
+    acceptance_time = acceptance_time;
+    debtor = debtor;
+    debtor_account = debtor_account;
+    debtor_agent = debtor_agent;
+    creditor_agent = creditor_agent;
+    creditor = creditor;
+    creditor_account = creditor_account;
+    remittance = remittance;
+  })
 
 -- pacs.002
 unfoldable pub status_report_in : Data → Result StatusReport JsonFault
@@ -165,7 +199,13 @@ status_report_in d = do
   status ← required written_code element.BadCode key.TxSts d
   reason ← optional reason_of element.BadCode key.Rsn d
   debtor_agent ← required written_bic element.BadBic key.DbtrAgt d
-  Ok (record { head = head; original = original; status = status; reason = reason; debtor_agent = debtor_agent })
+  Ok (record {
+    head = head;
+    original = original;
+    status = status;
+    reason = reason;
+    debtor_agent = debtor_agent;
+  })
 
 -- pacs.028
 unfoldable pub status_request_in : Data → Result StatusRequest JsonFault
@@ -174,7 +214,12 @@ status_request_in d = do
   original ← original_in d
   cancellation_id ← optional written_identification element.BadId key.OrgnlCxlId d
   debtor_agent ← required written_bic element.BadBic key.DbtrAgt d
-  Ok (record { head = head; original = original; cancellation_id = cancellation_id; debtor_agent = debtor_agent })
+  Ok (record {
+    head = head;
+    original = original;
+    cancellation_id = cancellation_id;
+    debtor_agent = debtor_agent;
+  })
 
 -- camt.056
 unfoldable pub cancellation_request_in : Data → Result CancellationRequest JsonFault
@@ -187,7 +232,16 @@ cancellation_request_in d = do
   original_settlement_date ← optional written_day element.BadDay key.OrgnlIntrBkSttlmDt d
   reason ← required reason_of element.BadCode key.Rsn d
   debtor_agent ← required written_bic element.BadBic key.DbtrAgt d
-  Ok (record { head = head; cancellation_id = cancellation_id; original = original; original_amount = original_amount; currency = currency; original_settlement_date = original_settlement_date; reason = reason; debtor_agent = debtor_agent })
+  Ok (record {
+    head = head;
+    cancellation_id = cancellation_id;
+    original = original;
+    original_amount = original_amount;
+    currency = currency;
+    original_settlement_date = original_settlement_date;
+    reason = reason;
+    debtor_agent = debtor_agent;
+  })
 
 -- pacs.004
 unfoldable pub payment_return_in : Data → Result PaymentReturn JsonFault
@@ -202,7 +256,18 @@ payment_return_in d = do
   settlement_date ← required written_day element.BadDay key.IntrBkSttlmDt d
   reason ← required reason_of element.BadCode key.Rsn d
   debtor_agent ← required written_bic element.BadBic key.DbtrAgt d
-  Ok (record { head = head; return_id = return_id; cancellation_id = cancellation_id; original = original; original_amount = original_amount; returned_amount = returned_amount; currency = currency; settlement_date = settlement_date; reason = reason; debtor_agent = debtor_agent })
+  Ok (record {
+    head = head;
+    return_id = return_id;
+    cancellation_id = cancellation_id;
+    original = original;
+    original_amount = original_amount;
+    returned_amount = returned_amount;
+    currency = currency;
+    settlement_date = settlement_date;
+    reason = reason;
+    debtor_agent = debtor_agent;
+  })
 
 -- camt.029
 unfoldable pub resolution_in : Data → Result Resolution JsonFault
@@ -214,7 +279,15 @@ resolution_in d = do
   confirmation ← required written_code element.BadCode key.Conf d
   reason ← required reason_of element.BadCode key.Rsn d
   debtor_agent ← required written_bic element.BadBic key.DbtrAgt d
-  Ok (record { head = head; resolution_id = resolution_id; cancellation_id = cancellation_id; original = original; confirmation = confirmation; reason = reason; debtor_agent = debtor_agent })
+  Ok (record {
+    head = head;
+    resolution_id = resolution_id;
+    cancellation_id = cancellation_id;
+    original = original;
+    confirmation = confirmation;
+    reason = reason;
+    debtor_agent = debtor_agent;
+  })
 
 abbrev pub draft_in : Kind → Data → Result Draft JsonFault
 draft_in Camt029 d = resolution_in d >>= λ m. Ok (draft.Resolution m)

@@ -1,4 +1,5 @@
--- The written form of a message: one line with no spaces, its keys in the order of their bytes, absent elements left out.
+-- The written form of a message: one line with no spaces, keys in the order of their bytes, absent ones left out.
+-- Read by an auditor, but for the last part: that elements read back serves the proofs.
 use Rattle.std.specs.Prelude.{◌≡◌, ℕ, ◌==◌, Bool, not, List, [], ◌∷◌, ◌++◌, Option, Some, None, option_map, String}
 use Rattle.std.specs.declared.alloc.Global.{Global}
 use Rattle.std.specs.List.{list_all}
@@ -43,35 +44,88 @@ with_rows (r ∷ rs) ms = with_rows rs (with_text r.0 r.1 ms)
 
 -- the head
 abbrev pub head_rows : Head → List Row
-head_rows m = (key.MsgNmId, Some m.message_name) ∷ (key.MsgId, Some m.message_id) ∷ (key.CreDtTm, Some m.creation_time) ∷ (key.InstgAgt, Some m.instructing_agent) ∷ (key.InstdAgt, m.instructed_agent) ∷ []
+head_rows m =
+    (key.MsgNmId, Some m.message_name) ∷
+    (key.MsgId, Some m.message_id) ∷
+    (key.CreDtTm, Some m.creation_time) ∷
+    (key.InstgAgt, Some m.instructing_agent) ∷
+    (key.InstdAgt, m.instructed_agent) ∷ []
 
 -- the transfer that a later message is about
 abbrev pub original_rows : Original → List Row
-original_rows m = (key.OrgnlMsgId, Some m.message_id) ∷ (key.OrgnlMsgNmId, Some m.message_name) ∷ (key.OrgnlEndToEndId, m.end_to_end_id) ∷ (key.OrgnlTxId, Some m.transaction_id) ∷ []
+original_rows m =
+    (key.OrgnlMsgId, Some m.message_id) ∷
+    (key.OrgnlMsgNmId, Some m.message_name) ∷
+    (key.OrgnlEndToEndId, m.end_to_end_id) ∷
+    (key.OrgnlTxId, Some m.transaction_id) ∷ []
 
 -- pacs.008, without its head
 abbrev pub credit_transfer_rows : CreditTransfer → List Row
-credit_transfer_rows m = (key.IntrBkSttlmDt, Some m.settlement_date) ∷ (key.SvcLvl, Some m.service_level) ∷ (key.LclInstrm, Some m.local_instrument) ∷ (key.InstrId, m.instruction_id) ∷ (key.EndToEndId, Some m.end_to_end_id) ∷ (key.TxId, Some m.transaction_id) ∷ (key.IntrBkSttlmAmt, Some (amount_text m.settlement_amount)) ∷ (key.Ccy, Some m.currency) ∷ (key.ChrgBr, Some m.charge_bearer) ∷ (key.AccptncDtTm, m.acceptance_time) ∷ (key.Dbtr, Some m.debtor) ∷ (key.DbtrAcct, Some m.debtor_account) ∷ (key.DbtrAgt, Some m.debtor_agent) ∷ (key.CdtrAgt, Some m.creditor_agent) ∷ (key.Cdtr, Some m.creditor) ∷ (key.CdtrAcct, Some m.creditor_account) ∷ (key.Ustrd, m.remittance) ∷ []
+credit_transfer_rows m =
+    (key.IntrBkSttlmDt, Some m.settlement_date) ∷
+    (key.SvcLvl, Some m.service_level) ∷
+    (key.LclInstrm, Some m.local_instrument) ∷
+    (key.InstrId, m.instruction_id) ∷
+    (key.EndToEndId, Some m.end_to_end_id) ∷
+    (key.TxId, Some m.transaction_id) ∷
+    (key.IntrBkSttlmAmt, Some (amount_text m.settlement_amount)) ∷
+    (key.Ccy, Some m.currency) ∷
+    (key.ChrgBr, Some m.charge_bearer) ∷
+    (key.AccptncDtTm, m.acceptance_time) ∷
+    (key.Dbtr, Some m.debtor) ∷
+    (key.DbtrAcct, Some m.debtor_account) ∷
+    (key.DbtrAgt, Some m.debtor_agent) ∷
+    (key.CdtrAgt, Some m.creditor_agent) ∷
+    (key.Cdtr, Some m.creditor) ∷
+    (key.CdtrAcct, Some m.creditor_account) ∷
+    (key.Ustrd, m.remittance) ∷ []
 
 -- pacs.002, without its head and its original message
 abbrev pub status_report_rows : StatusReport → List Row
-status_report_rows m = (key.TxSts, Some m.status) ∷ (key.Rsn, option_map reason_text m.reason) ∷ (key.DbtrAgt, Some m.debtor_agent) ∷ []
+status_report_rows m =
+    (key.TxSts, Some m.status) ∷
+    (key.Rsn, option_map reason_text m.reason) ∷
+    (key.DbtrAgt, Some m.debtor_agent) ∷ []
 
 -- pacs.028, without its head and its original message
 abbrev pub status_request_rows : StatusRequest → List Row
-status_request_rows m = (key.OrgnlCxlId, m.cancellation_id) ∷ (key.DbtrAgt, Some m.debtor_agent) ∷ []
+status_request_rows m =
+    (key.OrgnlCxlId, m.cancellation_id) ∷
+    (key.DbtrAgt, Some m.debtor_agent) ∷ []
 
 -- camt.056, without its head
 abbrev pub cancellation_request_rows : CancellationRequest → List Row
-cancellation_request_rows m = (key.CxlId, Some m.cancellation_id) ∷ original_rows m.original ++ (key.OrgnlIntrBkSttlmAmt, Some (amount_text m.original_amount)) ∷ (key.Ccy, Some m.currency) ∷ (key.OrgnlIntrBkSttlmDt, m.original_settlement_date) ∷ (key.Rsn, Some (reason_text m.reason)) ∷ (key.DbtrAgt, Some m.debtor_agent) ∷ []
+cancellation_request_rows m =
+    (key.CxlId, Some m.cancellation_id) ∷
+    original_rows m.original ++
+    (key.OrgnlIntrBkSttlmAmt, Some (amount_text m.original_amount)) ∷
+    (key.Ccy, Some m.currency) ∷
+    (key.OrgnlIntrBkSttlmDt, m.original_settlement_date) ∷
+    (key.Rsn, Some (reason_text m.reason)) ∷
+    (key.DbtrAgt, Some m.debtor_agent) ∷ []
 
 -- pacs.004, without its head
 abbrev pub payment_return_rows : PaymentReturn → List Row
-payment_return_rows m = (key.RtrId, Some m.return_id) ∷ (key.OrgnlCxlId, Some m.cancellation_id) ∷ original_rows m.original ++ (key.OrgnlIntrBkSttlmAmt, Some (amount_text m.original_amount)) ∷ (key.RtrdIntrBkSttlmAmt, Some (amount_text m.returned_amount)) ∷ (key.Ccy, Some m.currency) ∷ (key.IntrBkSttlmDt, Some m.settlement_date) ∷ (key.Rsn, Some (reason_text m.reason)) ∷ (key.DbtrAgt, Some m.debtor_agent) ∷ []
+payment_return_rows m =
+    (key.RtrId, Some m.return_id) ∷
+    (key.OrgnlCxlId, Some m.cancellation_id) ∷
+    original_rows m.original ++
+    (key.OrgnlIntrBkSttlmAmt, Some (amount_text m.original_amount)) ∷
+    (key.RtrdIntrBkSttlmAmt, Some (amount_text m.returned_amount)) ∷
+    (key.Ccy, Some m.currency) ∷
+    (key.IntrBkSttlmDt, Some m.settlement_date) ∷
+    (key.Rsn, Some (reason_text m.reason)) ∷
+    (key.DbtrAgt, Some m.debtor_agent) ∷ []
 
 -- camt.029, without its head
 abbrev pub resolution_rows : Resolution → List Row
-resolution_rows m = (key.CxlStsId, Some m.resolution_id) ∷ (key.OrgnlCxlId, Some m.cancellation_id) ∷ original_rows m.original ++ (key.Conf, Some m.confirmation) ∷ (key.Rsn, Some (reason_text m.reason)) ∷ (key.DbtrAgt, Some m.debtor_agent) ∷ []
+resolution_rows m =
+    (key.CxlStsId, Some m.resolution_id) ∷
+    (key.OrgnlCxlId, Some m.cancellation_id) ∷
+    original_rows m.original ++
+    (key.Conf, Some m.confirmation) ∷
+    (key.Rsn, Some (reason_text m.reason)) ∷
+    (key.DbtrAgt, Some m.debtor_agent) ∷ []
 
 -- the members that a part puts beside others
 abbrev pub with_head : Head → Members → Members

@@ -54,7 +54,8 @@ pub(crate) fn put_all(
     cancellation_request: &CancellationRequest,
     object: &mut Map<String, Value>,
 ) -> Result<(), AllocError>
-    ensures { OnOk result (Puts (with_cancellation_request cancellation_request.now) object.old.entries object.new.entries) }
+    ensures { OnOk result
+        (Puts (with_cancellation_request cancellation_request.now) object.old.entries object.new.entries) }
 {
     cancellation_request_table!(put_table! { alloc, cancellation_request, object })
 }

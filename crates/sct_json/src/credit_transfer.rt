@@ -1,4 +1,4 @@
-//! pacs.008: a transfer.
+//! pacs.008: a credit transfer.
 ghost use Rattle.std.specs.Prelude.{◌≡◌, OnOk};
 ghost use Rattle.sct_message.specs.declared.kinds.Kind.TheVariants.{Pacs008};
 ghost use Rattle.sct_json.specs.Keys.{is_key_of};
@@ -64,7 +64,8 @@ pub(crate) fn put_all(
     credit_transfer: &CreditTransfer,
     object: &mut Map<String, Value>,
 ) -> Result<(), AllocError>
-    ensures { OnOk result (Puts (with_credit_transfer credit_transfer.now) object.old.entries object.new.entries) }
+    ensures { OnOk result
+        (Puts (with_credit_transfer credit_transfer.now) object.old.entries object.new.entries) }
 {
     credit_transfer_table!(put_table! { alloc, credit_transfer, object })
 }

@@ -39,8 +39,8 @@ impl ExtraKey {
     }
 }
 
-/// Why an object is a form of no message: the first reason in the order of the numbers 31 to 33, then key by key in the
-/// order of the kind's key table 34 to 36, then 37 and 38. Only 30 says nothing of the object.
+/// Why an object is a form of no message: the first reason in the order of the numbers 31 to 33, then key by key in
+/// the order of the kind's key table 34 to 36, then 37 and 38. Only 30 says nothing of the object.
 #[derive(Debug, Drop, Error)]
 pub enum JsonFault {
     /// 30: out of memory.

@@ -49,7 +49,8 @@ pub(crate) fn put_all(
     head: &Head,
     object: &mut Map<String, Value>,
 ) -> Result<(), AllocError>
-    ensures { OnOk result (Puts (with_head head.now) object.old.entries object.new.entries) }
+    ensures { OnOk result
+        (Puts (with_head head.now) object.old.entries object.new.entries) }
 {
     head_table!(put_table! { alloc, head, object })
 }

@@ -1,5 +1,4 @@
-//! What the definitions of reading and of the form have to do with each other. These functions do nothing; their contracts
-//! are laws.
+//! What holds of the definitions of reading and writing. These functions do nothing; their contracts are laws.
 ghost use Rattle.std.specs.Prelude.{◌≡◌, ◌≢◌, ◌↔◌, ℕ, List, ◌∷◌, Some, Ok, Err, IsTrue};
 ghost use Rattle.sct_json.specs.declared.faults.JsonFault.TheVariants as fault;
 ghost use Rattle.serde_json.specs.Data.{Data, Members, object};
@@ -24,43 +23,48 @@ pub fn an_object_is_read_where_it_is_a_form()
 
 /// The names of an object that was read ascend by their bytes, each once.
 pub fn names_that_were_read_ascend()
-    ensures { (bytes : List ℕ) (members : Members) → read bytes ≡ Some (object members) → AscendByBytes (names_of members) }
+    ensures { (bytes : List ℕ) (members : Members) → read bytes ≡ Some (object members)
+        → AscendByBytes (names_of members) }
 {}
 
-/// Where an extra key is told, it is a key of the object that is none of its kind, and each other such key is greater by
-/// its bytes.
+/// Where an extra key is told, it is a key of the object that is none of its kind, and each other such key is
+/// greater by its bytes.
 pub fn the_extra_key_told_is_the_least()
-    ensures { (bytes name : List ℕ) → message_in bytes ≡ Err (fault.Extra name) → HasLeastExtraKey bytes name }
+    ensures { (bytes name : List ℕ) → message_in bytes ≡ Err (fault.Extra name)
+        → HasLeastExtraKey bytes name }
 {}
 
-/// No message is refused for its name (the rule fault 10): an object whose `MsgNmId` is no name of a kind is refused
-/// before its rules are looked at.
+/// No message is refused for its name (the rule fault 10): an object whose `MsgNmId` is no name of a kind is
+/// refused before its rules are looked at.
 pub fn no_message_is_refused_for_its_name()
     ensures { (bytes : List ℕ) → message_in bytes ≢ Err (fault.Rule WrongName) }
 {}
 
-/// Reading bytes has an answer of its own: want of memory is a fault of the call, and never what the bytes are read as.
+/// Reading bytes has an answer of its own: want of memory is a fault of the call, never what the bytes are read as.
 pub fn reading_never_wants_memory()
     ensures { (bytes : List ℕ) → message_in bytes ≢ Err fault.Memory }
 {}
 
 /// An object is a form of one message at most.
 pub fn an_object_is_a_form_of_one_message()
-    ensures { (object : Data) (left right : Elements) → IsFormOf object left → IsFormOf object right → left ≡ right }
+    ensures { (object : Data) (left right : Elements)
+        → IsFormOf object left → IsFormOf object right → left ≡ right }
 {
     all_rules_hold_where_none_is_broken();
 }
 
 /// Bytes are read as a message where they are a text that is JSON for a form of it.
 pub fn bytes_are_read_where_they_stand_for_a_form()
-    ensures { (bytes : List ℕ) (draft : Elements) → (message_in bytes ≡ Ok draft) ↔ ((object : Data) × StandsFor bytes object × IsFormOf object draft) }
+    ensures { (bytes : List ℕ) (draft : Elements)
+        → (message_in bytes ≡ Ok draft) ↔ ((object : Data) × StandsFor bytes object × IsFormOf object draft) }
 {
     all_rules_hold_where_none_is_broken();
 }
 
 /// A written text has the keys of its object in ascending order by their bytes, each once.
 pub fn the_keys_of_a_written_text_ascend()
-    ensures { (draft : Elements) → (members : Members) × (written_text draft ≡ compact_text (object members)) × AscendByBytes (names_of members) }
+    ensures { (draft : Elements) → (members : Members)
+        × (written_text draft ≡ compact_text (object members)) × AscendByBytes (names_of members) }
 {}
 
 /// A written text is one line, and not a blank one: it has no line feed, and begins with `{` (byte 123).

@@ -1,7 +1,7 @@
-//! The JSON form of interbank messages: one flat object to one message, and one written text for each message.
+//! The JSON form of interbank messages: one flat object to one message, one written text for each message.
 //!
-//! [`read_message`] takes the bytes of one JSON object and answers the message of which it is a form, or the first
-//! reason why it is a form of none. [`write_message`] answers the one written form of a message.
+//! [`read_message`] takes the bytes of one JSON object and answers the message of which it is a form, or the
+//! first reason why it is a form of none. [`write_message`] answers the one written form of a message.
 #![tactic(auto)]
 
 mod cancellation_request;

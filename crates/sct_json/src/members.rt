@@ -62,7 +62,8 @@ pub(crate) fn put<E: Element>(
     element: &E,
     object: &mut Map<String, Value>,
 ) -> Result<(), AllocError>
-    ensures { OnOk result (Puts (with_text key (Some (E.written element.now))) object.old.entries object.new.entries) }
+    ensures { OnOk result
+        (Puts (with_text key (Some (E.written element.now))) object.old.entries object.new.entries) }
 {
     let value = element.to_value(alloc)?;
     serde_json::put(object, alloc, key.text(), value)
@@ -75,7 +76,8 @@ pub(crate) fn put_optional<E: Element>(
     element: &Option<E>,
     object: &mut Map<String, Value>,
 ) -> Result<(), AllocError>
-    ensures { OnOk result (Puts (with_text key (option_map E.written element.now)) object.old.entries object.new.entries) }
+    ensures { OnOk result
+        (Puts (with_text key (option_map E.written element.now)) object.old.entries object.new.entries) }
 {
     match element {
         Some(element) => put(alloc, key, element, object),

@@ -48,7 +48,8 @@ pub(crate) fn put_all(
     original: &Original,
     object: &mut Map<String, Value>,
 ) -> Result<(), AllocError>
-    ensures { OnOk result (Puts (with_original original.now) object.old.entries object.new.entries) }
+    ensures { OnOk result
+        (Puts (with_original original.now) object.old.entries object.new.entries) }
 {
     original_table!(put_table! { alloc, original, object })
 }

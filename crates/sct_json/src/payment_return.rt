@@ -56,7 +56,8 @@ pub(crate) fn put_all(
     payment_return: &PaymentReturn,
     object: &mut Map<String, Value>,
 ) -> Result<(), AllocError>
-    ensures { OnOk result (Puts (with_payment_return payment_return.now) object.old.entries object.new.entries) }
+    ensures { OnOk result
+        (Puts (with_payment_return payment_return.now) object.old.entries object.new.entries) }
 {
     payment_return_table!(put_table! { alloc, payment_return, object })
 }

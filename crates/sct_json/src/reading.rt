@@ -54,14 +54,16 @@ fn is_key_of(kind: Kind, name: &str) -> bool
 
 /// The first name of an object, in the order of the names' bytes, that is no key of a kind.
 fn first_other(kind: Kind, object: &Map<String, Value>) -> Option<&String>
-    ensures { option_copied result ≡ find (λ name. not (is_key_of kind (string_bytes name))) (keys object.now) }
+    ensures { option_copied result
+        ≡ find (λ name. not (is_key_of kind (string_bytes name))) (keys object.now) }
 {
     object.keys().find(|name| !is_key_of(kind, name.as_str()))
 }
 
 /// Refuses an object with a key that is none of its kind.
 fn refuse_extra(alloc: Global, kind: Kind, object: &Map<String, Value>) -> Result<(), JsonFault>
-    ensures { let extra = first_extra kind (members_view object.now.entries) in GivesWhere (is_some extra) result (passes_unless extra) }
+    ensures { let extra = first_extra kind (members_view object.now.entries) in
+        GivesWhere (is_some extra) result (passes_unless extra) }
 {
     match first_other(kind, object) {
         None => Ok(()),
@@ -91,8 +93,8 @@ fn read_object(alloc: Global, object: &Value) -> Result<Message, JsonFault>
     }
 }
 
-/// Reads the bytes of one JSON object as the message of which it is a form, or answers the first reason why it is a form
-/// of none. Of two equal keys the last counts. Only `JsonFault::Memory` says nothing of the bytes.
+/// Reads the bytes of one JSON object as the message of which it is a form, or answers the first reason why it is
+/// a form of none. Of two equal keys the last counts. Only `JsonFault::Memory` says nothing of the bytes.
 pub fn read_message(alloc: Global, bytes: &[u8]) -> Result<Message, JsonFault>
     ensures { Gives result (message_in bytes.now) }
 {

@@ -53,7 +53,8 @@ pub(crate) fn put_all(
     resolution: &Resolution,
     object: &mut Map<String, Value>,
 ) -> Result<(), AllocError>
-    ensures { OnOk result (Puts (with_resolution resolution.now) object.old.entries object.new.entries) }
+    ensures { OnOk result
+        (Puts (with_resolution resolution.now) object.old.entries object.new.entries) }
 {
     resolution_table!(put_table! { alloc, resolution, object })
 }

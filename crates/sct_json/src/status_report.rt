@@ -51,7 +51,8 @@ pub(crate) fn put_all(
     status_report: &StatusReport,
     object: &mut Map<String, Value>,
 ) -> Result<(), AllocError>
-    ensures { OnOk result (Puts (with_status_report status_report.now) object.old.entries object.new.entries) }
+    ensures { OnOk result
+        (Puts (with_status_report status_report.now) object.old.entries object.new.entries) }
 {
     status_report_table!(put_table! { alloc, status_report, object })
 }

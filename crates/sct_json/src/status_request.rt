@@ -50,7 +50,8 @@ pub(crate) fn put_all(
     status_request: &StatusRequest,
     object: &mut Map<String, Value>,
 ) -> Result<(), AllocError>
-    ensures { OnOk result (Puts (with_status_request status_request.now) object.old.entries object.new.entries) }
+    ensures { OnOk result
+        (Puts (with_status_request status_request.now) object.old.entries object.new.entries) }
 {
     status_request_table!(put_table! { alloc, status_request, object })
 }

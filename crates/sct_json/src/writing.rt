@@ -20,7 +20,8 @@ fn put_elements(
     draft: &Draft,
     object: &mut Map<String, Value>,
 ) -> Result<(), AllocError>
-    ensures { OnOk result (Puts (with_elements draft.now) object.old.entries object.new.entries) }
+    ensures { OnOk result
+        (Puts (with_elements draft.now) object.old.entries object.new.entries) }
 {
     match draft {
         Draft::CreditTransfer(credit_transfer) => credit_transfer::put_all(
@@ -84,8 +85,9 @@ pub(crate) fn elements_read_back(draft: &Draft)
     }
 }
 
-/// Writes the one written form of a message: one line with no spaces, its keys in the order of their bytes, each element
-/// in its written form, absent elements left out. The text reads back as the message. Only want of memory is a fault.
+/// Writes the one written form of a message: one line with no spaces, its keys in the order of their bytes, each
+/// element in its written form, absent elements left out. The text reads back as the message. Only want of memory
+/// is a fault.
 pub fn write_message(alloc: Global, message: &Message) -> Result<Vec<u8>, JsonFault>
     ensures written { IfOk result (λ text. text.items ≡ written_text message.now) }
     ensures reads_back { IfOk result (λ text. message_in text.items ≡ Ok message.now) }

@@ -1,3 +1,4 @@
+-- The texts of two messages, by their elements.
 use Rattle.std.proofs.Common.{◌∙◌, ap, sym}
 use Rattle.sct_json.specs.Writing.{written_text}
 use Rattle.sct_json.proofs.Texts.{same_message}

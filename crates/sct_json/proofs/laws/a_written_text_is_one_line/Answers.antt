@@ -1,3 +1,4 @@
+-- A written text is one line.
 use Rattle.sct_json.proofs.Texts.{text_is_one_line, text_begins}
 use Rattle.sct_json.proofs.laws.a_written_text_is_one_line.Goals as goal
 

@@ -1,3 +1,4 @@
+-- Want of memory is not told of bytes.
 use Rattle.sct_json.proofs.Refusals.{memory_is_not_told}
 use Rattle.sct_json.proofs.laws.reading_never_wants_memory.Goals as goal
 

@@ -1,3 +1,4 @@
+-- Bytes that are JSON, and bytes that are none.
 use Rattle.std.proofs.Common.{◌∙◌, sym, subst, Result}
 use Rattle.std.proofs.lemmas.Bool.{false≢true}
 use Rattle.serde_json.specs.View.{view}

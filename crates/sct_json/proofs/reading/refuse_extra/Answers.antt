@@ -1,3 +1,4 @@
+-- The first name found in the map is the first extra one.
 use Rattle.std.proofs.Common.{◌≡◌, ◌∙◌, sym, ap, ℕ, List, Option, Some, option_map, is_some, string_bytes}
 use Rattle.sct_json.specs.Reading.{passes_unless}
 use Rattle.sct_json.proofs.Extra.{first_extra_found}

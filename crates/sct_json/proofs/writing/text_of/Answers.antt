@@ -1,3 +1,4 @@
+-- The text stands for the object.
 use Rattle.serde_json.specs.View.{view}
 use Rattle.sct_json.proofs.Flat.{stands_written}
 use Rattle.sct_json.proofs.writing.text_of.Goals as goal

@@ -1,3 +1,4 @@
+-- The text of a message reads back.
 use Rattle.std.proofs.Common.{◌∙◌, ap, Ok}
 use Rattle.sct_message.specs.declared.draft.Draft.{Draft}
 use Rattle.sct_json.specs.Form.{StandsFor}
