@@ -4,8 +4,8 @@ mod faults;
 mod forms;
 
 use crate::*;
-use faults::{FAULTS, NO_MESSAGES};
-use forms::{CREDIT_TRANSFER, FORMS, PARTS, WRITTEN};
+use faults::*;
+use forms::*;
 use std::alloc::{AllocError, Global};
 use std::process::Abort;
 use std::test::Fail;
@@ -76,6 +76,15 @@ fn assert_written(rt: &impl Abort, alloc: Global, text: &str, form: &str) -> Res
     Ok(())
 }
 
+/// Each row of a table is told as it says, where it is put into a text.
+fn assert_faults(rt: &impl Abort, alloc: Global, text: &str, rows: &[Row]) -> Result<(), Fail> {
+    for (old, new, fault) in rows {
+        let text = changed(alloc, text, old, new)?;
+        assert_told(rt, alloc, text.as_str(), fault)?;
+    }
+    Ok(())
+}
+
 #[test]
 fn writes_one_form_of_each_kind(rt: HostRuntime) -> Result<(), Fail> {
     for (text, form) in &FORMS {
@@ -108,12 +117,17 @@ fn tells_what_is_no_message(rt: HostRuntime) -> Result<(), Fail> {
 
 #[test]
 fn tells_the_first_fault_of_each_kind(rt: HostRuntime) -> Result<(), Fail> {
-    let alloc = rt.alloc();
-    for (text, old, new, fault) in &FAULTS {
-        let text = changed(alloc, text, old, new)?;
-        assert_told(&rt, alloc, text.as_str(), fault)?;
-    }
-    Ok(())
+    assert_faults(&rt, rt.alloc(), CREDIT_TRANSFER, &CREDIT_TRANSFER_FAULTS)?;
+    assert_faults(&rt, rt.alloc(), STATUS_REPORT, &STATUS_REPORT_FAULTS)?;
+    assert_faults(&rt, rt.alloc(), STATUS_REQUEST, &STATUS_REQUEST_FAULTS)?;
+    assert_faults(
+        &rt,
+        rt.alloc(),
+        CANCELLATION_REQUEST,
+        &CANCELLATION_REQUEST_FAULTS,
+    )?;
+    assert_faults(&rt, rt.alloc(), PAYMENT_RETURN, &PAYMENT_RETURN_FAULTS)?;
+    assert_faults(&rt, rt.alloc(), RESOLUTION, &RESOLUTION_FAULTS)
 }
 
 #[test]
