@@ -7,7 +7,7 @@ use Rattle.std.specs.Global.{Vec, Global}
 use Rattle.std.specs.declared.sync.Arc.{Arc}
 use Rattle.indexmap.specs.IndexMap.{IndexMap}
 use Rattle.sct_message.specs.declared.draft.Draft.{Draft}
-use Rattle.sct_set.specs.Buckets.{bucket}
+use Rattle.sct_set.specs.Buckets.{bucket, HasNoEmptyList}
 use Rattle.sct_set.specs.Drafts.{drafts_in, IsIndexBy}
 
 pub map-append : {A B : Type 0} (f : A → B) (xs ys : List A) → map f (xs ++ ys) ≡ map f xs ++ map f ys
@@ -64,32 +64,45 @@ module _ {K S : Type 0} (key_of : Draft → K) (T E : K → K → Bool) (ties : 
   is_same : E ≡ T
   is_same = λ n j k. ties j k n
 
+  -- a map that had no empty list has none
+  HasNoEmptyList-kept : (HasNoEmptyList E old → HasNoEmptyList E new) → HasNoEmptyList T old → HasNoEmptyList T new
+  HasNoEmptyList-kept keeps was = subst (λ (F : K → K → Bool). HasNoEmptyList F new) is_same (keeps (subst (λ (F : K → K → Bool). HasNoEmptyList F old) (sym is_same) was))
+
   -- an index in which a message was filed
   pub IsIndexBy-filed : (key : K) (message : Arc Draft Global) (messages : Messages) → key ≡ key_of (arc_value message) → IsIndexBy key_of T old (drafts_in messages)
-      → ((k : K) → bucket E new k ≡ cond (E key k) (bucket E old k ++ message ∷ []) (bucket E old k))
+      → ((k : K) → bucket E new k ≡ cond (E key k) (bucket E old k ++ message ∷ []) (bucket E old k)) → (HasNoEmptyList E old → HasNoEmptyList E new)
       → IsIndexBy key_of T new (drafts_in (messages ++ message ∷ []))
-  IsIndexBy-filed key message messages is was became = λ k.
-      let told : bucket T new k ≡ cond (T (key_of (arc_value message)) k) (bucket T old k ++ message ∷ []) (bucket T old k)
-      = subst (λ (j : K). bucket T new k ≡ cond (T j k) (bucket T old k ++ message ∷ []) (bucket T old k)) is
-      (subst (λ (F : K → K → Bool). bucket F new k ≡ cond (F key k) (bucket F old k ++ message ∷ []) (bucket F old k)) is_same (became k)) in
-      filed arc_value (λ d. T (key_of d) k) (bucket T old k) (bucket T new k) message (drafts_in messages) (was k) told
-      ∙ ap (filter (λ d. T (key_of d) k)) (sym (map-append arc_value messages (message ∷ [])))
+  IsIndexBy-filed key message messages is was became keeps = record {
+    messages = λ k.
+        let told : bucket T new k ≡ cond (T (key_of (arc_value message)) k) (bucket T old k ++ message ∷ []) (bucket T old k)
+        = subst (λ (j : K). bucket T new k ≡ cond (T j k) (bucket T old k ++ message ∷ []) (bucket T old k)) is
+        (subst (λ (F : K → K → Bool). bucket F new k ≡ cond (F key k) (bucket F old k ++ message ∷ []) (bucket F old k)) is_same (became k)) in
+        filed arc_value (λ d. T (key_of d) k) (bucket T old k) (bucket T new k) message (drafts_in messages) (was.messages k) told
+        ∙ ap (filter (λ d. T (key_of d) k)) (sym (map-append arc_value messages (message ∷ [])));
+    no_empty = HasNoEmptyList-kept keeps was.no_empty;
+  }
 
   -- an index out of which the last message was taken
   pub IsIndexBy-unfiled : (key : K) (message : Arc Draft Global) (messages rest : Messages) → key ≡ key_of (arc_value message) → messages ≡ rest ++ message ∷ [] → IsIndexBy key_of T old (drafts_in messages)
-      → ((k : K) → bucket E new k ≡ cond (E key k) (take (length (bucket E old k) - 1) (bucket E old k)) (bucket E old k))
+      → ((k : K) → bucket E new k ≡ cond (E key k) (take (length (bucket E old k) - 1) (bucket E old k)) (bucket E old k)) → (HasNoEmptyList E old → HasNoEmptyList E new)
       → IsIndexBy key_of T new (drafts_in rest)
-  IsIndexBy-unfiled key message messages rest is ends was became = λ k.
-      let told : bucket T new k ≡ cond (T (key_of (arc_value message)) k) (take (length (bucket T old k) - 1) (bucket T old k)) (bucket T old k)
-      = subst (λ (j : K). bucket T new k ≡ cond (T j k) (take (length (bucket T old k) - 1) (bucket T old k)) (bucket T old k)) is
-      (subst (λ (F : K → K → Bool). bucket F new k ≡ cond (F key k) (take (length (bucket F old k) - 1) (bucket F old k)) (bucket F old k)) is_same (became k)) in
-      unfiled arc_value (λ d. T (key_of d) k) (bucket T old k) (bucket T new k) message (drafts_in rest)
-      (was k ∙ ap (λ (xs : Messages). filter (λ d. T (key_of d) k) (drafts_in xs)) ends ∙ ap (filter (λ d. T (key_of d) k)) (map-append arc_value rest (message ∷ []))) told
+  IsIndexBy-unfiled key message messages rest is ends was became keeps = record {
+    messages = λ k.
+        let told : bucket T new k ≡ cond (T (key_of (arc_value message)) k) (take (length (bucket T old k) - 1) (bucket T old k)) (bucket T old k)
+        = subst (λ (j : K). bucket T new k ≡ cond (T j k) (take (length (bucket T old k) - 1) (bucket T old k)) (bucket T old k)) is
+        (subst (λ (F : K → K → Bool). bucket F new k ≡ cond (F key k) (take (length (bucket F old k) - 1) (bucket F old k)) (bucket F old k)) is_same (became k)) in
+        unfiled arc_value (λ d. T (key_of d) k) (bucket T old k) (bucket T new k) message (drafts_in rest)
+        (was.messages k ∙ ap (λ (xs : Messages). filter (λ d. T (key_of d) k) (drafts_in xs)) ends ∙ ap (filter (λ d. T (key_of d) k)) (map-append arc_value rest (message ∷ []))) told;
+    no_empty = HasNoEmptyList-kept keeps was.no_empty;
+  }
 
   -- an index whose lists are those of another has the same messages
-  pub IsIndexBy-kept : (ds : List Draft) → IsIndexBy key_of T old ds → ((k : K) → bucket E new k ≡ bucket E old k) → IsIndexBy key_of T new ds
-  IsIndexBy-kept ds was same = λ k. ap drafts_in (subst (λ (F : K → K → Bool). bucket F new k ≡ bucket F old k) is_same (same k)) ∙ was k
+  pub IsIndexBy-kept : (ds : List Draft) → IsIndexBy key_of T old ds → ((k : K) → bucket E new k ≡ bucket E old k) → (HasNoEmptyList E old → HasNoEmptyList E new) → IsIndexBy key_of T new ds
+  IsIndexBy-kept ds was same keeps = record {
+    messages = λ k. ap drafts_in (subst (λ (F : K → K → Bool). bucket F new k ≡ bucket F old k) is_same (same k)) ∙ was.messages k;
+    no_empty = HasNoEmptyList-kept keeps was.no_empty;
+  }
 
   -- the list at a key has the messages of it
   pub IsIndexBy-at : (ds : List Draft) (k : K) → IsIndexBy key_of T old ds → drafts_in (bucket E old k) ≡ filter (λ d. T (key_of d) k) ds
-  IsIndexBy-at ds k was = ap (λ (F : K → K → Bool). drafts_in (bucket F old k)) is_same ∙ was k
+  IsIndexBy-at ds k was = ap (λ (F : K → K → Bool). drafts_in (bucket F old k)) is_same ∙ was.messages k

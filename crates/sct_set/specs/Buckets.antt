@@ -1,5 +1,5 @@
--- A map from keys to lists, read as one list for each key.
-use Rattle.std.specs.Prelude.{Bool, List, [], Option, None, Some}
+-- A map from keys to lists, read as one list for each key. Read by an auditor.
+use Rattle.std.specs.Prelude.{◌≡◌, Bool, List, [], Option, None, Some, is_some, nat_lt, length}
 use Rattle.std.specs.Global.{Vec}
 use Rattle.indexmap.specs.IndexMap.{IndexMap, get}
 
@@ -11,3 +11,7 @@ items_in (Some v) = v.items
 -- the list at a key, empty where the map has none
 abbrev pub bucket : {K V S : Type 0} → (K → K → Bool) → IndexMap K (Vec V) S → K → List V
 bucket eq m k = items_in (get eq m k)
+
+-- the map has a key exactly where there is an item of it: no key stays behind with an empty list
+abbrev pub HasNoEmptyList : {K V S : Type 0} → (K → K → Bool) → IndexMap K (Vec V) S → Type 0
+HasNoEmptyList eq m = (k : _) → is_some (get eq m k) ≡ nat_lt 0 (length (bucket eq m k))

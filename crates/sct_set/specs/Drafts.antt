@@ -1,4 +1,4 @@
--- Lists of shared messages, read as the messages.
+-- Lists of shared messages, read as the messages, and the indexes of them. Read by an auditor.
 use Rattle.std.specs.Prelude.{ℕ, nat_eq, Bool, ◌≡◌, List, map, filter}
 use Rattle.std.specs.Global.{Vec, Global}
 use Rattle.std.specs.Arc.{arc_value}
@@ -8,7 +8,7 @@ use Rattle.sct_message.specs.declared.draft.Draft.{Draft}
 use Rattle.sct_message.specs.declared.keys.Identity.{Identity}
 use Rattle.sct_message.specs.Keys.{identity_of}
 use Rattle.sct_message.specs.Order.{same_identity}
-use Rattle.sct_set.specs.Buckets.{bucket}
+use Rattle.sct_set.specs.Buckets.{bucket, HasNoEmptyList}
 use Rattle.sct_set.specs.Digest.{digest_of}
 
 -- the messages of a list
@@ -23,10 +23,14 @@ drafts_of identity drafts = filter (λ draft. same_identity (identity_of draft) 
 abbrev pub drafts_alike : ℕ → List Draft → List Draft
 drafts_alike digest drafts = filter (λ draft. nat_eq (digest_of draft) digest) drafts
 
--- the index has at each key just the messages of it, in their order
-abbrev pub IsIndexBy : {K S : Type 0} → (Draft → K) → (K → K → Bool) → IndexMap K (Vec (Arc Draft Global)) S → List Draft → Type 0
-IsIndexBy key_of same index drafts = (key : _) → drafts_in (bucket same index key) ≡ filter (λ draft. same (key_of draft) key) drafts
+-- an index of messages: the map has each key that a message has, with the messages of it in their order, and no other key
+pub record IsIndexBy {K S : Type 0} (key_of : Draft → K) (same : K → K → Bool)
+    (index : IndexMap K (Vec (Arc Draft Global)) S) (drafts : List Draft) : Type 0 where
+  pub messages : (key : K) → drafts_in (bucket same index key) ≡ filter (λ draft. same (key_of draft) key) drafts
+  pub no_empty : HasNoEmptyList same index
 
 -- the index of identities and the index of digests
-abbrev pub AreIndexes : {S Z : Type 0} → IndexMap Identity (Vec (Arc Draft Global)) S → IndexMap ℕ (Vec (Arc Draft Global)) Z → List Draft → Type 0
-AreIndexes by_identity by_digest drafts = IsIndexBy identity_of same_identity by_identity drafts × IsIndexBy digest_of nat_eq by_digest drafts
+pub record AreIndexes {S Z : Type 0} (by_identity : IndexMap Identity (Vec (Arc Draft Global)) S)
+    (by_digest : IndexMap ℕ (Vec (Arc Draft Global)) Z) (drafts : List Draft) : Type 0 where
+  pub identities : IsIndexBy identity_of same_identity by_identity drafts
+  pub digests : IsIndexBy digest_of nat_eq by_digest drafts

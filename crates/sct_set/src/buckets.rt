@@ -1,7 +1,7 @@
 //! A map from keys to lists of items.
 
 ghost use Rattle.std.specs.Prelude.{◌≡◌, ◌-◌, ◌++◌, ◌∷◌, [], length, take, OnOk, OnErr, if◌then◌else◌};
-ghost use Rattle.sct_set.specs.Buckets.{bucket};
+ghost use Rattle.sct_set.specs.Buckets.{bucket, HasNoEmptyList};
 
 use indexmap::IndexMap;
 use std::alloc::{AllocError, Global};
@@ -17,6 +17,7 @@ pub fn file<K: Eq + Hash + Drop, V: Drop>(
     ensures ok { OnOk result ((k : K) → bucket K.eq index.new k
         ≡ (if K.eq key k then bucket K.eq index.old k ++ item ∷ [] else bucket K.eq index.old k)) }
     ensures err { OnErr result ((k : K) → bucket K.eq index.new k ≡ bucket K.eq index.old k) }
+    ensures no_empty { HasNoEmptyList K.eq index.old → HasNoEmptyList K.eq index.new }
 {
     if let Some(list) = index.get_mut(&key) {
         list.push(item)?;
@@ -30,11 +31,16 @@ pub fn file<K: Eq + Hash + Drop, V: Drop>(
 
 /// Takes the last item from its key's list.
 pub fn unfile<K: Eq + Hash + Drop, V: Drop>(index: &mut IndexMap<K, Vec<V>>, key: &K)
-    ensures { (k : K) → bucket K.eq index.new k
+    ensures taken { (k : K) → bucket K.eq index.new k
         ≡ (if K.eq key.now k then take (length (bucket K.eq index.old k) - 1) (bucket K.eq index.old k)
         else bucket K.eq index.old k) }
+    ensures no_empty { HasNoEmptyList K.eq index.old → HasNoEmptyList K.eq index.new }
 {
-    if let Some(list) = index.get_mut(key) {
-        list.pop();
+    let Some(list) = index.get_mut(key) else {
+        return;
+    };
+    list.pop();
+    if list.is_empty() {
+        index.swap_remove(key);
     }
 }

@@ -9,11 +9,11 @@ use Rattle.sct_set.proofs.table.Table.alike.Goals as goal
 pub returns-in-Some : goal.returns-in-Some
 returns-in-Some c =
     ap drafts_in (c.deref.ensures.value ∙ ap (λ o. items_in (option_copied o)) (sym c.in-Some.is) ∙ ap items_in c.get.ensures.value)
-    ∙ IsIndexBy-at digest_of nat_eq _ (λ j k. refl) c.self.inside.by_digest c.self.inside.by_digest _ c.digest.result c.self.invariant.1
+    ∙ IsIndexBy-at digest_of nat_eq _ (λ j k. refl) c.self.inside.by_digest c.self.inside.by_digest _ c.digest.result c.self.invariant.digests
     ∙ (λ n. drafts_alike (c.digest.ensures n) (c.self.view_is n))
 
 pub returns-in-None : goal.returns-in-None
 returns-in-None c =
     ap drafts_in (ap (λ o. items_in (option_copied o)) (sym c.in-None.is) ∙ ap items_in c.get.ensures.value)
-    ∙ IsIndexBy-at digest_of nat_eq _ (λ j k. refl) c.self.inside.by_digest c.self.inside.by_digest _ c.digest.result c.self.invariant.1
+    ∙ IsIndexBy-at digest_of nat_eq _ (λ j k. refl) c.self.inside.by_digest c.self.inside.by_digest _ c.digest.result c.self.invariant.digests
     ∙ (λ n. drafts_alike (c.digest.ensures n) (c.self.view_is n))

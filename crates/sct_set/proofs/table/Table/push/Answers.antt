@@ -21,31 +21,38 @@ same_behind messages new filed message same is =
 
 pub invariant_of-self-in_err-file : goal.invariant_of-self-in_err-file
 invariant_of-self-in_err-file c =
-    rw c.in_ok-reserve.ensures.items (
-      IsIndexBy-kept identity_of same_identity _ c.keys_are_ordered.ensures.identities_equal c.self.inside.by_identity c.file.new.index (drafts_in c.self.inside.messages.items) c.self.invariant.0 c.in_err-file.ensures.err,
-      c.self.invariant.1,
-    )
+    rw c.in_ok-reserve.ensures.items (record {
+      identities =
+          IsIndexBy-kept identity_of same_identity _ c.keys_are_ordered.ensures.identities_equal c.self.inside.by_identity c.file.new.index (drafts_in c.self.inside.messages.items)
+          c.self.invariant.identities c.in_err-file.ensures.err c.file.ensures.no_empty;
+      digests = c.self.invariant.digests;
+    })
 
 pub invariant_of-self-in-Err : goal.invariant_of-self-in-Err
 invariant_of-self-in-Err c =
     let same : arc_value c.in_ok-filed.filed ≡ arc_value c.args.message = c.in_ok-filed.ensures.cases in
     let filed = IsIndexBy-filed identity_of same_identity _ c.keys_are_ordered.ensures.identities_equal c.self.inside.by_identity c.file.new.index _ c.in_ok-filed.filed c.self.inside.messages.items
-    (c.identity.ensures ∙ ap identity_of (c.deref.ensures ∙ sym same)) c.self.invariant.0 c.in_ok-file.ensures.ok in
-    rw c.in_ok-reserve.ensures.items (
-      IsIndexBy-unfiled identity_of same_identity _ c.keys_are_ordered.ensures.identities_equal c.file.new.index c.unfile.new.index _ c.in_ok-filed.filed (c.self.inside.messages.items ++ c.in_ok-filed.filed ∷ []) c.self.inside.messages.items
-          (c.identity-in-Err.ensures ∙ ap identity_of (c.deref-in-Err.ensures ∙ sym same)) refl filed c.unfile.ensures,
-      IsIndexBy-kept digest_of nat_eq _ (λ j k. refl) c.self.inside.by_digest c.file-2.new.index (drafts_in c.self.inside.messages.items) c.self.invariant.1 c.in-Err.ensures.err,
-    )
+    (c.identity.ensures ∙ ap identity_of (c.deref.ensures ∙ sym same)) c.self.invariant.identities c.in_ok-file.ensures.ok c.file.ensures.no_empty in
+    rw c.in_ok-reserve.ensures.items (record {
+      identities =
+          IsIndexBy-unfiled identity_of same_identity _ c.keys_are_ordered.ensures.identities_equal c.file.new.index c.unfile.new.index _ c.in_ok-filed.filed (c.self.inside.messages.items ++ c.in_ok-filed.filed ∷ []) c.self.inside.messages.items
+          (c.identity-in-Err.ensures ∙ ap identity_of (c.deref-in-Err.ensures ∙ sym same)) refl filed c.unfile.ensures.taken c.unfile.ensures.no_empty;
+      digests =
+          IsIndexBy-kept digest_of nat_eq _ (λ j k. refl) c.self.inside.by_digest c.file-2.new.index (drafts_in c.self.inside.messages.items)
+          c.self.invariant.digests c.in-Err.ensures.err c.file-2.ensures.no_empty;
+    })
 
 pub invariant_of-self-2 : goal.invariant_of-self-2
 invariant_of-self-2 c =
     let filed_is : arc_value c.in_ok-filed.filed ≡ arc_value c.args.message = c.in_ok-filed.ensures.cases in
     let again_is : arc_value c.in_ok-again.again ≡ arc_value c.args.message = c.in_ok-again.ensures.cases in
-    let pushed = c.push_reserved.ensures.items ∙ ap (λ xs. xs ++ c.args.message ∷ []) c.in_ok-reserve.ensures.items in (
-      subst (λ ds. IsIndexBy identity_of same_identity c.file.new.index ds) (same_behind _ _ _ _ filed_is pushed)
+    let pushed = c.push_reserved.ensures.items ∙ ap (λ xs. xs ++ c.args.message ∷ []) c.in_ok-reserve.ensures.items in record {
+      identities =
+          subst (λ ds. IsIndexBy identity_of same_identity c.file.new.index ds) (same_behind _ _ _ _ filed_is pushed)
           (IsIndexBy-filed identity_of same_identity _ c.keys_are_ordered.ensures.identities_equal c.self.inside.by_identity c.file.new.index _ c.in_ok-filed.filed c.self.inside.messages.items
-          (c.identity.ensures ∙ ap identity_of (c.deref.ensures ∙ sym filed_is)) c.self.invariant.0 c.in_ok-file.ensures.ok),
-      subst (λ ds. IsIndexBy digest_of nat_eq c.file-2.new.index ds) (same_behind _ _ _ _ again_is pushed)
+          (c.identity.ensures ∙ ap identity_of (c.deref.ensures ∙ sym filed_is)) c.self.invariant.identities c.in_ok-file.ensures.ok c.file.ensures.no_empty);
+      digests =
+          subst (λ ds. IsIndexBy digest_of nat_eq c.file-2.new.index ds) (same_behind _ _ _ _ again_is pushed)
           (IsIndexBy-filed digest_of nat_eq _ (λ j k. refl) c.self.inside.by_digest c.file-2.new.index _ c.in_ok-again.again c.self.inside.messages.items
-          (c.digest.ensures ∙ ap digest_of (c.deref-2.ensures ∙ sym again_is)) c.self.invariant.1 c.in_default.ensures.ok),
-    )
+          (c.digest.ensures ∙ ap digest_of (c.deref-2.ensures ∙ sym again_is)) c.self.invariant.digests c.in_default.ensures.ok c.file-2.ensures.no_empty);
+    }
