@@ -1,8 +1,8 @@
--- The laws of archives.
-use Rattle.std.proofs.Common.{◌≡◌, Bool, true, false, cond, not, ◌&&◌, ◌||◌, List, [], ◌∷◌, map, refl, sym, ap, ◌∙◌, filter, ◌≢◌}
+-- The laws of archives. Proof plumbing.
+use Rattle.std.proofs.Common.{◌≡◌, Bool, true, false, not, ◌&&◌, ◌||◌, List, [], ◌∷◌, map, refl, sym, ap, ◌∙◌, filter, ◌≢◌}
 use Rattle.std.specs.FinSet as set
-use Rattle.std.specs.FinSet.{contains-union, contains-items, contains-insert, same_set}
-use Rattle.std.specs.Cmp.{eq_by_cmp_equiv, both_ways}
+use Rattle.std.specs.FinSet.{contains-union, contains-items, contains-insert}
+use Rattle.std.specs.Cmp.{eq_by_cmp_equiv}
 use Rattle.std.specs.List.{list_any}
 use Rattle.std.specs.Ordering.{eq_by_cmp}
 use Rattle.std.proofs.lemmas.Bool.{false≢true}
@@ -12,15 +12,14 @@ use Rattle.sct_message.specs.declared.keys.Identity.{Identity}
 use Rattle.sct_message.specs.OrderLaws.{message_total, message_same, identity_total, identities_same}
 use Rattle.sct_message.specs.Keys.{identity_of}
 use Rattle.sct_message.specs.Order.{identity_order, message_order, same_message, same_identity}
-use Rattle.sct_set.specs.declared.added.Added.{Added}
 use Rattle.sct_set.specs.declared.added.Added.TheVariants as added
-use Rattle.sct_set.specs.Archive.{IsContradicted, has_identity, is_disputed, contradicted_identities, archive_text_of, line_order}
-use Rattle.sct_message.specs.Ascending.{ascending}
+use Rattle.sct_set.specs.Archive.{added_where, archive_text_of, has_identity}
+use Rattle.sct_set.specs.Contradictions.{IsContradicted, contradicted_identities, is_disputed, is_rival}
 use Rattle.sct_set.specs.Contents.{Contents}
-use Rattle.sct_set.specs.Laws.{IsAssociative, IsCommutative, IsIdempotent, HoldsBothSides, EqualSetsAnswerAlike, TellsContradictions, TellsInOrder, AnswersAgainst, WritesEachOnce}
-use Rattle.sct_set.specs.LineOrder.{line_order_total}
+use Rattle.sct_set.specs.Laws.{IsAssociative, IsCommutative, IsIdempotent, HoldsBothSides, EqualSetsAnswerAlike, TellsContradictions, TellsInOrder, AnswersAgainst}
 use Rattle.sct_message.proofs.AscendingLemmas.{members_ascending, ascending_rises}
-use Rattle.sct_set.proofs.ContentsLemmas.{same_is, same_itself, line_order_same, added-absent}
+use Rattle.sct_set.proofs.ContentsLemmas.{same_contents, same_is, same_itself}
+use Rattle.sct_set.proofs.ArchiveLemmas.{added-absent}
 use Rattle.sct_message.proofs.Members.{list_any-found, list_any-filter, list_any-map, tie_is, ties_itself}
 
 -- ---- merging
@@ -42,24 +41,22 @@ or_itself false = refl
 pub both_sides : HoldsBothSides
 both_sides a b d = contains-union message_total a b d
 
-alike : (a b : Contents) → ((d : Draft) → set.contains a d ≡ set.contains b d) → a ≡ b
-alike a b same = same_set message_total message_same a b same
-
 pub associative : IsAssociative
 associative a b c =
-    alike _ _ (λ d.
+    same_contents _ _ (λ d.
     both_sides (set.union a b) c d ∙ ap (λ (t : Bool). t || set.contains c d) (both_sides a b d)
     ∙ or_assoc (set.contains a d) (set.contains b d) (set.contains c d)
     ∙ sym (both_sides a (set.union b c) d ∙ ap (λ (t : Bool). set.contains a d || t) (both_sides b c d)))
 
 pub commutative : IsCommutative
-commutative a b = alike _ _ (λ d. both_sides a b d ∙ or_comm (set.contains a d) (set.contains b d) ∙ sym (both_sides b a d))
+commutative a b = same_contents _ _ (λ d. both_sides a b d ∙ or_comm (set.contains a d) (set.contains b d) ∙ sym (both_sides b a d))
 
 pub idempotent : IsIdempotent
-idempotent a = alike _ _ (λ d. both_sides a a d ∙ or_itself (set.contains a d))
+idempotent a = same_contents _ _ (λ d. both_sides a a d ∙ or_itself (set.contains a d))
 
 pub answer_alike : EqualSetsAnswerAlike
-answer_alike a b same = let e = alike a b same in (ap archive_text_of e, ap contradicted_identities e)
+answer_alike a b same =
+    let e = same_contents a b same in record { texts = ap archive_text_of e; contradictions = ap contradicted_identities e }
 
 -- ---- contradictions
 
@@ -124,7 +121,7 @@ contradicted_from_told : (s : Contents) (i : Identity) → list_any (tells s i) 
 contradicted_from_told s i e =
     let one = witness (tells s i) (set.items s) e in
     let is = sym (tie_is identity_total identities_same i (identity_of one.0) (and_second _ _ one.1)) in
-    let other = witness (λ held. same_identity (identity_of held) (identity_of one.0) && not (same_message held one.0)) (set.items s) (and_first _ _ one.1) in
+    let other = witness (is_rival one.0) (set.items s) (and_first _ _ one.1) in
     record {
       one = one.0;
       other = other.0;
@@ -137,7 +134,7 @@ contradicted_from_told s i e =
 
 told_from_contradicted : (s : Contents) (i : Identity) → IsContradicted s i → list_any (tells s i) (set.items s) ≡ true
 told_from_contradicted s i c =
-    let disputed = found (λ held. same_identity (identity_of held) (identity_of c.one) && not (same_message held c.one)) s c.other c.other_held
+    let disputed = found (is_rival c.one) s c.other c.other_held
     (and_both _ _ (same_identity-from _ _ (c.other_has_it ∙ sym c.one_has_it)) (differ c.one c.other c.different)) in
     found (tells s i) s c.one c.one_held (and_both _ _ disputed (same_identity-from _ _ (sym c.one_has_it)))
 
@@ -151,37 +148,9 @@ pub told_in_order : TellsInOrder
 unfolding contradicted_identities
 told_in_order s = ascending_rises identity_total identities_same _
 
--- ---- the archive text
-
-same_tie : (d e : Draft) → eq_by_cmp line_order d e ≡ eq_by_cmp message_order d e
-same_tie d e =
-    both_ways _ _
-    (λ t. ap (eq_by_cmp message_order d) (sym (tie_is line_order_total line_order_same d e t)) ∙ ties_itself message_total message_same d)
-    (λ t. ap (eq_by_cmp line_order d) (sym (tie_is message_total message_same d e t)) ∙ ties_itself line_order_total line_order_same d)
-
-list_any-same-tests : (d : Draft) (ds : List Draft) → list_any (eq_by_cmp line_order d) ds ≡ list_any (eq_by_cmp message_order d) ds
-list_any-same-tests d ds = ap (λ (p : Draft → Bool). list_any p ds) (λ n e. same_tie d e n)
-
--- whether a message stands in the text's order is whether the set holds it
-any_of : (s : Contents) (d : Draft) → list_any (eq_by_cmp line_order d) (ascending line_order (set.items s)) ≡ set.contains s d
-any_of s d =
-    members_ascending line_order_total line_order_same (set.items s) d
-    ∙ list_any-same-tests d (set.items s)
-    ∙ sym (contains-items s d)
-
-pub written_once : WritesEachOnce
-unfolding archive_text_of
-written_once s =
-    let drafts = ascending line_order (set.items s) in
-    let members = λ (d : Draft). any_of s d in
-    (drafts, record { members = λ d. (λ h. sym (members d) ∙ list_any-from_Contains (eq_by_cmp_equiv line_order_total) d drafts h, λ e. Contains-from_any (tie_is line_order_total line_order_same) d drafts (members d ∙ e)); rises = ascending_rises line_order_total line_order_same _ }, refl)
-
 -- ---- Against
 
-abbrev against_where : Bool → Added
-against_where b = cond b added.Against added.Fresh
-
-against_is : (b : Bool) → against_where b ≡ added.Against → b ≡ true
+against_is : (b : Bool) → added_where b ≡ added.Against → b ≡ true
 against_is true e = refl
 against_is false e = cc
 
@@ -220,4 +189,4 @@ contradicted_by s m absent has =
 pub against_answered : AnswersAgainst
 against_answered s m absent =
     let is = added-absent s m (has_identity s (identity_of m)) absent refl in
-    (λ e. contradicted_by s m absent (against_is _ (is ∙ e)), λ c. sym is ∙ ap against_where (one_is_another s m c))
+    (λ e. contradicted_by s m absent (against_is _ (is ∙ e)), λ c. sym is ∙ ap added_where (one_is_another s m c))

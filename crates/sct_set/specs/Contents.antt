@@ -1,9 +1,10 @@
--- The contents of an archive: a finite set of messages.
+-- Finite sets of messages. Read by an auditor; cases, the archive and the view all speak of these sets.
 use Rattle.std.specs.FinSet as set
 use Rattle.std.specs.Prelude.{◌≡◌, List, length}
 use Rattle.sct_message.specs.declared.draft.Draft.{Draft}
 use Rattle.sct_message.specs.Order.{message_order}
 
+-- a finite set of messages
 abbrev pub Contents : Type 0
 Contents = set.FinSet message_order
 
@@ -14,3 +15,7 @@ contents_of drafts = set.from_list drafts
 -- no message stands twice in a list: it is as long as its set is large
 abbrev pub HasNoRepeat : List Draft → Type 0
 HasNoRepeat drafts = set.len (contents_of drafts) ≡ length drafts
+
+-- the same messages are held
+abbrev pub HaveSameMessages : Contents → Contents → Type 0
+HaveSameMessages a b = (draft : Draft) → set.contains a draft ≡ set.contains b draft

@@ -1,6 +1,8 @@
+-- The definitions of the archive.
 pub mod Archive
 pub mod Buckets
 pub mod Contents
+pub mod Contradictions
 pub mod Digest
 pub mod Drafts
 pub mod Laws

@@ -1,3 +1,4 @@
+-- Identities that are sorted and told apart are the ascending ones.
 use Rattle.std.proofs.Common.{◌∙◌, ap, sym, subst}
 use Rattle.std.proofs.lemmas.List.Filters.{dedup_is}
 use Rattle.std.specs.List.Sorted.{IsSorted}
@@ -7,7 +8,7 @@ use Rattle.sct_message.specs.OrderLaws.{identity_total, identities_same}
 use Rattle.sct_message.specs.Order.{identity_order}
 use Rattle.sct_message.specs.Ascending.{ascending}
 use Rattle.sct_message.proofs.AscendingLemmas.{ascending-sort_dedup_plain}
-use Rattle.sct_set.proofs.ContentsLemmas.{contradicted_identities-contents_of}
+use Rattle.sct_set.proofs.ArchiveLemmas.{contradicted_identities-contents_of}
 use Rattle.sct_set.proofs.contradictions.contradictions.Goals as goal
 
 pub returns : goal.returns

@@ -1,6 +1,7 @@
+-- The identities found so far are those of the disputed messages seen so far.
 use Rattle.std.proofs.Common.{◌≡◌, map, filter, take}
 use Rattle.sct_message.specs.Keys.{identity_of}
-use Rattle.sct_set.specs.Archive.{is_disputed}
+use Rattle.sct_set.specs.Contradictions.{is_disputed}
 use Rattle.sct_set.specs.Contents.{contents_of}
 use Rattle.sct_set.specs.Drafts.{drafts_in}
 use Rattle.sct_set.proofs.contradictions.disputed_identities.Given as goal

@@ -1,6 +1,7 @@
+-- A message is disputed where those of its identity are not all the same.
 use Rattle.std.proofs.Common.{ap, ◌∙◌}
 use Rattle.sct_set.specs.Drafts.{drafts_of}
-use Rattle.sct_set.proofs.ContentsLemmas.{disputed-is}
+use Rattle.sct_set.proofs.ArchiveLemmas.{disputed-is}
 use Rattle.sct_set.proofs.contradictions.is_disputed_in.Goals as goal
 
 pub returns : goal.returns

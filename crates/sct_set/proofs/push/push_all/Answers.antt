@@ -1,9 +1,11 @@
+-- A message more in the list is one more in the union.
 use Rattle.std.proofs.Common.{ap, sym, ◌∙◌, arith}
 use Rattle.std.specs.Arc.{arc_value}
 use Rattle.std.specs.FinSet as set
 use Rattle.std.proofs.Math.Seq.{take-length}
 use Rattle.sct_set.specs.Contents.{contents_of}
-use Rattle.sct_set.proofs.ContentsLemmas.{union-none, union-push, drafts_in-more}
+use Rattle.sct_set.proofs.ArchiveLemmas.{drafts_in-more}
+use Rattle.sct_set.proofs.ContentsLemmas.{union-none, union-push}
 use Rattle.sct_set.proofs.push.push_all.Goals as goal
 
 pub loop-message-init : goal.loop-message-init

@@ -1,3 +1,4 @@
+-- The set is the union with the messages seen so far, and what was there stands in front.
 use Rattle.std.proofs.Common.{◌≡◌, ◌≤◌, length, take}
 use Rattle.std.specs.FinSet as set
 use Rattle.sct_set.specs.Contents.{contents_of, HasNoRepeat}

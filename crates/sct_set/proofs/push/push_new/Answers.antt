@@ -1,3 +1,4 @@
+-- A message that is not held is one more, and no repeat.
 use Rattle.std.proofs.Common.{ap, sym, ◌∙◌}
 use Rattle.std.specs.FinSet as set
 use Rattle.sct_set.specs.Contents.{contents_of}

@@ -1,3 +1,4 @@
+-- The text made so far is that of the lines seen so far.
 use Rattle.std.proofs.Common.{◌≡◌, take}
 use Rattle.std.specs.List.{flat_map}
 use Rattle.sct_set.specs.Archive.{line_of}

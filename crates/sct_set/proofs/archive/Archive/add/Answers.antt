@@ -1,11 +1,12 @@
-use Rattle.std.proofs.Common.{Bool, ap, sym, ◌∙◌, cond}
+-- How a message comes, and what is held then.
+use Rattle.std.proofs.Common.{ap, sym, ◌∙◌}
 use Rattle.std.specs.Arc.{arc_value}
 use Rattle.std.specs.FinSet as set
 use Rattle.sct_message.specs.Keys.{identity_of}
-use Rattle.sct_set.specs.Archive.{has_identity}
+use Rattle.sct_set.specs.Archive.{added_where, has_identity}
 use Rattle.sct_set.specs.Contents.{contents_of}
-use Rattle.sct_set.specs.declared.added.Added.TheVariants as added
-use Rattle.sct_set.proofs.ContentsLemmas.{insert-held, contents-push, HasNoRepeat-push, added-held, added-absent}
+use Rattle.sct_set.proofs.ArchiveLemmas.{added-held, added-absent}
+use Rattle.sct_set.proofs.ContentsLemmas.{insert-held, contents-push, HasNoRepeat-push}
 use Rattle.sct_set.proofs.archive.Archive.add.Goals as goal
 use Rattle.sct_set.proofs.archive.Archive.add.Goals.{then-against, else-against}
 
@@ -25,7 +26,7 @@ returns-clause-answer c =
     let is = added-absent c.args.self.now (arc_value c.args.message) c.has-against.result
     (ap (set.contains c.args.self.now) (sym c.deref.ensures) ∙ sym c.holds.ensures ∙ c.if-holds.false)
     (c.has-against.ensures ∙ ap (has_identity c.args.self.now) (c.identity.ensures ∙ ap identity_of c.deref-2.ensures)) in
-    elim c.if-against.branch [ then-against w ↦ w.result-is ∙ ap (λ (b : Bool). cond b added.Against added.Fresh) (sym w.if-against.true) ∙ is | else-against w ↦ w.result-is ∙ ap (λ (b : Bool). cond b added.Against added.Fresh) (sym w.if-against.false) ∙ is ]
+    elim c.if-against.branch [ then-against w ↦ w.result-is ∙ ap added_where (sym w.if-against.true) ∙ is | else-against w ↦ w.result-is ∙ ap added_where (sym w.if-against.false) ∙ is ]
 
 pub returns-clause-ok : goal.returns-clause-ok
 returns-clause-ok c = ap contents_of c.in_ok-push.ensures.ok ∙ contents-push _ _ ∙ ap (λ s. set.insert s (arc_value c.args.message)) c.self.view_is

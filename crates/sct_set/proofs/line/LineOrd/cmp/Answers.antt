@@ -1,3 +1,4 @@
+-- What is compared in turn is the order of the archive text.
 use Rattle.std.proofs.Common.{◌≡◌, true, false, ap, sym, ◌∙◌, Ordering, refl}
 use Rattle.std.specs.declared.cmp.Ordering.TheVariants.{Less, Equal, Greater}
 use Rattle.std.specs.Ordering.{is_ne, ordering_then, nat_cmp}

@@ -1,3 +1,4 @@
+-- The list at a digest has the messages of it.
 use Rattle.std.proofs.Common.{ap, sym, ◌∙◌, nat_eq, refl}
 use Rattle.std.specs.Option.{option_copied}
 use Rattle.sct_set.specs.Buckets.{items_in}

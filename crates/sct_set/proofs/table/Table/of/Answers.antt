@@ -1,3 +1,4 @@
+-- The list at an identity has the messages of it.
 use Rattle.std.proofs.Common.{ap, sym, ◌∙◌}
 use Rattle.std.specs.Option.{option_copied}
 use Rattle.sct_message.specs.Keys.{identity_of}

@@ -1,3 +1,4 @@
+-- Both indexes lose the last message.
 use Rattle.std.proofs.Common.{ap, ◌∙◌, ◌++◌, nat_eq, refl}
 use Rattle.std.specs.Option.{option_to_list}
 use Rattle.sct_message.specs.Keys.{identity_of}

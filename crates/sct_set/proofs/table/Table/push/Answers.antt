@@ -1,3 +1,4 @@
+-- Both indexes gain the message, or neither does.
 use Rattle.std.proofs.Common.{◌≡◌, ap, sym, ◌∙◌, ◌++◌, ◌∷◌, [], List, nat_eq, refl, subst}
 use Rattle.std.specs.Arc.{arc_value}
 use Rattle.std.specs.Global.{Global}

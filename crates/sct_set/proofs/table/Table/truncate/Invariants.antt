@@ -1,3 +1,4 @@
+-- The front stays while messages are taken out.
 use Rattle.std.proofs.Common.{◌≡◌, length, take}
 use Rattle.sct_set.proofs.table.Table.truncate.Given as goal
 

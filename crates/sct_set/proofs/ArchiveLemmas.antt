@@ -1,0 +1,109 @@
+-- What an archive's table and its lines have to do with the set of its messages. Proof plumbing.
+use Rattle.std.proofs.Common.{◌≡◌, ℕ, suc, nat_eq, ◌+◌, Bool, true, false, cond, not, ◌&&◌, ◌||◌, List, [], ◌∷◌, ◌++◌, map, length, refl, sym, ap, ◌∙◌, filter, arith, nat_lt, take, get_or, ◌<◌}
+use Rattle.std.specs.FinSet as set
+use borrow.Author.Tests.{lt-ltb}
+use Rattle.std.specs.Arc.{arc_value}
+use Rattle.std.specs.Global.{Global}
+use Rattle.std.specs.List.{list_any}
+use Rattle.std.specs.Ordering.{eq_by_cmp}
+use Rattle.std.specs.declared.sync.Arc.{Arc}
+use Rattle.std.proofs.lemmas.Bool.{eq-eqb}
+use Rattle.std.proofs.lemmas.Grind.{take_at_read}
+use Rattle.sct_message.specs.declared.draft.Draft.{Draft}
+use Rattle.sct_message.specs.declared.keys.Identity.{Identity}
+use Rattle.sct_message.specs.OrderLaws.{identity_total, identities_same}
+use Rattle.sct_message.specs.Keys.{identity_of}
+use Rattle.sct_message.specs.Order.{identity_order, same_message, same_identity}
+use Rattle.sct_message.specs.Ascending.{ascending}
+use Rattle.sct_message.proofs.AscendingLemmas.{ascending-same}
+use Rattle.sct_message.proofs.Members.{list_any-filter, list_any-map}
+use Rattle.sct_set.specs.Archive.{added_of, added_where, has_identity}
+use Rattle.sct_set.specs.Contents.{Contents, contents_of}
+use Rattle.sct_set.specs.Contradictions.{contradicted_identities, is_disputed, is_rival}
+use Rattle.sct_set.specs.Digest.{digest_of}
+use Rattle.sct_set.specs.Drafts.{drafts_in, drafts_of, drafts_alike}
+use Rattle.sct_set.specs.declared.added.Added.TheVariants as added
+use Rattle.sct_set.proofs.ContentsLemmas.{any_items, contains-contents_of, same_is}
+use Rattle.sct_set.proofs.IndexLemmas.{map-append}
+
+-- ---- a message among those of its digest, and of its identity
+
+same_have_one_digest : (d m : Draft) → same_message d m ≡ true → nat_eq (digest_of d) (digest_of m) ≡ true
+same_have_one_digest d m e = ap (λ (x : Draft). nat_eq (digest_of x) (digest_of m)) (same_is d m e) ∙ eq-eqb (digest_of m) (digest_of m) refl
+
+implied : (a b : Bool) → (b ≡ true → a ≡ true) → (a && b) ≡ b
+implied true b h = refl
+implied false true h = h refl
+implied false false h = refl
+
+-- a message is held where it is among those of its digest
+pub held-is : (ms : List (Arc Draft Global)) (ds : List Draft) (m : Draft) → drafts_in ms ≡ drafts_alike (digest_of m) ds
+    → list_any (λ held. same_message (arc_value held) m) ms ≡ set.contains (contents_of ds) m
+held-is ms ds m e =
+    sym (list_any-map (λ d. same_message d m) arc_value ms)
+    ∙ ap (list_any (λ d. same_message d m)) e
+    ∙ list_any-filter (λ d. same_message d m) (λ d. nat_eq (digest_of d) (digest_of m)) ds
+    ∙ ap (λ (p : Draft → Bool). list_any p ds) (λ i d. implied _ _ (same_have_one_digest d m) i)
+    ∙ sym (contains-contents_of ds m)
+
+length-values : (ms : List (Arc Draft Global)) → length (drafts_in ms) ≡ length ms
+length-values [] = refl
+length-values (m ∷ ms) = ap suc (length-values ms)
+
+zero_below : (n : ℕ) → nat_lt 0 (suc n) ≡ true
+zero_below n = lt-ltb 0 (suc n) (omega arith)
+
+some_kept : (p : Draft → Bool) (ds : List Draft) → nat_lt 0 (length (filter p ds)) ≡ list_any p ds
+some_kept p [] = refl
+some_kept p (d ∷ ds) = elim (p d) as (λ b. nat_lt 0 (length (cond b (d ∷ filter p ds) (filter p ds))) ≡ (b || list_any p ds)) [ true ↦ zero_below _ | false ↦ some_kept p ds ]
+
+-- a message of an identity is held where its list is not empty
+pub has-is : (ms : List (Arc Draft Global)) (ds : List Draft) (i : Identity) → drafts_in ms ≡ drafts_of i ds → nat_lt 0 (length ms) ≡ has_identity (contents_of ds) i
+has-is ms ds i e =
+    ap (nat_lt 0) (sym (length-values ms))
+    ∙ ap (λ (xs : List Draft). nat_lt 0 (length xs)) e
+    ∙ some_kept (λ d. same_identity (identity_of d) i) ds
+    ∙ sym (any_items (λ d. same_identity (identity_of d) i) ds)
+
+-- ---- how a message comes
+
+module _ (s : Contents) (m : Draft) where
+  -- what is answered to a message that is held
+  pub added-held : set.contains s m ≡ true → added.Repeat ≡ added_of s m
+  unfolding added_of
+  added-held held = ap (λ (b : Bool). cond b added.Repeat (added_where (has_identity s (identity_of m)))) (sym held)
+
+  -- and to one that is not
+  pub added-absent : (b : Bool) → set.contains s m ≡ false → b ≡ has_identity s (identity_of m) → added_where b ≡ added_of s m
+  unfolding added_of
+  added-absent b absent has = ap added_where has ∙ ap (λ (b : Bool). cond b added.Repeat (added_where (has_identity s (identity_of m)))) (sym absent)
+
+-- ---- contradictions
+
+pub contradicted_identities-contents_of : (ds : List Draft)
+    → contradicted_identities (contents_of ds) ≡ ascending identity_order (map identity_of (filter (is_disputed (contents_of ds)) ds))
+unfolding contradicted_identities
+contradicted_identities-contents_of ds =
+    ascending-same identity_total identities_same _ _ (λ q.
+    list_any-map (eq_by_cmp identity_order q) identity_of _
+    ∙ list_any-filter _ (is_disputed (contents_of ds)) (set.items (contents_of ds))
+    ∙ any_items _ ds
+    ∙ sym (list_any-filter _ (is_disputed (contents_of ds)) ds)
+    ∙ sym (list_any-map (eq_by_cmp identity_order q) identity_of _))
+
+-- a message is disputed where those of its identity are not all the same as it
+pub disputed-is : (ms : List (Arc Draft Global)) (ds : List Draft) (m : Draft) → drafts_in ms ≡ drafts_of (identity_of m) ds
+    → list_any (λ held. not (same_message (arc_value held) m)) ms ≡ is_disputed (contents_of ds) m
+disputed-is ms ds m e =
+    sym (list_any-map (λ d. not (same_message d m)) arc_value ms)
+    ∙ ap (list_any (λ d. not (same_message d m))) e
+    ∙ list_any-filter (λ d. not (same_message d m)) (λ d. same_identity (identity_of d) (identity_of m)) ds
+    ∙ sym (any_items (is_rival m) ds)
+
+-- ---- lists of shared messages
+
+-- the messages of a list up to an item, the item included
+pub drafts_in-more : (ms : List (Arc Draft Global)) (i : ℕ) (m : Arc Draft Global) → i < length ms → m ≡ get_or ms i m
+    → drafts_in (take (i + 1) ms) ≡ drafts_in (take i ms) ++ arc_value m ∷ []
+drafts_in-more ms i m below is =
+    ap drafts_in ((take_at_read ms i m below).1 ∙ ap (λ x. take i ms ++ x ∷ []) (sym is)) ∙ map-append arc_value (take i ms) (m ∷ [])
