@@ -82,6 +82,6 @@ in_text_order-rises s = ascending_rises line_order_total line_order_same _
 
 pub written_once : WritesEachOnce
 written_once s = record {
-  order = record { members = Contains-in_text_order s; rises = in_text_order-rises s; contents_again = contents-in_text_order s; };
+  order = record { members = Contains-in_text_order s; rises = in_text_order-rises s; contents_again = contents-in_text_order s };
   lines = archive_text-lines s;
 }

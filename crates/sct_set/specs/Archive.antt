@@ -20,7 +20,8 @@ pub use Rattle.sct_set.specs.Contradictions.{IsContradicted, is_disputed, contra
 
 -- some message of the set has the identity
 abbrev pub has_identity : Contents → Identity → Bool
-has_identity contents identity = list_any (λ held. same_identity (identity_of held) identity) (set.items contents)
+has_identity contents identity =
+    list_any (λ held. same_identity (identity_of held) identity) (set.items contents)
 
 -- how a message that the set does not hold comes to it, by whether another of its identity is held
 abbrev pub added_where : Bool → Added
@@ -30,12 +31,13 @@ added_where has_another = if has_another then added.Against else added.Fresh
 -- and another message of its identity is; fresh otherwise
 unfoldable pub added_of : Contents → Draft → Added
 added_of contents draft =
-    if set.contains contents draft then added.Repeat else added_where (has_identity contents (identity_of draft))
+    if set.contains contents draft then added.Repeat
+    else added_where (has_identity contents (identity_of draft))
 
 -- ---- the archive text
 
--- by written text, and then by elements: so that this is a total order whatever the written texts are. Where a text
--- is written for one message alone the elements are never asked
+-- by written text, and then by elements: so that this is a total order whatever the written texts are.
+-- Where a text is written for one message alone the elements are never asked
 abbrev pub written_order : Draft → Draft → Ordering
 written_order a b = ordering_then (slice_cmp nat_cmp (written_text a) (written_text b)) (message_order a b)
 

@@ -1,4 +1,4 @@
--- Contradicted identities of a set of messages. Read by an auditor; cases, the archive and the view all speak of them.
+-- Contradicted identities of a set of messages. Read by an auditor; cases, the archive and the view speak of them.
 use Rattle.std.specs.FinSet as set
 use Rattle.std.specs.Prelude.{◌≡◌, ◌≢◌, Bool, true, not, ◌&&◌, List, map, filter}
 use Rattle.std.specs.List.{list_any}

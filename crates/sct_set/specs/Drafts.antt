@@ -23,10 +23,12 @@ drafts_of identity drafts = filter (λ draft. same_identity (identity_of draft) 
 abbrev pub drafts_alike : ℕ → List Draft → List Draft
 drafts_alike digest drafts = filter (λ draft. nat_eq (digest_of draft) digest) drafts
 
--- an index of messages: the map has each key that a message has, with the messages of it in their order, and no other key
+-- an index of messages: the map has each key that a message has, with the messages of it in their order,
+-- and no other key
 pub record IsIndexBy {K S : Type 0} (key_of : Draft → K) (same : K → K → Bool)
     (index : IndexMap K (Vec (Arc Draft Global)) S) (drafts : List Draft) : Type 0 where
-  pub messages : (key : K) → drafts_in (bucket same index key) ≡ filter (λ draft. same (key_of draft) key) drafts
+  pub messages : (key : K)
+      → drafts_in (bucket same index key) ≡ filter (λ draft. same (key_of draft) key) drafts
   pub no_empty : HasNoEmptyList same index
 
 -- the index of identities and the index of digests

@@ -50,10 +50,12 @@ TellsContradictions = (contents : Contents) (identity : Identity)
 abbrev pub TellsInOrder : Type 0
 TellsInOrder = (contents : Contents) → IsStrictlySortedBy identity_order (contradicted_identities contents)
 
--- of a message that is not held, Against is answered exactly where its identity is contradicted once it is added
+-- of a message that is not held, Against is answered exactly where its identity is contradicted
+-- once it is added
 abbrev pub AnswersAgainst : Type 0
 AnswersAgainst = (contents : Contents) (draft : Draft) → set.contains contents draft ≡ false
-    → (added_of contents draft ≡ added.Against) ↔ IsContradicted (set.insert contents draft) (identity_of draft)
+    → (added_of contents draft ≡ added.Against)
+    ↔ IsContradicted (set.insert contents draft) (identity_of draft)
 
 -- ---- the archive text
 

@@ -41,7 +41,8 @@ impl Model for Archive {
 }
 
 impl Archive {
-    ghost use Rattle.sct_set.specs.Archive.{added_of, archive_text_of, contradicted_identities, has_identity};
+    ghost use Rattle.sct_set.specs.Archive.{added_of, archive_text_of, has_identity};
+    ghost use Rattle.sct_set.specs.Contradictions.{contradicted_identities};
 
     pub fn new(alloc: Global) -> Self
         ensures { result ≡ set.empty }
@@ -90,7 +91,8 @@ impl Archive {
         })
     }
 
-    /// Adds each message of a list, and tells how many of them were new. Where memory is wanting none is added.
+    /// Adds each message of a list, and tells how many of them were new. Where memory is wanting none is
+    /// added.
     pub fn add_all(&mut self, messages: &[Arc<Message>]) -> Result<u64, SetFault>
         ensures ok { OnOk result (self.new ≡ set.union self.old (contents_of (drafts_in messages.now))) }
         ensures count { IfOk result (λ fresh. set.len self.new ≡ set.len self.old + fresh) }

@@ -3,7 +3,7 @@
 ghost use Rattle.std.specs.Prelude.{◌≡◌, IfOk, map, filter};
 ghost use Rattle.sct_message.specs.Keys.{identity_of};
 ghost use Rattle.sct_set.specs.Contents.{contents_of};
-ghost use Rattle.sct_set.specs.Archive.{is_disputed, contradicted_identities};
+ghost use Rattle.sct_set.specs.Contradictions.{is_disputed, contradicted_identities};
 
 use crate::held::is_another_among;
 use crate::table::Table;
@@ -19,7 +19,8 @@ fn is_disputed_in(table: &Table, message: &Message) -> bool
 
 // The identities of disputed messages, one for each, in the order of arrival.
 fn disputed_identities(table: &Table) -> Result<Vec<Identity>, AllocError>
-    ensures { IfOk result (λ found. found.items ≡ map identity_of (filter (is_disputed (contents_of table.now)) table.now)) }
+    ensures { IfOk result (λ found.
+        found.items ≡ map identity_of (filter (is_disputed (contents_of table.now)) table.now)) }
 {
     let mut found = Vec::new(table.allocator());
     for message in table.messages() {

@@ -6,7 +6,8 @@ ghost use Rattle.sct_set.specs.Digest.{digest_of};
 use sct_message::Message;
 use std::hash::{FoldHasher, Hash, Hasher};
 
-/// The digest of a message's elements: the same for messages that are the same, and mostly another for others.
+/// The digest of a message's elements: the same for messages that are the same, and mostly another for
+/// others.
 #[tactic(auto, unfolding(crate::specs::Digest::digest_of))]
 pub fn digest(message: &Message) -> u64
     ensures { result ≡ digest_of message.now }

@@ -1,4 +1,4 @@
-//! What holds of archives, whatever messages they hold. Each law is the contract of a function that does nothing.
+//! What holds of archives, whatever they hold: each law is the contract of a function that does nothing.
 
 ghost use Rattle.sct_set.specs.Laws.{IsAssociative, IsCommutative, IsIdempotent, HoldsBothSides, EqualSetsAnswerAlike, TellsContradictions, TellsInOrder, AnswersAgainst, WritesEachOnce};
 
@@ -42,7 +42,7 @@ pub fn against_is_answered()
     ensures { AnswersAgainst }
 {}
 
-/// The text has a line for each message held, by identity and then by text.
+/// The text has a line for each message held, by identity and then by text, and these are all that is held.
 pub fn text_writes_each_once()
     ensures { WritesEachOnce }
 {}

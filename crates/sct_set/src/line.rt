@@ -32,7 +32,8 @@ impl Model for Line {
 
     ghost view = { λ l. arc_value l.message };
 
-    ghost invariant = { λ l. (l.identity ≡ identity_of (arc_value l.message)) × (l.text.items ≡ written_text (arc_value l.message)) };
+    ghost invariant = { λ l. (l.identity ≡ identity_of (arc_value l.message))
+        × (l.text.items ≡ written_text (arc_value l.message)) };
 }
 
 impl Line {

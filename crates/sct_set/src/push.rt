@@ -15,7 +15,8 @@ use std::sync::Arc;
 // Appends a message, unless it is held.
 fn push_new(table: &mut Table, message: &Arc<Message>) -> Result<(), AllocError>
     requires { HasNoRepeat table.old }
-    ensures ok { OnOk result (contents_of table.new ≡ set.insert (contents_of table.old) (arc_value message.now)) }
+    ensures ok { OnOk result (
+        contents_of table.new ≡ set.insert (contents_of table.old) (arc_value message.now)) }
     ensures no_repeat { HasNoRepeat table.new }
 
     // What was there stays, in its place.
@@ -33,7 +34,8 @@ fn push_new(table: &mut Table, message: &Arc<Message>) -> Result<(), AllocError>
 /// none is appended.
 pub fn push_all(table: &mut Table, messages: &[Arc<Message>]) -> Result<u64, AllocError>
     requires { HasNoRepeat table.old }
-    ensures ok { OnOk result (contents_of table.new ≡ set.union (contents_of table.old) (contents_of (drafts_in messages.now))) }
+    ensures ok { OnOk result (
+        contents_of table.new ≡ set.union (contents_of table.old) (contents_of (drafts_in messages.now))) }
     ensures no_repeat { HasNoRepeat table.new }
     ensures count { IfOk result (λ fresh. length table.new ≡ length table.old + fresh) }
     ensures err { OnErr result (table.new ≡ table.old) }

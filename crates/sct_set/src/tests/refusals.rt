@@ -1,5 +1,6 @@
-//! Growths that are refused. `scripts/refuse_growths.py` has the toolchain refuse one allocation of each test, always the
-//! one of the same number; the tests differ in how many allocations they make first, so that each meets another refusal.
+//! Growths that are refused. `scripts/refuse_growths.py` has the toolchain refuse one allocation of each test,
+//! always the one of the same number; the tests differ in how many allocations they make first, so that each
+//! meets another refusal.
 
 use super::scenes::{Row, messages_of};
 use crate::*;
@@ -10,12 +11,12 @@ use std::sync::Arc;
 
 // The second message is against the first.
 static LIST: [Row; 6] = [
-    Row::Confirmation("C1", "T1"),
-    Row::Confirmation("C1", "T2"),
-    Row::Confirmation("C2", "T2"),
-    Row::Confirmation("C3", "T3"),
-    Row::Confirmation("C4", "T4"),
-    Row::Confirmation("C5", "T5"),
+    Row::StatusReport("C1", "T1"),
+    Row::StatusReport("C1", "T2"),
+    Row::StatusReport("C2", "T2"),
+    Row::StatusReport("C3", "T3"),
+    Row::StatusReport("C4", "T4"),
+    Row::StatusReport("C5", "T5"),
 ];
 
 // After some allocations, a list of six messages and an archive that holds the first of them.
@@ -38,7 +39,8 @@ fn is_unchanged(archive: &Archive, list: &[Arc<Message>]) -> bool {
             .eq([true, false, false, false, false, false])
 }
 
-// Adds the list. Where a growth is refused nothing has changed, the list can be added again, and the test ends there.
+// Adds the list. Where a growth is refused nothing has changed, the list can be added again, and the test ends
+// there.
 fn add_list(rt: &impl Abort, alloc: Global, before: usize) {
     let (mut archive, list) = scene(alloc, before).expect(rt, "no room for the scene");
     let answer = archive.add_all(&list);
