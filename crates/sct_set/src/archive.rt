@@ -1,6 +1,6 @@
 //! A set of messages.
 
-ghost use Rattle.std.specs.Prelude.{◌≡◌, ◌+◌, OnOk, OnErr, IfOk};
+ghost use Rattle.std.specs.Prelude.{◌≡◌, ◌+◌, false, OnOk, OnErr, IfOk};
 ghost use Rattle.std.specs.Arc.{arc_value};
 ghost use Rattle.std.specs.FinSet as set;
 ghost use Rattle.sct_message.specs.Order.{message_order};
@@ -73,6 +73,19 @@ impl Archive {
         self.table.of(identity).len() > 0
     }
 
+    // How a message that is not held comes.
+    #[tactic(auto, unfolding(crate::specs::Archive::added_of))]
+    fn added_new(&self, message: &Message) -> Added
+        requires { set.contains self.now message.now ≡ false }
+        ensures { result ≡ added_of self.now message.now }
+    {
+        if self.has(&message.identity()) {
+            Added::Against
+        } else {
+            Added::Fresh
+        }
+    }
+
     /// Adds a message, and tells how it came.
     pub fn add(&mut self, message: Arc<Message>) -> Result<Added, SetFault>
         ensures answer { IfOk result (λ added. added ≡ added_of self.old (arc_value message)) }
@@ -82,13 +95,9 @@ impl Archive {
         if self.holds(&message) {
             return Ok(Added::Repeat);
         }
-        let against = self.has(&message.identity());
+        let added = self.added_new(&message);
         self.table.push(message)?;
-        Ok(if against {
-            Added::Against
-        } else {
-            Added::Fresh
-        })
+        Ok(added)
     }
 
     /// Adds each message of a list, and tells how many of them were new. Where memory is wanting none is

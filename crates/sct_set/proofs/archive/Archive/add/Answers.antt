@@ -2,13 +2,11 @@
 use Rattle.std.proofs.Common.{ap, sym, ◌∙◌}
 use Rattle.std.specs.Arc.{arc_value}
 use Rattle.std.specs.FinSet as set
-use Rattle.sct_message.specs.Keys.{identity_of}
-use Rattle.sct_set.specs.Archive.{added_where, has_identity}
+use Rattle.sct_set.specs.Archive.{added_of}
 use Rattle.sct_set.specs.Contents.{contents_of}
-use Rattle.sct_set.proofs.ArchiveLemmas.{added-held, added-absent}
+use Rattle.sct_set.proofs.ArchiveLemmas.{added-held}
 use Rattle.sct_set.proofs.ContentsLemmas.{insert-held, contents-push, HasNoRepeat-push}
 use Rattle.sct_set.proofs.archive.Archive.add.Goals as goal
-use Rattle.sct_set.proofs.archive.Archive.add.Goals.{then-against, else-against}
 
 pub returns-then-holds-clause-answer : goal.returns-then-holds-clause-answer
 returns-then-holds-clause-answer c = added-held _ _ (ap (set.contains c.args.self.now) (sym c.deref.ensures) ∙ sym c.holds.ensures ∙ c.if-holds.true)
@@ -21,12 +19,11 @@ invariant_of-self-2 c =
     rw c.in_ok-push.ensures.ok
     (HasNoRepeat-push _ _ c.self.invariant (ap (λ s. set.contains s (arc_value c.args.message)) c.self.view_is ∙ ap (set.contains c.args.self.now) (sym c.deref.ensures) ∙ sym c.holds.ensures ∙ c.if-holds.false))
 
+pub added_new-added-requires : goal.added_new-added-requires
+added_new-added-requires c = ap (set.contains c.args.self.now) (c.deref-2.ensures ∙ sym c.deref.ensures) ∙ sym c.holds.ensures ∙ c.if-holds.false
+
 pub returns-clause-answer : goal.returns-clause-answer
-returns-clause-answer c =
-    let is = added-absent c.args.self.now (arc_value c.args.message) c.has-against.result
-    (ap (set.contains c.args.self.now) (sym c.deref.ensures) ∙ sym c.holds.ensures ∙ c.if-holds.false)
-    (c.has-against.ensures ∙ ap (has_identity c.args.self.now) (c.identity.ensures ∙ ap identity_of c.deref-2.ensures)) in
-    elim c.if-against.branch [ then-against w ↦ w.result-is ∙ ap added_where (sym w.if-against.true) ∙ is | else-against w ↦ w.result-is ∙ ap added_where (sym w.if-against.false) ∙ is ]
+returns-clause-answer c = c.added_new-added.ensures ∙ ap (added_of c.args.self.now) c.deref-2.ensures
 
 pub returns-clause-ok : goal.returns-clause-ok
 returns-clause-ok c = ap contents_of c.in_ok-push.ensures.ok ∙ contents-push _ _ ∙ ap (λ s. set.insert s (arc_value c.args.message)) c.self.view_is
