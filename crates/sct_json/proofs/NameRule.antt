@@ -13,7 +13,7 @@ use Rattle.sct_message.specs.declared.rules.RuleFault.{RuleFault}
 use Rattle.sct_message.specs.declared.rules.RuleFault.TheVariants.{WrongName, WrongOriginalName}
 use Rattle.sct_message.specs.Drafts.{kind_of, head_of}
 use Rattle.sct_message.specs.Kinds.{is_name_of}
-use Rattle.sct_message.specs.Rules.{first_broken_rule, broken_in_transfer, broken_in_report, broken_in_recall, broken_in_return, broken_in_resolution, broken_in_kind, broken_first, names_its_original}
+use Rattle.sct_message.specs.Rules.{first_broken_rule, broken_in_credit_transfer, broken_in_status_report, broken_in_cancellation_request, broken_in_payment_return, broken_in_resolution, broken_in_kind, broken_first, names_its_original}
 
 abbrev is_of_name : RuleFault → Bool
 is_of_name WrongName = true
@@ -23,20 +23,20 @@ abbrev tells_name : Option RuleFault → Bool
 tells_name None = false
 tells_name (Some broken) = is_of_name broken
 
-quiet_credit_transfer : (m : CreditTransfer) → tells_name (broken_in_transfer m) ≡ false
-unfolding broken_in_transfer
+quiet_credit_transfer : (m : CreditTransfer) → tells_name (broken_in_credit_transfer m) ≡ false
+unfolding broken_in_credit_transfer
 quiet_credit_transfer m = grind rules
 
-quiet_status_report : (m : StatusReport) → tells_name (broken_in_report m) ≡ false
-unfolding broken_in_report
+quiet_status_report : (m : StatusReport) → tells_name (broken_in_status_report m) ≡ false
+unfolding broken_in_status_report
 quiet_status_report m = grind rules
 
-quiet_cancellation_request : (m : CancellationRequest) → tells_name (broken_in_recall m) ≡ false
-unfolding broken_in_recall
+quiet_cancellation_request : (m : CancellationRequest) → tells_name (broken_in_cancellation_request m) ≡ false
+unfolding broken_in_cancellation_request
 quiet_cancellation_request m = grind rules
 
-quiet_payment_return : (m : PaymentReturn) → tells_name (broken_in_return m) ≡ false
-unfolding broken_in_return
+quiet_payment_return : (m : PaymentReturn) → tells_name (broken_in_payment_return m) ≡ false
+unfolding broken_in_payment_return
 quiet_payment_return m = grind rules
 
 quiet_resolution : (m : Resolution) → tells_name (broken_in_resolution m) ≡ false

@@ -26,7 +26,7 @@ use Rattle.sct_message.specs.declared.draft.Resolution.{Resolution}
 use Rattle.sct_message.specs.declared.draft.Draft.{Draft}
 use Rattle.sct_message.specs.declared.draft.Draft.TheVariants as draft
 use Rattle.sct_message.specs.Drafts.{kind_of}
-use Rattle.sct_message.specs.Kinds.{is_text}
+use Rattle.sct_element.specs.Text.{is_text}
 use Rattle.sct_message.specs.Rules.{first_broken_rule}
 use Rattle.sct_json.specs.declared.keys.Key.{Key}
 use Rattle.sct_json.specs.declared.keys.Key.TheVariants as key

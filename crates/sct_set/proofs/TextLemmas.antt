@@ -1,6 +1,6 @@
 -- The archive text: a line for each message of a set, in an order that the set determines. Proof plumbing; the crates
 -- that read an archive text again cite the lemmas that are public here.
-use Rattle.std.proofs.Common.{◌≡◌, Bool, true, List, ◌++◌, ◌∷◌, [], refl, sym, ap, ◌∙◌}
+use Rattle.std.proofs.Common.{◌≡◌, Bool, true, All, subst, List, ◌++◌, ◌∷◌, [], refl, sym, ap, ◌∙◌}
 use Rattle.std.specs.FinSet as set
 use Rattle.std.specs.FinSet.{contains-from_list, contains-items, IsAntisymmetric}
 use Rattle.std.specs.Cmp.{eq_by_cmp_equiv}
@@ -19,7 +19,7 @@ use Rattle.sct_message.specs.Order.{message_order}
 use Rattle.sct_message.specs.Ascending.{ascending}
 use Rattle.sct_message.proofs.AscendingLemmas.{ascending-same, ascending_rises, members_ascending}
 use Rattle.sct_message.proofs.Members.{tie_is, ties_itself}
-use Rattle.sct_set.specs.Archive.{archive_text_of, in_text_order, line_of, line_order}
+use Rattle.sct_set.specs.Archive.{archive_text_of, in_text_order, line_of, line_order, AreReadAgain, IsReadAgain}
 use Rattle.sct_set.specs.Contents.{Contents, contents_of}
 use Rattle.sct_set.specs.Laws.{WritesEachOnce}
 use Rattle.sct_set.specs.LineOrder.{line_order_total}
@@ -35,6 +35,11 @@ both_tie Greater s e = cc
 pub line_order_same : IsAntisymmetric line_order
 unfolding line_order
 line_order_same a b e = message_same a b (both_tie _ _ (both_tie _ _ e).1).1
+
+-- the text's order of the set of a list
+pub in_text_order-contents_of : (ds : List Draft) → in_text_order (contents_of ds) ≡ ascending line_order ds
+unfolding in_text_order
+in_text_order-contents_of ds = ascending-same line_order_total line_order_same _ ds (λ q. any_items (eq_by_cmp line_order q) ds)
 
 -- the archive text of the set of a list
 pub archive_text-contents_of : (ds : List Draft) → archive_text_of (contents_of ds) ≡ flat_map line_of (ascending line_order ds)
@@ -79,6 +84,13 @@ Contains-in_text_order s d = (
 pub in_text_order-rises : (s : Contents) → IsStrictlySortedBy line_order (in_text_order s)
 unfolding in_text_order
 in_text_order-rises s = ascending_rises line_order_total line_order_same _
+
+-- where each of the messages in the text's order is read again, each of the set is
+pub read_again-contents_of : (ds : List Draft) → All IsReadAgain (ascending line_order ds) → AreReadAgain (contents_of ds)
+read_again-contents_of ds all d held =
+    let listed : Contains (ascending line_order ds) d =
+        subst (λ l. Contains l d) (in_text_order-contents_of ds) ((Contains-in_text_order (contents_of ds) d).1 held) in
+    subst IsReadAgain listed.2 (all listed.0 d listed.1)
 
 pub written_once : WritesEachOnce
 written_once s = record {

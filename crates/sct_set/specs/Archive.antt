@@ -1,6 +1,6 @@
 -- What an archive answers, as functions of the set of its messages. Read by an auditor.
 use Rattle.std.specs.FinSet as set
-use Rattle.std.specs.Prelude.{ℕ, Bool, List, [], ◌∷◌, ◌++◌, if◌then◌else◌}
+use Rattle.std.specs.Prelude.{◌≡◌, ℕ, Bool, true, List, [], ◌∷◌, ◌++◌, if◌then◌else◌, Ok}
 use Rattle.std.specs.List.{list_any, flat_map}
 use Rattle.std.specs.Ordering.{nat_cmp, ordering_then}
 use Rattle.std.specs.Cmp.Lexicographic.{slice_cmp}
@@ -10,6 +10,7 @@ use Rattle.sct_message.specs.declared.keys.Identity.{Identity}
 use Rattle.sct_message.specs.Keys.{identity_of}
 use Rattle.sct_message.specs.Order.{identity_order, message_order, same_identity}
 use Rattle.sct_message.specs.Ascending.{ascending}
+use Rattle.sct_json.specs.Reading.{message_in}
 use Rattle.sct_json.specs.Writing.{written_text}
 use Rattle.sct_set.specs.declared.added.Added.{Added}
 use Rattle.sct_set.specs.declared.added.Added.TheVariants as added
@@ -56,3 +57,11 @@ line_of draft = written_text draft ++ 10 ∷ []
 -- the archive text of the set: the line of each message, in that order
 unfoldable pub archive_text_of : Contents → List ℕ
 archive_text_of contents = flat_map line_of (in_text_order contents)
+
+-- a message is what its written text is read as
+abbrev pub IsReadAgain : Draft → Type 0
+IsReadAgain draft = message_in (written_text draft) ≡ Ok draft
+
+-- each message of the set is what its written text is read as
+abbrev pub AreReadAgain : Contents → Type 0
+AreReadAgain contents = (draft : Draft) → set.contains contents draft ≡ true → IsReadAgain draft

@@ -41,7 +41,7 @@ impl Model for Archive {
 }
 
 impl Archive {
-    ghost use Rattle.sct_set.specs.Archive.{added_of, archive_text_of, has_identity};
+    ghost use Rattle.sct_set.specs.Archive.{added_of, archive_text_of, has_identity, AreReadAgain};
     ghost use Rattle.sct_set.specs.Contradictions.{contradicted_identities};
 
     pub fn new(alloc: Global) -> Self
@@ -130,7 +130,8 @@ impl Archive {
     /// The archive text: the written text of each message held, by identity and then by text, with a line
     /// feed after each.
     pub fn text(&self) -> Result<Vec<u8>, SetFault>
-        ensures { IfOk result (λ text. text.items ≡ archive_text_of self.now) }
+        ensures text { IfOk result (λ text. text.items ≡ archive_text_of self.now) }
+        ensures again { IfOk result (λ text. AreReadAgain self.now) }
     {
         archive_text(&self.table)
     }

@@ -3,7 +3,7 @@
 ghost use Rattle.std.specs.Prelude.{◌≡◌, IfOk, refl};
 ghost use Rattle.std.specs.Arc.{arc_value};
 ghost use Rattle.sct_json.specs.Writing.{written_text};
-ghost use Rattle.sct_set.specs.Archive.{line_order};
+ghost use Rattle.sct_set.specs.Archive.{line_order, IsReadAgain};
 
 use crate::fault::SetFault;
 use sct_json::write_message;
@@ -27,13 +27,14 @@ impl Model for Line {
     ghost use Rattle.sct_message.specs.declared.draft.Draft.{Draft};
     ghost use Rattle.sct_message.specs.Keys.{identity_of};
     ghost use Rattle.sct_json.specs.Writing.{written_text};
+    ghost use Rattle.sct_set.specs.Archive.{IsReadAgain};
 
     ghost Value = { Draft };
 
     ghost view = { λ l. arc_value l.message };
 
     ghost invariant = { λ l. (l.identity ≡ identity_of (arc_value l.message))
-        × (l.text.items ≡ written_text (arc_value l.message)) };
+        × (l.text.items ≡ written_text (arc_value l.message)) × IsReadAgain (arc_value l.message) };
 }
 
 impl Line {
@@ -52,7 +53,8 @@ impl Line {
     }
 
     pub fn text(&self) -> &[u8]
-        ensures { result.now ≡ written_text self.now }
+        ensures written { result.now ≡ written_text self.now }
+        ensures again { IsReadAgain self.now }
     {
         &self.text
     }

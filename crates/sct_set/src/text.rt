@@ -1,9 +1,9 @@
 //! The archive text.
 
-ghost use Rattle.std.specs.Prelude.{◌≡◌, IfOk};
+ghost use Rattle.std.specs.Prelude.{◌≡◌, All, IfOk};
 ghost use Rattle.std.specs.Arc.{arc_value};
 ghost use Rattle.std.specs.List.{flat_map};
-ghost use Rattle.sct_set.specs.Archive.{archive_text_of, line_of, line_order};
+ghost use Rattle.sct_set.specs.Archive.{archive_text_of, line_of, line_order, AreReadAgain, IsReadAgain};
 ghost use Rattle.sct_message.specs.Ascending.{ascending};
 ghost use Rattle.sct_set.specs.Contents.{contents_of};
 
@@ -36,7 +36,8 @@ fn lines_of(table: &Table) -> Result<Vec<Line>, SetFault>
 
 // The lines one after another.
 fn joined(alloc: Global, lines: &[Line]) -> Result<Vec<u8>, AllocError>
-    ensures { IfOk result (λ text. text.items ≡ flat_map line_of lines.now) }
+    ensures text { IfOk result (λ text. text.items ≡ flat_map line_of lines.now) }
+    ensures again { IfOk result (λ text. All IsReadAgain lines.now) }
 {
     let mut text = Vec::new(alloc);
     for line in lines {
@@ -48,7 +49,8 @@ fn joined(alloc: Global, lines: &[Line]) -> Result<Vec<u8>, AllocError>
 
 /// The written text of each message of a table, by identity and then by text, with a line feed after each.
 pub fn archive_text(table: &Table) -> Result<Vec<u8>, SetFault>
-    ensures { IfOk result (λ text. text.items ≡ archive_text_of (contents_of table.now)) }
+    ensures text { IfOk result (λ text. text.items ≡ archive_text_of (contents_of table.now)) }
+    ensures again { IfOk result (λ text. AreReadAgain (contents_of table.now)) }
 {
     let lines = lines_in_order(table)?;
     Ok(joined(table.allocator(), &lines)?)

@@ -1,4 +1,5 @@
 mod Adapters
+mod AgainLemmas
 mod CaseLaws
 mod CaseReferences
 pub mod LineLawLemmas
@@ -7,3 +8,4 @@ mod Prefixes
 mod References
 mod SameParts
 mod StatusLines
+mod StatusOfSets

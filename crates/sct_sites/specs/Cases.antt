@@ -4,7 +4,7 @@ use Rattle.std.specs.List.{list_any}
 use Rattle.sct_reason.specs.declared.reasons.Reason.{Reason}
 use Rattle.sct_reason.specs.Codes.{reason_text}
 use Rattle.sct_message.specs.Ascending.{ascending}
-use Rattle.sct_message.specs.Kinds.{is_text}
+use Rattle.sct_element.specs.Text.{is_text}
 use Rattle.sct_message.specs.Keys.{identity_of, transfer_of}
 use Rattle.sct_message.specs.Order.{identity_order, transfer_order, same_identity, same_transfer, same_message}
 use Rattle.sct_message.specs.declared.draft.Draft.{Draft}

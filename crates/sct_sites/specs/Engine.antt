@@ -1,17 +1,22 @@
+-- What the engine writes of an input, and how a text goes out. Read by an auditor.
 use Rattle.std.specs.Prelude.{ℕ, ◌≡◌, ◌+◌, ◌⊎◌, List, Option, IfSome}
 use Rattle.std.specs.Option.{option_map}
 use Rattle.sct_sites.specs.declared.engine.Job.{Job}
 use Rattle.sct_sites.specs.declared.engine.Job.TheVariants.{Status, Archive}
-use Rattle.sct_sites.specs.Lines.{messages_read, refusals_told, told_text_of}
+use Rattle.sct_sites.specs.Lines.{refusals_told, set_read, told_text_of}
 use Rattle.sct_sites.specs.Status.{status_text_of}
 use Rattle.sct_set.specs.Archive.{archive_text_of}
-use Rattle.sct_set.specs.Contents.{contents_of}
+use Rattle.sct_set.specs.Contents.{Contents}
 use Rattle.sct_sites.specs.Stream.{AppendsIfTold, AppendsPrefixIfTold}
 
--- the text that a job makes of an input: where each transfer stands, or the archive text of the set of the messages read
+-- the text that a job makes of a set of messages: where each transfer stands, or the archive text
+abbrev pub text_of : Job → Contents → List ℕ
+text_of Status contents = status_text_of contents
+text_of Archive contents = archive_text_of contents
+
+-- the text that a job makes of an input: that of the set of the messages read
 abbrev pub job_text_of : Job → List ℕ → List ℕ
-job_text_of Status input = status_text_of (messages_read input)
-job_text_of Archive input = archive_text_of (contents_of (messages_read input))
+job_text_of job input = text_of job (set_read input)
 
 -- the same, where the input is known
 abbrev pub job_text_if_told : Job → Option (List ℕ) → Option (List ℕ)

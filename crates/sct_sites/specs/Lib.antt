@@ -1,3 +1,4 @@
+pub mod Again
 pub mod Cases
 pub mod Ending
 pub mod Engine

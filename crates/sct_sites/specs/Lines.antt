@@ -12,6 +12,7 @@ use Rattle.sct_json.specs.declared.faults.JsonFault.{JsonFault}
 use Rattle.sct_json.specs.declared.faults.JsonFault.TheVariants.{Memory, NotJson, NotObject, UnknownKind, Missing, NotText, Element, Extra, Rule}
 use Rattle.sct_json.specs.Keys.{key_text}
 use Rattle.sct_json.specs.Reading.{message_in}
+use Rattle.sct_set.specs.Contents.{Contents, contents_of}
 
 -- ---- lines
 
@@ -47,6 +48,10 @@ refusals_among lines = filter_map (λ line. option_map (λ fault. (line.0, fault
 -- the messages that are read from an input, in the order of its lines, which count from 1
 abbrev pub messages_read : List ℕ → List Draft
 messages_read input = messages_among (numbered_from 1 (lines_of input))
+
+-- the set of the messages that are read from an input
+abbrev pub set_read : List ℕ → Contents
+set_read input = contents_of (messages_read input)
 
 -- the lines of an input that are refused, in their order, which count from 1
 abbrev pub refusals_told : List ℕ → List (ℕ × JsonFault)

@@ -1,4 +1,5 @@
 -- The status text: where each transfer of a set of messages stands.
+use Rattle.std.specs.FinSet as set
 use Rattle.std.specs.List.{list_any}
 use Rattle.std.specs.Prelude.{◌≡◌, ℕ, List, [], ◌∷◌, ◌++◌, map, filter, flat_map, Bool, true, false, if◌then◌else◌, codes}
 use Rattle.sct_reason.specs.declared.reasons.Reason.{Reason}
@@ -14,6 +15,7 @@ use Rattle.sct_message.specs.declared.draft.Draft.TheVariants.{CreditTransfer, S
 use Rattle.sct_message.specs.declared.keys.Identity.{Identity}
 use Rattle.sct_message.specs.Keys.{identity_of}
 use Rattle.sct_message.specs.declared.keys.TransferKey.{TransferKey}
+use Rattle.sct_set.specs.Contents.{Contents}
 use Rattle.sct_sites.specs.declared.cases.Finding.{Finding}
 use Rattle.sct_sites.specs.declared.cases.Finding.TheVariants as finding
 use Rattle.sct_sites.specs.declared.cases.Status.{Status}
@@ -79,9 +81,9 @@ tells_of_status (CancellationRequest d) = false
 tells_of_status (PaymentReturn d) = false
 tells_of_status (Resolution d) = false
 
--- the status text of a set of messages, whatever their order and however often each comes
-unfoldable pub status_text_of : List Draft → List ℕ
-status_text_of messages = text_of_held (filter tells_of_status (ascending message_order messages))
+-- the status text of a set of messages
+unfoldable pub status_text_of : Contents → List ℕ
+status_text_of contents = text_of_held (filter tells_of_status (ascending message_order (set.items contents)))
 
 -- each message stands in both lists or in neither
 abbrev pub HaveSameMembers : List Draft → List Draft → Type 0

@@ -2,6 +2,7 @@
 ghost use Rattle.std.specs.Prelude.{◌≡◌, IfErr, IfOk};
 ghost use Rattle.sct_set.specs.Archive.{archive_text_of};
 ghost use Rattle.sct_set.specs.Contents.{contents_of};
+ghost use Rattle.sct_sites.specs.Again.{ArchiveGivesBack, GivesBack};
 ghost use Rattle.sct_sites.specs.declared.fault.ProgramFault.TheVariants as fault;
 
 use crate::fault::ProgramFault;
@@ -22,10 +23,17 @@ fn archive_of(alloc: Global, messages: Vec<Message>) -> Result<Archive, ProgramF
     Ok(archive)
 }
 
+// The archive text is an input that gives the archive back: no line of it is refused, and the set read from it is the same.
+fn the_archive_text_gives_the_set_back()
+    ensures { ArchiveGivesBack }
+{}
+
 /// Each message once, written on a line of its own, by identity and then by text. Only want of memory is a fault.
 pub fn archive_text(alloc: Global, messages: Vec<Message>) -> Result<Vec<u8>, ProgramFault>
     ensures text { IfOk result (λ text. text.items ≡ archive_text_of (contents_of messages.items)) }
+    ensures again { IfOk result (λ text. GivesBack (contents_of messages.items) text.items) }
     ensures memory { IfErr result (λ e. e ≡ fault.Memory) }
 {
+    the_archive_text_gives_the_set_back();
     Ok(archive_of(alloc, messages)?.text()?)
 }

@@ -6,6 +6,7 @@ ghost use Rattle.sct_message.specs.Drafts.{kind_of, head_of, debtor_agent_of, tr
 ghost use Rattle.sct_message.specs.Kinds.{kind_text};
 ghost use Rattle.sct_message.specs.Keys.{identity_of, transfer_of};
 ghost use Rattle.sct_message.specs.Order.{message_order, identity_order, transfer_order, same_identity, same_message};
+ghost use Rattle.sct_set.specs.Contents.{contents_of};
 ghost use Rattle.sct_sites.specs.Cases.{is_contradicted, clean_messages, contradicted_messages, is_about, transfers_of};
 ghost use Rattle.sct_sites.specs.Status.{shown, tells_of_status, status_words, finding_words, key_words, line_on, finding_lines, lines_by, lines_among, text_of_held, status_text_of, HaveSameMembers};
 ghost use Rattle.sct_message.specs.declared.draft.Draft.{Draft as DraftOf};
@@ -325,9 +326,9 @@ fn telling(alloc: Global, messages: Vec<Message>) -> Result<Vec<Message>, AllocE
 }
 
 /// The status text of the set of some messages, which may stand in any order and more than once.
-#[tactic(auto, unfolding(crate::specs::Status::status_text_of))]
+#[tactic(auto, using(crate::proofs::StatusOfSets::status_text_of_a_list))]
 pub fn status_text(alloc: Global, mut messages: Vec<Message>) -> Result<Vec<u8>, AllocError>
-    ensures { IfOk result (λ text. text.items ≡ status_text_of messages.items) }
+    ensures { IfOk result (λ text. text.items ≡ status_text_of (contents_of messages.items)) }
 {
     sort_messages(&mut messages)?;
     let held = telling(alloc, messages)?;
@@ -337,5 +338,6 @@ pub fn status_text(alloc: Global, mut messages: Vec<Message>) -> Result<Vec<u8>,
 
 /// The status text is one for each set of messages: neither their order nor their repeats change it.
 fn status_text_is_of_the_set()
-    ensures { (some others : List DraftOf) → HaveSameMembers some others → status_text_of some ≡ status_text_of others }
+    ensures { (some others : List DraftOf) → HaveSameMembers some others
+        → status_text_of (contents_of some) ≡ status_text_of (contents_of others) }
 {}
