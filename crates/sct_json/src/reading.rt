@@ -1,5 +1,5 @@
 //! From the bytes of an object to its message.
-ghost use Rattle.std.specs.Prelude.{◌≡◌, find, not, option_map, is_some, string_bytes};
+ghost use Rattle.std.specs.Prelude.{◌≡◌, find, not, is_some, string_bytes};
 ghost use Rattle.std.specs.Option.{option_copied};
 ghost use Rattle.std.specs.BTreeMap.{keys};
 ghost use Rattle.serde_json.specs.View.{view, members_view};
