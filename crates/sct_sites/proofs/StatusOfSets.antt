@@ -1,6 +1,5 @@
 -- The status text of the set of a list, by the list. Proof plumbing.
-use Rattle.std.specs.FinSet as set
-use Rattle.std.proofs.Common.{◌≡◌, ◌∙◌, ap, List}
+use Rattle.std.proofs.Common.{◌≡◌, ap, List}
 use Rattle.std.specs.Prelude.{filter}
 use Rattle.std.specs.Ordering.{eq_by_cmp}
 use Rattle.sct_message.specs.declared.draft.Draft.{Draft}
