@@ -106,10 +106,24 @@ fn expect_contradicted(rt: &impl Abort, archive: &Archive) {
     assert_eq!(rt; found[0].msg_id.text(), "C1");
 }
 
-// Merges another archive, and compares how many messages were new.
-fn expect_new(rt: &impl Abort, archive: &mut Archive, other: &Archive, wanted: u64) {
-    let new = archive.merge(other).expect(rt, "memory");
+// Merges an archive of the messages of some rows, and compares how many were new.
+fn merge_rows(rt: &impl Abort, alloc: Global, archive: &mut Archive, rows: &[Row], wanted: u64) {
+    let other = archive_of(alloc, rows).expect(rt, "another archive");
+    let new = archive.merge(&other).expect(rt, "memory");
     assert_eq!(rt; new, wanted);
+}
+
+// The archive text of two sites that are merged.
+fn text_of_both(
+    rt: &impl Abort,
+    alloc: Global,
+    one: &[Row],
+    other: &[Row],
+    wanted: u64,
+) -> Vec<u8> {
+    let mut archive = archive_of(alloc, one).expect(rt, "an archive");
+    merge_rows(rt, alloc, &mut archive, other, wanted);
+    archive.text().expect(rt, "a text")
 }
 
 #[test]
@@ -142,25 +156,19 @@ fn writes_by_identity_and_then_by_text(rt: HostRuntime) {
 
 #[test]
 fn merges_count_what_is_new(rt: HostRuntime) {
-    let mut x = archive_of(rt.alloc(), &FIRST).expect(&rt, "x");
-    let y = archive_of(rt.alloc(), &SECOND).expect(&rt, "y");
-    let z = archive_of(rt.alloc(), &THIRD).expect(&rt, "z");
-    expect_new(&rt, &mut x, &y, 1);
-    expect_new(&rt, &mut x, &y, 0);
-    expect_new(&rt, &mut x, &z, 1);
-    assert_eq!(rt; x.len(), 3);
-    expect_contradicted(&rt, &x);
+    let mut archive = Archive::new(rt.alloc());
+    merge_rows(&rt, rt.alloc(), &mut archive, &FIRST, 1);
+    merge_rows(&rt, rt.alloc(), &mut archive, &SECOND, 1);
+    merge_rows(&rt, rt.alloc(), &mut archive, &SECOND, 0);
+    merge_rows(&rt, rt.alloc(), &mut archive, &THIRD, 1);
+    assert_eq!(rt; archive.len(), 3);
+    expect_contradicted(&rt, &archive);
 }
 
 #[test]
 fn merges_in_another_order_write_the_same(rt: HostRuntime) {
-    let mut x = archive_of(rt.alloc(), &SECOND).expect(&rt, "x");
-    let mut z = archive_of(rt.alloc(), &THIRD).expect(&rt, "z");
-    let other = archive_of(rt.alloc(), &THIRD).expect(&rt, "another z");
-    expect_new(&rt, &mut z, &x, 2);
-    expect_new(&rt, &mut x, &other, 1);
-    let text = z.text().expect(&rt, "a text");
-    let same = x.text().expect(&rt, "its text");
+    let text = text_of_both(&rt, rt.alloc(), &SECOND, &THIRD, 1);
+    let same = text_of_both(&rt, rt.alloc(), &THIRD, &SECOND, 2);
     assert_eq!(rt; text.as_slice(), same.as_slice());
 }
 

@@ -19,15 +19,20 @@ static LIST: [Row; 6] = [
     Row::StatusReport("C5", "T5"),
 ];
 
-// After some allocations, a list of six messages and an archive that holds the first of them.
-fn scene(alloc: Global, before: usize) -> Option<(Archive, Vec<Arc<Message>>)> {
-    for _ in 0..before {
-        Arc::new(alloc, 0).ok()?;
-    }
-    let list = messages_of(alloc, &LIST)?;
-    let mut archive = Archive::new(alloc);
+// Makes an allocation.
+fn allocate_once(alloc: Global) -> bool {
+    Arc::new(alloc, 0u8).is_ok()
+}
+
+// Makes some allocations, and tells whether there was room for each.
+fn allocate(alloc: Global, times: usize) -> bool {
+    (0..times).all(|_| allocate_once(alloc))
+}
+
+// Adds the first message of the list.
+fn add_first(archive: &mut Archive, list: &[Arc<Message>]) -> Option<()> {
     archive.add(list.first()?.clone().ok()?).ok()?;
-    Some((archive, list))
+    Some(())
 }
 
 // Whether the archive holds the first message of the list, and nothing else.
@@ -39,10 +44,15 @@ fn is_unchanged(archive: &Archive, list: &[Arc<Message>]) -> bool {
             .eq([true, false, false, false, false, false])
 }
 
-// Adds the list. Where a growth is refused nothing has changed, the list can be added again, and the test ends
-// there.
+// After some allocations, adds a list to an archive that holds its first message. Where a growth is refused nothing
+// has changed, the list can be added again, and the test ends there.
 fn add_list(rt: &impl Abort, alloc: Global, before: usize) {
-    let (mut archive, list) = scene(alloc, before).expect(rt, "no room for the scene");
+    let _room = allocate(alloc, before)
+        .then_some(())
+        .expect(rt, "no room for the scene");
+    let list = messages_of(alloc, &LIST).expect(rt, "no room for the scene");
+    let mut archive = Archive::new(alloc);
+    add_first(&mut archive, &list).expect(rt, "no room for the scene");
     let answer = archive.add_all(&list);
     if let Err(fault) = &answer {
         assert_eq!(rt; fault.number(), 39);
