@@ -3,6 +3,7 @@ mod Adapters
 mod AgainLemmas
 mod CaseLaws
 mod CaseReferences
+mod CommandLineLemmas
 pub mod LineLawLemmas
 pub mod LineLemmas
 mod Prefixes

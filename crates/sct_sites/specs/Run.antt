@@ -5,7 +5,8 @@ use Rattle.sct_sites.specs.declared.ending.Ending.{Ending}
 use Rattle.sct_sites.specs.declared.fault.ProgramFault.{ProgramFault}
 use Rattle.sct_sites.specs.declared.fault.ProgramFault.TheVariants as fault
 use Rattle.sct_sites.specs.declared.request.Request.{Request}
-use Rattle.sct_sites.specs.Ending.{ending_text_of, exit_status_of, EndsAsking}
+use Rattle.sct_sites.specs.CommandLine.{AreAsking}
+use Rattle.sct_sites.specs.Ending.{ending_text_of, exit_status_of}
 use Rattle.sct_sites.specs.Engine.{IsCutOff, IsWritten, IsWrittenOrCutOff}
 use Rattle.sct_sites.specs.Fault.{failed_reads}
 use Rattle.sct_sites.specs.Request.{out_text_of, refusals_text_of, IsEndingOf}
@@ -82,7 +83,7 @@ IsAnsweredIfAsked (Err fault) before after ended = (ended ≡ Err fault) × (aft
 -- what the words of a command line, where they could be had, ask for
 abbrev pub IsAskedBy : Result (List (List ℕ)) ProgramFault → Result Request ProgramFault → Type 0
 IsAskedBy (Err fault) asked = asked ≡ Err fault
-IsAskedBy (Ok words) asked = IfErr asked EndsAsking
+IsAskedBy (Ok words) asked = AreAsking words asked
 
 -- One run: it asks what the words ask for, answers that, tells its end on standard error, and gives the exit status of
 -- its end

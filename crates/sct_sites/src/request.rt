@@ -1,10 +1,12 @@
 //! The command line: its words, and what they ask for.
-ghost use Rattle.std.specs.Prelude.{◌≡◌, ◌≢◌, ◌↔◌, Err, IfErr, IfOk, OnOk, IsTrue, option_and_then};
+ghost use Rattle.std.specs.Prelude.{◌≡◌, ◌≢◌, ◌↔◌, Err, IfErr, IfOk, OnOk, IsTrue, map, option_and_then, string_bytes};
 ghost use Rattle.sct_sites.specs.declared.fault.ProgramFault.TheVariants as fault;
 ghost use Rattle.sct_sites.specs.Ending.{EndsAsking, words_fault};
 ghost use Rattle.std.specs.IoError.{error_kind};
 ghost use Rattle.clap.specs.Matches.{subcommand_name_of};
 ghost use Rattle.clap.specs.Values.{kind_of};
+ghost use Rattle.clap.specs.Words.{app_of};
+ghost use Rattle.sct_sites.specs.CommandLine.{command_line, AnswersKind, AreAsking, CommandsAskForTheirJobs};
 ghost use Rattle.clap.specs.declared.error.kind.ErrorKind.TheVariants as kind;
 ghost use Rattle.sct_sites.specs.Request.{job_named, is_mistake, AsksForNoJob};
 
@@ -49,7 +51,9 @@ pub fn read_words(alloc: Global, words: io::Result<Args>) -> Result<Vec<String>,
     }
 }
 
-fn command<'a>(alloc: Global) -> Result<Command<'a>, AllocError> {
+fn command<'a>(alloc: Global) -> Result<Command<'a>, AllocError>
+    ensures { IfOk result (λ c. app_of c ≡ command_line) }
+{
     let status = Command::new(alloc, "status").about(
         "Writes the status of each transfer in the messages on standard input",
     );
@@ -68,6 +72,7 @@ fn answer_of(alloc: Global, error: &Error) -> Result<Request, ProgramFault>
     ensures no_job { IfOk result AsksForNoJob }
     ensures mistake { IfOk result (λ r. IsTrue (is_mistake r)
         ↔ ((kind_of error.now ≢ kind.DisplayHelp) × (kind_of error.now ≢ kind.DisplayVersion))) }
+    ensures kind { IfOk result (λ r. AnswersKind r (kind_of error.now) × (kind_of error.now ≢ kind.OutOfMemory)) }
     ensures memory { IfErr result (λ e. e ≡ fault.Memory) }
 {
     if error.kind() == ErrorKind::OutOfMemory {
@@ -92,9 +97,15 @@ fn job_of(matches: &ArgMatches<'_>) -> Option<Job>
     }
 }
 
+// Each of the two commands, after any name of the program, asks for its job.
+fn commands_ask_for_their_jobs()
+    ensures { CommandsAskForTheirJobs }
+{}
+
 /// Reads the words of a command line, the first of which is the program's name.
 pub fn read_request(alloc: Global, words: &[String]) -> Result<Request, ProgramFault>
-    ensures { IfErr result EndsAsking }
+    ensures asked { AreAsking (map string_bytes words.now) result }
+    ensures faults { IfErr result EndsAsking }
 {
     match command(alloc)?.try_get_matches_from(words) {
         Ok(matches) => job_of(&matches)
