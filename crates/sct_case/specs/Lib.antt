@@ -1,0 +1,4 @@
+pub mod Findings
+pub mod Said
+pub mod Statuses
+pub mod Told
