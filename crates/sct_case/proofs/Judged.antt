@@ -70,7 +70,7 @@ found_of_asides t clean asides none =
 
 -- ---- by whether something was found
 
-some : {X : Type 0} (x : X) (xs : List X) → (length (x ∷ xs) == 0) ≡ false
+pub some : {X : Type 0} (x : X) (xs : List X) → (length (x ∷ xs) == 0) ≡ false
 some x xs = ne_eqb _ _ (λ e. omega arith)
 
 none_in : {X : Type 0} (xs : List X) → has_some xs ≡ false → xs ≡ []

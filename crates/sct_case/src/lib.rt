@@ -7,6 +7,7 @@ mod differ;
 mod fault;
 mod finding;
 mod found;
+pub mod laws;
 mod said;
 mod standing;
 mod status;
