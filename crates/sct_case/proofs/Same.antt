@@ -7,7 +7,7 @@ use Rattle.std.proofs.lemmas.Bool.{eqb-true, eq-eqb, false≢true}
 use Rattle.sct_reason.specs.declared.reasons.Reason.{Reason}
 use Rattle.sct_reason.specs.Codes.{reason_text}
 use Rattle.sct_reason.specs.ReasonLaws.{same_text}
-use Rattle.sct_message.specs.Kinds.{is_text}
+use Rattle.sct_element.specs.Text.{is_text}
 use Rattle.sct_message.specs.Order.{text_order}
 use Rattle.sct_message.proofs.Members.{tie_is, ties_itself}
 use Rattle.sct_case.specs.declared.said.RejectionReason.{RejectionReason}

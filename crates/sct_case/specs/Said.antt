@@ -2,7 +2,7 @@
 use Rattle.std.specs.Prelude.{ℕ, Bool, false, List, [], ◌∷◌, Option, Some, None, is_none, if◌then◌else◌, codes, Contains}
 use Rattle.sct_reason.specs.declared.reasons.Reason.{Reason}
 use Rattle.sct_message.specs.Drafts.{cancellation_of}
-use Rattle.sct_message.specs.Kinds.{is_text}
+use Rattle.sct_element.specs.Text.{is_text}
 use Rattle.sct_message.specs.Transfers.{is_on}
 use Rattle.sct_message.specs.declared.draft.Draft.{Draft}
 use Rattle.sct_message.specs.declared.draft.Draft.TheVariants.{CreditTransfer, StatusReport, StatusRequest, CancellationRequest, PaymentReturn, Resolution}

@@ -4,7 +4,7 @@ use Rattle.std.specs.Prelude.{ℕ, ◌&&◌, ◌==◌, List, [], ◌∷◌, ◌+
 use Rattle.std.specs.List.{list_any, flat_map}
 use Rattle.sct_reason.specs.Codes.{reason_text}
 use Rattle.sct_message.specs.Ascending.{ascending}
-use Rattle.sct_message.specs.Kinds.{is_text}
+use Rattle.sct_element.specs.Text.{is_text}
 use Rattle.sct_message.specs.Order.{text_order}
 use Rattle.sct_message.specs.declared.draft.Draft.{Draft}
 use Rattle.sct_message.specs.declared.keys.Identity.{Identity}

@@ -4,7 +4,7 @@ ghost use Rattle.std.specs.List.{list_any};
 ghost use Rattle.std.specs.Option.{option_copied};
 ghost use Rattle.sct_reason.specs.Codes.{reason_text};
 ghost use Rattle.sct_message.specs.Ascending.{ascending};
-ghost use Rattle.sct_message.specs.Kinds.{is_text};
+ghost use Rattle.sct_element.specs.Text.{is_text};
 ghost use Rattle.sct_message.specs.Order.{text_order};
 ghost use Rattle.sct_case.specs.Statuses.{first};
 ghost use Rattle.sct_case.specs.Told.{same_reason, same_recall, same_return, same_refusal, differ, differ_among, cxls};
