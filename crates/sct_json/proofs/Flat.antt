@@ -1,5 +1,5 @@
 -- A written object has texts alone, so its text stands for it.
-use Rattle.std.proofs.Common.{◌≡◌, ◌∙◌, ap, refl, arith, ℕ, Bool, true, false, ◌≤◌, List, [], ◌∷◌, Some, None, Result, Ok, Err, Vec, Global, Ordering, Less, Equal, Greater, nat_cmp}
+use Rattle.std.proofs.Common.{◌≡◌, ◌∙◌, ap, refl, arith, ℕ, Bool, true, false, ◌≤◌, List, Some, Result, Ok, Err, Vec, Global, Ordering, Less, Equal, Greater, nat_cmp}
 use Rattle.std.specs.Prelude.{◌||◌, IfOk, IsUtf8}
 use Rattle.std.specs.declared.alloc.AllocError.{AllocError}
 use Rattle.std.proofs.lemmas.Result.{IfOk-weaker}

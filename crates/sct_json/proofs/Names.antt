@@ -1,5 +1,5 @@
 -- The names of an object ascend by their bytes, in what is read and in what is written, and the first extra one is the least.
-use Rattle.std.proofs.Common.{◌≡◌, ◌≢◌, ◌∙◌, ap, sym, subst, refl, inl, inr, ℕ, Bool, true, false, cond, List, [], ◌∷◌, Option, Some, None, option_map, Ordering, Less, Equal, Greater, nat_cmp, is_eq}
+use Rattle.std.proofs.Common.{◌≡◌, ◌≢◌, ◌∙◌, ap, sym, subst, refl, inl, inr, ℕ, Bool, true, false, cond, List, Option, Some, None, option_map, Ordering, Less, Equal, Greater, nat_cmp, is_eq}
 use Rattle.std.specs.Prelude.{not, find, is_some, option_and_then, ◌⊎◌}
 use Rattle.std.specs.List.{AllByRecursion}
 use Rattle.std.specs.List.Sorted.{IsStrictlySortedBy}
@@ -15,7 +15,7 @@ use Rattle.serde_json.specs.Read.{read, max_depth, of_json, of_items, of_members
 use Rattle.sct_message.specs.declared.kinds.Kind.{Kind}
 use Rattle.sct_json.specs.Keys.{is_key_of}
 use Rattle.sct_json.specs.Reading.{names_of, first_extra}
-use Rattle.sct_json.specs.Names.{IsBefore, AscendByBytes, IsExtraKey, IsLeastExtraKey}
+use Rattle.sct_json.specs.Names.{IsBefore, AscendByBytes, IsLeastExtraKey}
 
 abbrev by_bytes : List ℕ → List ℕ → Ordering
 by_bytes = slice_cmp nat_cmp

@@ -1,5 +1,5 @@
 -- What is so of no members, and stays so when a text is put at a key, is so of the members that are written.
-use Rattle.std.proofs.Common.{ℕ, List, [], ◌∷◌, Option, Some, None}
+use Rattle.std.proofs.Common.{ℕ, List, [], ◌∷◌, Some, None}
 use Rattle.serde_json.specs.Data.{string, Members, no_members, put}
 use Rattle.sct_message.specs.declared.draft.Draft.{Draft}
 use Rattle.sct_message.specs.declared.draft.Draft.TheVariants as draft

@@ -320,14 +320,18 @@ abbrev pub follows_unless : Option RuleFault → Draft → Result Draft JsonFaul
 follows_unless None m = Ok m
 follows_unless (Some broken) m = Err (fault.Rule broken)
 
+-- no other key, and then the rules
+abbrev pub message_in_whole : Kind → Members → Draft → Result Draft JsonFault
+message_in_whole kind members elements =
+    passes_unless (first_extra kind members) >>= λ alone. follows_unless (first_broken_rule elements) elements
+
 -- an object, a kind, the kind's keys in their order, no other key, and then the rules
 unfoldable pub object_in : Data → Result Draft JsonFault
 object_in d = do
   members ← ok_or (as_object d) fault.NotObject
   kind ← ok_or (kind_in d) fault.UnknownKind
   elements ← draft_in kind d
-  alone ← passes_unless (first_extra kind members)
-  follows_unless (first_broken_rule elements) elements
+  message_in_whole kind members elements
 
 abbrev pub value_in : Option Data → Result Draft JsonFault
 value_in None = Err fault.NotJson

@@ -1,10 +1,10 @@
 //! From the bytes of an object to its message.
-ghost use Rattle.std.specs.Prelude.{◌≡◌, find, not, option_map, is_some, string_bytes};
+ghost use Rattle.std.specs.Prelude.{◌≡◌, find, not, is_some, string_bytes};
 ghost use Rattle.std.specs.Option.{option_copied};
 ghost use Rattle.std.specs.BTreeMap.{keys};
 ghost use Rattle.serde_json.specs.View.{view, members_view};
 ghost use Rattle.sct_json.specs.Keys.{is_key_of};
-ghost use Rattle.sct_json.specs.Reading.{Gives, GivesWhere, has_free_texts, draft_in, kind_in, first_extra, passes_unless, object_in, message_in};
+ghost use Rattle.sct_json.specs.Reading.{Gives, GivesWhere, has_free_texts, draft_in, kind_in, first_extra, passes_unless, message_in_whole, object_in, message_in};
 
 use crate::faults::{ExtraKey, JsonFault};
 use crate::keys::Key;
@@ -74,6 +74,22 @@ fn refuse_extra(alloc: Global, kind: Kind, object: &Map<String, Value>) -> Resul
     }
 }
 
+/// The message of the elements that were read of an object: it has no extra key, and then they follow the rules.
+fn message_of(
+    alloc: Global,
+    kind: Kind,
+    object: &Map<String, Value>,
+    elements: Draft,
+) -> Result<Message, JsonFault>
+    ensures { Gives result (message_in_whole kind (members_view object.now.entries) elements) }
+{
+    refuse_extra(alloc, kind, object)?;
+    match Message::of(elements) {
+        Ok(message) => Ok(message),
+        Err(fault) => Err(JsonFault::Rule(fault)),
+    }
+}
+
 /// The message of which an object is a form.
 #[tactic(auto, unfolding(crate::specs::Reading::object_in))]
 fn read_object(alloc: Global, object: &Value) -> Result<Message, JsonFault>
@@ -85,12 +101,8 @@ fn read_object(alloc: Global, object: &Value) -> Result<Message, JsonFault>
     let Some(kind) = kind_in(object) else {
         return Err(JsonFault::UnknownKind);
     };
-    let draft = read_draft(alloc, kind, object)?;
-    refuse_extra(alloc, kind, members)?;
-    match Message::of(draft) {
-        Ok(message) => Ok(message),
-        Err(fault) => Err(JsonFault::Rule(fault)),
-    }
+    let elements = read_draft(alloc, kind, object)?;
+    message_of(alloc, kind, members, elements)
 }
 
 /// Reads the bytes of one JSON object as the message of which it is a form, or answers the first reason why it is

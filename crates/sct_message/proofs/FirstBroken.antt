@@ -1,6 +1,6 @@
 -- The rule that is told is the first by number of those that a draft breaks.
 use Rattle.std.proofs.Common.{arith, ◌≡◌, ◌≢◌, ◌∙◌, ap, sym, subst, refl, ℕ, ◌≤◌, Bool, true, false, cond, List, [], ◌∷◌, Option, Some, None}
-use Rattle.std.specs.Prelude.{◌&&◌, ◌↔◌, ◌==◌, T, ◌<◌, not, is_some, is_none, IsFalse, IsSome, IsSomeAnd, IsNone, codes, nat_le}
+use Rattle.std.specs.Prelude.{◌&&◌, ◌↔◌, ◌==◌, ◌<◌, not, is_some, is_none, IsFalse, IsSomeAnd, codes, nat_le}
 use Rattle.std.specs.Bool.{Decides}
 use Rattle.std.specs.List.{find, list_all, AllByRecursion}
 use Rattle.std.specs.Cmp.Lexicographic.{bytes_decides}
@@ -17,7 +17,7 @@ use Rattle.sct_message.specs.declared.rules.RuleFault.TheVariants.{WrongName, Wr
 use Rattle.sct_element.specs.Text.{is_text}
 use Rattle.sct_message.specs.Kinds.{is_name_of}
 use Rattle.sct_message.specs.Drafts.{kind_of, head_of, original_of, currency_of, credit_transfer_of, status_report_of, payment_return_of, resolution_of}
-use Rattle.sct_message.specs.Rules.{rule_number, kind_it_is_about, names_its_original, Breaks, IsFirstBroken, broken_in_credit_transfer, broken_in_status_report, broken_in_cancellation_request, broken_in_payment_return, broken_in_resolution, broken_in_kind, broken_first, first_broken_rule}
+use Rattle.sct_message.specs.Rules.{rule_number, kind_it_is_about, Breaks, IsFirstBroken, broken_in_credit_transfer, broken_in_status_report, broken_in_cancellation_request, broken_in_payment_return, broken_in_resolution, broken_first, first_broken_rule}
 
 -- ---- a test of each rule
 

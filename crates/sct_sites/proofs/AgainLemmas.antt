@@ -45,7 +45,7 @@ lines_from number drafts = numbered_from number (lines_of (flat_map line_of draf
 lines-cons : (number : ℕ) (draft : Draft) (drafts : List Draft) → lines_from number (draft ∷ drafts) ≡ (number, written_text draft) ∷ [] ++ lines_from (number + 1) drafts
 lines-cons number draft drafts =
     let text : lines_of (flat_map line_of (draft ∷ drafts)) ≡ written_text draft ∷ lines_of (flat_map line_of drafts) =
-        ap lines_of (append_assoc (written_text draft) (10 ∷ []) (flat_map line_of drafts)) ∙ line_first (written_text draft) (flat_map line_of drafts) (text_is_one_line draft) in
+    ap lines_of (append_assoc (written_text draft) (10 ∷ []) (flat_map line_of drafts)) ∙ line_first (written_text draft) (flat_map line_of drafts) (text_is_one_line draft) in
     ap (numbered_from number) text ∙ numbered-cons number (written_text draft) (lines_of (flat_map line_of drafts))
     ∙ ap (λ l. l ++ lines_from (number + 1) drafts) (written_line number (written_text draft) (visible draft))
 

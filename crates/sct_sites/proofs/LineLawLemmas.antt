@@ -1,3 +1,4 @@
+-- The laws of lines. Proof plumbing.
 use Rattle.std.proofs.Common.{ℕ, ◌≡◌, ◌≢◌, suc, ◌++◌, ◌∷◌, [], List, true, false, cond, ◌==◌, All, refl, arith, eqb-true}
 use Rattle.std.specs.List.{flat_map}
 use Rattle.std.proofs.lemmas.Bool.{eqb-false}

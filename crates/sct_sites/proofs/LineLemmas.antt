@@ -1,3 +1,4 @@
+-- Lines of a text, one after another. Proof plumbing.
 use Rattle.std.proofs.Common.{ℕ, ◌≡◌, ◌+◌, ◌<◌, ◌++◌, ◌∷◌, [], List, Bool, true, false, cond, Option, Some, None, Result, Ok, Err, ◌==◌, not, length, take, drop, refl, sym, ap, ◌∙◌, rules, arith, add-one, take_all, append_assoc, length-append}
 use Rattle.std.specs.List.{position_from}
 use Rattle.std.proofs.Math.Seq.{drop-length}

@@ -10,7 +10,7 @@ use Rattle.sct_message.specs.Drafts.{kind_of, head_of, debtor_agent_of, transact
 use Rattle.sct_message.specs.Kinds.{kind_text}
 use Rattle.sct_message.specs.Keys.{identity_of, transfer_of}
 use Rattle.sct_message.specs.Order.{same_identity, same_transfer}
-use Rattle.sct_message.specs.OrderLaws.{identity_ties, transfer_ties, kinds_by_text}
+use Rattle.sct_message.specs.OrderLaws.{identity_ties, transfer_ties}
 
 and_assoc : (a b c : Bool) → (a && b && c) ≡ (a && (b && c))
 and_assoc true b c = refl
@@ -21,7 +21,7 @@ pub identity_by_parts : (a b : Draft)
     ≡ same_identity (identity_of a) (identity_of b)
 identity_by_parts a b =
     and_assoc (pointwise nat_eq (identity_of a).sender (identity_of b).sender) (pointwise nat_eq (kind_text (kind_of a)) (kind_text (kind_of b))) (pointwise nat_eq (identity_of a).msg_id (identity_of b).msg_id)
-    ∙ identity_ties _ (identity_of a) (identity_of b) (texts_ties (kind_text (kind_of a)) (kind_text (kind_of b)) ∙ ap (λ (o : Ordering). is_eq o) (sym (kinds_by_text (kind_of a) (kind_of b))))
+    ∙ identity_ties _ (identity_of a) (identity_of b) (texts_ties (kind_text (kind_of a)) (kind_text (kind_of b)))
 
 pub transfer_by_parts : (m : Draft) (t : TransferKey)
     → (pointwise nat_eq (debtor_agent_of m) t.debtor_agent && pointwise nat_eq (transaction_of m) t.tx) ≡ same_transfer (transfer_of m) t

@@ -1,3 +1,4 @@
+-- The faults that end a run: their numbers, and what each says of failed calls. Read by an auditor.
 use Rattle.std.specs.Prelude.{ℕ}
 use Rattle.sct_sites.specs.declared.fault.ProgramFault.{ProgramFault}
 use Rattle.sct_sites.specs.declared.fault.ProgramFault.TheVariants.{TooLong, Read, Write, Usage, Memory}

@@ -1,3 +1,4 @@
+-- The definitions that contracts cite.
 pub mod Again
 pub mod Cases
 pub mod Ending

@@ -1,3 +1,4 @@
+-- What holds of the lines of every text. Read by an auditor.
 use Rattle.std.specs.Prelude.{ℕ, ◌≡◌, ◌≢◌, List, [], ◌∷◌, ◌++◌, ◌==◌, if◌then◌else◌, All}
 use Rattle.std.specs.List.{flat_map}
 use Rattle.sct_sites.specs.Lines.{lines_of}

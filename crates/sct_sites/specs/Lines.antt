@@ -1,3 +1,4 @@
+-- The lines of an input: which messages are read of them, and how refused ones are told. Read by an auditor.
 use Rattle.std.specs.Prelude.{ℕ, Bool, List, [], ◌∷◌, ◌++◌, ◌==◌, ◌||◌, not, if◌then◌else◌, filter, codes}
 use Rattle.std.specs.List.{enumerate_from, filter_map, flat_map, list_all}
 use Rattle.std.specs.Fmt.{decimal}

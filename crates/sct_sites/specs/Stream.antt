@@ -1,3 +1,4 @@
+-- What reading and writing do to the bytes of a stream, where these are known. Read by an auditor.
 use Rattle.std.specs.Prelude.{ℕ, ◌≡◌, ◌+◌, ◌<◌, ◌≤◌, List, [], ◌++◌, Option, Some, length, take, drop, IfSome}
 use Rattle.sct_sites.specs.declared.fault.ProgramFault.{ProgramFault}
 use Rattle.sct_sites.specs.declared.fault.ProgramFault.TheVariants.{TooLong, Read, Write, Usage, Memory}

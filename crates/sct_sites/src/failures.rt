@@ -1,3 +1,4 @@
+//! A count of the calls of one stream that have failed.
 ghost use Rattle.std.specs.Prelude.{◌≡◌, ◌+◌};
 
 use std::marker::Model;

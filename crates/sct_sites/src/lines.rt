@@ -1,3 +1,4 @@
+//! The lines of an input: the messages read, and the lines that are refused.
 ghost use Rattle.std.specs.Prelude.{◌≡◌, ◌+◌, ◌<◌, ◌≤◌, ◌++◌, ◌∷◌, [], ◌==◌, ◌^◌, ◌-◌, length, IfSome, IfOk, Ok, Err, OnOk, IfErr, string_bytes};
 ghost use Rattle.std.specs.List.{position_from};
 ghost use Rattle.sct_json.specs.Reading.{message_in};
@@ -96,9 +97,12 @@ impl Intake {
     #[tactic(auto, using(crate::proofs::LineLemmas::one_line))]
     fn take(&mut self, alloc: Global, number: u64, line: &[u8]) -> Result<(), ProgramFault>
         requires { self.old.refused < 2 ^ 64 - 1 }
-        ensures messages { OnOk result (self.new.messages.items ≡ self.old.messages.items ++ messages_among (numbered_from number (line.now ∷ []))) }
-        ensures told { OnOk result (string_bytes self.new.told ≡ string_bytes self.old.told ++ told_text_of (refusals_among (numbered_from number (line.now ∷ [])))) }
-        ensures refused { OnOk result (self.new.refused ≡ self.old.refused + length (refusals_among (numbered_from number (line.now ∷ [])))) }
+        ensures messages { OnOk result (self.new.messages.items
+            ≡ self.old.messages.items ++ messages_among (numbered_from number (line.now ∷ []))) }
+        ensures told { OnOk result (string_bytes self.new.told
+            ≡ string_bytes self.old.told ++ told_text_of (refusals_among (numbered_from number (line.now ∷ [])))) }
+        ensures refused { OnOk result (self.new.refused
+            ≡ self.old.refused + length (refusals_among (numbered_from number (line.now ∷ [])))) }
         ensures one { OnOk result (self.new.refused ≤ self.old.refused + 1) }
         ensures memory { IfErr result (λ e. e ≡ fault.Memory) }
     {

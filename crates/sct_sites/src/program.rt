@@ -23,8 +23,10 @@ fn work<R: Source, O: Sink, E: Sink>(
     err: &mut E,
 ) -> Result<Ending, ProgramFault>
     ensures { IsAnswered (request.Run job)
-        (streams (R.left reader.old) (R.failures reader.old) (O.held out.old) (O.failures out.old) (E.held err.old) (E.failures err.old))
-        (streams (R.left reader.new) (R.failures reader.new) (O.held out.new) (O.failures out.new) (E.held err.new) (E.failures err.new))
+        (streams (R.left reader.old) (R.failures reader.old) (O.held out.old) (O.failures out.old)
+        (E.held err.old) (E.failures err.old))
+        (streams (R.left reader.new) (R.failures reader.new) (O.held out.new) (O.failures out.new)
+        (E.held err.new) (E.failures err.new))
         result }
 {
     match engine(alloc, &job, MOST_BYTES, reader, out, err) {
@@ -42,8 +44,10 @@ fn perform<R: Source, O: Sink, E: Sink>(
     err: &mut E,
 ) -> Result<Ending, ProgramFault>
     ensures { IsAnswered request
-        (streams (R.left reader.old) (R.failures reader.old) (O.held out.old) (O.failures out.old) (E.held err.old) (E.failures err.old))
-        (streams (R.left reader.new) (R.failures reader.new) (O.held out.new) (O.failures out.new) (E.held err.new) (E.failures err.new))
+        (streams (R.left reader.old) (R.failures reader.old) (O.held out.old) (O.failures out.old)
+        (E.held err.old) (E.failures err.old))
+        (streams (R.left reader.new) (R.failures reader.new) (O.held out.new) (O.failures out.new)
+        (E.held err.new) (E.failures err.new))
         result }
 {
     match request {
@@ -56,9 +60,9 @@ fn perform<R: Source, O: Sink, E: Sink>(
     }
 }
 
-/// Runs the program: reads the words of the command line, answers what they ask for, tells the end of the run on `err`, and
-/// answers the exit status: 0 where all lines were taken or help was shown, 1 where some line was refused, 3 at want of
-/// memory (65), and 2 at any other fault.
+/// Runs the program: reads the words of the command line, answers what they ask for, tells the end of the run on `err`,
+/// and answers the exit status: 0 where all lines were taken or help was shown, 1 where some line was refused, 3 at want
+/// of memory (65), and 2 at any other fault.
 pub fn run<R: Source, O: Sink, E: Sink>(
     alloc: Global,
     words: Result<Vec<String>, ProgramFault>,
@@ -67,8 +71,10 @@ pub fn run<R: Source, O: Sink, E: Sink>(
     err: &mut E,
 ) -> u8
     ensures { IsRun (words_told words)
-        (streams (R.left reader.old) (R.failures reader.old) (O.held out.old) (O.failures out.old) (E.held err.old) (E.failures err.old))
-        (streams (R.left reader.new) (R.failures reader.new) (O.held out.new) (O.failures out.new) (E.held err.new) (E.failures err.new))
+        (streams (R.left reader.old) (R.failures reader.old) (O.held out.old) (O.failures out.old)
+        (E.held err.old) (E.failures err.old))
+        (streams (R.left reader.new) (R.failures reader.new) (O.held out.new) (O.failures out.new)
+        (E.held err.new) (E.failures err.new))
         result }
 {
     let asked = match words {

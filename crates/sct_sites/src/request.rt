@@ -66,7 +66,8 @@ fn command<'a>(alloc: Global) -> Result<Command<'a>, AllocError> {
 // What clap answers in place of matches: a request for help, or a mistake.
 fn answer_of(alloc: Global, error: &Error) -> Result<Request, ProgramFault>
     ensures no_job { IfOk result AsksForNoJob }
-    ensures mistake { IfOk result (λ r. IsTrue (is_mistake r) ↔ ((kind_of error.now ≢ kind.DisplayHelp) × (kind_of error.now ≢ kind.DisplayVersion))) }
+    ensures mistake { IfOk result (λ r. IsTrue (is_mistake r)
+        ↔ ((kind_of error.now ≢ kind.DisplayHelp) × (kind_of error.now ≢ kind.DisplayVersion))) }
     ensures memory { IfErr result (λ e. e ≡ fault.Memory) }
 {
     if error.kind() == ErrorKind::OutOfMemory {

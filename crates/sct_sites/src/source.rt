@@ -21,7 +21,8 @@ pub trait Source {
     /// Reads some bytes into the front of the piece. None at a piece that has room is the end. A failed read took none.
     fn read(&mut self, piece: &mut [u8]) -> Result<usize, Failed>
         ensures fits { IfOk result (λ n. n ≤ length piece.new) }
-        ensures given { IfOk result (λ n. IfSome (left self.old) (λ bytes. Gives bytes n (length piece.new) piece.new (left self.new))) }
+        ensures given { IfOk result (λ n. IfSome (left self.old)
+            (λ bytes. Gives bytes n (length piece.new) piece.new (left self.new))) }
         ensures ok { OnOk result (failures self.new ≡ failures self.old) }
         ensures failed { OnErr result (failures self.new ≡ failures self.old + 1) }
         ensures untaken { OnErr result (HasTakenIfTold (left self.old) (left self.new) 0) };

@@ -1,3 +1,4 @@
+//! Whole inputs from a source, and whole texts to a sink.
 ghost use Rattle.std.specs.Prelude.{◌≡◌, ◌+◌, ◌<◌, ◌≤◌, ◌++◌, [], Some, take, length, vec_len, IsOk, IfOk, IfErr, IfSome, OnOk, OnErr};
 ghost use Rattle.sct_sites.specs.Fault.{failed_reads, failed_writes};
 ghost use Rattle.sct_sites.specs.Stream.{AppendsIfTold, AppendsPrefixIfTold, EndsReading, EndsWriting, Gives, HasReadIfTold, HasTakenIfTold};
@@ -16,7 +17,8 @@ const PIECE: usize = 65_536;
 fn read_most<R: Source>(source: &mut R, piece: &mut [u8], most: usize) -> Result<usize, Failed>
     requires { most ≤ length piece.old }
     ensures fits { IfOk result (λ n. n ≤ most) }
-    ensures given { IfOk result (λ n. IfSome (R.left source.old) (λ bytes. Gives bytes n most piece.new (R.left source.new))) }
+    ensures given { IfOk result (λ n. IfSome (R.left source.old)
+        (λ bytes. Gives bytes n most piece.new (R.left source.new))) }
     ensures ok { OnOk result (R.failures source.new ≡ R.failures source.old) }
     ensures failed { OnErr result (R.failures source.new ≡ R.failures source.old + 1) }
     ensures untaken { OnErr result (HasTakenIfTold (R.left source.old) (R.left source.new) 0) }
@@ -31,7 +33,8 @@ pub fn read_all<R: Source>(
     limit: u64,
 ) -> Result<Vec<u8>, ProgramFault>
     requires { limit ≤ MOST_BYTES }
-    ensures all { IfOk result (λ v. IfSome (R.left source.old) (λ bytes. (bytes ≡ v.items) × (R.left source.new ≡ Some []))) }
+    ensures all { IfOk result (λ v. IfSome (R.left source.old)
+        (λ bytes. (bytes ≡ v.items) × (R.left source.new ≡ Some []))) }
     ensures within { IfOk result (λ v. vec_len v ≤ limit) }
     ensures faults { IfErr result (λ e. EndsReading e limit (R.left source.old) (R.left source.new)) }
     ensures quiet { OnOk result (R.failures source.new ≡ R.failures source.old) }

@@ -1,3 +1,4 @@
+-- Each stream has a ledger of its own for its failures.
 use Rattle.sct_sites.proofs.main.Given as goal
 
 abbrev pub ghosts-run_over_std-A-Ledger : goal.ghosts-run_over_std-A-Ledger

@@ -1,3 +1,4 @@
+-- One message more is one more in the set.
 use Rattle.std.proofs.Common.{ap, sym, ◌∙◌}
 use Rattle.std.specs.FinSet as set
 use Rattle.std.specs.FinSet.{from_list_push}

@@ -1,3 +1,4 @@
+-- The archive holds the messages seen so far.
 use Rattle.std.proofs.Common.{◌≡◌}
 use Rattle.sct_set.specs.Contents.{contents_of}
 use Rattle.sct_sites.proofs.holding.archive_of.Given as goal

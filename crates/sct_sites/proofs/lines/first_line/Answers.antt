@@ -1,3 +1,4 @@
+-- The line up to the first line feed, or to the end.
 use Rattle.std.proofs.Common.{sym}
 use Rattle.sct_sites.proofs.LineLemmas.{line_to_feed, line_to_end}
 use Rattle.sct_sites.proofs.lines.first_line.Goals as goal

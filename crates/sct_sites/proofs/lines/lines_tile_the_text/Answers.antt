@@ -1,3 +1,4 @@
+-- The laws of lines.
 use Rattle.sct_sites.proofs.LineLawLemmas.{lines_make_the_text, no_line_has_a_feed}
 use Rattle.sct_sites.proofs.lines.lines_tile_the_text.Goals as goal
 

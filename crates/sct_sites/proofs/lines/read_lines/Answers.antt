@@ -1,3 +1,4 @@
+-- One line more, and the end of the input.
 use Rattle.std.proofs.Common.{arith, eqb-true, sym, ◌∙◌}
 use Rattle.sct_sites.proofs.LineLemmas.{messages_step, told_step, refused_step, messages_end, told_end, refused_end}
 use Rattle.sct_sites.proofs.lines.read_lines.Goals as goal

@@ -1,3 +1,4 @@
+-- What was read of the lines so far, followed by what the others are, is what the input is.
 use Rattle.std.proofs.Common.{◌≡◌, ◌+◌, ◌≤◌, ◌++◌, length, string_bytes}
 use Rattle.sct_sites.specs.Lines.{messages_among, messages_read, numbered_from, lines_of, refusals_among, refusals_told, told_text_of}
 use Rattle.sct_sites.proofs.lines.read_lines.Given as goal

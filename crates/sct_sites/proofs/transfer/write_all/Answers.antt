@@ -1,3 +1,4 @@
+-- One write more takes a longer front of the text.
 use Rattle.std.proofs.Common.{arith, take-add}
 use Rattle.std.proofs.lemmas.Grind.{common_steps}
 use Rattle.sct_sites.proofs.transfer.write_all.Goals as goal

@@ -1,3 +1,4 @@
+-- The byte that was written into the piece is the one that was left first.
 use Rattle.std.proofs.Common.{◌≡◌, ℕ, ◌<◌, length, List, [], ◌∷◌, take, slice_set, refl, arith, rules}
 use Rattle.sct_sites.proofs.tests.fakes.GivingSource.read.Goals as goal
 
