@@ -7,3 +7,5 @@ pub mod Order
 pub mod OrderLaws
 pub mod Ranks
 pub mod Rules
+pub mod Sets
+pub mod Transfers

@@ -89,7 +89,7 @@ in_text_order-rises s = ascending_rises line_order_total line_order_same _
 pub read_again-contents_of : (ds : List Draft) → All IsReadAgain (ascending line_order ds) → AreReadAgain (contents_of ds)
 read_again-contents_of ds all d held =
     let listed : Contains (ascending line_order ds) d =
-        subst (λ l. Contains l d) (in_text_order-contents_of ds) ((Contains-in_text_order (contents_of ds) d).1 held) in
+    subst (λ l. Contains l d) (in_text_order-contents_of ds) ((Contains-in_text_order (contents_of ds) d).1 held) in
     subst IsReadAgain listed.2 (all listed.0 d listed.1)
 
 pub written_once : WritesEachOnce

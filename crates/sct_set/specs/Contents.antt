@@ -2,11 +2,11 @@
 use Rattle.std.specs.FinSet as set
 use Rattle.std.specs.Prelude.{◌≡◌, List, length}
 use Rattle.sct_message.specs.declared.draft.Draft.{Draft}
-use Rattle.sct_message.specs.Order.{message_order}
+use Rattle.sct_message.specs.Sets.{MessageSet}
 
--- a finite set of messages
+-- what an archive holds: a finite set of messages
 abbrev pub Contents : Type 0
-Contents = set.FinSet message_order
+Contents = MessageSet
 
 -- the set of the messages of a list
 abbrev pub contents_of : List Draft → Contents

@@ -4,11 +4,11 @@ ghost use Rattle.std.specs.Prelude.{◌≡◌, ◌+◌, false, OnOk, OnErr, IfOk
 ghost use Rattle.std.specs.Arc.{arc_value};
 ghost use Rattle.std.specs.FinSet as set;
 ghost use Rattle.sct_message.specs.Order.{message_order};
-ghost use Rattle.sct_set.specs.Contents.{contents_of};
+ghost use Rattle.sct_set.specs.Contents.{contents_of, HasNoRepeat};
 ghost use Rattle.sct_set.specs.Drafts.{drafts_in};
 
 use crate::added::Added;
-use crate::contradictions::contradictions;
+use crate::contradictions::{contradictions, is_disputed_in};
 use crate::fault::SetFault;
 use crate::held::holds;
 use crate::push::push_all;
@@ -42,7 +42,7 @@ impl Model for Archive {
 
 impl Archive {
     ghost use Rattle.sct_set.specs.Archive.{added_of, archive_text_of, has_identity, AreReadAgain};
-    ghost use Rattle.sct_set.specs.Contradictions.{contradicted_identities};
+    ghost use Rattle.sct_set.specs.Contradictions.{contradicted_identities, is_disputed};
 
     pub fn new(alloc: Global) -> Self
         ensures { result ≡ set.empty }
@@ -64,6 +64,21 @@ impl Archive {
         ensures { result ≡ set.contains self.now message.now }
     {
         holds(&self.table, message)
+    }
+
+    /// The messages held, each once, in the order in which they came.
+    pub fn messages(&self) -> &[Arc<Message>]
+        ensures held { contents_of (drafts_in result.now) ≡ self.now }
+        ensures once { HasNoRepeat (drafts_in result.now) }
+    {
+        self.table.messages()
+    }
+
+    /// Whether another message of this one's identity is held: whether its identity is, or would be, contradicted.
+    pub fn disputes(&self, message: &Message) -> bool
+        ensures { result ≡ is_disputed self.now message.now }
+    {
+        is_disputed_in(&self.table, message)
     }
 
     // Whether a message of the identity is held.

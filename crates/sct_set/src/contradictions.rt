@@ -10,8 +10,8 @@ use crate::table::Table;
 use sct_message::{Identity, Message, keys_are_ordered};
 use std::alloc::AllocError;
 
-// Whether another message of the table has the identity of this one.
-fn is_disputed_in(table: &Table, message: &Message) -> bool
+/// Whether another message of the table has the identity of this one.
+pub fn is_disputed_in(table: &Table, message: &Message) -> bool
     ensures { result ≡ is_disputed (contents_of table.now) message.now }
 {
     is_another_among(message, table.of(&message.identity()))

@@ -3,7 +3,7 @@
 
 mod added;
 mod archive;
-mod buckets;
+pub mod buckets;
 mod contradictions;
 mod digest;
 mod fault;

@@ -1,0 +1,137 @@
+-- What the words on a transfer come to where there is no message, and by whether something was found.
+use Rattle.std.proofs.Common.{◌≡◌, ◌∙◌, refl, sym, ap, arith, ℕ, Bool, true, false, not, List, [], ◌∷◌, ◌++◌, length, map, filter, Some}
+use Rattle.std.specs.Prelude.{◌==◌, ◌&&◌}
+use Rattle.std.specs.List.{slice_get, list_any}
+use Rattle.std.specs.List.Sorted.{IsStrictlySortedBy}
+use Rattle.std.specs.Global.{Global}
+use Rattle.std.specs.Arc.{arc_value}
+use Rattle.std.specs.declared.sync.Arc.{Arc}
+use Rattle.std.specs.Cmp.Lexicographic.{nat_list_cmp_total}
+use Rattle.std.specs.FinSet.{IsAntisymmetric, nat_cmp-IsAntisymmetric, slice_cmp-IsAntisymmetric}
+use Rattle.std.proofs.lemmas.Bool.{ne_eqb}
+use Rattle.std.proofs.lemmas.List.{append-nil}
+use Rattle.std.proofs.lemmas.List.Elements.{All-head}
+use Rattle.sct_message.specs.Keys.{transfer_of}
+use Rattle.sct_message.specs.Order.{text_order}
+use Rattle.sct_message.specs.OrderLaws.{transfer_total, transfers_same}
+use Rattle.sct_message.specs.Sets.{messages_in}
+use Rattle.sct_message.specs.Transfers.{is_on}
+use Rattle.sct_message.specs.declared.draft.Draft.{Draft}
+use Rattle.sct_message.specs.declared.keys.Identity.{Identity}
+use Rattle.sct_message.specs.declared.keys.TransferKey.{TransferKey}
+use Rattle.sct_message.proofs.AscendingLemmas.{ascending-sorted}
+use Rattle.sct_message.proofs.Members.{tie_is}
+use Rattle.sct_case.specs.declared.finding.Finding.{Finding}
+use Rattle.sct_case.specs.declared.finding.Finding.TheVariants as finding
+use Rattle.sct_case.specs.declared.status.RecallStatus.{RecallStatus}
+use Rattle.sct_case.specs.declared.status.RecallStatus.TheVariants as recall
+use Rattle.sct_case.specs.Told.{has_some, cxls, differ_among, recall_of_it, return_of_it, refusal_of_it, same_recall, same_refusal, findings_of_instruction, findings_of_recalls, findings_of}
+use Rattle.sct_case.specs.Statuses.{AreOn, Standing, Contradicted, Unknown, first_standing, is_unknown, standing_of, transfer_status_of, first_recall, recall_standing_of, recall_status_of}
+
+-- ---- the transfer
+
+pub is_the_transfer : (t : TransferKey) (clean : List (Arc Draft Global)) (m : Arc Draft Global) → Some m ≡ slice_get clean 0 → AreOn t (messages_in clean) → transfer_of (arc_value m) ≡ t
+is_the_transfer t [] m e on = cc
+is_the_transfer t (x ∷ xs) m e on =
+    let h : Some m ≡ Some x = e in
+    let k : m ≡ x = cc in
+    ap (λ (one : Arc Draft Global). transfer_of (arc_value one)) k
+    ∙ tie_is transfer_total transfers_same (transfer_of (arc_value x)) t (All-head (λ one. is_on t one ≡ true) (arc_value x) (messages_in xs) on)
+
+-- ---- where there is no message
+
+texts_same : IsAntisymmetric text_order
+texts_same = slice_cmp-IsAntisymmetric nat_cmp-IsAntisymmetric
+
+no_cxls : cxls [] ≡ []
+unfolding IsStrictlySortedBy
+no_cxls = ascending-sorted nat_list_cmp_total texts_same [] tt
+
+no_recalls : (t : TransferKey) → findings_of_recalls t [] ≡ []
+unfolding findings_of_recalls
+no_recalls t = λ i.
+    map (λ c. finding.RecallsDiffer c) (filter (λ c. differ_among (recall_of_it c) same_recall []) (no_cxls i))
+    ++ map (λ c. finding.BothAnswers c) (filter (λ c. list_any (return_of_it c) []) (no_cxls i))
+    ++ map (λ c. finding.RefusalsDiffer c) (filter (λ c. differ_among (refusal_of_it c) same_refusal []) (no_cxls i))
+    ++ []
+    ++ []
+
+only_identities : (t : TransferKey) (asides : List Identity) → findings_of_instruction t [] asides ≡ map (λ i. finding.Identity i) asides
+unfolding findings_of_instruction
+only_identities t asides = simp append-nil
+
+-- without a message nothing is found but the contradicted identities
+pub found_of_asides : (t : TransferKey) (clean : List Draft) (asides : List Identity) → clean ≡ [] → map (λ i. finding.Identity i) asides ≡ findings_of t clean asides
+unfolding findings_of
+found_of_asides t clean asides none =
+    sym (ap (λ (ms : List Draft). findings_of_instruction t ms asides ++ findings_of_recalls t ms) none
+    ∙ (λ i. only_identities t asides i ++ no_recalls t i)
+    ∙ append-nil (map (λ i. finding.Identity i) asides))
+
+-- ---- by whether something was found
+
+pub some : {X : Type 0} (x : X) (xs : List X) → (length (x ∷ xs) == 0) ≡ false
+some x xs = ne_eqb _ _ (λ e. omega arith)
+
+none_in : {X : Type 0} (xs : List X) → has_some xs ≡ false → xs ≡ []
+none_in [] e = refl
+none_in (x ∷ xs) e = let s = some x xs in let k : has_some (x ∷ xs) ≡ true = ap not s in cc
+
+found_stands : (found : List Finding) (unknown : Bool) (stands : Standing) → has_some found ≡ true → Contradicted found ≡ first_standing found unknown stands
+found_stands [] unknown stands e = cc
+found_stands (f ∷ found) unknown stands e = refl
+
+found_recall : (found : List Finding) (stands : RecallStatus) → has_some found ≡ true → recall.Contradicted ≡ first_recall found stands
+found_recall [] stands e = cc
+found_recall (f ∷ found) stands e = refl
+
+pub contradicted : (t : TransferKey) (clean : List Draft) (asides : List Identity) (found : List Finding)
+    → found ≡ findings_of t clean asides → has_some found ≡ true → Contradicted found ≡ transfer_status_of t clean asides
+unfolding transfer_status_of
+contradicted t clean asides found f e =
+    found_stands found (is_unknown clean asides) (standing_of t clean) e ∙ ap (λ (fs : List Finding). first_standing fs (is_unknown clean asides) (standing_of t clean)) f
+
+pub recall_contradicted : (t : TransferKey) (clean : List Draft) (asides : List Identity) (cxl : List ℕ) (found : List Finding)
+    → found ≡ findings_of t clean asides → has_some found ≡ true → recall.Contradicted ≡ recall_status_of t clean asides cxl
+unfolding recall_status_of
+recall_contradicted t clean asides cxl found f e =
+    found_recall found (recall_standing_of t clean cxl) e ∙ ap (λ (fs : List Finding). first_recall fs (recall_standing_of t clean cxl)) f
+
+-- where nothing was found, and there is a message
+pub not_contradicted : (t : TransferKey) (clean : List Draft) (asides : List Identity) (found : List Finding)
+    → found ≡ findings_of t clean asides → has_some found ≡ false → has_some clean ≡ true → standing_of t clean ≡ transfer_status_of t clean asides
+unfolding transfer_status_of
+not_contradicted t [] asides found f e known = cc
+not_contradicted t (m ∷ clean) asides found f e known =
+    let s = some m clean in
+    sym ((λ i. first_standing (sym f i) (is_unknown (m ∷ clean) asides) (standing_of t (m ∷ clean)))
+    ∙ (λ i. first_standing (none_in found e i) ((s i) && (length asides == 0)) (standing_of t (m ∷ clean))))
+
+pub recall_not_contradicted : (t : TransferKey) (clean : List Draft) (asides : List Identity) (cxl : List ℕ) (found : List Finding)
+    → found ≡ findings_of t clean asides → has_some found ≡ false → recall_standing_of t clean cxl ≡ recall_status_of t clean asides cxl
+unfolding recall_status_of
+recall_not_contradicted t clean asides cxl found f e =
+    sym (ap (λ (fs : List Finding). first_recall fs (recall_standing_of t clean cxl)) (sym f ∙ none_in found e))
+
+-- where nothing was found, and there is no message
+mapped_none : {X Y : Type 0} (g : X → Y) (xs : List X) → map g xs ≡ [] → xs ≡ []
+mapped_none g [] e = refl
+mapped_none g (x ∷ xs) e = cc
+
+pub unknown : (t : TransferKey) (clean : List Draft) (asides : List Identity) (found : List Finding)
+    → found ≡ findings_of t clean asides → has_some found ≡ false → clean ≡ [] → Unknown ≡ transfer_status_of t clean asides
+unfolding transfer_status_of
+unknown t clean asides found f e none =
+    let empty : asides ≡ [] = mapped_none (λ i. finding.Identity i) asides (found_of_asides t clean asides none ∙ sym f ∙ none_in found e) in
+    sym ((λ i. first_standing ((sym f ∙ none_in found e) i) (is_unknown (none i) (empty i)) (standing_of t clean)))
+
+nothing_recalled : (t : TransferKey) (clean : List Draft) (cxl : List ℕ) → clean ≡ [] → recall_standing_of t clean cxl ≡ recall.Unknown
+nothing_recalled t clean cxl none = ap (λ (ms : List Draft). recall_standing_of t ms cxl) none
+
+pub recall_unknown : (t : TransferKey) (clean : List Draft) (asides : List Identity) (cxl : List ℕ) (found : List Finding)
+    → found ≡ findings_of t clean asides → has_some found ≡ false → clean ≡ [] → recall.Unknown ≡ recall_status_of t clean asides cxl
+recall_unknown t clean asides cxl found f e none = sym (nothing_recalled t clean cxl none) ∙ recall_not_contradicted t clean asides cxl found f e
+
+pub is_some_message : (clean : List (Arc Draft Global)) (m : Arc Draft Global) → Some m ≡ slice_get clean 0 → has_some (messages_in clean) ≡ true
+is_some_message [] m e = cc
+is_some_message (x ∷ xs) m e = ap not (some (arc_value x) (messages_in xs))

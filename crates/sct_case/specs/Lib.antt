@@ -1,0 +1,5 @@
+pub mod Findings
+pub mod Laws
+pub mod Said
+pub mod Statuses
+pub mod Told

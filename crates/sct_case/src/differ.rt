@@ -1,0 +1,183 @@
+//! Things said of one transfer, compared with each other.
+ghost use Rattle.std.specs.Prelude.{◌≡◌, ◌&&◌, ℕ, List, Bool, IfOk, map, find, not, nat_eq};
+ghost use Rattle.std.specs.List.{list_any};
+ghost use Rattle.std.specs.Option.{option_copied};
+ghost use Rattle.sct_reason.specs.Codes.{reason_text};
+ghost use Rattle.sct_message.specs.Ascending.{ascending};
+ghost use Rattle.sct_element.specs.Text.{is_text};
+ghost use Rattle.sct_message.specs.Order.{text_order};
+ghost use Rattle.sct_case.specs.Statuses.{first};
+ghost use Rattle.sct_case.specs.Told.{same_reason, same_recall, same_return, same_refusal, differ, differ_among, cxls};
+
+use crate::said::{RecallAsked, RecallMade, RecallNamed, RefusalMade, RejectionReason, ReturnMade};
+use sct_element::Id35;
+use std::alloc::{AllocError, Global};
+
+/// Something said that is compared in all its parts.
+pub(crate) trait Compared: Drop {
+    ghost same: { Self → Self → Bool };
+
+    fn is_same(&self, other: &Self) -> bool
+        ensures { result ≡ same self.now other.now };
+}
+
+/// Something said of one recall.
+pub(crate) trait OfRecall: Drop {
+    ghost recall: { Self → List ℕ };
+
+    /// The identification of the recall.
+    fn cxl(&self) -> &Id35
+        ensures { result.now ≡ recall self.now };
+}
+
+impl Compared for RejectionReason {
+    ghost same = { same_reason };
+
+    fn is_same(&self, other: &Self) -> bool {
+        self.reason.text() == other.reason.text()
+    }
+}
+
+impl Compared for RecallMade {
+    ghost same = { same_recall };
+
+    fn is_same(&self, other: &Self) -> bool {
+        self.cxl.text() == other.cxl.text()
+            && self.amount.cents() == other.amount.cents()
+            && self.reason.text() == other.reason.text()
+    }
+}
+
+impl Compared for ReturnMade {
+    ghost same = { same_return };
+
+    fn is_same(&self, other: &Self) -> bool {
+        self.return_id.text() == other.return_id.text()
+            && self.cxl.text() == other.cxl.text()
+            && self.amount.cents() == other.amount.cents()
+    }
+}
+
+impl Compared for RefusalMade {
+    ghost same = { same_refusal };
+
+    fn is_same(&self, other: &Self) -> bool {
+        self.cxl.text() == other.cxl.text() && self.reason.text() == other.reason.text()
+    }
+}
+
+impl OfRecall for RecallMade {
+    ghost recall = { λ m. m.cxl };
+
+    fn cxl(&self) -> &Id35 {
+        &self.cxl
+    }
+}
+
+impl OfRecall for ReturnMade {
+    ghost recall = { λ m. m.cxl };
+
+    fn cxl(&self) -> &Id35 {
+        &self.cxl
+    }
+}
+
+impl OfRecall for RefusalMade {
+    ghost recall = { λ m. m.cxl };
+
+    fn cxl(&self) -> &Id35 {
+        &self.cxl
+    }
+}
+
+impl OfRecall for RecallAsked {
+    ghost recall = { λ m. m.cxl };
+
+    fn cxl(&self) -> &Id35 {
+        &self.cxl
+    }
+}
+
+impl OfRecall for RecallNamed {
+    ghost recall = { λ m. m.cxl };
+
+    fn cxl(&self) -> &Id35 {
+        &self.cxl
+    }
+}
+
+/// The first of the things said.
+pub(crate) fn first<S>(said: &[S]) -> Option<&S>
+    ensures { option_copied result ≡ first said.now }
+{
+    said.first()
+}
+
+/// Whether some of the things said differ from one.
+fn differs<S: Compared>(said: &[S], one: &S) -> bool
+    ensures { result ≡ list_any (λ other. not (S.same one.now other)) said.now }
+{
+    said.iter().any(|other| !one.is_same(other))
+}
+
+/// Whether some of the things said differ.
+pub(crate) fn differ<S: Compared>(said: &[S]) -> bool
+    ensures { result ≡ differ S.same said.now }
+{
+    match said.first() {
+        Some(one) => differs(said, one),
+        None => false,
+    }
+}
+
+/// The first that is said of a recall.
+pub(crate) fn first_on<'a, S: OfRecall>(said: &'a [S], cxl: &Id35) -> Option<&'a S>
+    ensures { option_copied result ≡ find (λ m. is_text (S.recall m) cxl.now) said.now }
+{
+    said.iter().find(|one| one.cxl().text() == cxl.text())
+}
+
+/// Whether something is said of a recall.
+pub(crate) fn is_some_on<S: OfRecall>(said: &[S], cxl: &Id35) -> bool
+    ensures { result ≡ list_any (λ m. is_text (S.recall m) cxl.now) said.now }
+{
+    said.iter().any(|one| one.cxl().text() == cxl.text())
+}
+
+/// Whether something that is said of a recall differs from one.
+fn differs_on<S: Compared + OfRecall>(said: &[S], one: &S, cxl: &Id35) -> bool
+    ensures { result ≡ list_any (λ other. is_text (S.recall other) cxl.now && not (S.same one.now other)) said.now }
+{
+    said.iter().any(|other| other.cxl().text() == cxl.text() && !one.is_same(other))
+}
+
+/// Whether some of the things said of a recall differ.
+pub(crate) fn differ_on<S: Compared + OfRecall>(said: &[S], cxl: &Id35) -> bool
+    ensures { result ≡ differ_among (λ m. is_text (S.recall m) cxl.now) S.same said.now }
+{
+    match first_on(said, cxl) {
+        Some(one) => differs_on(said, one, cxl),
+        None => false,
+    }
+}
+
+/// The recalls of which something is said, as they come.
+fn cxls_as_said<S: OfRecall>(alloc: Global, said: &[S]) -> Result<Vec<Id35>, AllocError>
+    ensures { IfOk result (λ found. found.items ≡ map S.recall said.now) }
+{
+    let mut found = Vec::new(alloc);
+    for one in said {
+        found.push(one.cxl().copy())?;
+    }
+    Ok(found)
+}
+
+/// The recalls of which something is said, each once, ascending.
+pub(crate) fn cxls<S: OfRecall>(alloc: Global, said: &[S]) -> Result<Vec<Id35>, AllocError>
+    ensures { IfOk result (λ found. found.items ≡ cxls (map S.recall said.now)) }
+{
+    let mut found = cxls_as_said(alloc, said)?;
+    found.sort()?;
+    found.dedup();
+    Ok(found)
+}

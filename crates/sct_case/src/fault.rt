@@ -1,0 +1,36 @@
+//! Why a transfer could not be judged.
+
+ghost use Rattle.std.specs.Prelude.{◌≡◌};
+
+use std::alloc::{AllocError, AllocFailed};
+use thiserror::Error;
+
+/// Memory was wanting.
+#[derive(Debug, Drop, PartialEq, Eq, Error)]
+pub enum CaseFault {
+    #[error("memory is wanting")]
+    Memory,
+}
+
+impl CaseFault {
+    /// The number by which the fault is told.
+    pub fn number(&self) -> u8
+        ensures { result ≡ 39 }
+    {
+        match self {
+            CaseFault::Memory => 39,
+        }
+    }
+}
+
+impl From<AllocError> for CaseFault {
+    fn from(_: AllocError) -> Self {
+        CaseFault::Memory
+    }
+}
+
+impl<T: Drop> From<AllocFailed<T>> for CaseFault {
+    fn from(_: AllocFailed<T>) -> Self {
+        CaseFault::Memory
+    }
+}

@@ -1,0 +1,18 @@
+//! The cases of one transfer: what contradicts itself in the messages on it, and where the transfer and each of its
+//! recalls stand.
+#![tactic(auto)]
+
+mod cases;
+mod differ;
+mod fault;
+mod finding;
+mod found;
+pub mod laws;
+mod said;
+mod standing;
+mod status;
+
+pub use cases::{findings, recall_status, transfer_status};
+pub use fault::CaseFault;
+pub use finding::Finding;
+pub use status::{RecallStatus, Status};
