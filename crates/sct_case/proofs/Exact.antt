@@ -33,7 +33,7 @@ where_has false g f h = absurd h
 has_where : (b : Bool) (g : Finding) → b ≡ true → In g (where_found b g)
 has_where b g h = subst (λ c. In g (where_found c g)) (sym h) (inl refl)
 
-has_some_of : {X : Type 0} (xs : List X) (x : X) → In x xs → has_some xs ≡ true
+pub has_some_of : {X : Type 0} (xs : List X) (x : X) → In x xs → has_some xs ≡ true
 has_some_of [] x h = absurd h
 has_some_of (y ∷ ys) x h = ap not (some y ys)
 
@@ -45,7 +45,7 @@ in_cxls cs c h = in_ascending nat_list_cmp_total texts_same cs c h
 cxls_in : (cs : List (List ℕ)) (c : List ℕ) → In c cs → In c (cxls cs)
 cxls_in cs c h = ascending_in nat_list_cmp_total texts_same cs c h
 
-is_of : (s t : List ℕ) → s ≡ t → pointwise nat_eq s t ≡ true
+pub is_of : (s t : List ℕ) → s ≡ t → pointwise nat_eq s t ≡ true
 is_of s t e = ap (λ u. pointwise nat_eq s u) (sym e) ∙ text_itself s
 
 module _ (clean : List Draft) where
@@ -311,7 +311,7 @@ module _ (t : TransferKey) (clean : List Draft) (asides : List Identity) (apart 
   unfolding findings_of
   in_recalls f h = in_right (findings_of_instruction t clean asides) (findings_of_recalls t clean) f h
 
-  told_is_found : (f : Finding) → In f (findings_of t clean asides) → IsFound t clean asides f
+  pub told_is_found : (f : Finding) → In f (findings_of t clean asides) → IsFound t clean asides f
   unfolding findings_of
   told_is_found f h = elim (in_either (findings_of_instruction t clean asides) (findings_of_recalls t clean) f h) as (λ _. IsFound t clean asides f) [
     | inl k ↦ of_instruction f k
@@ -326,7 +326,7 @@ module _ (t : TransferKey) (clean : List Draft) (asides : List Identity) (apart 
   unfolding findings_of_recalls
   found_of_recalls f h = in_recalls f h
 
-  found_is_told : (f : Finding) → IsFound t clean asides f → In f (findings_of t clean asides)
+  pub found_is_told : (f : Finding) → IsFound t clean asides f → In f (findings_of t clean asides)
   found_is_told (finding.Identity i) h =
       found_of_instruction _ (in_left _ amounts _ (in_left _ reasons _ (in_left _ confirmed _ (in_left ids two _ (mapped_in (λ i. finding.Identity i) asides i (in_contains asides i h))))))
   found_is_told finding.TwoInstructions h =

@@ -74,10 +74,10 @@ instructing m h = elim (instructs m) as (λ _. (x : InstructedAmount) × In x (i
 
 -- ---- two messages
 
-some_instructs : (clean : List Draft) (x : InstructedAmount) → In x (flat_map instructions_by clean) → (m : Draft) × In m clean × (is_instruction m ≡ true)
+pub some_instructs : (clean : List Draft) (x : InstructedAmount) → In x (flat_map instructions_by clean) → (m : Draft) × In m clean × (is_instruction m ≡ true)
 some_instructs clean x h = let r = in_flat_map instructions_by clean x h in (r.0, r.1, is_instructing r.0 x r.2)
 
-instructs_some : (clean : List Draft) (m : Draft) → In m clean → is_instruction m ≡ true → (x : InstructedAmount) × In x (flat_map instructions_by clean)
+pub instructs_some : (clean : List Draft) (m : Draft) → In m clean → is_instruction m ≡ true → (x : InstructedAmount) × In x (flat_map instructions_by clean)
 instructs_some clean m h i = let r = instructing m i in (r.0, flat_mapped_in instructions_by clean m r.0 h r.1)
 
 two_later : (m : Draft) (ms : List Draft) → HasTwoInstructions ms → HasTwoInstructions (m ∷ ms)

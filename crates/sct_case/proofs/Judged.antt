@@ -73,7 +73,7 @@ found_of_asides t clean asides none =
 pub some : {X : Type 0} (x : X) (xs : List X) → (length (x ∷ xs) == 0) ≡ false
 some x xs = ne_eqb _ _ (λ e. omega arith)
 
-none_in : {X : Type 0} (xs : List X) → has_some xs ≡ false → xs ≡ []
+pub none_in : {X : Type 0} (xs : List X) → has_some xs ≡ false → xs ≡ []
 none_in [] e = refl
 none_in (x ∷ xs) e = let s = some x xs in let k : has_some (x ∷ xs) ≡ true = ap not s in cc
 
@@ -114,7 +114,7 @@ recall_not_contradicted t clean asides cxl found f e =
     sym (ap (λ (fs : List Finding). first_recall fs (recall_standing_of t clean cxl)) (sym f ∙ none_in found e))
 
 -- where nothing was found, and there is no message
-mapped_none : {X Y : Type 0} (g : X → Y) (xs : List X) → map g xs ≡ [] → xs ≡ []
+pub mapped_none : {X Y : Type 0} (g : X → Y) (xs : List X) → map g xs ≡ [] → xs ≡ []
 mapped_none g [] e = refl
 mapped_none g (x ∷ xs) e = cc
 

@@ -1,6 +1,11 @@
+pub mod AnyOrder
 pub mod Exact
+pub mod InOrder
 pub mod Instructed
 pub mod Judged
 pub mod Lists
 pub mod Membership
+pub mod RecallSentences
 pub mod Same
+pub mod Sentences
+pub mod Stays

@@ -142,7 +142,7 @@ is_true : (b : Bool) → (b ≡ false → ⊥) → b ≡ true
 is_true true h = refl
 is_true false h = absurd (h refl)
 
-found_in : {X : Type 0} (p : X → Bool) (xs : List X) (x : X) → find p xs ≡ Some x → In x xs × (p x ≡ true)
+pub found_in : {X : Type 0} (p : X → Bool) (xs : List X) (x : X) → find p xs ≡ Some x → In x xs × (p x ≡ true)
 found_in p [] x h = cc
 found_in p (z ∷ xs) x h =
     elim (p z) as (λ b. p z ≡ b → cond b (Some z) (find p xs) ≡ Some x → ((z ≡ x) ⊎ In x xs) × (p x ≡ true)) [
@@ -150,7 +150,7 @@ found_in p (z ∷ xs) x h =
       | false ↦ λ e k. let r = found_in p xs x k in (inr r.0, r.1)
     ] refl h
 
-find_some : {X : Type 0} (p : X → Bool) (xs : List X) (x : X) → In x xs → p x ≡ true → find p xs ≡ None → ⊥
+pub find_some : {X : Type 0} (p : X → Bool) (xs : List X) (x : X) → In x xs → p x ≡ true → find p xs ≡ None → ⊥
 find_some p [] x h passes none = h
 find_some p (z ∷ xs) x (inl e) passes none = let k : p z ≡ true = ap p e ∙ passes in let s : Some z ≡ None = ap (λ b. cond b (Some z) (find p xs)) (sym k) ∙ none in cc
 find_some p (z ∷ xs) x (inr h) passes none =

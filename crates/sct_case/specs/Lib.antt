@@ -1,5 +1,8 @@
+pub mod AnyOrder
 pub mod Findings
 pub mod Laws
+pub mod RecallSentences
 pub mod Said
+pub mod Sentences
 pub mod Statuses
 pub mod Told

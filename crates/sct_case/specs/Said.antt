@@ -55,7 +55,8 @@ where_on transfer m said = if is_on transfer m then said else []
 
 -- the recalls that it makes (camt.056), each by its identification, the original amount that it names, and its reason
 abbrev pub made_by : Draft → List RecallMade
-made_by (CancellationRequest d) = record { cxl = d.cancellation_id; amount = d.original_amount; reason = d.reason } ∷ []
+made_by (CancellationRequest d) =
+    record { cxl = d.cancellation_id; amount = d.original_amount; reason = d.reason } ∷ []
 made_by other = []
 
 abbrev pub recalls_by : TransferKey → Draft → List RecallMade
@@ -72,7 +73,8 @@ amounts_by transfer m = where_on transfer m (named_by m)
 
 -- the returns that it makes (pacs.004), each by its identification, its recall, and the amount that comes back
 abbrev pub returned_by : Draft → List ReturnMade
-returned_by (PaymentReturn d) = record { return_id = d.return_id; cxl = d.cancellation_id; amount = d.returned_amount } ∷ []
+returned_by (PaymentReturn d) =
+    record { return_id = d.return_id; cxl = d.cancellation_id; amount = d.returned_amount } ∷ []
 returned_by other = []
 
 abbrev pub returns_by : TransferKey → Draft → List ReturnMade

@@ -93,7 +93,8 @@ abbrev pub is_unknown : List Draft → List Identity → Bool
 is_unknown clean asides = (length clean == 0) && (length asides == 0)
 
 unfoldable pub transfer_status_of : TransferKey → List Draft → List Identity → Standing
-transfer_status_of transfer clean asides = first_standing (findings_of transfer clean asides) (is_unknown clean asides) (standing_of transfer clean)
+transfer_status_of transfer clean asides =
+    first_standing (findings_of transfer clean asides) (is_unknown clean asides) (standing_of transfer clean)
 
 -- ---- a recall of it
 
@@ -122,12 +123,21 @@ recalled false made stands = recall.Unknown
 recalled true false stands = recall.Unasked
 recalled true true stands = stands
 
+abbrev pub is_named : TransferKey → List Draft → List ℕ → Bool
+is_named transfer clean cxl = list_any (named_of_it cxl) (flat_map (recalls_named_by transfer) clean)
+
+abbrev pub is_made : TransferKey → List Draft → List ℕ → Bool
+is_made transfer clean cxl = list_any (recall_of_it cxl) (flat_map (recalls_by transfer) clean)
+
+abbrev pub answer_of : TransferKey → List Draft → List ℕ → RecallStatus
+answer_of transfer clean cxl =
+    answered (amount_returned cxl (flat_map (returns_by transfer) clean)) (reason_refused cxl (flat_map (refusals_by transfer) clean))
+    (list_any (request_of_it cxl) (flat_map (requests_by transfer) clean))
+
 -- where a recall stands on whose transfer nothing was found
 abbrev pub recall_standing_of : TransferKey → List Draft → List ℕ → RecallStatus
 recall_standing_of transfer clean cxl =
-    recalled (list_any (named_of_it cxl) (flat_map (recalls_named_by transfer) clean)) (list_any (recall_of_it cxl) (flat_map (recalls_by transfer) clean))
-    (answered (amount_returned cxl (flat_map (returns_by transfer) clean)) (reason_refused cxl (flat_map (refusals_by transfer) clean))
-    (list_any (request_of_it cxl) (flat_map (requests_by transfer) clean)))
+    recalled (is_named transfer clean cxl) (is_made transfer clean cxl) (answer_of transfer clean cxl)
 
 -- something contradicts itself on the transfer; else as the recall stands
 abbrev pub first_recall : List Finding → RecallStatus → RecallStatus
@@ -135,4 +145,5 @@ first_recall (f ∷ found) stands = recall.Contradicted
 first_recall [] stands = stands
 
 unfoldable pub recall_status_of : TransferKey → List Draft → List Identity → List ℕ → RecallStatus
-recall_status_of transfer clean asides cxl = first_recall (findings_of transfer clean asides) (recall_standing_of transfer clean cxl)
+recall_status_of transfer clean asides cxl =
+    first_recall (findings_of transfer clean asides) (recall_standing_of transfer clean cxl)

@@ -25,13 +25,17 @@ abbrev pub same_reason : RejectionReason → RejectionReason → Bool
 same_reason one other = is_text (reason_text one.reason) (reason_text other.reason)
 
 abbrev pub same_recall : RecallMade → RecallMade → Bool
-same_recall one other = is_text one.cxl other.cxl && nat_eq one.amount other.amount && is_text (reason_text one.reason) (reason_text other.reason)
+same_recall one other =
+    is_text one.cxl other.cxl && nat_eq one.amount other.amount
+    && is_text (reason_text one.reason) (reason_text other.reason)
 
 abbrev pub same_return : ReturnMade → ReturnMade → Bool
-same_return one other = is_text one.return_id other.return_id && is_text one.cxl other.cxl && nat_eq one.amount other.amount
+same_return one other =
+    is_text one.return_id other.return_id && is_text one.cxl other.cxl && nat_eq one.amount other.amount
 
 abbrev pub same_refusal : RefusalMade → RefusalMade → Bool
-same_refusal one other = is_text one.cxl other.cxl && is_text (reason_text one.reason) (reason_text other.reason)
+same_refusal one other =
+    is_text one.cxl other.cxl && is_text (reason_text one.reason) (reason_text other.reason)
 
 -- ---- some of a list differ
 
@@ -67,7 +71,8 @@ names_another (instructed ∷ []) named = list_any (λ other. not (nat_eq other.
 names_another (instructed ∷ (other ∷ more)) named = false
 
 abbrev pub does_amount_differ : TransferKey → List Draft → Bool
-does_amount_differ transfer clean = names_another (flat_map instructions_by clean) (flat_map (amounts_by transfer) clean)
+does_amount_differ transfer clean =
+    names_another (flat_map instructions_by clean) (flat_map (amounts_by transfer) clean)
 
 abbrev pub recall_of_it : List ℕ → RecallMade → Bool
 recall_of_it cxl made = is_text made.cxl cxl
@@ -82,20 +87,36 @@ refusal_of_it cxl made = is_text made.cxl cxl
 abbrev pub cxls : List (List ℕ) → List (List ℕ)
 cxls found = ascending text_order found
 
+-- the findings on those of some recalls that are made in differing ways, answered in both, refused in differing ways
+abbrev pub differing_recalls : List RecallMade → List (List ℕ) → List Finding
+differing_recalls made cs =
+    map (λ c. finding.RecallsDiffer c) (filter (λ c. differ_among (recall_of_it c) same_recall made) cs)
+
+abbrev pub both_answers : List ReturnMade → List (List ℕ) → List Finding
+both_answers returns cs = map (λ c. finding.BothAnswers c) (filter (λ c. list_any (return_of_it c) returns) cs)
+
+abbrev pub differing_refusals : List RefusalMade → List (List ℕ) → List Finding
+differing_refusals made cs =
+    map (λ c. finding.RefusalsDiffer c) (filter (λ c. differ_among (refusal_of_it c) same_refusal made) cs)
+
 abbrev pub recalls_that_differ : List RecallMade → List (List ℕ)
-recalls_that_differ made = filter (λ cxl. differ_among (recall_of_it cxl) same_recall made) (cxls (map (λ m. m.cxl) made))
+recalls_that_differ made =
+    filter (λ cxl. differ_among (recall_of_it cxl) same_recall made) (cxls (map (λ m. m.cxl) made))
 
 abbrev pub answered_both_ways : List RefusalMade → List ReturnMade → List (List ℕ)
-answered_both_ways refusals returns = filter (λ cxl. list_any (return_of_it cxl) returns) (cxls (map (λ m. m.cxl) refusals))
+answered_both_ways refusals returns =
+    filter (λ cxl. list_any (return_of_it cxl) returns) (cxls (map (λ m. m.cxl) refusals))
 
 abbrev pub refusals_that_differ : List RefusalMade → List (List ℕ)
-refusals_that_differ made = filter (λ cxl. differ_among (refusal_of_it cxl) same_refusal made) (cxls (map (λ m. m.cxl) made))
+refusals_that_differ made =
+    filter (λ cxl. differ_among (refusal_of_it cxl) same_refusal made) (cxls (map (λ m. m.cxl) made))
 
 abbrev pub has_two_returns : TransferKey → List Draft → Bool
 has_two_returns transfer clean = differ same_return (flat_map (returns_by transfer) clean)
 
 abbrev pub has_return_of_rejected : TransferKey → List Draft → Bool
-has_return_of_rejected transfer clean = has_some (flat_map (returns_by transfer) clean) && has_some (flat_map rejections_by clean)
+has_return_of_rejected transfer clean =
+    has_some (flat_map (returns_by transfer) clean) && has_some (flat_map rejections_by clean)
 
 -- ---- the list
 
@@ -111,15 +132,29 @@ findings_of_instruction transfer clean asides =
     ++ where_found (do_reasons_differ clean) finding.ReasonsDiffer
     ++ where_found (does_amount_differ transfer clean) finding.AmountDiffers
 
+-- those of each recall, ascending
+abbrev pub told_recalls : TransferKey → List Draft → List Finding
+told_recalls transfer clean =
+    map (λ c. finding.RecallsDiffer c) (recalls_that_differ (flat_map (recalls_by transfer) clean))
+
+abbrev pub told_answers : TransferKey → List Draft → List Finding
+told_answers transfer clean =
+    map (λ c. finding.BothAnswers c) (answered_both_ways (flat_map (refusals_by transfer) clean) (flat_map (returns_by transfer) clean))
+
+abbrev pub told_refusals : TransferKey → List Draft → List Finding
+told_refusals transfer clean =
+    map (λ c. finding.RefusalsDiffer c) (refusals_that_differ (flat_map (refusals_by transfer) clean))
+
 -- those of the recalls and their answers
 unfoldable pub findings_of_recalls : TransferKey → List Draft → List Finding
 findings_of_recalls transfer clean =
-    map (λ c. finding.RecallsDiffer c) (recalls_that_differ (flat_map (recalls_by transfer) clean))
-    ++ map (λ c. finding.BothAnswers c) (answered_both_ways (flat_map (refusals_by transfer) clean) (flat_map (returns_by transfer) clean))
-    ++ map (λ c. finding.RefusalsDiffer c) (refusals_that_differ (flat_map (refusals_by transfer) clean))
+    told_recalls transfer clean
+    ++ told_answers transfer clean
+    ++ told_refusals transfer clean
     ++ where_found (has_two_returns transfer clean) finding.TwoReturns
     ++ where_found (has_return_of_rejected transfer clean) finding.ReturnOfRejected
 
 -- all that contradicts itself
 unfoldable pub findings_of : TransferKey → List Draft → List Identity → List Finding
-findings_of transfer clean asides = findings_of_instruction transfer clean asides ++ findings_of_recalls transfer clean
+findings_of transfer clean asides =
+    findings_of_instruction transfer clean asides ++ findings_of_recalls transfer clean

@@ -40,7 +40,8 @@ pub fn findings(
     clean: &[Arc<Message>],
     asides: &[Identity],
 ) -> Result<Vec<Finding>, CaseFault>
-    ensures { (t : TransferOf) → AreOn t (messages_in clean.now) → IfOk result (λ found. found.items ≡ findings_of t (messages_in clean.now) asides.now) }
+    ensures { (t : TransferOf) → AreOn t (messages_in clean.now)
+        → IfOk result (λ found. found.items ≡ findings_of t (messages_in clean.now) asides.now) }
 {
     match transfer_of(clean) {
         Some(transfer) => Ok(findings_on(alloc, &transfer, clean, asides)?),
@@ -54,7 +55,8 @@ pub fn transfer_status(
     clean: &[Arc<Message>],
     asides: &[Identity],
 ) -> Result<Status, CaseFault>
-    ensures { (t : TransferOf) → AreOn t (messages_in clean.now) → IfOk result (λ stands. told stands ≡ transfer_status_of t (messages_in clean.now) asides.now) }
+    ensures { (t : TransferOf) → AreOn t (messages_in clean.now)
+        → IfOk result (λ stands. told stands ≡ transfer_status_of t (messages_in clean.now) asides.now) }
 {
     let found = findings(alloc, clean, asides)?;
     if is_contradicted(&found) {
@@ -73,10 +75,11 @@ pub fn recall_status(
     asides: &[Identity],
     cxl: &Id35,
 ) -> Result<RecallStatus, CaseFault>
-    ensures { (t : TransferOf) → AreOn t (messages_in clean.now) → IfOk result (λ stands. stands ≡ recall_status_of t (messages_in clean.now) asides.now cxl.now) }
+    ensures { (t : TransferOf) → AreOn t (messages_in clean.now)
+        → IfOk result (λ stands. stands ≡ recall_status_of t (messages_in clean.now) asides.now cxl.now) }
 {
-    let found = findings(alloc, clean, asides)?;
-    if is_contradicted(&found) {
+    let contradictions = findings(alloc, clean, asides)?;
+    if is_contradicted(&contradictions) {
         return Ok(RecallStatus::Contradicted);
     }
     match transfer_of(clean) {

@@ -3,8 +3,10 @@ ghost use Rattle.std.specs.Prelude.{◌≡◌, ◌++◌, ◌&&◌, ℕ, List, Bo
 ghost use Rattle.std.specs.List.{list_any, flat_map};
 ghost use Rattle.std.specs.Arc.{arc_value};
 ghost use Rattle.sct_message.specs.Sets.{messages_in};
-ghost use Rattle.sct_case.specs.Said.{is_acceptance, recalls_by, returns_by, refusals_by};
-ghost use Rattle.sct_case.specs.Told.{has_two_instructions, is_both_confirmed, do_reasons_differ, names_another, does_amount_differ, recall_of_it, return_of_it, refusal_of_it, same_recall, same_refusal, differ_among, recalls_that_differ, answered_both_ways, refusals_that_differ, has_two_returns, has_return_of_rejected, where_found, findings_of_instruction, findings_of_recalls, findings_of};
+ghost use Rattle.sct_case.specs.Said.{is_acceptance};
+ghost use Rattle.sct_case.specs.Told.{has_two_instructions, is_both_confirmed, do_reasons_differ, names_another, does_amount_differ};
+ghost use Rattle.sct_case.specs.Told.{has_two_returns, return_of_it, has_return_of_rejected, differing_recalls, both_answers, differing_refusals};
+ghost use Rattle.sct_case.specs.Told.{told_recalls, told_answers, told_refusals, where_found, findings_of_instruction, findings_of_recalls, findings_of};
 ghost use Rattle.sct_case.specs.declared.finding.Finding.TheVariants as finding;
 
 use crate::differ::{cxls, differ, differ_on, is_some_on};
@@ -131,7 +133,7 @@ fn push_differing_recalls(
     made: &[RecallMade],
     cxls: &[Id35],
 ) -> Result<(), AllocError>
-    ensures { OnOk result (found.new.items ≡ found.old.items ++ map (λ c. finding.RecallsDiffer c) (filter (λ c. differ_among (recall_of_it c) same_recall made.now) cxls.now)) }
+    ensures { OnOk result (found.new.items ≡ found.old.items ++ differing_recalls made.now cxls.now) }
 {
     for cxl in cxls {
         push_where(
@@ -143,18 +145,25 @@ fn push_differing_recalls(
     Ok(())
 }
 
+/// Whether money comes back after a recall.
+fn is_returned_after(returns: &[ReturnMade], cxl: &Id35) -> bool
+    ensures { result ≡ list_any (return_of_it cxl.now) returns.now }
+{
+    is_some_on(returns, cxl)
+}
+
 /// Appends those of some refused recalls that are answered by a return.
 fn push_both_answers(
     found: &mut Vec<Finding>,
     returns: &[ReturnMade],
     cxls: &[Id35],
 ) -> Result<(), AllocError>
-    ensures { OnOk result (found.new.items ≡ found.old.items ++ map (λ c. finding.BothAnswers c) (filter (λ c. list_any (return_of_it c) returns.now) cxls.now)) }
+    ensures { OnOk result (found.new.items ≡ found.old.items ++ both_answers returns.now cxls.now) }
 {
     for cxl in cxls {
         push_where(
             found,
-            is_some_on(returns, cxl),
+            is_returned_after(returns, cxl),
             Finding::BothAnswers(cxl.copy()),
         )?;
     }
@@ -167,7 +176,7 @@ fn push_differing_refusals(
     made: &[RefusalMade],
     cxls: &[Id35],
 ) -> Result<(), AllocError>
-    ensures { OnOk result (found.new.items ≡ found.old.items ++ map (λ c. finding.RefusalsDiffer c) (filter (λ c. differ_among (refusal_of_it c) same_refusal made.now) cxls.now)) }
+    ensures { OnOk result (found.new.items ≡ found.old.items ++ differing_refusals made.now cxls.now) }
 {
     for cxl in cxls {
         push_where(
@@ -186,7 +195,7 @@ fn push_recalls(
     transfer: &TransferKey,
     clean: &[Arc<Message>],
 ) -> Result<(), AllocError>
-    ensures { OnOk result (found.new.items ≡ found.old.items ++ map (λ c. finding.RecallsDiffer c) (recalls_that_differ (flat_map (recalls_by transfer.now) (messages_in clean.now)))) }
+    ensures { OnOk result (found.new.items ≡ found.old.items ++ told_recalls transfer.now (messages_in clean.now)) }
 {
     let made = said::<RecallMade>(alloc, transfer, clean)?;
     let cxls = cxls(alloc, &made)?;
@@ -200,7 +209,7 @@ fn push_answers(
     transfer: &TransferKey,
     clean: &[Arc<Message>],
 ) -> Result<(), AllocError>
-    ensures { OnOk result (found.new.items ≡ found.old.items ++ map (λ c. finding.BothAnswers c) (answered_both_ways (flat_map (refusals_by transfer.now) (messages_in clean.now)) (flat_map (returns_by transfer.now) (messages_in clean.now)))) }
+    ensures { OnOk result (found.new.items ≡ found.old.items ++ told_answers transfer.now (messages_in clean.now)) }
 {
     let refusals = said::<RefusalMade>(alloc, transfer, clean)?;
     let returns = said::<ReturnMade>(alloc, transfer, clean)?;
@@ -215,7 +224,7 @@ fn push_refusals(
     transfer: &TransferKey,
     clean: &[Arc<Message>],
 ) -> Result<(), AllocError>
-    ensures { OnOk result (found.new.items ≡ found.old.items ++ map (λ c. finding.RefusalsDiffer c) (refusals_that_differ (flat_map (refusals_by transfer.now) (messages_in clean.now)))) }
+    ensures { OnOk result (found.new.items ≡ found.old.items ++ told_refusals transfer.now (messages_in clean.now)) }
 {
     let made = said::<RefusalMade>(alloc, transfer, clean)?;
     let cxls = cxls(alloc, &made)?;

@@ -16,3 +16,6 @@ pub use cases::{findings, recall_status, transfer_status};
 pub use fault::CaseFault;
 pub use finding::Finding;
 pub use status::{RecallStatus, Status};
+
+#[cfg(test)]
+mod tests;

@@ -95,7 +95,8 @@ pub(crate) fn said<S: Statement>(
 
 /// Whether a message's originator bank and transfer identification are those of a transfer.
 fn has_parts_of(transfer: &TransferKey, draft: &Draft) -> bool
-    ensures { result ≡ (pointwise nat_eq (debtor_agent_of draft.now) transfer.now.debtor_agent && pointwise nat_eq (transaction_of draft.now) transfer.now.tx) }
+    ensures { result ≡ (pointwise nat_eq (debtor_agent_of draft.now) transfer.now.debtor_agent
+        && pointwise nat_eq (transaction_of draft.now) transfer.now.tx) }
 {
     draft.debtor_agent().text() == transfer.debtor_agent.text()
         && draft.transaction_id().text() == transfer.tx.text()

@@ -3,9 +3,10 @@ ghost use Rattle.std.specs.Prelude.{◌≡◌, IfOk};
 ghost use Rattle.std.specs.List.{list_any, flat_map};
 ghost use Rattle.std.specs.Arc.{arc_value};
 ghost use Rattle.sct_message.specs.Sets.{messages_in};
-ghost use Rattle.sct_case.specs.Said.{is_investigation, instructions_by, recalls_by, returns_by, refusals_by, requests_by, recalls_named_by};
-ghost use Rattle.sct_case.specs.Told.{has_some, recall_of_it};
-ghost use Rattle.sct_case.specs.Statuses.{told, rejection_told, return_told, confirmed, known, standing_of, amount_returned, reason_refused, answered, recalled, named_of_it, request_of_it, recall_standing_of};
+ghost use Rattle.sct_case.specs.Said.{is_investigation, instructions_by};
+ghost use Rattle.sct_case.specs.Told.{has_some};
+ghost use Rattle.sct_case.specs.Statuses.{told, rejection_told, return_told, confirmed, known, standing_of};
+ghost use Rattle.sct_case.specs.Statuses.{amount_returned, reason_refused, answered, answer_of, is_named, is_made, recall_standing_of};
 
 use crate::differ::{first, first_on, is_some_on};
 use crate::found::is_accepted;
@@ -180,7 +181,7 @@ fn answered_on(
     clean: &[Arc<Message>],
     cxl: &Id35,
 ) -> Result<RecallStatus, AllocError>
-    ensures { IfOk result (λ stands. stands ≡ answered (amount_returned cxl.now (flat_map (returns_by transfer.now) (messages_in clean.now))) (reason_refused cxl.now (flat_map (refusals_by transfer.now) (messages_in clean.now))) (list_any (request_of_it cxl.now) (flat_map (requests_by transfer.now) (messages_in clean.now)))) }
+    ensures { IfOk result (λ stands. stands ≡ answer_of transfer.now (messages_in clean.now) cxl.now) }
 {
     let returns = said::<ReturnMade>(alloc, transfer, clean)?;
     let refusals = said::<RefusalMade>(alloc, transfer, clean)?;
@@ -199,7 +200,7 @@ fn is_named(
     clean: &[Arc<Message>],
     cxl: &Id35,
 ) -> Result<bool, AllocError>
-    ensures { IfOk result (λ holds. holds ≡ list_any (named_of_it cxl.now) (flat_map (recalls_named_by transfer.now) (messages_in clean.now))) }
+    ensures { IfOk result (λ holds. holds ≡ is_named transfer.now (messages_in clean.now) cxl.now) }
 {
     let named = said::<RecallNamed>(alloc, transfer, clean)?;
     Ok(is_some_on(&named, cxl))
@@ -212,7 +213,7 @@ fn is_made(
     clean: &[Arc<Message>],
     cxl: &Id35,
 ) -> Result<bool, AllocError>
-    ensures { IfOk result (λ holds. holds ≡ list_any (recall_of_it cxl.now) (flat_map (recalls_by transfer.now) (messages_in clean.now))) }
+    ensures { IfOk result (λ holds. holds ≡ is_made transfer.now (messages_in clean.now) cxl.now) }
 {
     let made = said::<RecallMade>(alloc, transfer, clean)?;
     Ok(is_some_on(&made, cxl))

@@ -35,7 +35,9 @@ pub record IsContradicted (held : MessageSet) (identity : Identity) : Type 0 whe
 
 -- another message of the set has the identity of this one
 abbrev pub is_contradicted : MessageSet → Draft → Bool
-is_contradicted held m = list_any (λ other. same_identity (identity_of other) (identity_of m) && not (same_message other m)) (set.items held)
+is_contradicted held m =
+    list_any (λ other. same_identity (identity_of other) (identity_of m) && not (same_message other m))
+    (set.items held)
 
 -- the messages whose identity is not contradicted in the set, and those whose identity is
 abbrev pub clean_messages : MessageSet → List Draft

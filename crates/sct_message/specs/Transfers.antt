@@ -20,7 +20,8 @@ messages_on held transfer = filter (is_on transfer) (clean_messages held)
 
 -- its asides: the contradicted identities of which a message is on it, ascending
 abbrev pub asides_of : MessageSet → TransferKey → List Identity
-asides_of held transfer = ascending identity_order (map identity_of (filter (is_on transfer) (contradicted_messages held)))
+asides_of held transfer =
+    ascending identity_order (map identity_of (filter (is_on transfer) (contradicted_messages held)))
 
 -- the transfers of which the set has a message, ascending: its keys
 abbrev pub keys_of : MessageSet → List TransferKey

@@ -9,5 +9,5 @@ use Rattle.sct_case.proofs.found.push_both_answers.Goals as goal
 pub loop-cxl-preserved : goal.loop-cxl-preserved
 loop-cxl-preserved c =
     c.in_ok-push_where.ensures
-    ∙ (λ i. c.loop-cxl.invariant i ++ where_found (c.is_some_on.ensures i) (finding.BothAnswers (c.copy.ensures i)))
+    ∙ (λ i. c.loop-cxl.invariant i ++ where_found (c.is_returned_after.ensures i) (finding.BothAnswers (c.copy.ensures i)))
     ∙ told_more (λ x. finding.BothAnswers x) (λ x. list_any (return_of_it x) c.args.returns.now) c.args.found.now.items c.args.cxls.now c.loop-cxl.cxl-index c.cxl-item.result c.loop-cxl-test.true c.cxl-item.is

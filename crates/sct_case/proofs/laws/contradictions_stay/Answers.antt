@@ -1,0 +1,5 @@
+use Rattle.sct_case.proofs.Stays.{contradictions_stay}
+use Rattle.sct_case.proofs.laws.contradictions_stay.Goals as goal
+
+pub returns : goal.returns
+returns c = contradictions_stay

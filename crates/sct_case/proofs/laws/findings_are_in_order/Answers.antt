@@ -1,0 +1,5 @@
+use Rattle.sct_case.proofs.InOrder.{tells_in_order}
+use Rattle.sct_case.proofs.laws.findings_are_in_order.Goals as goal
+
+pub returns : goal.returns
+returns c = tells_in_order

@@ -1,0 +1,5 @@
+use Rattle.sct_case.proofs.Stays.{messages_apart}
+use Rattle.sct_case.proofs.laws.messages_are_apart.Goals as goal
+
+pub returns : goal.returns
+returns c = messages_apart

@@ -1,0 +1,5 @@
+use Rattle.sct_case.proofs.RecallSentences.{tells_each_recall_status}
+use Rattle.sct_case.proofs.laws.recall_statuses_are_exact.Goals as goal
+
+pub returns : goal.returns
+returns c = tells_each_recall_status

@@ -1,0 +1,5 @@
+use Rattle.sct_case.proofs.Sentences.{tells_each_status}
+use Rattle.sct_case.proofs.laws.statuses_are_exact.Goals as goal
+
+pub returns : goal.returns
+returns c = tells_each_status

@@ -1,0 +1,28 @@
+-- Messages handed in any order give the same answers, for auditors.
+use Rattle.std.specs.Prelude.{◌≡◌, ◌↔◌, ℕ, List, Contains}
+use Rattle.std.specs.List.Sorted.{IsStrictlySortedBy}
+use Rattle.sct_message.specs.Order.{identity_order}
+use Rattle.sct_message.specs.declared.draft.Draft.{Draft}
+use Rattle.sct_message.specs.declared.keys.Identity.{Identity}
+use Rattle.sct_message.specs.declared.keys.TransferKey.{TransferKey}
+use Rattle.sct_case.specs.Told.{findings_of}
+use Rattle.sct_case.specs.Statuses.{transfer_status_of, recall_status_of}
+use Rattle.sct_case.specs.Laws.{AreApart}
+
+-- the same messages stand in both lists
+abbrev pub HaveSameMessages : List Draft → List Draft → Type 0
+HaveSameMessages clean other = (m : Draft) → Contains clean m ↔ Contains other m
+
+-- The answers on the same messages, in another order, are the same.
+pub record AnswersAlike (transfer : TransferKey) (clean other : List Draft) (asides : List Identity) : Type 0 where
+  pub findings : findings_of transfer clean asides ≡ findings_of transfer other asides
+  pub status : transfer_status_of transfer clean asides ≡ transfer_status_of transfer other asides
+  pub recalls : (cxl : List ℕ)
+      → recall_status_of transfer clean asides cxl ≡ recall_status_of transfer other asides cxl
+
+abbrev pub AnswersInAnyOrder : Type 0
+AnswersInAnyOrder =
+    (transfer : TransferKey) (clean other : List Draft) (asides : List Identity) → AreApart clean
+    → AreApart other
+    → IsStrictlySortedBy identity_order asides → HaveSameMessages clean other
+    → AnswersAlike transfer clean other asides

@@ -1,0 +1,242 @@
+//! Messages on one transfer of Anna Weber's bank, made of the elements of worked examples.
+
+use sct_element::{Amount, Bic, Code4, Day, ElementFault, Iban, Id35, Name, Stamp};
+use sct_message::{
+    CancellationRequest, CreditTransfer, Draft, Head, Identity, Kind, Message, Original,
+    PaymentReturn, Resolution, StatusReport, StatusRequest,
+};
+use sct_reason::Reason;
+use std::alloc::Global;
+use std::sync::Arc;
+use std::test::Fail;
+
+/// A message, by its identification and what else the examples vary.
+pub(crate) enum Row {
+    /// A credit transfer of an amount.
+    Instructed(&'static str, &'static str),
+    /// A report that accepts.
+    Accepted(&'static str),
+    /// A report that rejects, for a reason.
+    Rejected(&'static str, &'static str),
+    /// A request for the status of the transfer.
+    Investigated(&'static str),
+    /// A request for the status of a recall.
+    Chased(&'static str, &'static str),
+    /// A recall: its identification, the original amount, and a reason.
+    Recalled(&'static str, &'static str, &'static str, &'static str),
+    /// A return, with an identification of its own: the recall, the original amount, and what comes back.
+    Returned(&'static str, &'static str, &'static str, &'static str, &'static str),
+    /// A refusal: the recall, and a reason.
+    Refused(&'static str, &'static str, &'static str),
+}
+
+fn head(name: &str, id: &str, sender: &str) -> Result<Head, ElementFault> {
+    Ok(Head {
+        message_name: Id35::read(name)?,
+        message_id: Id35::read(id)?,
+        creation_time: Stamp::read("2024-05-02T10:00:00Z")?,
+        instructing_agent: Bic::read(sender)?,
+        instructed_agent: None,
+    })
+}
+
+fn original(name: &str) -> Result<Original, ElementFault> {
+    Ok(Original {
+        message_id: Id35::read("M1")?,
+        message_name: Id35::read(name)?,
+        end_to_end_id: None,
+        transaction_id: Id35::read("T1")?,
+    })
+}
+
+#[derive(Drop)]
+struct Parties {
+    debtor: Name,
+    debtor_account: Iban,
+    debtor_agent: Bic,
+    creditor_agent: Bic,
+    creditor: Name,
+    creditor_account: Iban,
+}
+
+fn read_parties(alloc: Global) -> Result<Parties, ElementFault> {
+    let debtor_account = Iban::read("DE89370400440532013000")?;
+    let debtor_agent = Bic::read("BANKDEFF")?;
+    let creditor_agent = Bic::read("BANQFRPP")?;
+    let creditor_account = Iban::read("BE68539007547034")?;
+    let debtor = Name::read(alloc, "Anna Weber")?;
+    let creditor = Name::read(alloc, "Bo Maes")?;
+    Ok(Parties {
+        debtor,
+        debtor_account,
+        debtor_agent,
+        creditor_agent,
+        creditor,
+        creditor_account,
+    })
+}
+
+fn instructed(alloc: Global, id: &str, amount: &str) -> Result<Draft, ElementFault> {
+    let head = head("pacs.008", id, "BANKDEFF")?;
+    let settlement_date = Day::read("2024-05-02")?;
+    let service_level = Code4::read("SEPA")?;
+    let local_instrument = Code4::read("INST")?;
+    let end_to_end_id = Id35::read("E1")?;
+    let transaction_id = Id35::read("T1")?;
+    let settlement_amount = Amount::read(amount)?;
+    let currency = Code4::read("EUR")?;
+    let charge_bearer = Code4::read("SLEV")?;
+    let parties = read_parties(alloc)?;
+    Ok(Draft::CreditTransfer(CreditTransfer {
+        head,
+        settlement_date,
+        service_level,
+        local_instrument,
+        instruction_id: None,
+        end_to_end_id,
+        transaction_id,
+        settlement_amount,
+        currency,
+        charge_bearer,
+        acceptance_time: None,
+        debtor: parties.debtor,
+        debtor_account: parties.debtor_account,
+        debtor_agent: parties.debtor_agent,
+        creditor_agent: parties.creditor_agent,
+        creditor: parties.creditor,
+        creditor_account: parties.creditor_account,
+        remittance: None,
+    }))
+}
+
+fn reported(id: &str, status: &str, reason: Option<Reason>) -> Result<Draft, ElementFault> {
+    let head = head("pacs.002", id, "BANQFRPP")?;
+    let original = original("pacs.008")?;
+    let status = Code4::read(status)?;
+    let debtor_agent = Bic::read("BANKDEFF")?;
+    Ok(Draft::StatusReport(StatusReport {
+        head,
+        original,
+        status,
+        reason,
+        debtor_agent,
+    }))
+}
+
+fn asked(id: &str, about: &str, cancellation_id: Option<Id35>) -> Result<Draft, ElementFault> {
+    let head = head("pacs.028", id, "BANKDEFF")?;
+    let original = original(about)?;
+    let debtor_agent = Bic::read("BANKDEFF")?;
+    Ok(Draft::StatusRequest(StatusRequest {
+        head,
+        original,
+        cancellation_id,
+        debtor_agent,
+    }))
+}
+
+fn recalled(id: &str, cxl: &str, amount: &str, reason: Reason) -> Result<Draft, ElementFault> {
+    let head = head("camt.056", id, "BANKDEFF")?;
+    let cancellation_id = Id35::read(cxl)?;
+    let original = original("pacs.008")?;
+    let original_amount = Amount::read(amount)?;
+    let currency = Code4::read("EUR")?;
+    let debtor_agent = Bic::read("BANKDEFF")?;
+    Ok(Draft::CancellationRequest(CancellationRequest {
+        head,
+        cancellation_id,
+        original,
+        original_amount,
+        currency,
+        original_settlement_date: None,
+        reason,
+        debtor_agent,
+    }))
+}
+
+fn returned(
+    id: &str,
+    return_id: &str,
+    cxl: &str,
+    amount: &str,
+    back: &str,
+) -> Result<Draft, ElementFault> {
+    let head = head("pacs.004", id, "BANQFRPP")?;
+    let return_id = Id35::read(return_id)?;
+    let cancellation_id = Id35::read(cxl)?;
+    let original = original("pacs.008")?;
+    let original_amount = Amount::read(amount)?;
+    let returned_amount = Amount::read(back)?;
+    let currency = Code4::read("EUR")?;
+    let settlement_date = Day::read("2024-05-04")?;
+    let debtor_agent = Bic::read("BANKDEFF")?;
+    Ok(Draft::PaymentReturn(PaymentReturn {
+        head,
+        return_id,
+        cancellation_id,
+        original,
+        original_amount,
+        returned_amount,
+        currency,
+        settlement_date,
+        reason: Reason::FOCR,
+        debtor_agent,
+    }))
+}
+
+fn refused(id: &str, cxl: &str, reason: Reason) -> Result<Draft, ElementFault> {
+    let head = head("camt.029", id, "BANQFRPP")?;
+    let resolution_id = Id35::read("S1")?;
+    let cancellation_id = Id35::read(cxl)?;
+    let original = original("pacs.008")?;
+    let confirmation = Code4::read("RJCR")?;
+    let debtor_agent = Bic::read("BANKDEFF")?;
+    Ok(Draft::Resolution(Resolution {
+        head,
+        resolution_id,
+        cancellation_id,
+        original,
+        confirmation,
+        reason,
+        debtor_agent,
+    }))
+}
+
+fn reason(code: &str) -> Result<Reason, ElementFault> {
+    Reason::read(code).ok_or(ElementFault::BadCode)
+}
+
+fn draft(alloc: Global, row: &Row) -> Result<Draft, ElementFault> {
+    match row {
+        Row::Instructed(id, amount) => instructed(alloc, id, amount),
+        Row::Accepted(id) => reported(id, "ACCP", None),
+        Row::Rejected(id, code) => reported(id, "RJCT", Some(reason(code)?)),
+        Row::Investigated(id) => asked(id, "pacs.008", None),
+        Row::Chased(id, cxl) => asked(id, "camt.056", Some(Id35::read(cxl)?)),
+        Row::Recalled(id, cxl, amount, code) => recalled(id, cxl, amount, reason(code)?),
+        Row::Returned(id, own, cxl, amount, back) => returned(id, own, cxl, amount, back),
+        Row::Refused(id, cxl, code) => refused(id, cxl, reason(code)?),
+    }
+}
+
+/// The messages of some rows.
+pub(crate) fn messages(alloc: Global, rows: &[Row]) -> Result<Vec<Arc<Message>>, Fail> {
+    let mut made = Vec::new(alloc);
+    for row in rows {
+        made.push(Arc::new(alloc, Message::of(draft(alloc, row)?)?)?)?;
+    }
+    Ok(made)
+}
+
+/// Identities of status reports of the beneficiary bank.
+pub(crate) fn asides(alloc: Global, ids: &[&str]) -> Result<Vec<Identity>, Fail> {
+    let mut made = Vec::new(alloc);
+    for id in ids {
+        made.push(Identity {
+            sender: Bic::read("BANQFRPP")?,
+            kind: Kind::Pacs002,
+            msg_id: Id35::read(id)?,
+        })?;
+    }
+    Ok(made)
+}
