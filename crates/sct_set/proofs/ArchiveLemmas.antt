@@ -8,6 +8,7 @@ use Rattle.std.specs.List.{list_any}
 use Rattle.std.specs.Ordering.{eq_by_cmp}
 use Rattle.std.specs.declared.sync.Arc.{Arc}
 use Rattle.std.proofs.lemmas.Bool.{eq-eqb}
+use Rattle.std.proofs.lemmas.List.{length-map, map-append}
 use Rattle.std.proofs.lemmas.Grind.{take_at_read}
 use Rattle.sct_message.specs.declared.draft.Draft.{Draft}
 use Rattle.sct_message.specs.declared.keys.Identity.{Identity}
@@ -24,7 +25,6 @@ use Rattle.sct_set.specs.Digest.{digest_of}
 use Rattle.sct_set.specs.Drafts.{drafts_in, drafts_of, drafts_alike}
 use Rattle.sct_set.specs.declared.added.Added.TheVariants as added
 use Rattle.sct_set.proofs.ContentsLemmas.{any_items, contains-contents_of, same_is}
-use Rattle.sct_set.proofs.IndexLemmas.{map-append}
 
 -- ---- a message among those of its digest, and of its identity
 
@@ -46,10 +46,6 @@ held-is ms ds m e =
     ∙ ap (λ (p : Draft → Bool). list_any p ds) (λ i d. implied _ _ (same_have_one_digest d m) i)
     ∙ sym (contains-contents_of ds m)
 
-length-values : (ms : List (Arc Draft Global)) → length (drafts_in ms) ≡ length ms
-length-values [] = refl
-length-values (m ∷ ms) = ap suc (length-values ms)
-
 zero_below : (n : ℕ) → nat_lt 0 (suc n) ≡ true
 zero_below n = lt-ltb 0 (suc n) (omega arith)
 
@@ -60,7 +56,7 @@ some_kept p (d ∷ ds) = elim (p d) as (λ b. nat_lt 0 (length (cond b (d ∷ fi
 -- a message of an identity is held where its list is not empty
 pub has-is : (ms : List (Arc Draft Global)) (ds : List Draft) (i : Identity) → drafts_in ms ≡ drafts_of i ds → nat_lt 0 (length ms) ≡ has_identity (contents_of ds) i
 has-is ms ds i e =
-    ap (nat_lt 0) (sym (length-values ms))
+    ap (nat_lt 0) (sym (length-map ms arc_value))
     ∙ ap (λ (xs : List Draft). nat_lt 0 (length xs)) e
     ∙ some_kept (λ d. same_identity (identity_of d) i) ds
     ∙ sym (any_items (λ d. same_identity (identity_of d) i) ds)

@@ -1,5 +1,6 @@
 -- What filing a message and taking it out do to an index. Proof plumbing.
-use Rattle.std.proofs.Common.{◌≡◌, ℕ, zero, suc, ◌+◌, ◌-◌, Bool, true, false, cond, List, [], ◌∷◌, ◌++◌, map, length, take, refl, sym, ap, subst, ◌∙◌, filter, arith, length-append}
+use Rattle.std.proofs.Common.{◌≡◌, ℕ, ◌+◌, ◌-◌, Bool, true, false, cond, List, [], ◌∷◌, ◌++◌, map, length, take, sym, ap, subst, ◌∙◌, filter, arith, length-append}
+use Rattle.std.proofs.lemmas.List.{append-nil, length-map, map-append, take-map}
 use Rattle.std.proofs.lemmas.List.Elements.{filter-append}
 use Rattle.std.proofs.Math.Seq.{take-append_seam}
 use Rattle.std.specs.Arc.{arc_value}
@@ -9,23 +10,6 @@ use Rattle.indexmap.specs.IndexMap.{IndexMap}
 use Rattle.sct_message.specs.declared.draft.Draft.{Draft}
 use Rattle.sct_set.specs.Buckets.{bucket, HasNoEmptyList}
 use Rattle.sct_set.specs.Drafts.{drafts_in, IsIndexBy}
-
-pub map-append : {A B : Type 0} (f : A → B) (xs ys : List A) → map f (xs ++ ys) ≡ map f xs ++ map f ys
-map-append f [] ys = refl
-map-append f (x ∷ xs) ys = ap (λ (zs : List _). f x ∷ zs) (map-append f xs ys)
-
-append-nil : {A : Type 0} (xs : List A) → xs ++ [] ≡ xs
-append-nil [] = refl
-append-nil (x ∷ xs) = ap (λ (zs : List _). x ∷ zs) (append-nil xs)
-
-length-map_is : {A B : Type 0} (f : A → B) (xs : List A) → length (map f xs) ≡ length xs
-length-map_is f [] = refl
-length-map_is f (x ∷ xs) = ap (λ (n : ℕ). suc n) (length-map_is f xs)
-
-map-take : {A B : Type 0} (f : A → B) (n : ℕ) (xs : List A) → map f (take n xs) ≡ take n (map f xs)
-map-take f zero xs = refl
-map-take f (suc n) [] = refl
-map-take f (suc n) (x ∷ xs) = ap (λ (zs : List _). f x ∷ zs) (map-take f n xs)
 
 one_less : {n m : ℕ} → n ≡ m + 1 → n - 1 ≡ m
 one_less e = omega arith
@@ -51,7 +35,7 @@ module _ {A D : Type 0} (value : A → D) (is_of : D → Bool) where
       let parts = was ∙ filter-append is_of ds (value item ∷ []) in
       ap (map value) is
       ∙ elim (is_of (value item)) as (λ b. map value old ≡ filter is_of ds ++ cond b (value item ∷ []) [] → map value (cond b (take (length old - 1) old) old) ≡ filter is_of ds) [
-        | true ↦ λ e. map-take value (length old - 1) old ∙ ap (λ (n : ℕ). take (n - 1) (map value old)) (sym (length-map_is value old))
+        | true ↦ λ e. sym (take-map value (length old - 1) old) ∙ ap (λ (n : ℕ). take (n - 1) (map value old)) (sym (length-map old value))
             ∙ ap (λ (xs : List D). take (length xs - 1) xs) e ∙ but_last (filter is_of ds) (value item)
         | false ↦ λ e. e ∙ append-nil (filter is_of ds)
       ] parts

@@ -1,5 +1,6 @@
 -- Both indexes gain the message, or neither does.
 use Rattle.std.proofs.Common.{◌≡◌, ap, sym, ◌∙◌, ◌++◌, ◌∷◌, [], List, nat_eq, refl, subst}
+use Rattle.std.proofs.lemmas.List.{map-append}
 use Rattle.std.specs.Arc.{arc_value}
 use Rattle.std.specs.Global.{Global}
 use Rattle.std.specs.declared.sync.Arc.{Arc}
@@ -8,7 +9,7 @@ use Rattle.sct_message.specs.Keys.{identity_of}
 use Rattle.sct_message.specs.Order.{same_identity}
 use Rattle.sct_set.specs.Digest.{digest_of}
 use Rattle.sct_set.specs.Drafts.{drafts_in, IsIndexBy}
-use Rattle.sct_set.proofs.IndexLemmas.{IsIndexBy-filed, IsIndexBy-unfiled, IsIndexBy-kept, map-append}
+use Rattle.sct_set.proofs.IndexLemmas.{IsIndexBy-filed, IsIndexBy-unfiled, IsIndexBy-kept}
 use Rattle.sct_set.proofs.table.Table.push.Goals as goal
 
 -- a list with a message behind it, and with another handle on the same message
