@@ -1,5 +1,5 @@
 -- What the readers and writers of std tell of their bytes, in the words of a source and of a sink.
-use Rattle.std.proofs.Common.{◌≡◌, ℕ, ◌<◌, List, [], ◌++◌, Option, Some, None, length, take, drop, IfSome, refl, sym, ap, ◌∙◌, append-nil, arith}
+use Rattle.std.proofs.Common.{◌≡◌, ℕ, ◌<◌, List, [], ◌++◌, Option, Some, None, length, take, IfSome, refl, sym, ap, ◌∙◌, append-nil, arith}
 use Rattle.std.specs.Io.KnownBytes.{Consumes, Appends, Keeps, IsAtEnd}
 use Rattle.sct_sites.specs.Stream.{AppendsIfTold, Gives, HasTakenIfTold}
 

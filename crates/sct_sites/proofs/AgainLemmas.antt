@@ -1,13 +1,11 @@
 -- That the archive text is an input which gives the set back. Proof plumbing.
-use Rattle.std.specs.FinSet as set
-use Rattle.std.proofs.Common.{ℕ, ◌≡◌, ◌+◌, ◌<◌, suc, ◌++◌, ◌∷◌, [], List, Bool, true, false, cond, not, ◌==◌, ◌&&◌, ◌||◌, Ok, length, refl, sym, ap, subst, ◌∙◌, append_assoc, arith}
-use Rattle.std.specs.List.{Contains, flat_map, list_all}
+use Rattle.std.proofs.Common.{ℕ, ◌≡◌, ◌+◌, suc, ◌++◌, ◌∷◌, [], List, true, false, cond, not, ◌==◌, ◌&&◌, refl, ap, ◌∙◌, append_assoc, arith}
+use Rattle.std.specs.List.{Contains, flat_map}
 use Rattle.sct_message.specs.declared.draft.Draft.{Draft}
-use Rattle.sct_json.specs.Reading.{message_in}
 use Rattle.sct_json.specs.Writing.{written_text, has_no_line_feed}
 use Rattle.sct_json.proofs.Texts.{text_is_one_line, text_begins}
-use Rattle.sct_set.specs.Archive.{archive_text_of, in_text_order, line_of, AreReadAgain, IsReadAgain}
-use Rattle.sct_set.specs.Contents.{Contents, contents_of}
+use Rattle.sct_set.specs.Archive.{in_text_order, line_of, IsReadAgain}
+use Rattle.sct_set.specs.Contents.{contents_of}
 use Rattle.sct_set.proofs.TextLemmas.{archive_text-lines, contents-in_text_order, Contains-in_text_order}
 use Rattle.sct_sites.specs.Lines.{is_blank, lines_of, onto_first, numbered_from, messages_among, refusals_among}
 use Rattle.sct_sites.specs.Again.{ArchiveGivesBack}

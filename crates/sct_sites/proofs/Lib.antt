@@ -1,12 +1,8 @@
 -- The lemmas of the program.
 mod Adapters
 mod AgainLemmas
-mod CaseLaws
-mod CaseReferences
+mod FiledLemmas
 pub mod LineLawLemmas
 pub mod LineLemmas
 mod Prefixes
-mod References
-mod SameParts
-mod StatusLines
-mod StatusOfSets
+mod StatusLemmas

@@ -1,5 +1,5 @@
 -- What the command line asks for, and what a run then writes. Read by an auditor.
-use Rattle.std.specs.Prelude.{ℕ, ◌≡◌, List, [], ◌∷◌, ◌++◌, length, Option, Some, None, IfSome, Bool, true, false, if◌then◌else◌, codes, string_bytes}
+use Rattle.std.specs.Prelude.{ℕ, ◌≡◌, List, [], length, Option, Some, None, IfSome, Bool, true, false, if◌then◌else◌, codes, string_bytes}
 use Rattle.sct_element.specs.Text.{is_text}
 use Rattle.sct_sites.specs.declared.engine.Job.{Job}
 use Rattle.sct_sites.specs.declared.engine.Job.TheVariants.{Status, Archive}

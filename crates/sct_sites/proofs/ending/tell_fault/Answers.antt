@@ -1,5 +1,5 @@
 -- The line of the fault and the text behind it, of which either may be cut off.
-use Rattle.std.proofs.Common.{◌≡◌, ◌+◌, subst, rules, sym, ◌∙◌, IfErr}
+use Rattle.std.proofs.Common.{◌≡◌, ◌+◌, subst, rules, IfErr}
 use Rattle.sct_sites.specs.Ending.{fault_line_of}
 use Rattle.sct_sites.specs.Fault.{failed_writes}
 use Rattle.sct_sites.specs.Stream.{AppendsIfTold, AppendsPrefixIfTold}
