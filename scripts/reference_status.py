@@ -89,11 +89,12 @@ TABLE = {
         ("Conf", code4), ("Rsn", reason), ("DbtrAgt", bic)],
 }
 
-# ---- the reasons that are usual for a rejection
+# ---- the reasons that are usual for a rejection, and for the refusal of a recall
 
 REJECTIONS = set("""
     AB05 AB06 AB07 AB08 AB09 AB10 AC01 AC04 AC06 AG01 AG02 AG09 AG10 AG11 AM02 AM04 AM05 AM09 AM23 BE04 FF01 MD07
     MS02 MS03 RC01 RR01 RR02 RR03 RR04 TM01""".split())
+REFUSALS = set("AC04 AM04 ARDT CUST LEGL NOAS NOOR".split())
 
 
 def kind_named(s):
@@ -215,15 +216,19 @@ def transfer(msg):
     return m["DbtrAgt"].encode(), m["TxId" if kind == "pacs.008" else "OrgnlTxId"].encode()
 
 
+def euros(cents):
+    return f"{cents // 100}.{cents % 100:02d}"
+
+
 def written(msg):
     """The written form of a message, without a line feed."""
-    elements = {k: f"{x // 100}.{x % 100:02d}" if isinstance(x, int) else x for k, x in msg[1]}
+    elements = {k: euros(x) if isinstance(x, int) else x for k, x in msg[1]}
     return json.dumps(elements, ensure_ascii=False, separators=(",", ":"), sort_keys=True)
 
 
-def shown(code):
-    """A reason of a rejection as it is shown."""
-    return code if code in REJECTIONS else code + "?"
+def shown(code, usual):
+    """A reason as it is shown where these are usual."""
+    return code if code in usual else code + "?"
 
 
 def contradicted(messages):
@@ -234,43 +239,96 @@ def contradicted(messages):
     return {i for i, ms in shares.items() if len(ms) > 1}
 
 
+def recall_named(kind, m):
+    """The identification of the recall that a message names, or None."""
+    return m.get("CxlId" if kind == "camt.056" else "OrgnlCxlId")
+
+
+class Clean:
+    """The uncontradicted messages of a transfer, read out by what they say."""
+
+    def __init__(self, clean):
+        of = lambda kind: [dict(m[1]) for m in clean if m[0] == kind]
+        confirmations = of("pacs.002")
+        self.instructions = of("pacs.008")
+        self.accepts = [m for m in confirmations if m["TxSts"] == "ACCP"]
+        self.reasons = {m["Rsn"] for m in confirmations if m["TxSts"] == "RJCT"}
+        self.investigations = [m for m in of("pacs.028") if "OrgnlCxlId" not in m]
+        self.chased = {m["OrgnlCxlId"] for m in of("pacs.028") if "OrgnlCxlId" in m}
+        self.recalls = {(m["CxlId"], m["OrgnlIntrBkSttlmAmt"], m["Rsn"]) for m in of("camt.056")}
+        self.returns = {(m["RtrId"], m["OrgnlCxlId"], m["RtrdIntrBkSttlmAmt"]) for m in of("pacs.004")}
+        self.refusals = {(m["OrgnlCxlId"], m["Rsn"]) for m in of("camt.029")}
+        self.originals = {m["OrgnlIntrBkSttlmAmt"] for m in of("camt.056") + of("pacs.004")}
+        self.named = {recall_named(kind, dict(m)) for kind, m in clean} - {None}
+
+    def findings(self):
+        twice = lambda cxls: sorted({c for c in cxls if cxls.count(c) > 1}, key=str.encode)
+        returned = {c for _, c, _ in self.returns}
+        if len(self.instructions) > 1:
+            yield "TwoInstructions"
+        if self.accepts and self.reasons:
+            yield "BothConfirmed"
+        if len(self.reasons) > 1:
+            yield "ReasonsDiffer"
+        if len(self.instructions) == 1 and self.originals - {self.instructions[0]["IntrBkSttlmAmt"]}:
+            yield "AmountDiffers"
+        for c in twice([c for c, _, _ in self.recalls]):
+            yield "RecallsDiffer|" + c
+        for c in sorted({c for c, _ in self.refusals} & returned, key=str.encode):
+            yield "BothAnswers|" + c
+        for c in twice([c for c, _ in self.refusals]):
+            yield "RefusalsDiffer|" + c
+        if len(self.returns) > 1:
+            yield "TwoReturns"
+        if self.returns and self.reasons:
+            yield "ReturnOfRejected"
+
+    def status(self):
+        if not self.instructions:
+            return "MISSING"
+        if self.reasons:
+            return "REJECTED|" + shown(*self.reasons, REJECTIONS)
+        if self.accepts:
+            amounts = {amount for _, _, amount in self.returns}
+            return "RETURNED|" + euros(*amounts) if amounts else "ACCEPTED"
+        return "INVESTIGATED" if self.investigations else "PENDING"
+
+    def recall_status(self, cxl):
+        amounts = {amount for _, c, amount in self.returns if c == cxl}
+        reasons = {reason for c, reason in self.refusals if c == cxl}
+        if cxl not in self.named:
+            return "UNKNOWN"
+        if cxl not in {c for c, _, _ in self.recalls}:
+            return "UNASKED"
+        if amounts:
+            return "RETURNED|" + euros(*amounts)
+        if reasons:
+            return "REFUSED|" + shown(*reasons, REFUSALS)
+        return "CHASED" if cxl in self.chased else "OPEN"
+
+
 def standing(mine, against):
-    """The words of the T line and of the F lines of a transfer, from all messages about it."""
+    """The words of the T line, of the F lines and of the R lines of a transfer, from all messages about it."""
     asides = sorted({identity(m) for m in mine if identity(m) in against})
-    clean = [m for m in mine if identity(m) not in against]
-    instructions = [m for m in clean if m[0] == "pacs.008"]
-    accepts = [m for m in clean if dict(m[1]).get("TxSts") == "ACCP"]
-    reasons = {dict(m[1])["Rsn"] for m in clean if dict(m[1]).get("TxSts") == "RJCT"}
-    found = ["Identity|" + "|".join(p.decode() for p in i) for i in asides]
-    if len(instructions) > 1:
-        found.append("TwoInstructions")
-    if accepts and reasons:
-        found.append("BothConfirmed")
-    if len(reasons) > 1:
-        found.append("ReasonsDiffer")
-    if found:
-        return "CONTRADICTED", found
-    if not mine:
-        return "UNKNOWN", []
-    if not instructions:
-        return "MISSING", []
-    if reasons:
-        return "REJECTED|" + shown(reasons.pop()), []
-    return ("ACCEPTED" if accepts else "PENDING"), []
+    clean = Clean([m for m in mine if identity(m) not in against])
+    recalls = sorted({recall_named(kind, dict(m)) for kind, m in mine} - {None}, key=str.encode)
+    found = ["Identity|" + "|".join(p.decode() for p in i) for i in asides] + list(clean.findings())
+    status = "CONTRADICTED" if found else clean.status()
+    return status, found, [c + "|" + ("CONTRADICTED" if found else clean.recall_status(c)) for c in recalls]
 
 
 def status_text(messages):
     by = {}
     for m in messages:
-        if m[0] in ("pacs.008", "pacs.002"):
-            by.setdefault(transfer(m), []).append(m)
+        by.setdefault(transfer(m), []).append(m)
     against = contradicted(messages)
     text = []
     for t in sorted(by):
         bank, tx = t[0].decode(), t[1].decode()
-        status, found = standing(by[t], against)
+        status, found, recalls = standing(by[t], against)
         text.append(f"T|{bank}|{tx}|{status}\n")
         text += [f"F|{bank}|{tx}|{f}\n" for f in found]
+        text += [f"R|{bank}|{tx}|{r}\n" for r in recalls]
     return "".join(text)
 
 

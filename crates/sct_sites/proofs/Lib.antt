@@ -1,13 +1,9 @@
 -- The lemmas of the program.
 mod Adapters
 mod AgainLemmas
-mod CaseLaws
-mod CaseReferences
 mod CommandLineLemmas
+mod FiledLemmas
 pub mod LineLawLemmas
 pub mod LineLemmas
 mod Prefixes
-mod References
-mod SameParts
-mod StatusLines
-mod StatusOfSets
+mod StatusLemmas

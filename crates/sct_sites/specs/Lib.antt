@@ -1,6 +1,5 @@
 -- The definitions that contracts cite.
 pub mod Again
-pub mod Cases
 pub mod CommandLine
 pub mod Ending
 pub mod Engine

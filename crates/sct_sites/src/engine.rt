@@ -37,7 +37,7 @@ use std::alloc::Global;
 /// What is asked of an input.
 #[derive(Clone, Copy, Debug, PartialEq, Eq)]
 pub enum Job {
-    /// The status of each transfer, and the findings on the contradicted ones.
+    /// The status of each transfer and of its recalls, and the findings on the contradicted ones.
     Status,
     /// Each message held, written on a line of its own.
     Archive,
@@ -57,7 +57,7 @@ fn job_text(alloc: Global, job: &Job, messages: Vec<Message>) -> Result<Vec<u8>,
     ensures memory { IfErr result (λ e. e ≡ fault.Memory) }
 {
     match job {
-        Job::Status => Ok(status_text(alloc, messages)?),
+        Job::Status => status_text(alloc, messages),
         Job::Archive => archive_text(alloc, messages),
     }
 }

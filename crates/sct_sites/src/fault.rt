@@ -3,6 +3,7 @@ ghost use Rattle.std.specs.Prelude.{◌≡◌};
 ghost use Rattle.sct_sites.specs.declared.fault.ProgramFault.TheVariants as fault;
 ghost use Rattle.sct_sites.specs.Fault.{program_fault_number};
 
+use sct_case::CaseFault;
 use sct_set::SetFault;
 use std::alloc::{AllocError, AllocFailed};
 use thiserror::Error;
@@ -41,6 +42,14 @@ impl From<AllocError> for ProgramFault {
     ghost from_gives = { λ _ e. e ≡ fault.Memory };
 
     fn from(_error: AllocError) -> ProgramFault {
+        ProgramFault::Memory
+    }
+}
+
+impl From<CaseFault> for ProgramFault {
+    ghost from_gives = { λ _ e. e ≡ fault.Memory };
+
+    fn from(_fault: CaseFault) -> ProgramFault {
         ProgramFault::Memory
     }
 }

@@ -12,7 +12,7 @@ use std::alloc::Global;
 use std::sync::Arc;
 
 /// An archive that holds the messages.
-fn archive_of(alloc: Global, messages: Vec<Message>) -> Result<Archive, ProgramFault>
+pub fn archive_of(alloc: Global, messages: Vec<Message>) -> Result<Archive, ProgramFault>
     ensures held { IfOk result (λ archive. archive ≡ contents_of messages.items) }
     ensures memory { IfErr result (λ e. e ≡ fault.Memory) }
 {

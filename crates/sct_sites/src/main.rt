@@ -1,11 +1,11 @@
 //! The program: answers on the messages of standard input, as the command line asks.
 #![tactic(auto)]
 
-mod cases;
 mod ending;
 mod engine;
 mod failures;
 mod fault;
+mod filed;
 mod holding;
 mod lines;
 mod program;
@@ -15,6 +15,7 @@ mod source;
 mod standing;
 mod told;
 mod transfer;
+mod words;
 
 use program::run_over_std;
 use request::read_words;

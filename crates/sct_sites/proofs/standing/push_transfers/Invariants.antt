@@ -1,7 +1,8 @@
-use Rattle.std.proofs.Common.{◌≡◌, ◌++◌, map, take}
+-- The lines of the transfers so far.
+use Rattle.std.proofs.Common.{◌≡◌, ◌++◌, take}
 use Rattle.std.specs.Prelude.{string_bytes, flat_map}
-use Rattle.sct_sites.specs.Status.{lines_among}
+use Rattle.sct_sites.specs.Status.{lines_on}
 use Rattle.sct_sites.proofs.standing.push_transfers.Given as goal
 
 abbrev pub invariant-loop-transfer : goal.invariant-loop-transfer
-invariant-loop-transfer l = string_bytes l.text ≡ string_bytes l.initial.text ++ flat_map (lines_among (map (λ m. m.now) l.clean) (map (λ m. m.now) l.contradicted)) (take l.transfer-index l.transfers)
+invariant-loop-transfer l = string_bytes l.text ≡ string_bytes l.initial.text ++ flat_map (lines_on l.archive) (take l.transfer-index l.transfers)

@@ -1,6 +1,0 @@
-use Rattle.std.proofs.Common.{◌≡◌, map, take}
-use Rattle.sct_sites.specs.declared.cases.Finding.TheVariants as finding
-use Rattle.sct_sites.proofs.cases.contradictions.Given as goal
-
-abbrev pub invariant-loop-identity : goal.invariant-loop-identity
-invariant-loop-identity l = l.found.items ≡ map (λ i. finding.Identity i) (take l.identity-index l.asides)
