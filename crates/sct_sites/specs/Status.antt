@@ -1,5 +1,5 @@
--- The status text: where each transfer of a set of messages and its recalls stand, and what contradicts itself there.
--- Read by an auditor.
+-- The status text, read by an auditor: where each transfer of a set of messages and its recalls stand, and what
+-- contradicts itself there.
 use Rattle.std.specs.Prelude.{◌≡◌, ◌≢◌, ◌↔◌, ℕ, List, [], ◌∷◌, ◌++◌, map, flat_map, if◌then◌else◌, codes}
 use Rattle.sct_element.specs.Money.{amount_text}
 use Rattle.sct_reason.specs.declared.reasons.Reason.{Reason}

@@ -20,7 +20,8 @@ use std::sync::Arc;
 
 /// The messages in their order, each once.
 pub fn in_order(alloc: Global, messages: &[Arc<Message>]) -> Result<Vec<Arc<Message>>, AllocError>
-    ensures { IfOk result (λ sorted. messages_in sorted.items ≡ ascending message_order (messages_in messages.now)) }
+    ensures { IfOk result (λ sorted.
+        messages_in sorted.items ≡ ascending message_order (messages_in messages.now)) }
 {
     let mut sorted = Vec::new(alloc);
     for message in messages {
@@ -33,7 +34,8 @@ pub fn in_order(alloc: Global, messages: &[Arc<Message>]) -> Result<Vec<Arc<Mess
 
 /// The transfers that the messages are on, ascending, each once.
 pub fn transfers(alloc: Global, messages: &[Arc<Message>]) -> Result<Vec<TransferKey>, AllocError>
-    ensures { IfOk result (λ found. found.items ≡ ascending transfer_order (map transfer_of (messages_in messages.now))) }
+    ensures { IfOk result (λ found.
+        found.items ≡ ascending transfer_order (map transfer_of (messages_in messages.now))) }
 {
     let mut found = Vec::new(alloc);
     for message in messages {
@@ -80,7 +82,8 @@ pub fn clean(
     archive: &Archive,
     messages: &[Arc<Message>],
 ) -> Result<Vec<Arc<Message>>, AllocError>
-    ensures { IfOk result (λ found. messages_in found.items ≡ filter (λ m. not (is_contradicted archive.now m)) (messages_in messages.now)) }
+    ensures { IfOk result (λ found.
+        messages_in found.items ≡ filter (λ m. not (is_contradicted archive.now m)) (messages_in messages.now)) }
 {
     let mut found = Vec::new(alloc);
     for message in messages {
@@ -97,7 +100,9 @@ pub fn asides(
     archive: &Archive,
     messages: &[Arc<Message>],
 ) -> Result<Vec<Identity>, AllocError>
-    ensures { IfOk result (λ found. found.items ≡ ascending identity_order (map identity_of (filter (is_contradicted archive.now) (messages_in messages.now)))) }
+    ensures { IfOk result (λ found.
+        found.items
+        ≡ ascending identity_order (map identity_of (filter (is_contradicted archive.now) (messages_in messages.now)))) }
 {
     let mut found = Vec::new(alloc);
     for message in messages {
@@ -150,7 +155,8 @@ pub fn recalls(
     transfer: &TransferKey,
     messages: &[Arc<Message>],
 ) -> Result<Vec<Id35>, AllocError>
-    ensures { IfOk result (λ found. found.items ≡ ascending text_order (flat_map (cxls_named_by transfer.now) (messages_in messages.now))) }
+    ensures { IfOk result (λ found.
+        found.items ≡ ascending text_order (flat_map (cxls_named_by transfer.now) (messages_in messages.now))) }
 {
     let mut found = Vec::new(alloc);
     for message in messages {

@@ -36,7 +36,8 @@ fn push_findings(
     transfer: &TransferKey,
     found: &[Finding],
 ) -> Result<(), AllocError>
-    ensures { OnOk result (string_bytes text.new ≡ string_bytes text.old ++ flat_map (finding_line transfer.now) found.now) }
+    ensures { OnOk result (string_bytes text.new
+        ≡ string_bytes text.old ++ flat_map (finding_line transfer.now) found.now) }
 {
     for finding in found {
         push_finding_line(text, transfer, finding)?;

@@ -133,7 +133,8 @@ pub fn push_status_line(
     transfer: &TransferKey,
     status: &Status,
 ) -> Result<(), AllocError>
-    ensures { OnOk result (string_bytes text.new ≡ string_bytes text.old ++ status_line transfer.now (told status.now)) }
+    ensures { OnOk result (string_bytes text.new
+        ≡ string_bytes text.old ++ status_line transfer.now (told status.now)) }
 {
     push_key(text, "T", transfer)?;
     push_status(text, status)?;
@@ -148,7 +149,8 @@ pub fn push_finding_line(
     transfer: &TransferKey,
     finding: &Finding,
 ) -> Result<(), AllocError>
-    ensures { OnOk result (string_bytes text.new ≡ string_bytes text.old ++ finding_line transfer.now finding.now) }
+    ensures { OnOk result (string_bytes text.new
+        ≡ string_bytes text.old ++ finding_line transfer.now finding.now) }
 {
     push_key(text, "F", transfer)?;
     push_finding(text, finding)?;
@@ -164,7 +166,8 @@ pub fn push_recall_line(
     cxl: &Id35,
     status: &RecallStatus,
 ) -> Result<(), AllocError>
-    ensures { OnOk result (string_bytes text.new ≡ string_bytes text.old ++ recall_line transfer.now cxl.now status.now) }
+    ensures { OnOk result (string_bytes text.new
+        ≡ string_bytes text.old ++ recall_line transfer.now cxl.now status.now) }
 {
     push_key(text, "R", transfer)?;
     text.push_str(cxl.text())?;
