@@ -1,6 +1,7 @@
 //! What is told of one transfer by the clean messages on it and its asides.
 ghost use Rattle.std.specs.Prelude.{◌≡◌, [], List, true, IfOk, IfSome, MatchOption};
 ghost use Rattle.sct_message.specs.Sets.{messages_in};
+ghost use Rattle.sct_message.specs.declared.keys.Identity.{Identity as IdentityOf};
 ghost use Rattle.sct_message.specs.declared.keys.TransferKey.{TransferKey as TransferOf};
 ghost use Rattle.sct_case.specs.Told.{has_some, findings_of};
 ghost use Rattle.sct_case.specs.Statuses.{AreOn, told, transfer_status_of, recall_status_of};
@@ -68,6 +69,27 @@ pub fn transfer_status(
     }
 }
 
+/// Where the recall stands that has this identification, on a transfer of which these are the findings. What is found is
+/// looked for once where many recalls of a transfer are asked about.
+pub fn recall_status_beside(
+    alloc: Global,
+    found: &[Finding],
+    clean: &[Arc<Message>],
+    cxl: &Id35,
+) -> Result<RecallStatus, CaseFault>
+    ensures { (t : TransferOf) (asides : List IdentityOf) → AreOn t (messages_in clean.now)
+        → found.now ≡ findings_of t (messages_in clean.now) asides
+        → IfOk result (λ stands. stands ≡ recall_status_of t (messages_in clean.now) asides cxl.now) }
+{
+    if is_contradicted(found) {
+        return Ok(RecallStatus::Contradicted);
+    }
+    match transfer_of(clean) {
+        Some(transfer) => Ok(recall_standing_on(alloc, &transfer, clean, cxl)?),
+        None => Ok(RecallStatus::Unknown),
+    }
+}
+
 /// Where the recall of the transfer stands that has this identification.
 pub fn recall_status(
     alloc: Global,
@@ -78,12 +100,6 @@ pub fn recall_status(
     ensures { (t : TransferOf) → AreOn t (messages_in clean.now)
         → IfOk result (λ stands. stands ≡ recall_status_of t (messages_in clean.now) asides.now cxl.now) }
 {
-    let contradictions = findings(alloc, clean, asides)?;
-    if is_contradicted(&contradictions) {
-        return Ok(RecallStatus::Contradicted);
-    }
-    match transfer_of(clean) {
-        Some(transfer) => Ok(recall_standing_on(alloc, &transfer, clean, cxl)?),
-        None => Ok(RecallStatus::Unknown),
-    }
+    let found = findings(alloc, clean, asides)?;
+    recall_status_beside(alloc, &found, clean, cxl)
 }

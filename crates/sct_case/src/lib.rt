@@ -12,7 +12,7 @@ mod said;
 mod standing;
 mod status;
 
-pub use cases::{findings, recall_status, transfer_status};
+pub use cases::{findings, recall_status, recall_status_beside, transfer_status};
 pub use fault::CaseFault;
 pub use finding::Finding;
 pub use status::{RecallStatus, Status};

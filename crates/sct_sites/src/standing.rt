@@ -1,6 +1,8 @@
 //! The status text.
 ghost use Rattle.std.specs.Prelude.{◌≡◌, List, ◌++◌, filter, flat_map, IfErr, IfOk, OnOk, string_bytes};
 ghost use Rattle.sct_case.specs.Statuses.{AreOn};
+ghost use Rattle.sct_case.specs.Told.{findings_of};
+ghost use Rattle.sct_message.specs.declared.keys.Identity.{Identity as IdentityOf};
 ghost use Rattle.sct_message.specs.Sets.{in_order, messages_in};
 ghost use Rattle.sct_message.specs.Transfers.{is_on};
 ghost use Rattle.sct_message.specs.Keys.{transfer_of};
@@ -23,7 +25,7 @@ use crate::filed::{asides, by_transfer, clean, in_order, on_transfer, recalls, t
 use crate::holding::archive_of;
 use crate::words::{push_finding_line, push_recall_line, push_status_line};
 use indexmap::IndexMap;
-use sct_case::{Finding, findings, recall_status, transfer_status};
+use sct_case::{Finding, findings, recall_status_beside, transfer_status};
 use sct_element::Id35;
 use sct_message::{Identity, Message, TransferKey};
 use sct_set::Archive;
@@ -45,22 +47,23 @@ fn push_findings(
     Ok(())
 }
 
-// The R line of each of some recalls of a transfer, from the clean messages on it and its asides.
+// The R line of each of some recalls of a transfer, from what was found on it and the clean messages on it.
 fn push_recalls(
     alloc: Global,
     text: &mut String,
     transfer: &TransferKey,
+    found: &[Finding],
     clean: &[Arc<Message>],
-    asides: &[Identity],
     cxls: &[Id35],
 ) -> Result<(), ProgramFault>
     requires { AreOn transfer.now (messages_in clean.now) }
-    ensures text { OnOk result (string_bytes text.new
-        ≡ string_bytes text.old ++ recall_lines transfer.now (messages_in clean.now) asides.now cxls.now) }
+    ensures text { OnOk result ((asides : List IdentityOf)
+        → found.now ≡ findings_of transfer.now (messages_in clean.now) asides
+        → string_bytes text.new ≡ string_bytes text.old ++ recall_lines transfer.now (messages_in clean.now) asides cxls.now) }
     ensures memory { IfErr result (λ e. e ≡ fault.Memory) }
 {
     for cxl in cxls {
-        let status = recall_status(alloc, clean, asides, cxl)?;
+        let status = recall_status_beside(alloc, found, clean, cxl)?;
         push_recall_line(text, transfer, cxl, &status)?;
     }
     Ok(())
@@ -84,7 +87,7 @@ fn push_told(
     push_status_line(text, transfer, &status)?;
     let found = findings(alloc, clean, asides)?;
     push_findings(text, transfer, &found)?;
-    push_recalls(alloc, text, transfer, clean, asides, cxls)?;
+    push_recalls(alloc, text, transfer, &found, clean, cxls)?;
     Ok(())
 }
 

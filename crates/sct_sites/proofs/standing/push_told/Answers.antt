@@ -8,4 +8,5 @@ returns-clause-text c =
     lines_put _ _ _ _ c.args.transfer.now _ _ _ _ _
     (c.in_ok-status.ensures c.args.transfer.now c.requires)
     (c.deref.ensures.value ∙ c.in_ok-found.ensures c.args.transfer.now c.requires)
-    c.in_ok-push_status_line.ensures c.in_ok-push_findings.ensures c.in_ok-push_recalls.ensures.text
+    c.in_ok-push_status_line.ensures c.in_ok-push_findings.ensures
+    (c.in_ok-push_recalls.ensures.text c.args.asides.now (c.deref-2.ensures.value ∙ c.in_ok-found.ensures c.args.transfer.now c.requires))
