@@ -130,7 +130,7 @@ struct Standing {
     recalls: &'static [(&'static str, &'static str, u64, &'static str)],
 }
 
-static CONTRADICTED: [Contradicted; 14] = [
+static CONTRADICTED: [Contradicted; 15] = [
     // an identity
     Contradicted {
         rows: &[Row::Instructed("M1", "100.00")],
@@ -282,7 +282,7 @@ static CONTRADICTED: [Contradicted; 14] = [
             ("TwoReturns", ""),
         ],
     },
-    // all but one
+    // all that two instructions allow
     Contradicted {
         rows: &[
             Row::Instructed("M1", "100.00"),
@@ -303,6 +303,33 @@ static CONTRADICTED: [Contradicted; 14] = [
             ("TwoInstructions", ""),
             ("BothConfirmed", ""),
             ("ReasonsDiffer", ""),
+            ("RecallsDiffer", "R1"),
+            ("BothAnswers", "R1"),
+            ("RefusalsDiffer", "R1"),
+            ("TwoReturns", ""),
+            ("ReturnOfRejected", ""),
+        ],
+    },
+    // all that one instruction allows
+    Contradicted {
+        rows: &[
+            Row::Instructed("M1", "100.00"),
+            Row::Accepted("C1"),
+            Row::Rejected("C2", "AC04"),
+            Row::Rejected("C3", "AM04"),
+            Row::Recalled("K1", "R1", "100.00", "FRAD"),
+            Row::Recalled("K2", "R1", "90.00", "FRAD"),
+            Row::Returned("P1", "XP1", "R1", "100.00", "99.00"),
+            Row::Returned("P2", "XP2", "R2", "100.00", "98.00"),
+            Row::Refused("N1", "R1", "CUST"),
+            Row::Refused("N2", "R1", "LEGL"),
+        ],
+        asides: &["C9"],
+        found: &[
+            ("Identity", "C9"),
+            ("BothConfirmed", ""),
+            ("ReasonsDiffer", ""),
+            ("AmountDiffers", ""),
             ("RecallsDiffer", "R1"),
             ("BothAnswers", "R1"),
             ("RefusalsDiffer", "R1"),
