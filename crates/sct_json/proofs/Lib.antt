@@ -1,10 +1,10 @@
 -- The lemmas behind the JSON form.
 pub mod Bytes
 pub mod Extra
-pub mod Flat
 pub mod Forms
 pub mod NameRule
 pub mod Names
+pub mod Ordered
 pub mod Refusals
 pub mod Rows
 pub mod Texts

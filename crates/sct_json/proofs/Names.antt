@@ -1,5 +1,5 @@
 -- The names of an object ascend by their bytes, in what is read and in what is written, and the first extra one is the least.
-use Rattle.std.proofs.Common.{◌≡◌, ◌≢◌, ◌∙◌, ap, sym, subst, refl, inl, inr, ℕ, Bool, true, false, cond, List, Option, Some, None, option_map, Ordering, Less, Equal, Greater, nat_cmp, is_eq}
+use Rattle.std.proofs.Common.{◌≡◌, ◌∙◌, ap, sym, subst, refl, inl, inr, ℕ, Bool, true, false, cond, List, Option, Some, None, option_map, Ordering, Less, Equal, Greater, nat_cmp, is_eq}
 use Rattle.std.specs.Prelude.{not, find, is_some, option_and_then, ◌⊎◌}
 use Rattle.std.specs.List.{AllByRecursion}
 use Rattle.std.specs.List.Sorted.{IsStrictlySortedBy}

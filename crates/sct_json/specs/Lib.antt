@@ -2,6 +2,7 @@
 pub mod Faults
 pub mod Form
 pub mod Keys
+pub mod Line
 pub mod Names
 pub mod Reading
 pub mod Writing

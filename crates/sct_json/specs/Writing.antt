@@ -1,12 +1,9 @@
 -- The written form of a message: one line with no spaces, keys in the order of their bytes, absent ones left out.
 -- Read by an auditor, but for the last part: that elements read back serves the proofs.
-use Rattle.std.specs.Prelude.{◌≡◌, ℕ, ◌==◌, Bool, not, List, [], ◌∷◌, ◌++◌, Option, Some, None, option_map, String}
-use Rattle.std.specs.declared.alloc.Global.{Global}
+use Rattle.std.specs.Prelude.{◌≡◌, ℕ, ◌==◌, Bool, not, List, [], ◌∷◌, ◌++◌, Option, Some, None, option_map}
 use Rattle.std.specs.List.{list_all}
 use Rattle.serde_json.specs.Data.{Data, string, object, Members, no_members, put}
-use Rattle.serde_json.specs.View.{members_view}
 use Rattle.serde_json.specs.Written.{compact_text}
-use Rattle.serde_json.specs.declared.value.Value.{Value}
 use Rattle.sct_element.specs.Account.{written_iban}
 use Rattle.sct_element.specs.Bank.{written_bic}
 use Rattle.sct_element.specs.Date.{written_day}
@@ -159,10 +156,6 @@ with_elements (draft.StatusRequest m) ms = with_status_request m ms
 with_elements (draft.CancellationRequest m) ms = with_cancellation_request m ms
 with_elements (draft.PaymentReturn m) ms = with_payment_return m ms
 with_elements (draft.Resolution m) ms = with_resolution m ms
-
--- the members of an object were changed so
-abbrev pub Puts : (Members → Members) → List (String Global × Value) → List (String Global × Value) → Type 0
-Puts change old new = members_view new ≡ change (members_view old)
 
 -- the object that is written for a message, and its text
 abbrev pub written_object : Draft → Data

@@ -4,18 +4,17 @@ ghost use Rattle.sct_message.specs.declared.kinds.Kind.TheVariants.{Camt056};
 ghost use Rattle.sct_json.specs.Keys.{is_key_of};
 ghost use Rattle.serde_json.specs.View.{view};
 ghost use Rattle.sct_json.specs.Reading.{GivesWithoutMemory, cancellation_request_in};
-ghost use Rattle.sct_json.specs.Writing.{with_cancellation_request, Puts, CancellationRequestReadsBack};
+ghost use Rattle.sct_json.specs.Line.{with_line, cancellation_request_line, Writes};
+ghost use Rattle.sct_json.specs.Writing.{CancellationRequestReadsBack};
 
 use crate::faults::JsonFault;
 use crate::keys::{Key, is_among};
 use crate::members::{may_read_back, optional, put, put_optional, reads_back, required};
-use crate::tables::{
-    has_key, own_key, put_member, put_table, read_back_member, read_back_table, read_member,
-    read_table,
-};
+use crate::tables::{has_key, own_key, read_back_member, read_back_table, read_member, read_table};
 use crate::{head, original};
+use json::Writer;
 use sct_message::CancellationRequest;
-use serde_json::{Map, Value};
+use serde_json::Value;
 use std::alloc::{AllocError, Global};
 
 /// The keys of a camt.056, in their order.
@@ -48,16 +47,62 @@ pub(crate) fn is_key(name: &str) -> bool
     cancellation_request_table!(has_key! { name })
 }
 
-/// Puts the elements into an object, each at its key.
+/// Writes the members, in the order of the bytes of their keys.
 pub(crate) fn put_all(
-    alloc: Global,
     cancellation_request: &CancellationRequest,
-    object: &mut Map<String, Value>,
+    out: &mut Writer,
 ) -> Result<(), AllocError>
     ensures { OnOk result
-        (Puts (with_cancellation_request cancellation_request.now) object.old.entries object.new.entries) }
+        (Writes (with_line (cancellation_request_line cancellation_request.now)) out.old out.new) }
 {
-    cancellation_request_table!(put_table! { alloc, cancellation_request, object })
+    put(Key::Ccy, &cancellation_request.currency, out)?;
+    put(Key::CreDtTm, &cancellation_request.head.creation_time, out)?;
+    put(Key::CxlId, &cancellation_request.cancellation_id, out)?;
+    put(Key::DbtrAgt, &cancellation_request.debtor_agent, out)?;
+    put_optional(
+        Key::InstdAgt,
+        &cancellation_request.head.instructed_agent,
+        out,
+    )?;
+    put(
+        Key::InstgAgt,
+        &cancellation_request.head.instructing_agent,
+        out,
+    )?;
+    put(Key::MsgId, &cancellation_request.head.message_id, out)?;
+    put(Key::MsgNmId, &cancellation_request.head.message_name, out)?;
+    put_optional(
+        Key::OrgnlEndToEndId,
+        &cancellation_request.original.end_to_end_id,
+        out,
+    )?;
+    put(
+        Key::OrgnlIntrBkSttlmAmt,
+        &cancellation_request.original_amount,
+        out,
+    )?;
+    put_optional(
+        Key::OrgnlIntrBkSttlmDt,
+        &cancellation_request.original_settlement_date,
+        out,
+    )?;
+    put(
+        Key::OrgnlMsgId,
+        &cancellation_request.original.message_id,
+        out,
+    )?;
+    put(
+        Key::OrgnlMsgNmId,
+        &cancellation_request.original.message_name,
+        out,
+    )?;
+    put(
+        Key::OrgnlTxId,
+        &cancellation_request.original.transaction_id,
+        out,
+    )?;
+    put(Key::Rsn, &cancellation_request.reason, out)?;
+    Ok(())
 }
 
 /// A law: the written form of each element is read as the element.

@@ -4,18 +4,17 @@ ghost use Rattle.sct_message.specs.declared.kinds.Kind.TheVariants.{Pacs008};
 ghost use Rattle.sct_json.specs.Keys.{is_key_of};
 ghost use Rattle.serde_json.specs.View.{view};
 ghost use Rattle.sct_json.specs.Reading.{Gives, credit_transfer_in};
-ghost use Rattle.sct_json.specs.Writing.{with_credit_transfer, Puts, CreditTransferReadsBack};
+ghost use Rattle.sct_json.specs.Line.{with_line, credit_transfer_line, Writes};
+ghost use Rattle.sct_json.specs.Writing.{CreditTransferReadsBack};
 
 use crate::faults::JsonFault;
 use crate::head;
 use crate::keys::{Key, is_among};
 use crate::members::{may_read_back, optional, put, put_optional, reads_back, required};
-use crate::tables::{
-    has_key, own_key, put_member, put_table, read_back_member, read_back_table, read_member,
-    read_table,
-};
+use crate::tables::{has_key, own_key, read_back_member, read_back_table, read_member, read_table};
+use json::Writer;
 use sct_message::CreditTransfer;
-use serde_json::{Map, Value};
+use serde_json::Value;
 use std::alloc::{AllocError, Global};
 
 /// The keys of a pacs.008, in their order.
@@ -58,16 +57,34 @@ pub(crate) fn is_key(name: &str) -> bool
     credit_transfer_table!(has_key! { name })
 }
 
-/// Puts the elements into an object, each at its key.
-pub(crate) fn put_all(
-    alloc: Global,
-    credit_transfer: &CreditTransfer,
-    object: &mut Map<String, Value>,
-) -> Result<(), AllocError>
+/// Writes the members, in the order of the bytes of their keys.
+pub(crate) fn put_all(credit_transfer: &CreditTransfer, out: &mut Writer) -> Result<(), AllocError>
     ensures { OnOk result
-        (Puts (with_credit_transfer credit_transfer.now) object.old.entries object.new.entries) }
+        (Writes (with_line (credit_transfer_line credit_transfer.now)) out.old out.new) }
 {
-    credit_transfer_table!(put_table! { alloc, credit_transfer, object })
+    put_optional(Key::AccptncDtTm, &credit_transfer.acceptance_time, out)?;
+    put(Key::Ccy, &credit_transfer.currency, out)?;
+    put(Key::Cdtr, &credit_transfer.creditor, out)?;
+    put(Key::CdtrAcct, &credit_transfer.creditor_account, out)?;
+    put(Key::CdtrAgt, &credit_transfer.creditor_agent, out)?;
+    put(Key::ChrgBr, &credit_transfer.charge_bearer, out)?;
+    put(Key::CreDtTm, &credit_transfer.head.creation_time, out)?;
+    put(Key::Dbtr, &credit_transfer.debtor, out)?;
+    put(Key::DbtrAcct, &credit_transfer.debtor_account, out)?;
+    put(Key::DbtrAgt, &credit_transfer.debtor_agent, out)?;
+    put(Key::EndToEndId, &credit_transfer.end_to_end_id, out)?;
+    put_optional(Key::InstdAgt, &credit_transfer.head.instructed_agent, out)?;
+    put(Key::InstgAgt, &credit_transfer.head.instructing_agent, out)?;
+    put_optional(Key::InstrId, &credit_transfer.instruction_id, out)?;
+    put(Key::IntrBkSttlmAmt, &credit_transfer.settlement_amount, out)?;
+    put(Key::IntrBkSttlmDt, &credit_transfer.settlement_date, out)?;
+    put(Key::LclInstrm, &credit_transfer.local_instrument, out)?;
+    put(Key::MsgId, &credit_transfer.head.message_id, out)?;
+    put(Key::MsgNmId, &credit_transfer.head.message_name, out)?;
+    put(Key::SvcLvl, &credit_transfer.service_level, out)?;
+    put(Key::TxId, &credit_transfer.transaction_id, out)?;
+    put_optional(Key::Ustrd, &credit_transfer.remittance, out)?;
+    Ok(())
 }
 
 /// A law: the written form of each element is read as the element.

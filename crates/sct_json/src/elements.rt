@@ -1,7 +1,5 @@
 //! The elements that a key's text may be read as.
-ghost use Rattle.std.specs.Prelude.{◌≡◌, ℕ, List, Bool, true, false, Option, IfOk};
-ghost use Rattle.serde_json.specs.Data.{string};
-ghost use Rattle.serde_json.specs.View.{view};
+ghost use Rattle.std.specs.Prelude.{◌≡◌, ℕ, List, Bool, true, false, Option, OnOk};
 ghost use Rattle.sct_element.specs.Text.{where_read};
 ghost use Rattle.sct_element.specs.Money.{cents_of, amount_text};
 ghost use Rattle.sct_element.specs.Party.{has_characters};
@@ -10,11 +8,12 @@ ghost use Rattle.sct_element.specs.declared.faults.ElementFault.TheVariants.{Bad
 ghost use Rattle.sct_reason.specs.Codes.{reason_text};
 ghost use Rattle.sct_reason.specs.Reasons.{reason_of};
 ghost use Rattle.sct_json.specs.Reading.{ReadsElement, is_want_of_memory};
+ghost use Rattle.sct_json.specs.Line.{with_text, Writes};
 ghost use Rattle.sct_json.specs.Writing.{ReadsBack};
 
+use json::Writer;
 use sct_element::{Amount, Checked, ElementFault, FreeText, Rule};
 use sct_reason::Reason;
-use serde_json::Value;
 use std::alloc::{AllocError, Global};
 
 /// A type of element: what a text is read as, or the type's own fault.
@@ -31,9 +30,9 @@ pub(crate) trait Element: Drop {
     fn read_element(alloc: Global, text: &str) -> Result<Self, ElementFault>
         ensures { ReadsElement takes_memory (reads text.now) refusal result };
 
-    /// The written form as a JSON text.
-    fn to_value(&self, alloc: Global) -> Result<Value, AllocError>
-        ensures { IfOk result (λ value. view value ≡ string (written self.now)) };
+    /// Writes the written form as a JSON text.
+    fn put(&self, out: &mut Writer) -> Result<(), AllocError>
+        ensures { OnOk result (Writes (with_text (written self.now)) out.old out.new) };
 
     /// A law: the written form is read as the element.
     fn reads_back(&self)
@@ -54,8 +53,8 @@ impl<R: Rule<N>, const N: usize> Element for Checked<R, N> {
         Checked::read(text)
     }
 
-    fn to_value(&self, alloc: Global) -> Result<Value, AllocError> {
-        Ok(Value::String(String::from_str(alloc, self.text())?))
+    fn put(&self, out: &mut Writer) -> Result<(), AllocError> {
+        out.string(self.text())
     }
 
     fn reads_back(&self) {
@@ -76,8 +75,8 @@ impl Element for Reason {
         Reason::read(text).ok_or(ElementFault::BadCode)
     }
 
-    fn to_value(&self, alloc: Global) -> Result<Value, AllocError> {
-        Ok(Value::String(String::from_str(alloc, self.text())?))
+    fn put(&self, out: &mut Writer) -> Result<(), AllocError> {
+        out.string(self.text())
     }
 
     fn reads_back(&self) {}
@@ -96,8 +95,8 @@ impl Element for Amount {
         Amount::read(text)
     }
 
-    fn to_value(&self, alloc: Global) -> Result<Value, AllocError> {
-        Ok(Value::String(String::from_str(alloc, self.text().as_str())?))
+    fn put(&self, out: &mut Writer) -> Result<(), AllocError> {
+        out.string(self.text().as_str())
     }
 
     fn reads_back(&self) {
@@ -118,8 +117,8 @@ impl<const MOST: usize> Element for FreeText<MOST> {
         FreeText::read(alloc, text)
     }
 
-    fn to_value(&self, alloc: Global) -> Result<Value, AllocError> {
-        Ok(Value::String(String::from_str(alloc, self.text())?))
+    fn put(&self, out: &mut Writer) -> Result<(), AllocError> {
+        out.string(self.text())
     }
 
     fn reads_back(&self) {

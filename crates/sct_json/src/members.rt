@@ -2,13 +2,15 @@
 ghost use Rattle.std.specs.Prelude.{Some, OnOk, option_map};
 ghost use Rattle.serde_json.specs.View.{view};
 ghost use Rattle.sct_json.specs.Reading.{GivesWhere, required, optional, value_as};
-ghost use Rattle.sct_json.specs.Writing.{with_text, Puts, ReadsBack, MayReadBack};
+ghost use Rattle.sct_json.specs.Line.{with_member, Writes};
+ghost use Rattle.sct_json.specs.Writing.{ReadsBack, MayReadBack};
 
 use crate::elements::Element;
 use crate::faults::JsonFault;
 use crate::keys::Key;
+use json::Writer;
 use sct_element::ElementFault;
-use serde_json::{Map, Value};
+use serde_json::Value;
 use std::alloc::{AllocError, Global};
 
 /// The element that a key's value is read as.
@@ -55,32 +57,26 @@ pub(crate) fn optional<E: Element>(
     }
 }
 
-/// Puts an element at its key.
-pub(crate) fn put<E: Element>(
-    alloc: Global,
-    key: Key,
-    element: &E,
-    object: &mut Map<String, Value>,
-) -> Result<(), AllocError>
-    ensures { OnOk result
-        (Puts (with_text key (Some (E.written element.now))) object.old.entries object.new.entries) }
+/// Writes an element at its key.
+pub(crate) fn put<E: Element>(key: Key, element: &E, out: &mut Writer) -> Result<(), AllocError>
+    ensures { OnOk result (Writes (with_member key (Some (E.written element.now))) out.old out.new) }
 {
-    let value = element.to_value(alloc)?;
-    serde_json::put(object, alloc, key.text(), value)
+    out.key(key.text())?;
+    element.put(out)?;
+    Ok(())
 }
 
-/// Puts an element at its key, or nothing where it is absent.
+/// Writes an element at its key, or nothing where it is absent.
 pub(crate) fn put_optional<E: Element>(
-    alloc: Global,
     key: Key,
     element: &Option<E>,
-    object: &mut Map<String, Value>,
+    out: &mut Writer,
 ) -> Result<(), AllocError>
     ensures { OnOk result
-        (Puts (with_text key (option_map E.written element.now)) object.old.entries object.new.entries) }
+        (Writes (with_member key (option_map E.written element.now)) out.old out.new) }
 {
     match element {
-        Some(element) => put(alloc, key, element, object),
+        Some(element) => put(key, element, out),
         None => Ok(()),
     }
 }

@@ -1,20 +1,17 @@
 //! The transfer that a later message is about.
-ghost use Rattle.std.specs.Prelude.{◌≡◌, OnOk};
+ghost use Rattle.std.specs.Prelude.{◌≡◌};
 ghost use Rattle.sct_json.specs.Keys.{original_keys, is_among};
 ghost use Rattle.serde_json.specs.View.{view};
 ghost use Rattle.sct_json.specs.Reading.{GivesWithoutMemory, original_in};
-ghost use Rattle.sct_json.specs.Writing.{with_original, Puts, OriginalReadsBack};
+ghost use Rattle.sct_json.specs.Writing.{OriginalReadsBack};
 
 use crate::faults::JsonFault;
 use crate::keys::{Key, is_among};
-use crate::members::{may_read_back, optional, put, put_optional, reads_back, required};
-use crate::tables::{
-    has_key, own_key, put_member, put_table, read_back_member, read_back_table, read_member,
-    read_table,
-};
+use crate::members::{may_read_back, optional, reads_back, required};
+use crate::tables::{has_key, own_key, read_back_member, read_back_table, read_member, read_table};
 use sct_message::Original;
-use serde_json::{Map, Value};
-use std::alloc::{AllocError, Global};
+use serde_json::Value;
+use std::alloc::Global;
 
 /// The keys of the original message, in their order.
 macro_rules! original_table {
@@ -40,18 +37,6 @@ pub(crate) fn is_key(name: &str) -> bool
     ensures { result ≡ is_among original_keys name.now }
 {
     original_table!(has_key! { name })
-}
-
-/// Puts the elements into an object, each at its key.
-pub(crate) fn put_all(
-    alloc: Global,
-    original: &Original,
-    object: &mut Map<String, Value>,
-) -> Result<(), AllocError>
-    ensures { OnOk result
-        (Puts (with_original original.now) object.old.entries object.new.entries) }
-{
-    original_table!(put_table! { alloc, original, object })
 }
 
 /// A law: the written form of each element is read as the element.

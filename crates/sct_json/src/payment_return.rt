@@ -4,18 +4,17 @@ ghost use Rattle.sct_message.specs.declared.kinds.Kind.TheVariants.{Pacs004};
 ghost use Rattle.sct_json.specs.Keys.{is_key_of};
 ghost use Rattle.serde_json.specs.View.{view};
 ghost use Rattle.sct_json.specs.Reading.{GivesWithoutMemory, payment_return_in};
-ghost use Rattle.sct_json.specs.Writing.{with_payment_return, Puts, PaymentReturnReadsBack};
+ghost use Rattle.sct_json.specs.Line.{with_line, payment_return_line, Writes};
+ghost use Rattle.sct_json.specs.Writing.{PaymentReturnReadsBack};
 
 use crate::faults::JsonFault;
 use crate::keys::{Key, is_among};
 use crate::members::{may_read_back, optional, put, put_optional, reads_back, required};
-use crate::tables::{
-    has_key, own_key, put_member, put_table, read_back_member, read_back_table, read_member,
-    read_table,
-};
+use crate::tables::{has_key, own_key, read_back_member, read_back_table, read_member, read_table};
 use crate::{head, original};
+use json::Writer;
 use sct_message::PaymentReturn;
-use serde_json::{Map, Value};
+use serde_json::Value;
 use std::alloc::{AllocError, Global};
 
 /// The keys of a pacs.004, in their order.
@@ -50,16 +49,45 @@ pub(crate) fn is_key(name: &str) -> bool
     payment_return_table!(has_key! { name })
 }
 
-/// Puts the elements into an object, each at its key.
-pub(crate) fn put_all(
-    alloc: Global,
-    payment_return: &PaymentReturn,
-    object: &mut Map<String, Value>,
-) -> Result<(), AllocError>
+/// Writes the members, in the order of the bytes of their keys.
+pub(crate) fn put_all(payment_return: &PaymentReturn, out: &mut Writer) -> Result<(), AllocError>
     ensures { OnOk result
-        (Puts (with_payment_return payment_return.now) object.old.entries object.new.entries) }
+        (Writes (with_line (payment_return_line payment_return.now)) out.old out.new) }
 {
-    payment_return_table!(put_table! { alloc, payment_return, object })
+    put(Key::Ccy, &payment_return.currency, out)?;
+    put(Key::CreDtTm, &payment_return.head.creation_time, out)?;
+    put(Key::DbtrAgt, &payment_return.debtor_agent, out)?;
+    put_optional(Key::InstdAgt, &payment_return.head.instructed_agent, out)?;
+    put(Key::InstgAgt, &payment_return.head.instructing_agent, out)?;
+    put(Key::IntrBkSttlmDt, &payment_return.settlement_date, out)?;
+    put(Key::MsgId, &payment_return.head.message_id, out)?;
+    put(Key::MsgNmId, &payment_return.head.message_name, out)?;
+    put(Key::OrgnlCxlId, &payment_return.cancellation_id, out)?;
+    put_optional(
+        Key::OrgnlEndToEndId,
+        &payment_return.original.end_to_end_id,
+        out,
+    )?;
+    put(
+        Key::OrgnlIntrBkSttlmAmt,
+        &payment_return.original_amount,
+        out,
+    )?;
+    put(Key::OrgnlMsgId, &payment_return.original.message_id, out)?;
+    put(
+        Key::OrgnlMsgNmId,
+        &payment_return.original.message_name,
+        out,
+    )?;
+    put(Key::OrgnlTxId, &payment_return.original.transaction_id, out)?;
+    put(Key::Rsn, &payment_return.reason, out)?;
+    put(Key::RtrId, &payment_return.return_id, out)?;
+    put(
+        Key::RtrdIntrBkSttlmAmt,
+        &payment_return.returned_amount,
+        out,
+    )?;
+    Ok(())
 }
 
 /// A law: the written form of each element is read as the element.

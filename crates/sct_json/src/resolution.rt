@@ -4,18 +4,17 @@ ghost use Rattle.sct_message.specs.declared.kinds.Kind.TheVariants.{Camt029};
 ghost use Rattle.sct_json.specs.Keys.{is_key_of};
 ghost use Rattle.serde_json.specs.View.{view};
 ghost use Rattle.sct_json.specs.Reading.{GivesWithoutMemory, resolution_in};
-ghost use Rattle.sct_json.specs.Writing.{with_resolution, Puts, ResolutionReadsBack};
+ghost use Rattle.sct_json.specs.Line.{with_line, resolution_line, Writes};
+ghost use Rattle.sct_json.specs.Writing.{ResolutionReadsBack};
 
 use crate::faults::JsonFault;
 use crate::keys::{Key, is_among};
 use crate::members::{may_read_back, optional, put, put_optional, reads_back, required};
-use crate::tables::{
-    has_key, own_key, put_member, put_table, read_back_member, read_back_table, read_member,
-    read_table,
-};
+use crate::tables::{has_key, own_key, read_back_member, read_back_table, read_member, read_table};
 use crate::{head, original};
+use json::Writer;
 use sct_message::Resolution;
-use serde_json::{Map, Value};
+use serde_json::Value;
 use std::alloc::{AllocError, Global};
 
 /// The keys of a camt.029, in their order.
@@ -47,16 +46,29 @@ pub(crate) fn is_key(name: &str) -> bool
     resolution_table!(has_key! { name })
 }
 
-/// Puts the elements into an object, each at its key.
-pub(crate) fn put_all(
-    alloc: Global,
-    resolution: &Resolution,
-    object: &mut Map<String, Value>,
-) -> Result<(), AllocError>
-    ensures { OnOk result
-        (Puts (with_resolution resolution.now) object.old.entries object.new.entries) }
+/// Writes the members, in the order of the bytes of their keys.
+pub(crate) fn put_all(resolution: &Resolution, out: &mut Writer) -> Result<(), AllocError>
+    ensures { OnOk result (Writes (with_line (resolution_line resolution.now)) out.old out.new) }
 {
-    resolution_table!(put_table! { alloc, resolution, object })
+    put(Key::Conf, &resolution.confirmation, out)?;
+    put(Key::CreDtTm, &resolution.head.creation_time, out)?;
+    put(Key::CxlStsId, &resolution.resolution_id, out)?;
+    put(Key::DbtrAgt, &resolution.debtor_agent, out)?;
+    put_optional(Key::InstdAgt, &resolution.head.instructed_agent, out)?;
+    put(Key::InstgAgt, &resolution.head.instructing_agent, out)?;
+    put(Key::MsgId, &resolution.head.message_id, out)?;
+    put(Key::MsgNmId, &resolution.head.message_name, out)?;
+    put(Key::OrgnlCxlId, &resolution.cancellation_id, out)?;
+    put_optional(
+        Key::OrgnlEndToEndId,
+        &resolution.original.end_to_end_id,
+        out,
+    )?;
+    put(Key::OrgnlMsgId, &resolution.original.message_id, out)?;
+    put(Key::OrgnlMsgNmId, &resolution.original.message_name, out)?;
+    put(Key::OrgnlTxId, &resolution.original.transaction_id, out)?;
+    put(Key::Rsn, &resolution.reason, out)?;
+    Ok(())
 }
 
 /// A law: the written form of each element is read as the element.

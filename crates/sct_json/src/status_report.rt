@@ -4,18 +4,17 @@ ghost use Rattle.sct_message.specs.declared.kinds.Kind.TheVariants.{Pacs002};
 ghost use Rattle.sct_json.specs.Keys.{is_key_of};
 ghost use Rattle.serde_json.specs.View.{view};
 ghost use Rattle.sct_json.specs.Reading.{GivesWithoutMemory, status_report_in};
-ghost use Rattle.sct_json.specs.Writing.{with_status_report, Puts, StatusReportReadsBack};
+ghost use Rattle.sct_json.specs.Line.{with_line, status_report_line, Writes};
+ghost use Rattle.sct_json.specs.Writing.{StatusReportReadsBack};
 
 use crate::faults::JsonFault;
 use crate::keys::{Key, is_among};
 use crate::members::{may_read_back, optional, put, put_optional, reads_back, required};
-use crate::tables::{
-    has_key, own_key, put_member, put_table, read_back_member, read_back_table, read_member,
-    read_table,
-};
+use crate::tables::{has_key, own_key, read_back_member, read_back_table, read_member, read_table};
 use crate::{head, original};
+use json::Writer;
 use sct_message::StatusReport;
-use serde_json::{Map, Value};
+use serde_json::Value;
 use std::alloc::{AllocError, Global};
 
 /// The keys of a pacs.002, in their order.
@@ -45,16 +44,27 @@ pub(crate) fn is_key(name: &str) -> bool
     status_report_table!(has_key! { name })
 }
 
-/// Puts the elements into an object, each at its key.
-pub(crate) fn put_all(
-    alloc: Global,
-    status_report: &StatusReport,
-    object: &mut Map<String, Value>,
-) -> Result<(), AllocError>
-    ensures { OnOk result
-        (Puts (with_status_report status_report.now) object.old.entries object.new.entries) }
+/// Writes the members, in the order of the bytes of their keys.
+pub(crate) fn put_all(status_report: &StatusReport, out: &mut Writer) -> Result<(), AllocError>
+    ensures { OnOk result (Writes (with_line (status_report_line status_report.now)) out.old out.new) }
 {
-    status_report_table!(put_table! { alloc, status_report, object })
+    put(Key::CreDtTm, &status_report.head.creation_time, out)?;
+    put(Key::DbtrAgt, &status_report.debtor_agent, out)?;
+    put_optional(Key::InstdAgt, &status_report.head.instructed_agent, out)?;
+    put(Key::InstgAgt, &status_report.head.instructing_agent, out)?;
+    put(Key::MsgId, &status_report.head.message_id, out)?;
+    put(Key::MsgNmId, &status_report.head.message_name, out)?;
+    put_optional(
+        Key::OrgnlEndToEndId,
+        &status_report.original.end_to_end_id,
+        out,
+    )?;
+    put(Key::OrgnlMsgId, &status_report.original.message_id, out)?;
+    put(Key::OrgnlMsgNmId, &status_report.original.message_name, out)?;
+    put(Key::OrgnlTxId, &status_report.original.transaction_id, out)?;
+    put_optional(Key::Rsn, &status_report.reason, out)?;
+    put(Key::TxSts, &status_report.status, out)?;
+    Ok(())
 }
 
 /// A law: the written form of each element is read as the element.

@@ -4,18 +4,17 @@ ghost use Rattle.sct_message.specs.declared.kinds.Kind.TheVariants.{Pacs028};
 ghost use Rattle.sct_json.specs.Keys.{is_key_of};
 ghost use Rattle.serde_json.specs.View.{view};
 ghost use Rattle.sct_json.specs.Reading.{GivesWithoutMemory, status_request_in};
-ghost use Rattle.sct_json.specs.Writing.{with_status_request, Puts, StatusRequestReadsBack};
+ghost use Rattle.sct_json.specs.Line.{with_line, status_request_line, Writes};
+ghost use Rattle.sct_json.specs.Writing.{StatusRequestReadsBack};
 
 use crate::faults::JsonFault;
 use crate::keys::{Key, is_among};
 use crate::members::{may_read_back, optional, put, put_optional, reads_back, required};
-use crate::tables::{
-    has_key, own_key, put_member, put_table, read_back_member, read_back_table, read_member,
-    read_table,
-};
+use crate::tables::{has_key, own_key, read_back_member, read_back_table, read_member, read_table};
 use crate::{head, original};
+use json::Writer;
 use sct_message::StatusRequest;
-use serde_json::{Map, Value};
+use serde_json::Value;
 use std::alloc::{AllocError, Global};
 
 /// The keys of a pacs.028, in their order.
@@ -44,16 +43,31 @@ pub(crate) fn is_key(name: &str) -> bool
     status_request_table!(has_key! { name })
 }
 
-/// Puts the elements into an object, each at its key.
-pub(crate) fn put_all(
-    alloc: Global,
-    status_request: &StatusRequest,
-    object: &mut Map<String, Value>,
-) -> Result<(), AllocError>
+/// Writes the members, in the order of the bytes of their keys.
+pub(crate) fn put_all(status_request: &StatusRequest, out: &mut Writer) -> Result<(), AllocError>
     ensures { OnOk result
-        (Puts (with_status_request status_request.now) object.old.entries object.new.entries) }
+        (Writes (with_line (status_request_line status_request.now)) out.old out.new) }
 {
-    status_request_table!(put_table! { alloc, status_request, object })
+    put(Key::CreDtTm, &status_request.head.creation_time, out)?;
+    put(Key::DbtrAgt, &status_request.debtor_agent, out)?;
+    put_optional(Key::InstdAgt, &status_request.head.instructed_agent, out)?;
+    put(Key::InstgAgt, &status_request.head.instructing_agent, out)?;
+    put(Key::MsgId, &status_request.head.message_id, out)?;
+    put(Key::MsgNmId, &status_request.head.message_name, out)?;
+    put_optional(Key::OrgnlCxlId, &status_request.cancellation_id, out)?;
+    put_optional(
+        Key::OrgnlEndToEndId,
+        &status_request.original.end_to_end_id,
+        out,
+    )?;
+    put(Key::OrgnlMsgId, &status_request.original.message_id, out)?;
+    put(
+        Key::OrgnlMsgNmId,
+        &status_request.original.message_name,
+        out,
+    )?;
+    put(Key::OrgnlTxId, &status_request.original.transaction_id, out)?;
+    Ok(())
 }
 
 /// A law: the written form of each element is read as the element.

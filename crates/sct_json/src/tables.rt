@@ -42,26 +42,6 @@ macro_rules! own_key {
     };
 }
 
-/// Puts the elements of a record into an object, each at its key.
-macro_rules! put_table {
-    ([$alloc:ident, $record:ident, $object:ident] $name:ident { $($field:ident: $form:ident $key:ident,)* }) => {{
-        $(put_member!($form, $alloc, $record, $field, $object, $key);)*
-        Ok(())
-    }};
-}
-
-macro_rules! put_member {
-    (required, $alloc:ident, $record:ident, $field:ident, $object:ident, $key:ident) => {
-        put($alloc, Key::$key, &$record.$field, $object)?
-    };
-    (optional, $alloc:ident, $record:ident, $field:ident, $object:ident, $key:ident) => {
-        put_optional($alloc, Key::$key, &$record.$field, $object)?
-    };
-    (part, $alloc:ident, $record:ident, $field:ident, $object:ident, $part:ident) => {
-        $part::put_all($alloc, &$record.$field, $object)?
-    };
-}
-
 /// Shows of each element of a record that its written form is read as the element.
 macro_rules! read_back_table {
     ([$record:ident] $name:ident { $($field:ident: $form:ident $key:ident,)* }) => {{
@@ -83,8 +63,6 @@ macro_rules! read_back_member {
 
 pub(crate) use has_key;
 pub(crate) use own_key;
-pub(crate) use put_member;
-pub(crate) use put_table;
 pub(crate) use read_back_member;
 pub(crate) use read_back_table;
 pub(crate) use read_member;

@@ -1,71 +1,49 @@
 //! From a message to its written form.
 ghost use Rattle.std.specs.Prelude.{◌≡◌, Ok, OnOk, IfOk, IfErr};
-ghost use Rattle.serde_json.specs.View.{view};
 ghost use Rattle.sct_json.specs.Reading.{message_in};
 ghost use Rattle.sct_json.specs.Form.{StandsFor};
-ghost use Rattle.sct_json.specs.Writing.{with_elements, written_object, written_text, Puts, ElementsReadBack};
+ghost use Rattle.sct_json.specs.Line.{with_line, line_rows, Writes};
+ghost use Rattle.sct_json.specs.Writing.{written_object, written_text, ElementsReadBack};
 
 use crate::faults::JsonFault;
 use crate::{
     cancellation_request, credit_transfer, payment_return, resolution, status_report,
     status_request,
 };
+use json::Writer;
 use sct_message::{Draft, Message};
-use serde_json::{Map, Value};
 use std::alloc::{AllocError, Global};
 
-/// Puts the elements of a message into an object, each at its key.
-fn put_elements(
-    alloc: Global,
-    draft: &Draft,
-    object: &mut Map<String, Value>,
-) -> Result<(), AllocError>
-    ensures { OnOk result
-        (Puts (with_elements draft.now) object.old.entries object.new.entries) }
+/// Room for a written text of the usual length.
+const ROOM: usize = 768;
+
+/// Writes the members of a message, in the order of the bytes of their keys.
+fn put_members(draft: &Draft, out: &mut Writer) -> Result<(), AllocError>
+    ensures { OnOk result (Writes (with_line (line_rows draft.now)) out.old out.new) }
 {
     match draft {
-        Draft::CreditTransfer(credit_transfer) => credit_transfer::put_all(
-            alloc,
-            credit_transfer,
-            object,
-        ),
-        Draft::StatusReport(status_report) => status_report::put_all(alloc, status_report, object),
-        Draft::StatusRequest(status_request) => status_request::put_all(
-            alloc,
-            status_request,
-            object,
-        ),
+        Draft::CreditTransfer(credit_transfer) => credit_transfer::put_all(credit_transfer, out),
+        Draft::StatusReport(status_report) => status_report::put_all(status_report, out),
+        Draft::StatusRequest(status_request) => status_request::put_all(status_request, out),
         Draft::CancellationRequest(cancellation_request) => cancellation_request::put_all(
-            alloc,
             cancellation_request,
-            object,
+            out,
         ),
-        Draft::PaymentReturn(payment_return) => payment_return::put_all(
-            alloc,
-            payment_return,
-            object,
-        ),
-        Draft::Resolution(resolution) => resolution::put_all(alloc, resolution, object),
+        Draft::PaymentReturn(payment_return) => payment_return::put_all(payment_return, out),
+        Draft::Resolution(resolution) => resolution::put_all(resolution, out),
     }
 }
 
-/// The object of a message.
-fn object_of(alloc: Global, draft: &Draft) -> Result<Value, AllocError>
-    ensures { IfOk result (λ value. view value ≡ written_object draft.now) }
-{
-    let mut members = Map::new(alloc);
-    put_elements(alloc, draft, &mut members)?;
-    Ok(Value::Object(members))
-}
-
-/// The text of that object.
-#[tactic(auto, using(crate::proofs::Flat::no_float_written), unfolding(crate::specs::Writing::written_text))]
+/// The text of the object of a message. Most texts have room in the first allocation.
 fn text_of(alloc: Global, draft: &Draft) -> Result<Vec<u8>, AllocError>
     ensures text { IfOk result (λ text. text.items ≡ written_text draft.now) }
     ensures stands { IfOk result (λ text. StandsFor text.items (written_object draft.now)) }
 {
-    let object = object_of(alloc, draft)?;
-    object.to_vec(alloc)
+    let mut out = Writer::new(Vec::with_capacity(alloc, ROOM)?);
+    out.begin_object()?;
+    put_members(draft, &mut out)?;
+    out.end_object()?;
+    Ok(out.into_inner())
 }
 
 /// A law: the written form of each element of a message is read as the element.

@@ -1,6 +1,8 @@
 -- The lemmas of the archive.
 pub mod ArchiveLemmas
 pub mod ContentsLemmas
+pub mod GroupLemmas
 pub mod IndexLemmas
 pub mod LawLemmas
 pub mod TextLemmas
+pub mod UndisputedLemmas

@@ -7,6 +7,7 @@ use Rattle.sct_message.specs.Keys.{identity_of}
 use Rattle.sct_message.specs.Order.{identity_order, same_message, same_identity}
 use Rattle.sct_message.specs.Ascending.{ascending}
 use Rattle.sct_set.specs.Contents.{Contents}
+use Rattle.sct_message.specs.Sets.{in_order}
 pub use Rattle.sct_message.specs.Sets.{IsContradicted, is_contradicted as is_disputed}
 
 -- the message is another one with the identity of the first
@@ -17,3 +18,8 @@ is_rival draft other = same_identity (identity_of other) (identity_of draft) && 
 unfoldable pub contradicted_identities : Contents → List Identity
 contradicted_identities contents =
     ascending identity_order (map identity_of (filter (is_disputed contents) (set.items contents)))
+
+-- the messages of the set that have the identity, where it is not contradicted: at most one
+abbrev pub undisputed_of : Contents → Identity → List Draft
+undisputed_of contents identity =
+    filter (λ draft. same_identity (identity_of draft) identity && not (is_disputed contents draft)) (in_order contents)

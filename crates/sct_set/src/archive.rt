@@ -1,8 +1,9 @@
 //! A set of messages.
 
-ghost use Rattle.std.specs.Prelude.{◌≡◌, ◌+◌, false, OnOk, OnErr, IfOk};
+ghost use Rattle.std.specs.Prelude.{◌≡◌, ◌+◌, false, option_map, OnOk, OnErr, IfOk};
 ghost use Rattle.std.specs.Arc.{arc_value};
 ghost use Rattle.std.specs.FinSet as set;
+ghost use Rattle.std.specs.Option.{option_copied, option_to_list};
 ghost use Rattle.sct_message.specs.Order.{message_order};
 ghost use Rattle.sct_set.specs.Contents.{contents_of, HasNoRepeat};
 ghost use Rattle.sct_set.specs.Drafts.{drafts_in};
@@ -42,7 +43,7 @@ impl Model for Archive {
 
 impl Archive {
     ghost use Rattle.sct_set.specs.Archive.{added_of, archive_text_of, has_identity, AreReadAgain};
-    ghost use Rattle.sct_set.specs.Contradictions.{contradicted_identities, is_disputed};
+    ghost use Rattle.sct_set.specs.Contradictions.{contradicted_identities, is_disputed, undisputed_of};
 
     pub fn new(alloc: Global) -> Self
         ensures { result ≡ set.empty }
@@ -79,6 +80,19 @@ impl Archive {
         ensures { result ≡ is_disputed self.now message.now }
     {
         is_disputed_in(&self.table, message)
+    }
+
+    /// The message of an identity that is not contradicted.
+    pub fn undisputed(&self, identity: &Identity) -> Option<&Arc<Message>>
+        ensures { option_to_list (option_map arc_value (option_copied result)) ≡ undisputed_of self.now identity.now }
+    {
+        let Some(first) = self.table.of(identity).first() else {
+            return None;
+        };
+        if self.disputes(first) {
+            return None;
+        }
+        Some(first)
     }
 
     // Whether a message of the identity is held.

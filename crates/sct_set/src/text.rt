@@ -1,50 +1,117 @@
 //! The archive text.
 
-ghost use Rattle.std.specs.Prelude.{◌≡◌, All, IfOk};
+ghost use Rattle.std.specs.Prelude.{◌≡◌, ◌++◌, ◌∷◌, [], All, map, IfOk, OnOk};
 ghost use Rattle.std.specs.Arc.{arc_value};
 ghost use Rattle.std.specs.List.{flat_map};
-ghost use Rattle.sct_set.specs.Archive.{archive_text_of, line_of, line_order, AreReadAgain, IsReadAgain};
 ghost use Rattle.sct_message.specs.Ascending.{ascending};
+ghost use Rattle.sct_message.specs.Keys.{identity_of};
+ghost use Rattle.sct_message.specs.Order.{identity_order};
+ghost use Rattle.sct_set.specs.Archive.{archive_text_of, line_of, line_order, AreReadAgain, IsReadAgain};
 ghost use Rattle.sct_set.specs.Contents.{contents_of};
+ghost use Rattle.sct_set.specs.Drafts.{drafts_in, drafts_of};
 
 use crate::fault::SetFault;
 use crate::line::Line;
 use crate::table::Table;
+use sct_json::write_message;
+use sct_message::{Identity, Message, keys_are_ordered};
 use std::alloc::{AllocError, Global};
+use std::sync::Arc;
 
-// Each message of a table with its written text, in the order of the archive text.
-fn lines_in_order(table: &Table) -> Result<Vec<Line>, SetFault>
-    ensures { IfOk result (λ lines. lines.items ≡ ascending line_order table.now) }
+// The identity of each message of a table.
+fn identities_of(table: &Table) -> Result<Vec<Identity>, AllocError>
+    ensures { IfOk result (λ found. found.items ≡ map identity_of table.now) }
 {
-    let mut lines = lines_of(table)?;
+    let mut found = Vec::new(table.allocator());
+    for message in table.messages() {
+        found.push(message.identity())?;
+    }
+    Ok(found)
+}
+
+// The identities of the messages of a table, ascending, each once.
+fn identities(table: &Table) -> Result<Vec<Identity>, AllocError>
+    ensures { IfOk result (λ found. found.items ≡ ascending identity_order (map identity_of table.now)) }
+{
+    keys_are_ordered();
+    let mut found = identities_of(table)?;
+    found.sort()?;
+    found.dedup();
+    Ok(found)
+}
+
+// Some messages with their written texts, in the order of the archive text.
+fn lines_in_order(alloc: Global, messages: &[Arc<Message>]) -> Result<Vec<Line>, SetFault>
+    ensures { IfOk result (λ lines. lines.items ≡ ascending line_order (drafts_in messages.now)) }
+{
+    let mut lines = lines_of(alloc, messages)?;
     lines.sort()?;
     lines.dedup();
     Ok(lines)
 }
 
-// Each message of a table with its written text.
-fn lines_of(table: &Table) -> Result<Vec<Line>, SetFault>
-    ensures { IfOk result (λ lines. lines.items ≡ table.now) }
+// Some messages with their written texts.
+fn lines_of(alloc: Global, messages: &[Arc<Message>]) -> Result<Vec<Line>, SetFault>
+    ensures { IfOk result (λ lines. lines.items ≡ drafts_in messages.now) }
 {
-    let mut lines = Vec::new(table.allocator());
-    for message in table.messages() {
-        let line = Line::of(table.allocator(), message)?;
+    let mut lines = Vec::new(alloc);
+    for message in messages {
+        let line = Line::of(alloc, message)?;
         lines.push(line)?;
     }
     Ok(lines)
 }
 
-// The lines one after another.
-fn joined(alloc: Global, lines: &[Line]) -> Result<Vec<u8>, AllocError>
-    ensures text { IfOk result (λ text. text.items ≡ flat_map line_of lines.now) }
-    ensures again { IfOk result (λ text. All IsReadAgain lines.now) }
+// Adds a written text and a line feed.
+fn push_line(text: &mut Vec<u8>, written: &[u8]) -> Result<(), AllocError>
+    ensures { OnOk result (text.new.items ≡ text.old.items ++ written.now ++ 10 ∷ []) }
 {
-    let mut text = Vec::new(alloc);
+    text.extend_from_slice(written)?;
+    text.push(b'\n')?;
+    Ok(())
+}
+
+// Adds the lines one after another.
+fn push_all(text: &mut Vec<u8>, lines: &[Line]) -> Result<(), AllocError>
+    ensures text { OnOk result (text.new.items ≡ text.old.items ++ flat_map line_of lines.now) }
+    ensures again { OnOk result (All IsReadAgain lines.now) }
+{
     for line in lines {
-        text.extend_from_slice(line.text())?;
-        text.push(b'\n')?;
+        push_line(text, line.text())?;
     }
-    Ok(text)
+    Ok(())
+}
+
+// Adds the line of a message.
+fn push_message(alloc: Global, text: &mut Vec<u8>, message: &Message) -> Result<(), SetFault>
+    ensures text { OnOk result (text.new.items ≡ text.old.items ++ line_of message.now) }
+    ensures again { OnOk result (IsReadAgain message.now) }
+{
+    // A message wants nothing but memory to be written.
+    let Ok(written) = write_message(alloc, message) else {
+        return Err(SetFault::Memory);
+    };
+    push_line(text, &written)?;
+    Ok(())
+}
+
+// Adds the lines of some messages, in the order of the archive text. Only where there are several are they compared.
+fn push_messages(
+    alloc: Global,
+    text: &mut Vec<u8>,
+    messages: &[Arc<Message>],
+) -> Result<(), SetFault>
+    ensures text { OnOk result (text.new.items
+        ≡ text.old.items ++ flat_map line_of (ascending line_order (drafts_in messages.now))) }
+    ensures again { OnOk result (All IsReadAgain (ascending line_order (drafts_in messages.now))) }
+{
+    if let [message] = messages {
+        push_message(alloc, text, message)?;
+        return Ok(());
+    }
+    let lines = lines_in_order(alloc, messages)?;
+    push_all(text, &lines)?;
+    Ok(())
 }
 
 /// The written text of each message of a table, by identity and then by text, with a line feed after each.
@@ -52,6 +119,10 @@ pub fn archive_text(table: &Table) -> Result<Vec<u8>, SetFault>
     ensures text { IfOk result (λ text. text.items ≡ archive_text_of (contents_of table.now)) }
     ensures again { IfOk result (λ text. AreReadAgain (contents_of table.now)) }
 {
-    let lines = lines_in_order(table)?;
-    Ok(joined(table.allocator(), &lines)?)
+    let identities = identities(table)?;
+    let mut text = Vec::new(table.allocator());
+    for identity in &identities {
+        push_messages(table.allocator(), &mut text, table.of(identity))?;
+    }
+    Ok(text)
 }
