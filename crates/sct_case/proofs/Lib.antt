@@ -4,6 +4,7 @@ pub mod InOrder
 pub mod Instructed
 pub mod Judged
 pub mod Lists
+pub mod LookedUp
 pub mod Membership
 pub mod RecallSentences
 pub mod Same

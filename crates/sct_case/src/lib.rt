@@ -8,6 +8,7 @@ mod fault;
 mod finding;
 mod found;
 pub mod laws;
+mod recalls;
 mod said;
 mod standing;
 mod status;
@@ -15,6 +16,7 @@ mod status;
 pub use cases::{findings, recall_status, recall_status_beside, transfer_status};
 pub use fault::CaseFault;
 pub use finding::Finding;
+pub use recalls::recall_status_by;
 pub use status::{RecallStatus, Status};
 
 #[cfg(test)]

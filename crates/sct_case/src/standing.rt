@@ -161,7 +161,11 @@ fn reason_refused(refusals: &[RefusalMade], cxl: &Id35) -> Option<Reason>
     }
 }
 
-fn answered(returned: Option<Amount>, refused: Option<Reason>, chased: bool) -> RecallStatus
+pub(crate) fn answered(
+    returned: Option<Amount>,
+    refused: Option<Reason>,
+    chased: bool,
+) -> RecallStatus
     ensures { result ≡ answered returned refused chased }
 {
     match returned {
