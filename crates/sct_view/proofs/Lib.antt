@@ -1,0 +1,23 @@
+-- What the view is proved by.
+pub mod ApplyLemmas
+pub mod BankLemmas
+pub mod CaseLemmas
+pub mod ChangeLemmas
+pub mod CommitLemmas
+pub mod EvaluationLemmas
+pub mod FewLemmas
+pub mod FiledLemmas
+pub mod GatheredLemmas
+pub mod KeyLemmas
+pub mod LawLemmas
+pub mod ListedLemmas
+pub mod ReadyLemmas
+pub mod RebuildLemmas
+pub mod SetKeys
+pub mod StandingLemmas
+pub mod StepLemmas
+pub mod SumLemmas
+pub mod TableLemmas
+pub mod ToldLemmas
+pub mod TotalsLemmas
+pub mod TouchedLemmas

@@ -1,0 +1,269 @@
+-- Tables that are built transfer by transfer. Proof plumbing.
+use Rattle.std.specs.FinSet as set
+use Rattle.std.specs.FinSet.{contains-empty, contains-union, same_set}
+use Rattle.std.proofs.Common.{◌≡◌, ◌∙◌, refl, sym, ap, subst, ℕ, Bool, true, false, cond, not, ◌||◌, List, [], ◌∷◌, ◌++◌, map, filter, length, take, get_or, ◌+◌, ◌<◌, arith}
+use Rattle.std.specs.List.{list_any, sum_by}
+use Rattle.std.specs.List.Sorted.{IsStrictlySortedBy}
+use Rattle.std.specs.Map.{lookup}
+use Rattle.std.specs.Ordering.{eq_by_cmp}
+use Rattle.std.proofs.lemmas.Bool.{false≢true}
+use Rattle.std.proofs.lemmas.Grind.{take_at_read}
+use Rattle.std.proofs.lemmas.List.Folds.{list_any-append, list_any_at}
+use Rattle.sct_element.specs.Text.{is_text}
+use Rattle.sct_message.specs.Ascending.{ascending}
+use Rattle.sct_message.specs.Keys.{identity_of, transfer_of}
+use Rattle.sct_message.specs.Order.{identity_order, message_order, same_transfer, transfer_order}
+use Rattle.sct_message.specs.OrderLaws.{identity_total, identities_same, message_total, message_same, transfer_total, transfers_same}
+use Rattle.sct_message.specs.Sets.{MessageSet, in_order, is_contradicted}
+use Rattle.sct_message.specs.Transfers.{is_on, instruction_of, keys_of, messages_on, asides_of}
+use Rattle.sct_message.specs.declared.draft.Draft.{Draft}
+use Rattle.sct_message.specs.declared.keys.TransferKey.{TransferKey}
+use Rattle.sct_message.proofs.AscendingLemmas.{any_ascending, ascending-filter, ascending-same, ascending-sorted}
+use Rattle.sct_message.proofs.Members.{list_any-map}
+use Rattle.sct_message.specs.declared.keys.Identity.{Identity}
+use Rattle.sct_message.specs.declared.keys.RecallKey.{RecallKey}
+use Rattle.sct_case.specs.Statuses.{AreOn, Unknown, recall_status_of, transfer_status_of}
+use Rattle.sct_case.specs.declared.status.RecallStatus.{RecallStatus}
+use Rattle.sct_case.specs.declared.status.RecallStatus.TheVariants as recall
+use Rattle.sct_case.proofs.LookedUp.{recall_clear_by}
+use Rattle.sct_case.proofs.Judged.{found_of_asides, unknown}
+use Rattle.sct_set.proofs.ContentsLemmas.{any_items, union-none}
+use Rattle.sct_set.specs.Contents.{contents_of}
+use Rattle.sct_view.specs.Answers.{recall_of, status_of}
+use Rattle.sct_view.specs.Kept.{Kept, AreTotalsOver, IsSmall, IsViewOf, case_at, case_of, instruction_in, kept_or_none, totals_or_none, contradicted_on, no_messages, same_key, share_in, totals_at}
+use Rattle.indexmap.specs.IndexMap.{IndexMap}
+use Rattle.sct_view.specs.declared.case.Case.{Case}
+use Rattle.sct_view.specs.declared.totals.Totals.{Totals}
+use Rattle.sct_view.specs.Totals.{nothing, plus, share, totals_of, totals_over}
+use Rattle.sct_view.proofs.EvaluationLemmas.{filter_swap, on_filtered}
+use Rattle.sct_view.proofs.GatheredLemmas.{gathered}
+use Rattle.sct_view.proofs.KeyLemmas.{key_itself, keys_apart, same_key_is}
+use Rattle.sct_view.proofs.SetKeys.{any_key}
+use Rattle.sct_view.proofs.SumLemmas.{sum_none}
+use Rattle.sct_view.proofs.TotalsLemmas.{Cases, shares_alike, totals_alike, totals_by, totals_same}
+
+-- what is kept once these transfers have been evaluated
+abbrev pub so_far : MessageSet → List TransferKey → TransferKey → Kept
+so_far s ts t = cond (list_any (λ k. same_key k t) ts) (case_of s t) no_messages
+
+-- Tables that keep these transfers of a set, with the sums over all of them.
+pub record IsBuilt {Y Z : Type 0} (s : MessageSet) (ts : List TransferKey) (cases : IndexMap TransferKey Case Y)
+    (totals : IndexMap (List ℕ) Totals Z) : Type 0 where
+  pub cases_are : (t : TransferKey) → case_at cases t ≡ so_far s ts t
+  pub kept : AreTotalsOver cases totals (keys_of s)
+  pub small : (t : TransferKey) → IsSmall (case_at cases t)
+
+-- ---- one transfer more
+
+or_none : (a : Bool) → (a || false) ≡ a
+or_none true = refl
+or_none false = refl
+
+or_true : (a : Bool) → (a || true) ≡ true
+or_true true = refl
+or_true false = refl
+
+module _ (s : MessageSet) (ts : List TransferKey) (k t : TransferKey) where
+  pub more : cond (same_key k t) (case_of s k) (so_far s ts t) ≡ so_far s (ts ++ k ∷ []) t
+  more =
+      elim (same_key k t) as (λ b. same_key k t ≡ b → cond b (case_of s k) (so_far s ts t) ≡ cond (list_any (λ j. same_key j t) ts || (b || false)) (case_of s t) no_messages) [
+        | true ↦ λ e. ap (case_of s) (keys_apart k t e) ∙ ap (λ (b : Bool). cond b (case_of s t) no_messages) (sym (or_true (list_any (λ j. same_key j t) ts)))
+        | false ↦ λ _. ap (λ (b : Bool). cond b (case_of s t) no_messages) (sym (or_none (list_any (λ j. same_key j t) ts)))
+      ] refl
+      ∙ ap (λ (b : Bool). cond b (case_of s t) no_messages) (sym (list_any-append (λ j. same_key j t) ts (k ∷ [])))
+
+-- ---- all transfers
+
+filter_none : {X : Type 0} (p : X → Bool) (xs : List X) → list_any p xs ≡ false → filter p xs ≡ []
+filter_none p [] e = refl
+filter_none p (x ∷ xs) e =
+    elim (p x) as (λ b. (b || list_any p xs) ≡ false → cond b (x ∷ filter p xs) (filter p xs) ≡ []) [
+      | true ↦ λ h. absurd (false≢true (sym h))
+      | false ↦ λ h. filter_none p xs h
+    ] e
+
+module _ (s : MessageSet) (t : TransferKey) where
+  -- a transfer is among the keys where a message is on it
+  pub among_keys : list_any (λ k. same_key k t) (keys_of s) ≡ list_any (is_on t) (in_order s)
+  among_keys =
+      any_key (λ k. same_key k t) s
+      ∙ ap (λ (E : TransferKey → TransferKey → Bool). list_any (λ m. E (transfer_of m) t) (set.items s)) same_key_is
+      ∙ sym (any_ascending message_total message_same (is_on t) (set.items s))
+
+  none_picked : (q : Draft → Bool) → list_any (is_on t) (in_order s) ≡ false → filter (is_on t) (filter q (in_order s)) ≡ []
+  none_picked q e = filter_swap (is_on t) q (in_order s) ∙ ap (filter q) (filter_none (is_on t) (in_order s) e)
+
+  no_asides : ascending identity_order [] ≡ []
+  unfolding IsStrictlySortedBy
+  no_asides = ascending-sorted identity_total identities_same [] tt
+
+  -- nothing is kept of a transfer that is no key
+  pub absent : list_any (λ k. same_key k t) (keys_of s) ≡ false → case_of s t ≡ no_messages
+  unfolding case_of status_of
+  absent e =
+      let none : list_any (is_on t) (in_order s) ≡ false = sym among_keys ∙ e in
+      let clean : messages_on s t ≡ [] = none_picked (λ m. not (is_contradicted s m)) none in
+      let contradicted : contradicted_on s t ≡ [] = none_picked (is_contradicted s) none in
+      let asides : asides_of s t ≡ [] = ap (λ (xs : List Draft). ascending identity_order (map identity_of xs)) contradicted ∙ no_asides in
+      let stands : transfer_status_of t (messages_on s t) (asides_of s t) ≡ Unknown =
+      (λ n. transfer_status_of t (clean n) (asides n)) ∙ sym (unknown t [] [] [] (found_of_asides t [] [] refl) refl refl) in
+      λ n. record { clean = clean n; contradicted = contradicted n; stands = stands n }
+
+  -- once all keys have been evaluated, what is kept of a transfer is what is to be kept
+  pub complete : so_far s (keys_of s) t ≡ case_of s t
+  complete =
+      elim (list_any (λ k. same_key k t) (keys_of s)) as (λ b. list_any (λ k. same_key k t) (keys_of s) ≡ b → cond b (case_of s t) no_messages ≡ case_of s t) [
+        | true ↦ λ _. refl
+        | false ↦ λ e. sym (absent e)
+      ] refl
+
+-- the sums over what is to be kept are the totals of the set
+pub totals_built : (s : MessageSet) (cases : Cases) → ((t : TransferKey) → cases t ≡ case_of s t) → (p : List ℕ) → totals_by cases (keys_of s) p ≡ totals_of s p
+unfolding case_of totals_of
+totals_built s cases same p = shares_alike (λ t. case_of s t) cases same (keys_of s) p
+
+-- ---- empty tables
+
+share_none : (p : List ℕ) (t : TransferKey) → share_in p t no_messages ≡ nothing
+unfolding share
+share_none p t =
+    elim (is_text t.debtor_agent p) as (λ b. plus (cond b nothing nothing) nothing ≡ nothing) [ true ↦ refl | false ↦ refl ]
+
+-- transfers without messages add nothing
+pub no_totals : (cases : Cases) → ((t : TransferKey) → cases t ≡ no_messages) → (ts : List TransferKey) (p : List ℕ) → nothing ≡ totals_by cases ts p
+no_totals cases none ts p =
+    sym (totals_alike (λ t. share_in p t (cases t)) (λ t. nothing) (λ t. ap (share_in p t) (none t) ∙ share_none p t) ts
+    ∙ (let zero_sum : sum_by (λ (t : TransferKey). 0) ts ≡ 0 = sum_none (λ t. 0) (λ t. refl) ts in
+    totals_same (totals_over (λ t. nothing) ts) nothing zero_sum zero_sum zero_sum zero_sum zero_sum zero_sum zero_sum zero_sum zero_sum zero_sum))
+
+pub none_small : IsSmall no_messages
+none_small = record { instructed = omega arith; back = omega arith }
+
+-- ---- with nothing beside it
+
+pub union_nothing : (a n : MessageSet) → n ≡ set.empty → set.union a n ≡ a
+union_nothing a n e = ap (set.union a) e ∙ union-none a
+
+-- ---- the messages of a set, filed
+
+-- a list of a set's messages in order is the set's messages in order
+pub in_order-contents : (s : MessageSet) (ds : List Draft) → contents_of ds ≡ s → ascending message_order ds ≡ in_order s
+in_order-contents s ds e =
+    ascending-same message_total message_same ds (set.items (contents_of ds)) (λ q. sym (any_items (eq_by_cmp message_order q) ds))
+    ∙ ap in_order e
+
+-- those on a transfer, put in order, are the set's messages on it
+pub filed-contents : (s : MessageSet) (t : TransferKey) (ds found : List Draft) → contents_of ds ≡ s → found ≡ filter (is_on t) ds
+    → ascending message_order found ≡ filter (is_on t) (in_order s)
+filed-contents s t ds found e is =
+    ap (ascending message_order) is
+    ∙ ascending-filter message_total message_same (is_on t) ds
+    ∙ ap (filter (is_on t)) (in_order-contents s ds e)
+
+-- the transfers of a list of a set's messages are the set's keys
+pub keys-contents : (s : MessageSet) (ds : List Draft) → contents_of ds ≡ s → ascending transfer_order (map transfer_of ds) ≡ keys_of s
+keys-contents s ds e =
+    ascending-same transfer_total transfers_same _ _ (λ q.
+    list_any-map (same_transfer q) transfer_of ds
+    ∙ sym (any_items (λ d. same_transfer q (transfer_of d)) ds)
+    ∙ sym (list_any-map (same_transfer q) transfer_of (set.items (contents_of ds))))
+    ∙ ap keys_of e
+
+-- ---- a list, item by item
+
+up_to : (ts : List TransferKey) (i : ℕ) (t : TransferKey) → i < length ts → t ≡ get_or ts i t → take (i + 1) ts ≡ take i ts ++ t ∷ []
+up_to ts i t below is = (take_at_read ts i t below).1 ∙ ap (λ x. take i ts ++ x ∷ []) (sym is)
+
+-- an item of the list is among it
+pub item_among : (ts : List TransferKey) (i : ℕ) (t : TransferKey) → i < length ts → t ≡ get_or ts i t → list_any (same_key t) ts ≡ true
+item_among ts i t below is = list_any_at (same_key t) ts i t below (ap (same_key t) (sym is) ∙ key_itself t)
+
+pub one_more : (s : MessageSet) (ts : List TransferKey) (i : ℕ) (k : TransferKey) (before : Cases) → i < length ts → k ≡ get_or ts i k
+    → ((t : TransferKey) → before t ≡ so_far s (take i ts) t)
+    → (t : TransferKey) → cond (same_key k t) (case_of s k) (before t) ≡ so_far s (take (i + 1) ts) t
+one_more s ts i k before below is was t =
+    ap (λ (x : Kept). cond (same_key k t) (case_of s k) x) (was t)
+    ∙ more s (take i ts) k t
+    ∙ ap (λ (ks : List TransferKey). so_far s ks t) (sym (up_to ts i k below is))
+
+-- ---- tables that are built
+
+pub no_case_in : {Y : Type 0} (cases : IndexMap TransferKey Case Y) → cases.entries ≡ [] → (t : TransferKey) → case_at cases t ≡ no_messages
+no_case_in cases e t = ap (λ (es : List (TransferKey × Case)). kept_or_none (lookup (same_key t) es)) e
+
+pub no_totals_in : {Z : Type 0} (totals : IndexMap (List ℕ) Totals Z) → totals.entries ≡ [] → (p : List ℕ) → totals_at totals p ≡ nothing
+no_totals_in totals e p = ap (λ (es : List (List ℕ × Totals)). totals_or_none (lookup (is_text p) es)) e
+
+module _ {Y Z : Type 0} (s : MessageSet) (cases : IndexMap TransferKey Case Y) (totals : IndexMap (List ℕ) Totals Z) where
+  -- nothing is kept at the beginning
+  pub built_none : ((t : TransferKey) → case_at cases t ≡ no_messages) → ((p : List ℕ) → totals_at totals p ≡ nothing) → IsBuilt s [] cases totals
+  built_none cases_none totals_none = record {
+    cases_are = cases_none;
+    kept = λ p. totals_none p ∙ no_totals (case_at cases) cases_none (keys_of s) p;
+    small = λ t. subst IsSmall (sym (cases_none t)) none_small;
+  }
+
+  -- and all in the end
+  pub built_all : (ts : List TransferKey) → ts ≡ keys_of s → IsBuilt s ts cases totals → IsViewOf s cases totals
+  built_all ts all built =
+      let cases_are : (t : TransferKey) → case_at cases t ≡ case_of s t = λ t. built.cases_are t ∙ ap (λ (ks : List TransferKey). so_far s ks t) all ∙ complete s t in record {
+        cases_are = cases_are;
+        totals_are = λ p. built.kept p ∙ totals_built s (case_at cases) cases_are p;
+        small = built.small;
+      }
+
+-- ---- sets
+
+pub nothing_before : (a : MessageSet) → set.union set.empty a ≡ a
+nothing_before a =
+    same_set message_total message_same _ _ (λ q. contains-union message_total set.empty a q ∙ ap (λ (b : Bool). b || set.contains a q) (contains-empty message_order q))
+
+-- ---- what a table tells of a set
+
+-- empty tables are those of no message
+pub empty_view : {Y Z : Type 0} (s : MessageSet) (cases : IndexMap TransferKey Case Y) (totals : IndexMap (List ℕ) Totals Z)
+    → s ≡ set.empty → cases.entries ≡ [] → totals.entries ≡ [] → IsViewOf s cases totals
+unfolding IsStrictlySortedBy
+empty_view s cases totals e no_cases none =
+    built_all s cases totals [] (sym (ascending-sorted transfer_total transfers_same [] tt) ∙ keys-contents s [] (sym e))
+    (built_none s cases totals (no_case_in cases no_cases) (no_totals_in totals none))
+
+module _ (s u : MessageSet) (is : s ≡ u) (t : TransferKey) (kept : Kept) (e : kept ≡ case_of s t) where
+  pub status_told : kept.stands ≡ status_of u t
+  unfolding case_of
+  status_told = ap (λ (k : Kept). k.stands) e ∙ ap (λ (v : MessageSet). status_of v t) is
+
+  pub instruction_told : instruction_in kept ≡ instruction_of u t
+  unfolding case_of
+  instruction_told = ap (λ (k : Kept). instruction_in k) e ∙ ap (λ (v : MessageSet). instruction_of v t) is
+
+-- what is told of a recall by what is kept of its transfer
+pub recall_told : (s u : MessageSet) → s ≡ u → (r : RecallKey) (kept : Kept) → kept ≡ case_of s r.transfer → (stands : RecallStatus)
+    → ((asides : List Identity) → AreOn r.transfer kept.clean → kept.stands ≡ transfer_status_of r.transfer kept.clean asides
+    → stands ≡ recall_status_of r.transfer kept.clean asides r.cxl)
+    → stands ≡ recall_of u r
+unfolding case_of status_of recall_of
+recall_told s u is r kept e stands told_by =
+    let t = r.transfer in
+    let clean : kept.clean ≡ messages_on s t = ap (λ (k : Kept). k.clean) e in
+    let on : AreOn t kept.clean = subst (λ (ms : List Draft). AreOn t ms) (sym clean) (on_filtered t _) in
+    let status : kept.stands ≡ transfer_status_of t kept.clean (asides_of s t) =
+    ap (λ (k : Kept). k.stands) e ∙ sym (ap (λ (ms : List Draft). transfer_status_of t ms (asides_of s t)) clean) in
+    told_by (asides_of s t) on status
+    ∙ ap (λ (ms : List Draft). recall_status_of t ms (asides_of s t) r.cxl) clean
+    ∙ ap (λ (v : MessageSet). recall_of v r) is
+
+-- of a transfer without messages nothing is recalled
+pub nothing_recalled : (t : TransferKey) (cxl : List ℕ) (asides : List Identity) → Unknown ≡ transfer_status_of t [] asides
+    → recall.Unknown ≡ recall_status_of t [] asides cxl
+nothing_recalled t cxl asides stands = recall_clear_by t [] asides cxl Unknown stands (λ h. h)
+
+-- what is kept of a transfer, and what some fresh messages have on it, are in order all messages on it
+pub gathered_kept : (s f : MessageSet) (t : TransferKey) (kept : Kept) (ns on_it : List Draft) → kept ≡ case_of s t → contents_of ns ≡ f
+    → on_it ≡ filter (is_on t) ns
+    → ascending message_order (kept.clean ++ kept.contradicted ++ on_it) ≡ filter (is_on t) (in_order (set.union s f))
+unfolding case_of
+gathered_kept s f t kept ns on_it e is on =
+    (λ n. ascending message_order ((e n).clean ++ (e n).contradicted ++ on n))
+    ∙ gathered s ns t
+    ∙ ap (λ (v : MessageSet). filter (is_on t) (in_order (set.union s v))) is

@@ -1,0 +1,14 @@
+-- What is kept of a touched transfer and what is fresh of it are all messages on it.
+use Rattle.std.proofs.Common.{◌∙◌, ◌++◌, ap, filter}
+use Rattle.sct_message.specs.Ascending.{ascending}
+use Rattle.sct_message.specs.Order.{message_order}
+use Rattle.sct_message.specs.Sets.{MessageSet, in_order, messages_in}
+use Rattle.sct_message.specs.Transfers.{is_on}
+use Rattle.std.specs.FinSet as set
+use Rattle.sct_view.proofs.RebuildLemmas.{gathered_kept}
+use Rattle.sct_view.proofs.replanning.evaluate_each.Goals as goal
+
+pub evaluate_anew-requires-clause-messages : goal.evaluate_anew-requires-clause-messages
+evaluate_anew-requires-clause-messages c =
+    gathered_kept c.args.held.now c.args.fresh.now c.transfer-item.result _ (messages_in c.messages.result.now) _ (c.requires.kept c.transfer-item.result)
+    c.messages.ensures.held (c.on_transfer-messages.ensures _ c.in_ok-index.ensures)

@@ -1,0 +1,42 @@
+-- The planned cases over those that were kept are those of the larger set.
+use Rattle.std.proofs.Common.{◌∙◌, ap, sym, ◌+◌}
+use Rattle.std.specs.FinSet as set
+use Rattle.sct_message.specs.Sets.{MessageSet, messages_in}
+use Rattle.sct_set.specs.Contents.{contents_of}
+use Rattle.sct_view.proofs.ApplyLemmas.{joined, len_joined}
+use Rattle.sct_view.proofs.StepLemmas.{among_in_room, kept_in_room, view_after}
+use Rattle.sct_view.proofs.view.View.apply.Goals as goal
+
+pub commit_all-requires-clause-among : goal.commit_all-requires-clause-among
+commit_all-requires-clause-among c =
+    among_in_room c.self.inside.cases c.make_room.new.cases c.self.inside.totals c.make_room.new.totals c.self.inside.archive c.in_ok-plan.plan.fresh
+    c.make_room.new.archive c.in_ok-make_room.ensures.joined c.self.invariant.0 c.in_ok-make_room.ensures.same_cases c.in_ok-make_room.ensures.same_totals
+    c.in_ok-plan.plan.planned.items c.in_ok-plan.ensures.planned
+
+pub commit_all-requires-clause-kept : goal.commit_all-requires-clause-kept
+commit_all-requires-clause-kept c =
+    kept_in_room c.self.inside.cases c.make_room.new.cases c.self.inside.totals c.make_room.new.totals c.self.inside.archive c.in_ok-plan.plan.fresh
+    c.make_room.new.archive c.in_ok-make_room.ensures.joined c.self.invariant.0 c.in_ok-make_room.ensures.same_cases c.in_ok-make_room.ensures.same_totals
+
+pub invariant_of-self-2 : goal.invariant_of-self-2
+invariant_of-self-2 c = (
+  view_after c.self.inside.cases c.make_room.new.cases c.self.inside.totals c.make_room.new.totals c.self.inside.archive c.in_ok-plan.plan.fresh
+      c.make_room.new.archive c.in_ok-make_room.ensures.joined c.self.invariant.0 c.in_ok-make_room.ensures.same_cases c.in_ok-make_room.ensures.same_totals
+      c.in_ok-plan.plan.planned.items c.in_ok-plan.ensures.planned c.commit_all.new.cases c.commit_all.new.totals
+      c.commit_all.ensures.cases c.commit_all.ensures.kept c.commit_all.ensures.small,
+  c.self.invariant.1,
+)
+
+pub returns-clause-ok : goal.returns-clause-ok
+returns-clause-ok c =
+    c.in_ok-make_room.ensures.joined
+    ∙ ap (λ (v : MessageSet). set.union c.self.inside.archive v) c.in_ok-plan.ensures.fresh
+    ∙ joined c.self.inside.archive (contents_of (messages_in c.args.messages.now))
+    ∙ ap (λ (v : MessageSet). set.union v (contents_of (messages_in c.args.messages.now))) c.self.view_is
+
+pub returns-clause-fresh : goal.returns-clause-fresh
+returns-clause-fresh c =
+    ap (λ (v : MessageSet). set.len v)
+    (c.in_ok-make_room.ensures.joined ∙ ap (λ (v : MessageSet). set.union c.self.inside.archive v) c.in_ok-plan.ensures.fresh)
+    ∙ len_joined c.self.inside.archive (contents_of (messages_in c.args.messages.now))
+    ∙ (λ n. set.len (c.self.view_is n) + sym (c.len-fresh.ensures ∙ ap (λ (v : MessageSet). set.len v) c.in_ok-plan.ensures.fresh) n)

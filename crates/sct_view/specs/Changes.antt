@@ -1,0 +1,52 @@
+-- What a batch changes in the tables of a view, for those who prove it: for each transfer that it touches, what is to be
+-- kept of it from then on.
+use Rattle.std.specs.Prelude.{ℕ, Bool, List, [], ◌∷◌, ◌&&◌, not, map, filter, if◌then◌else◌}
+use Rattle.std.specs.List.{list_all, list_any}
+use Rattle.indexmap.specs.IndexMap.{IndexMap}
+use Rattle.sct_message.specs.Keys.{identity_of, transfer_of}
+use Rattle.sct_message.specs.Order.{same_identity}
+use Rattle.sct_message.specs.Sets.{MessageSet, in_order, is_contradicted}
+use Rattle.sct_message.specs.declared.draft.Draft.{Draft}
+use Rattle.sct_message.specs.declared.keys.TransferKey.{TransferKey}
+use Rattle.sct_view.specs.Kept.{Kept, case_of, is_ready, kept_in, same_key}
+use Rattle.sct_view.specs.declared.case.Case.{Case}
+use Rattle.sct_view.specs.declared.case.Planned.{Planned}
+use Rattle.sct_view.specs.declared.totals.Totals.{Totals}
+
+-- a transfer, and what is to be kept of it
+abbrev pub Change : Type 0
+Change = TransferKey × Kept
+
+-- what a planned case changes
+abbrev pub change_in : Planned → Change
+change_in planned = (planned.transfer, kept_in planned.case)
+
+-- what is to be kept of each of these transfers, once the set is this one
+abbrev pub changes_of : MessageSet → List TransferKey → List Change
+changes_of later transfers = map (λ t. (t, case_of later t)) transfers
+
+-- what is kept of each transfer when the changes were made, one after the other
+abbrev pub case_after : List Change → (TransferKey → Kept) → TransferKey → Kept
+case_after [] cases t = cases t
+case_after (change ∷ changes) cases t =
+    case_after changes (λ k. if same_key change.0 k then change.1 else cases k) t
+
+-- the messages held that a fresh one contradicts: they have its identity, and nothing contradicted it before
+abbrev pub newly_contradicted_by : MessageSet → Draft → List Draft
+newly_contradicted_by held m =
+    filter (λ other. same_identity (identity_of other) (identity_of m) && not (is_contradicted held other)) (in_order held)
+
+-- the transfers that one fresh message touches: its own, and that of the message which it contradicts
+abbrev pub touched_by_one : MessageSet → Draft → List TransferKey
+touched_by_one held m = transfer_of m ∷ map transfer_of (newly_contradicted_by held m)
+
+-- the tables have a place for each planned case
+abbrev pub is_ready_for : {Y Z : Type 0} → IndexMap TransferKey Case Y → IndexMap (List ℕ) Totals Z → Planned → Bool
+is_ready_for cases totals planned = is_ready cases totals planned.transfer (kept_in planned.case)
+
+abbrev pub are_ready : {Y Z : Type 0} → IndexMap TransferKey Case Y → IndexMap (List ℕ) Totals Z → List Planned → Bool
+are_ready cases totals planned = list_all (is_ready_for cases totals) planned
+
+-- the transfer of each planned case is one of these
+abbrev pub are_among : List TransferKey → List Planned → Bool
+are_among transfers planned = list_all (λ one. list_any (same_key one.transfer) transfers) planned

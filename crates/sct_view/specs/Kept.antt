@@ -1,0 +1,140 @@
+-- How the tables of a view are read, for those who prove it: what they keep of each transfer and of each bank, as
+-- functions that read an absent key as no messages, and as nothing.
+use Rattle.std.specs.Prelude.{◌≡◌, ◌≤◌, ◌<◌, ◌^◌, ◌&&◌, ℕ, Bool, List, [], filter, Option, None, Some, is_some}
+use Rattle.std.specs.List.{list_all}
+use Rattle.indexmap.specs.IndexMap.{IndexMap, get}
+use Rattle.sct_message.specs.Sets.{MessageSet, messages_in, contradicted_messages}
+use Rattle.sct_message.specs.contracts.keys.TransferKeyPartialEq.TheImpl as keys
+use Rattle.sct_element.specs.Text.{is_text}
+use Rattle.sct_message.specs.Transfers.{is_on, is_instruction, messages_on, sole}
+use Rattle.sct_message.specs.declared.draft.Draft.{Draft}
+use Rattle.sct_message.specs.declared.keys.TransferKey.{TransferKey}
+use Rattle.sct_case.specs.Statuses.{Standing, Returned, Unknown, told}
+use Rattle.sct_view.specs.Answers.{status_of}
+use Rattle.sct_view.specs.Totals.{nothing, share, totals_over, totals_of, cents_in, beneficiary_in}
+use Rattle.sct_view.specs.declared.case.Case.{Case}
+use Rattle.sct_view.specs.declared.totals.Totals.{Totals}
+
+-- What is kept of a transfer: its clean messages and the contradicted ones, both in order, and where it stands.
+pub record Kept : Type 0 where
+  pub clean : List Draft
+  pub contradicted : List Draft
+  pub stands : Standing
+
+abbrev pub no_messages : Kept
+no_messages = record { clean = []; contradicted = []; stands = Unknown }
+
+-- the contradicted messages of the set that are on a transfer
+abbrev pub contradicted_on : MessageSet → TransferKey → List Draft
+contradicted_on held transfer = filter (is_on transfer) (contradicted_messages held)
+
+-- what is to be kept of a transfer of the set
+unfoldable pub case_of : MessageSet → TransferKey → Kept
+case_of held transfer = record {
+  clean = messages_on held transfer;
+  contradicted = contradicted_on held transfer;
+  stands = status_of held transfer;
+}
+
+-- what a case keeps
+abbrev pub kept_in : Case → Kept
+kept_in case = record {
+  clean = messages_in case.clean.items;
+  contradicted = messages_in case.contradicted.items;
+  stands = told case.status;
+}
+
+abbrev pub kept_or_none : Option Case → Kept
+kept_or_none None = no_messages
+kept_or_none (Some case) = kept_in case
+
+-- the same originator bank and the same identification: the test by which a table finds a transfer
+abbrev pub same_key : TransferKey → TransferKey → Bool
+same_key = keys.ghosts.eq
+
+-- the table of cases, as a function of the transfer
+abbrev pub case_at : {S : Type 0} → IndexMap TransferKey Case S → TransferKey → Kept
+case_at cases transfer = kept_or_none (get same_key cases transfer)
+
+abbrev pub totals_or_none : Option Totals → Totals
+totals_or_none None = nothing
+totals_or_none (Some totals) = totals
+
+-- the table of totals, as a function of the bank
+abbrev pub totals_at : {S : Type 0} → IndexMap (List ℕ) Totals S → List ℕ → Totals
+totals_at totals bank = totals_or_none (get is_text totals bank)
+
+-- the instruction of a case
+abbrev pub instruction_in : Kept → Option Draft
+instruction_in case = sole (filter is_instruction case.clean)
+
+-- what a transfer adds to the totals of a bank, by what is kept of it
+abbrev pub share_in : List ℕ → TransferKey → Kept → Totals
+share_in bank transfer case = share bank transfer case.stands (instruction_in case)
+
+-- ---- places
+
+-- the table has a place for the transfer, for the bank
+abbrev pub has_case : {S : Type 0} → IndexMap TransferKey Case S → TransferKey → Bool
+has_case cases transfer = is_some (get same_key cases transfer)
+
+abbrev pub has_totals : {S : Type 0} → IndexMap (List ℕ) Totals S → List ℕ → Bool
+has_totals totals bank = is_some (get is_text totals bank)
+
+-- the tables have a place for what is to be kept of the transfer, and for the totals of each of its banks
+abbrev pub is_ready : {Y Z : Type 0} → IndexMap TransferKey Case Y → IndexMap (List ℕ) Totals Z → TransferKey → Kept → Bool
+is_ready cases totals transfer case =
+    has_case cases transfer
+    && (has_totals totals transfer.debtor_agent && list_all (has_totals totals) (beneficiary_in (instruction_in case)))
+
+-- ---- bounds
+
+-- each number fits into its type
+pub record IsInRange (t : Totals) : Type 0 where
+  pub sent : t.sent < 2 ^ 64
+  pub sent_cents : t.sent_cents < 2 ^ 128
+  pub returned_in : t.returned_in < 2 ^ 128
+  pub rejected : t.rejected < 2 ^ 64
+  pub waiting : t.waiting < 2 ^ 64
+  pub missing : t.missing < 2 ^ 64
+  pub contradicted : t.contradicted < 2 ^ 64
+  pub received : t.received < 2 ^ 64
+  pub received_cents : t.received_cents < 2 ^ 128
+  pub returned_out : t.returned_out < 2 ^ 128
+
+-- each number of the one is at most its like of the other
+pub record IsUpTo (part t : Totals) : Type 0 where
+  pub sent : part.sent ≤ t.sent
+  pub sent_cents : part.sent_cents ≤ t.sent_cents
+  pub returned_in : part.returned_in ≤ t.returned_in
+  pub rejected : part.rejected ≤ t.rejected
+  pub waiting : part.waiting ≤ t.waiting
+  pub missing : part.missing ≤ t.missing
+  pub contradicted : part.contradicted ≤ t.contradicted
+  pub received : part.received ≤ t.received
+  pub received_cents : part.received_cents ≤ t.received_cents
+  pub returned_out : part.returned_out ≤ t.returned_out
+
+-- the cents that come back of a transfer
+abbrev pub cents_back : Standing → ℕ
+cents_back (Returned amount) = amount
+cents_back other = 0
+
+-- the amounts of what is kept of a transfer are numbers of 64 bits
+pub record IsSmall (case : Kept) : Type 0 where
+  pub instructed : cents_in (instruction_in case) < 2 ^ 64
+  pub back : cents_back case.stands < 2 ^ 64
+
+-- ---- the tables
+
+-- the totals of each bank are the sums of its shares of these transfers, by what is kept of them
+abbrev pub AreTotalsOver : {Y Z : Type 0} → IndexMap TransferKey Case Y → IndexMap (List ℕ) Totals Z → List TransferKey → Type 0
+AreTotalsOver cases totals transfers = (bank : List ℕ)
+    → totals_at totals bank ≡ totals_over (λ t. share_in bank t (case_at cases t)) transfers
+
+-- The tables are those of a set of messages.
+pub record IsViewOf {Y Z : Type 0} (held : MessageSet) (cases : IndexMap TransferKey Case Y)
+    (totals : IndexMap (List ℕ) Totals Z) : Type 0 where
+  pub cases_are : (transfer : TransferKey) → case_at cases transfer ≡ case_of held transfer
+  pub totals_are : (bank : List ℕ) → totals_at totals bank ≡ totals_of held bank
+  pub small : (transfer : TransferKey) → IsSmall (case_at cases transfer)

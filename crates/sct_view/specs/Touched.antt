@@ -1,0 +1,54 @@
+-- Which transfers a batch touches, for auditors: those of its fresh messages, and those of the messages held before whose
+-- identity the fresh ones contradict. All other transfers stay as they were: a law says so.
+use Rattle.std.specs.FinSet as set
+use Rattle.std.specs.Prelude.{◌≡◌, ◌≤◌, ◌*◌, ◌&&◌, ◌++◌, not, Bool, ℕ, List, length, map, filter, Contains}
+use Rattle.sct_message.specs.Ascending.{ascending}
+use Rattle.sct_message.specs.Keys.{transfer_of}
+use Rattle.sct_message.specs.Order.{transfer_order}
+use Rattle.sct_message.specs.Sets.{MessageSet, is_contradicted}
+use Rattle.sct_message.specs.Transfers.{asides_of, instruction_of, messages_on}
+use Rattle.sct_message.specs.declared.draft.Draft.{Draft}
+use Rattle.sct_message.specs.declared.keys.TransferKey.{TransferKey}
+use Rattle.sct_view.specs.Answers.{found_on, recall_of, recalls_of, status_of}
+use Rattle.sct_view.specs.Totals.{share_of}
+
+-- the identity of the message is contradicted once the fresh messages are there, and was not before
+abbrev pub is_newly_contradicted : MessageSet → MessageSet → Draft → Bool
+is_newly_contradicted held fresh m = is_contradicted (set.union held fresh) m && not (is_contradicted held m)
+
+-- the transfers touched, each once, ascending
+unfoldable pub touched_by : MessageSet → MessageSet → List TransferKey
+touched_by held fresh =
+    ascending transfer_order
+    (map transfer_of (set.items fresh) ++ map transfer_of (filter (is_newly_contradicted held fresh) (set.items held)))
+
+-- the messages of a batch that are not held
+abbrev pub fresh_of : MessageSet → MessageSet → MessageSet
+fresh_of held batch = set.difference batch held
+
+-- the transfers that a batch touches
+abbrev pub touched_in : MessageSet → MessageSet → List TransferKey
+touched_in held batch = touched_by held (fresh_of held batch)
+
+-- What is told of a transfer in one set is told of it in another one.
+pub record IsToldAlike (held later : MessageSet) (transfer : TransferKey) : Type 0 where
+  pub messages : messages_on later transfer ≡ messages_on held transfer
+  pub asides : asides_of later transfer ≡ asides_of held transfer
+  pub instruction : instruction_of later transfer ≡ instruction_of held transfer
+  pub status : status_of later transfer ≡ status_of held transfer
+  pub findings : found_on later transfer ≡ found_on held transfer
+  pub recalls : recalls_of later transfer ≡ recalls_of held transfer
+  pub recall : (cxl : List ℕ) → recall_of later (record { transfer = transfer; cxl = cxl })
+      ≡ recall_of held (record { transfer = transfer; cxl = cxl })
+  pub shares : (bank : List ℕ) → share_of later bank transfer ≡ share_of held bank transfer
+
+-- a transfer that a batch does not touch has the same messages, status, findings, recalls and shares as before
+abbrev pub UntouchedTransfersStay : Type 0
+UntouchedTransfersStay = (held batch : MessageSet) (transfer : TransferKey)
+    → (Contains (touched_by held (fresh_of held batch)) transfer → ⊥)
+    → IsToldAlike held (set.union held batch) transfer
+
+-- a batch touches at most twice as many transfers as it has fresh messages
+abbrev pub BatchesTouchFew : Type 0
+BatchesTouchFew = (held batch : MessageSet)
+    → length (touched_by held (fresh_of held batch)) ≤ 2 * set.len (fresh_of held batch)

@@ -1,0 +1,32 @@
+//! All answers of a set of messages: where each transfer and each recall stands, what contradicts itself, and the totals of
+//! each bank.
+#![tactic(auto)]
+
+mod case;
+mod commit;
+mod euros;
+mod evaluation;
+mod filed;
+mod found;
+pub mod laws;
+mod listed;
+mod opening;
+mod plan;
+mod rebuild;
+mod replacing;
+mod replanning;
+mod room;
+mod running;
+mod shares;
+mod status_text;
+mod totals;
+mod totals_lines;
+mod totals_text;
+mod view;
+mod words;
+
+pub use totals::Totals;
+pub use view::{Applied, View};
+
+#[cfg(test)]
+mod tests;

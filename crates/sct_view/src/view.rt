@@ -1,0 +1,219 @@
+//! A set of messages with all its answers.
+
+ghost use Rattle.std.specs.Prelude.{◌≡◌, ◌≤◌, ◌+◌, ◌*◌, length, option_map, IfOk, OnOk, OnErr};
+ghost use Rattle.std.specs.Arc.{arc_value};
+ghost use Rattle.std.specs.FinSet as set;
+ghost use Rattle.std.specs.Option.{option_copied};
+ghost use Rattle.sct_case.specs.Statuses.{told};
+ghost use Rattle.sct_message.specs.Sets.{messages_in};
+ghost use Rattle.sct_message.specs.Transfers.{instruction_of};
+ghost use Rattle.sct_set.specs.Contents.{contents_of};
+ghost use Rattle.sct_view.specs.Answers.{recall_of, status_of};
+ghost use Rattle.sct_view.specs.Totals.{totals_of};
+ghost use Rattle.sct_view.specs.Touched.{touched_in};
+
+use crate::case::Case;
+use crate::commit::commit_all;
+use crate::listed::{all_findings, keys, recalls_of, transfers_of};
+use crate::rebuild::tables_of;
+use crate::replanning::replan;
+use crate::room::make_room;
+use crate::status_text::status_text;
+use crate::totals::Totals;
+use crate::totals_text::{banks, totals_text};
+use indexmap::IndexMap;
+use sct_case::{CaseFault, Finding, RecallStatus, Status, recall_status_by};
+use sct_element::{Bic, Id35};
+use sct_message::{Message, RecallKey, TransferKey};
+use sct_set::Archive;
+use std::alloc::Global;
+use std::marker::Model;
+use std::sync::Arc;
+
+/// What a batch of messages brought.
+#[derive(Clone, Copy, Debug, PartialEq, Eq)]
+pub struct Applied {
+    /// How many of its messages were not held before.
+    pub fresh: u64,
+    /// How many transfers it touched: those of its fresh messages, and those of messages that these contradict.
+    pub touched: u64,
+}
+
+/// Messages, each held once, with what is kept of each transfer and of each bank.
+#[derive(Drop)]
+pub struct View {
+    alloc: Global,
+    archive: Archive,
+    cases: IndexMap<TransferKey, Case>,
+    totals: IndexMap<Bic, Totals>,
+    unknown: Status,
+}
+
+impl Model for View {
+    ghost use Rattle.std.specs.Prelude.{◌≡◌};
+    ghost use Rattle.std.specs.FinSet as set;
+    ghost use Rattle.sct_case.specs.Statuses.{told, Unknown};
+    ghost use Rattle.sct_message.specs.contracts.messages.Message as message;
+    ghost use Rattle.sct_message.specs.Order.{message_order};
+    ghost use Rattle.sct_view.specs.Kept.{IsViewOf};
+
+    ghost Value = { set.FinSet message_order };
+
+    ghost coded = { set.code message.the_row.coded };
+
+    ghost view = { λ v. v.archive };
+
+    ghost invariant = { λ v. IsViewOf v.archive v.cases v.totals × (told v.unknown ≡ Unknown) };
+}
+
+impl View {
+    /// The view of no message.
+    pub fn new(alloc: Global) -> Self
+        ensures { result ≡ set.empty }
+    {
+        View {
+            alloc,
+            archive: Archive::new(alloc),
+            cases: IndexMap::new(alloc),
+            totals: IndexMap::new(alloc),
+            unknown: Status::Unknown,
+        }
+    }
+
+    /// The view of an archive's messages.
+    pub fn of(alloc: Global, archive: Archive) -> Result<Self, CaseFault>
+        ensures { IfOk result (λ view. view ≡ archive) }
+    {
+        let tables = tables_of(alloc, &archive)?;
+        Ok(View {
+            alloc,
+            archive,
+            cases: tables.cases,
+            totals: tables.totals,
+            unknown: Status::Unknown,
+        })
+    }
+
+    /// Adds the messages of a batch. Where memory is wanting the view is what it was.
+    pub fn apply(&mut self, messages: &[Arc<Message>]) -> Result<Applied, CaseFault>
+        ensures ok { OnOk result (self.new ≡ set.union self.old (contents_of (messages_in messages.now))) }
+        ensures fresh { IfOk result (λ applied. set.len self.new ≡ set.len self.old + applied.fresh) }
+        ensures touched { IfOk result (λ applied. applied.touched ≡ length (touched_in self.old (contents_of (messages_in messages.now)))) }
+        ensures few { IfOk result (λ applied. applied.touched ≤ 2 * applied.fresh) }
+        ensures err { OnErr result (self.new ≡ self.old) }
+    {
+        let plan = replan(self.alloc, &self.archive, &self.cases, messages)?;
+        let fresh = plan.fresh.len() as u64;
+        let touched = plan.evaluations;
+        make_room(
+            self.alloc,
+            &mut self.archive,
+            &mut self.cases,
+            &mut self.totals,
+            &plan.fresh,
+            &plan.planned,
+        )?;
+        commit_all(
+            &self.archive,
+            &mut self.cases,
+            &mut self.totals,
+            plan.planned,
+        );
+        Ok(Applied { fresh, touched })
+    }
+
+    /// Where a transfer stands: `Unknown` where no message is on it.
+    pub fn status(&self, transfer: &TransferKey) -> &Status
+        ensures { told result.now ≡ status_of self.now transfer.now }
+    {
+        match self.cases.get(transfer) {
+            Some(case) => &case.status,
+            None => &self.unknown,
+        }
+    }
+
+    /// Where a recall stands: `Unknown` where no message names it.
+    pub fn recall(&self, recall: &RecallKey) -> RecallStatus
+        ensures { result ≡ recall_of self.now recall.now }
+    {
+        match self.cases.get(&recall.transfer) {
+            Some(case) => recall_status_by(&case.status, &case.clean, &recall.cxl),
+            None => RecallStatus::Unknown,
+        }
+    }
+
+    /// The totals of a bank, all 0 where no message names it as the originator or the beneficiary bank of a transfer.
+    pub fn totals(&self, bank: &Bic) -> Totals
+        ensures { result ≡ totals_of self.now bank.now }
+    {
+        match self.totals.get(bank) {
+            Some(totals) => *totals,
+            None => Totals::nothing(),
+        }
+    }
+
+    /// The message that instructs a transfer, where exactly one clean message does.
+    pub fn instruction(&self, transfer: &TransferKey) -> Option<&Arc<Message>>
+        ensures { option_map arc_value (option_copied result) ≡ instruction_of self.now transfer.now }
+    {
+        self.cases.get(transfer)?.instruction()
+    }
+}
+
+impl View {
+    ghost use Rattle.sct_message.specs.Transfers.{keys_of};
+    ghost use Rattle.sct_view.specs.Answers.{recalls_of, transfers_of, all_findings_of};
+    ghost use Rattle.sct_view.specs.StatusText.{status_text_of};
+    ghost use Rattle.sct_view.specs.Totals.{banks_of};
+    ghost use Rattle.sct_view.specs.TotalsText.{totals_text_of};
+
+    /// The transfers of which a message is held, ascending.
+    pub fn keys(&self) -> Result<Vec<TransferKey>, CaseFault>
+        ensures { IfOk result (λ keys. keys.items ≡ keys_of self.now) }
+    {
+        keys(self.alloc, &self.archive, &self.cases)
+    }
+
+    /// The banks whose totals are not all 0, ascending.
+    pub fn banks(&self) -> Result<Vec<Bic>, CaseFault>
+        ensures { IfOk result (λ banks. banks.items ≡ banks_of self.now) }
+    {
+        banks(self.alloc, &self.archive, &self.totals)
+    }
+
+    /// The recalls of a transfer that a message held names, contradicted messages too, ascending.
+    pub fn recalls_of(&self, transfer: &TransferKey) -> Result<Vec<Id35>, CaseFault>
+        ensures { IfOk result (λ recalls. recalls.items ≡ recalls_of self.now transfer.now) }
+    {
+        recalls_of(self.alloc, &self.archive, &self.cases, transfer)
+    }
+
+    /// The transfers of which a bank is the originator bank, or the beneficiary bank of the instruction, ascending.
+    pub fn transfers_of(&self, bank: &Bic) -> Result<Vec<TransferKey>, CaseFault>
+        ensures { IfOk result (λ transfers. transfers.items ≡ transfers_of self.now bank.now) }
+    {
+        transfers_of(self.alloc, &self.archive, &self.cases, bank)
+    }
+
+    /// All that contradicts itself, each finding beside its transfer: by transfer, and then in the order in which findings
+    /// are told.
+    pub fn all_findings(&self) -> Result<Vec<(TransferKey, Finding)>, CaseFault>
+        ensures { IfOk result (λ found. found.items ≡ all_findings_of self.now) }
+    {
+        all_findings(self.alloc, &self.archive, &self.cases)
+    }
+
+    /// The status text: a line for each transfer, each finding and each recall.
+    pub fn status_text(&self) -> Result<Vec<u8>, CaseFault>
+        ensures { IfOk result (λ text. text.items ≡ status_text_of self.now) }
+    {
+        status_text(self.alloc, &self.archive, &self.cases)
+    }
+
+    /// The totals text: a line for each bank whose totals are not all 0.
+    pub fn totals_text(&self) -> Result<Vec<u8>, CaseFault>
+        ensures { IfOk result (λ text. text.items ≡ totals_text_of self.now) }
+    {
+        totals_text(self.alloc, &self.archive, &self.totals)
+    }
+}
