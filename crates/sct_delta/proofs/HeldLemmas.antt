@@ -1,0 +1,196 @@
+-- Which entries lists and logs hold. It serves the laws of logs, and the sites and worlds above.
+use Rattle.std.proofs.Common.{◌≡◌, ◌∙◌, refl, ap, sym, ℕ, ◌+◌, ◌-◌, Bool, true, false, cond, ◌&&◌, ◌||◌, List, [], ◌∷◌, drop, arith, nat_eq, nat_lt, None, zero, suc}
+use Rattle.std.specs.List.{list_any, slice_get}
+use Rattle.std.proofs.lemmas.Bool.{false≢true}
+use Rattle.std.proofs.lemmas.Bool.Decides.{nat_tests}
+use Rattle.sct_message.specs.declared.draft.Draft.{Draft}
+use Rattle.sct_message.specs.Order.{same_message}
+use Rattle.sct_message.specs.OrderLaws.{message_total, message_same}
+use Rattle.sct_message.proofs.Members.{tie_is, ties_itself}
+use Rattle.sct_delta.specs.Entries.{Placed, entries_from, log_of, numbered, same_entry, holds, IsArrivals}
+use Rattle.sct_delta.specs.Refusals.{message_at, is_same_as, is_held, IsCut}
+use Rattle.sct_delta.proofs.EntryLemmas.{same_number}
+
+pub and_first : (a b : Bool) → (a && b) ≡ true → a ≡ true
+and_first true b e = refl
+and_first false b e = e
+
+pub and_second : (a b : Bool) → (a && b) ≡ true → b ≡ true
+and_second true b e = e
+and_second false b e = absurd (false≢true e)
+
+pub or_true : (a : Bool) → (a || true) ≡ true
+or_true true = refl
+or_true false = refl
+
+pub or_false : (a : Bool) → (a || false) ≡ a
+or_false true = refl
+or_false false = refl
+
+pub or_first : (a b : Bool) → (a || b) ≡ false → a ≡ false
+or_first true b e = e
+or_first false b e = refl
+
+pub or_second : (a b : Bool) → (a || b) ≡ false → b ≡ false
+or_second true b e = absurd (false≢true (sym e))
+or_second false b e = e
+
+pub and_true : (a : Bool) → (a && true) ≡ a
+and_true true = refl
+and_true false = refl
+
+pub and_false : (a : Bool) → (a && false) ≡ false
+and_false true = refl
+and_false false = refl
+
+pub equal_numbers : (a b : ℕ) → nat_eq a b ≡ true → a ≡ b
+equal_numbers a b e = grind (arith, nat_tests)
+
+-- ---- one entry
+
+pub same_draft : (a b : Draft) → same_message a b ≡ true → a ≡ b
+same_draft = tie_is message_total message_same
+
+pub draft_itself : (a : Draft) → same_message a a ≡ true
+draft_itself = ties_itself message_total message_same
+
+pub one_entry : (a b : Placed) → same_entry a b ≡ true → a ≡ b
+one_entry a b e =
+    let rest = and_second (nat_eq a.origin b.origin) (nat_eq a.n b.n && same_message a.message b.message) e in
+    let origin = equal_numbers a.origin b.origin (and_first (nat_eq a.origin b.origin) (nat_eq a.n b.n && same_message a.message b.message) e) in
+    let n = equal_numbers a.n b.n (and_first (nat_eq a.n b.n) (same_message a.message b.message) rest) in
+    let message = same_draft a.message b.message (and_second (nat_eq a.n b.n) (same_message a.message b.message) rest) in
+    λ i. record { origin = origin i; n = n i; message = message i }
+
+pub entry_itself : (a : Placed) → same_entry a a ≡ true
+entry_itself a = (λ i. same_number a.origin i && (same_number a.n i && draft_itself a.message i))
+
+-- what no member passes no entry of the list passes, and the other way about
+pub none_passes : (p : Placed → Bool) (es : List Placed) → list_any p es ≡ false → (e : Placed) → holds es e ≡ true → p e ≡ false
+none_passes p [] none e among = absurd (false≢true among)
+none_passes p (x ∷ es) none e among =
+    elim (same_entry x e) as (λ b. same_entry x e ≡ b → (b || holds es e) ≡ true → p e ≡ false) [
+      | true ↦ λ is _. ap p (sym (one_entry x e is)) ∙ or_first (p x) (list_any p es) none
+      | false ↦ λ _ later. none_passes p es (or_second (p x) (list_any p es) none) e later
+    ] refl among
+
+pub passes_none : (p : Placed → Bool) (es : List Placed) → ((e : Placed) → holds es e ≡ true → p e ≡ false) → list_any p es ≡ false
+passes_none p [] none = refl
+passes_none p (x ∷ es) none =
+    (λ i. none x (ap (λ (b : Bool). b || holds es x) (entry_itself x)) i || passes_none p es (λ e among. none e (ap (λ (b : Bool). same_entry x e || b) among ∙ or_true (same_entry x e))) i)
+
+-- ---- entries of one origin
+
+pub holds_from : (e : Placed) (es : List Placed) → holds es e ≡ holds (entries_from e.origin es) e
+holds_from e [] = refl
+holds_from e (x ∷ es) =
+    elim (nat_eq x.origin e.origin) as (λ b. nat_eq x.origin e.origin ≡ b → (same_entry x e || holds es e) ≡ holds (cond b (x ∷ entries_from e.origin es) (entries_from e.origin es)) e) [
+      | true ↦ λ t. ap (λ (b : Bool). same_entry x e || b) (holds_from e es)
+      | false ↦ λ t. (λ i. (t i && (nat_eq x.n e.n && same_message x.message e.message)) || holds es e) ∙ holds_from e es
+    ] refl
+
+first_same : (o f : ℕ) (m : Draft) (e : Placed) → e.origin ≡ o
+    → same_entry (record { origin = o; n = f; message = m }) e ≡ (nat_eq f e.n && same_message m e.message)
+first_same o f m e is =
+    ap (λ (p : ℕ). nat_eq o p && (nat_eq f e.n && same_message m e.message)) is
+    ∙ ap (λ (b : Bool). b && (nat_eq f e.n && same_message m e.message)) (same_number o)
+
+next_place : (k n : ℕ) (m : Draft) (ms : List Draft) (j : ℕ) → k ≡ suc j → slice_get (m ∷ ms) k ≡ slice_get ms j
+next_place k n m ms j is = ap (slice_get (m ∷ ms)) is
+
+-- a number below another, at it, or above it, by the tests that runs are read by
+below_it : (n f : ℕ) → nat_lt n f ≡ true → nat_lt n (f + 1) ≡ true
+below_it n f e = grind (arith, nat_tests)
+
+not_it : (n f : ℕ) → nat_lt n f ≡ true → nat_eq f n ≡ false
+not_it n f e = grind (arith, nat_tests)
+
+next_above : (n f : ℕ) → nat_eq f n ≡ true → nat_lt n (f + 1) ≡ true
+next_above n f e = grind (arith, nat_tests)
+
+above_next : (n f : ℕ) → nat_lt n f ≡ false → nat_eq f n ≡ false → nat_lt n (f + 1) ≡ false
+above_next n f e g = grind (arith, nat_tests)
+
+first_place : (n f : ℕ) → nat_eq f n ≡ true → n - f ≡ 0
+first_place n f e = grind (arith, nat_tests)
+
+later_place : (n f : ℕ) → nat_lt n f ≡ false → nat_eq f n ≡ false → n - f ≡ suc (n - (f + 1))
+later_place n f e g = grind (arith, nat_tests)
+
+-- An entry stands in a run where its message stands at the place of its number.
+pub holds_run : (o f : ℕ) (ms : List Draft) (e : Placed) → e.origin ≡ o
+    → holds (numbered o f ms) e ≡ cond (nat_lt e.n f) false (is_same_as e.message (slice_get ms (e.n - f)))
+holds_run o f [] e is = elim (nat_lt e.n f) as (λ b. false ≡ cond b false false) [ true ↦ refl | false ↦ refl ]
+holds_run o f (m ∷ ms) e is =
+    (λ i. first_same o f m e is i || holds_run o (f + 1) ms e is i)
+    ∙ elim (nat_lt e.n f) as (λ b. nat_lt e.n f ≡ b → ((nat_eq f e.n && same_message m e.message) || cond (nat_lt e.n (f + 1)) false (is_same_as e.message (slice_get ms (e.n - (f + 1)))))
+    ≡ cond b false (is_same_as e.message (slice_get (m ∷ ms) (e.n - f)))) [
+      | true ↦ λ t. λ i. (not_it e.n f t i && same_message m e.message) || cond (below_it e.n f t i) false (is_same_as e.message (slice_get ms (e.n - (f + 1))))
+      | false ↦ λ t.
+          elim (nat_eq f e.n) as (λ b. nat_eq f e.n ≡ b → ((b && same_message m e.message) || cond (nat_lt e.n (f + 1)) false (is_same_as e.message (slice_get ms (e.n - (f + 1)))))
+          ≡ is_same_as e.message (slice_get (m ∷ ms) (e.n - f))) [
+            | true ↦ λ u. (λ i. same_message m e.message || cond (next_above e.n f u i) false (is_same_as e.message (slice_get ms (e.n - (f + 1)))))
+                ∙ or_false (same_message m e.message)
+                ∙ ap (λ (k : ℕ). is_same_as e.message (slice_get (m ∷ ms) k)) (sym (first_place e.n f u))
+            | false ↦ λ u. (λ i. cond (above_next e.n f t u i) false (is_same_as e.message (slice_get ms (e.n - (f + 1)))))
+                ∙ ap (λ (k : ℕ). is_same_as e.message (slice_get (m ∷ ms) k)) (sym (later_place e.n f t u))
+          ] refl
+    ] refl
+
+-- ---- what logs hold
+
+from_1 : (n : ℕ) → nat_lt n 1 ≡ nat_eq n 0
+from_1 n = grind (arith, nat_tests)
+
+pub held_as_run : (log : ℕ → List Draft) (e : Placed) → is_held log e ≡ holds (numbered e.origin 1 (log e.origin)) e
+held_as_run log e =
+    sym (
+    holds_run e.origin 1 (log e.origin) e refl
+    ∙ ap (λ (b : Bool). cond b false (is_same_as e.message (slice_get (log e.origin) (e.n - 1)))) (from_1 e.n)
+    ∙ elim (nat_eq e.n 0) as (λ b. cond b false (is_same_as e.message (slice_get (log e.origin) (e.n - 1))) ≡ is_same_as e.message (cond b None (slice_get (log e.origin) (e.n - 1)))) [ true ↦ refl | false ↦ refl ]
+    )
+
+-- what arrivals hold is what their logs hold
+pub held_in_logs : (es : List Placed) → IsArrivals es → (e : Placed) → holds es e ≡ is_held (λ o. log_of o es) e
+held_in_logs es arrive e = holds_from e es ∙ ap (λ (l : List Placed). holds l e) (arrive e.origin) ∙ sym (held_as_run (λ o. log_of o es) e)
+
+-- ---- what is cut
+
+after_drop : (k : ℕ) (ms : List Draft) (i : ℕ) → slice_get (drop k ms) i ≡ slice_get ms (k + i)
+after_drop zero ms i = ap (slice_get ms) (omega arith)
+after_drop (suc k) [] i = refl
+after_drop (suc k) (m ∷ ms) i = after_drop k ms i ∙ sym (next_place (suc k + i) i m ms (k + i) (omega arith))
+
+past_it : (c n : ℕ) → nat_lt c n ≡ true → nat_lt n (c + 1) ≡ false
+past_it c n e = grind (arith, nat_tests)
+
+up_to_it : (c n : ℕ) → nat_lt c n ≡ false → nat_lt n (c + 1) ≡ true
+up_to_it c n e = grind (arith, nat_tests)
+
+not_0 : (c n : ℕ) → nat_lt c n ≡ true → nat_eq n 0 ≡ false
+not_0 c n e = grind (arith, nat_tests)
+
+same_place : (c n : ℕ) → nat_lt c n ≡ true → c + (n - (c + 1)) ≡ n - 1
+same_place c n e = grind (arith, nat_tests)
+
+cut_at : (ms : List Draft) (c n : ℕ) (m : Draft)
+    → cond (nat_lt n (c + 1)) false (is_same_as m (slice_get (drop c ms) (n - (c + 1)))) ≡ (is_same_as m (message_at ms n) && nat_lt c n)
+cut_at ms c n m =
+    elim (nat_lt c n) as (λ b. nat_lt c n ≡ b → cond (nat_lt n (c + 1)) false (is_same_as m (slice_get (drop c ms) (n - (c + 1)))) ≡ (is_same_as m (message_at ms n) && b)) [
+      | true ↦ λ t.
+          (λ i. cond (past_it c n t i) false (is_same_as m (slice_get (drop c ms) (n - (c + 1)))))
+          ∙ ap (is_same_as m) (after_drop c ms (n - (c + 1)) ∙ ap (slice_get ms) (same_place c n t))
+          ∙ (λ i. is_same_as m (cond (sym (not_0 c n t) i) None (slice_get ms (n - 1))))
+          ∙ sym (and_true (is_same_as m (message_at ms n)))
+      | false ↦ λ t.
+          (λ i. cond (up_to_it c n t i) false (is_same_as m (slice_get (drop c ms) (n - (c + 1)))))
+          ∙ sym (and_false (is_same_as m (message_at ms n)))
+    ] refl
+
+pub cut_holds : (log : ℕ → List Draft) (count : ℕ → ℕ) (delta : List Placed) → IsCut log count delta
+    → (e : Placed) → holds delta e ≡ (is_held log e && nat_lt (count e.origin) e.n)
+cut_holds log count delta is e =
+    holds_from e delta
+    ∙ ap (λ (l : List Placed). holds l e) (is e.origin)
+    ∙ holds_run e.origin (count e.origin + 1) (drop (count e.origin) (log e.origin)) e refl
+    ∙ cut_at (log e.origin) (count e.origin) e.n e.message

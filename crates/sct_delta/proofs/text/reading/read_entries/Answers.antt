@@ -1,0 +1,35 @@
+-- One line more, and the end.
+use Rattle.std.proofs.Common.{sym, ◌∙◌, arith, ap, ◌≡◌, ◌+◌, ◌++◌, ◌∷◌, []}
+use Rattle.sct_delta.specs.Entries.{Placed}
+use Rattle.sct_delta.specs.DeltaText.{entries_in, entries_ended, lines_of}
+use Rattle.sct_delta.proofs.ReadingLemmas.{read_entry_more, read_entry_wrong, read_end, read_missing}
+use Rattle.sct_delta.proofs.text.reading.read_entries.Goals as goal
+
+at_end : (c : goal.After-ended) → entries_in 2 0 0 [] (lines_of c.args.text.now) ≡ entries_ended c.loop-line.place c.loop-line.entries.items c.in-Some.line.now (lines_of c.in-Some.after.now)
+at_end c = c.loop-line.invariant.left ∙ read_end _ _ _ _ _ _ _ c.in-Some.ensures.lines (sym c.in_default-2.is ∙ c.in_ok-entry.ensures.read)
+
+pub returns-in_default-2-clause-read : goal.returns-in_default-2-clause-read
+returns-in_default-2-clause-read c = rw (at_end c) c.ended.ensures.read
+
+pub returns-in_default-2-clause-wrong : goal.returns-in_default-2-clause-wrong
+returns-in_default-2-clause-wrong c = rw (at_end c) c.ended.ensures.wrong
+
+pub returns-then-not-may_be_next-clause-wrong : goal.returns-then-not-may_be_next-clause-wrong
+returns-then-not-may_be_next-clause-wrong c =
+    c.loop-line.invariant.left
+    ∙ read_entry_wrong _ _ _ _ _ _ _ c.in-Some-2.entry c.in-Some.ensures.lines (sym c.in-Some-2.is ∙ c.in_ok-entry.ensures.read) (sym c.may_be_next.ensures ∙ c.if-not-may_be_next.true)
+
+pub loop-line-preserved : goal.loop-line-preserved
+loop-line-preserved c = record {
+  counted = omega (arith, c.in-Some.ensures.shorter);
+  left =
+      let more : entries_in 2 0 0 [] (lines_of c.args.text.now) ≡ entries_in (c.loop-line.place + 1) c.in-Some-2.entry.origin c.in-Some-2.entry.n (c.loop-line.entries.items ++ c.in-Some-2.entry ∷ []) (lines_of c.in-Some.after.now) =
+      c.loop-line.invariant.left
+      ∙ read_entry_more _ _ _ _ _ _ _ c.in-Some-2.entry c.in-Some.ensures.lines (sym c.in-Some-2.is ∙ c.in_ok-entry.ensures.read) (sym c.may_be_next.ensures ∙ c.if-not-may_be_next.false) in
+      let origin : c.entry.inside.origin ≡ c.in-Some-2.entry.origin = ap (λ (e : Placed). e.origin) c.entry.view_is in
+      let n : c.entry.inside.n ≡ c.in-Some-2.entry.n = ap (λ (e : Placed). e.n) c.entry.view_is in
+      rw (c.in_ok-push.ensures.items, origin, n) more;
+}
+
+pub returns-clause-wrong : goal.returns-clause-wrong
+returns-clause-wrong c = c.loop-line.invariant.left ∙ read_missing _ _ _ _ _ c.in_default.ensures.lines

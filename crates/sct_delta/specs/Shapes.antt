@@ -1,0 +1,51 @@
+-- Which entries make a delta, and why others make none. Read by an auditor; the law `entries_make_a_delta` says that no
+-- refusal is `IsDelta`.
+use Rattle.std.specs.Prelude.{ℕ, ◌+◌, ◌&&◌, Bool, List, [], ◌∷◌, nat_eq, nat_le, nat_lt, Option, Some, None, option_map, if◌then◌else◌}
+use Rattle.std.specs.List.{list_all}
+use Rattle.sct_delta.specs.declared.fault.DeltaFault.{DeltaFault}
+use Rattle.sct_delta.specs.declared.fault.DeltaFault.TheVariants as fault
+use Rattle.sct_delta.specs.Sites.{is_site}
+use Rattle.sct_delta.specs.Entries.{Placed}
+
+-- The entry may stand next to the one before it: it has the next number of the same origin, or it begins a later
+-- origin. No number is 0. Where none stands before it, origin and number before it are 0.
+abbrev pub may_be_next : ℕ → ℕ → Placed → Bool
+may_be_next origin n entry =
+    nat_le 1 entry.n && (if nat_eq origin entry.origin then nat_eq (n + 1) entry.n else nat_lt origin entry.origin)
+
+-- the place of the first entry that may not stand where it stands, where the first entry has the place given
+abbrev pub first_break : ℕ → ℕ → ℕ → List Placed → Option ℕ
+first_break place origin n [] = None
+first_break place origin n (entry ∷ entries) =
+    if may_be_next origin n entry then first_break (place + 1) entry.origin entry.n entries else Some place
+
+-- each entry is of a site
+abbrev pub are_of_sites : List Placed → Bool
+are_of_sites entries = list_all (λ entry. is_site entry.origin) entries
+
+-- why entries make no delta: 44 an origin is no site, then 45 with the place, from 1, of the first that breaks the order
+unfoldable pub delta_refusal : List Placed → Option DeltaFault
+delta_refusal entries =
+    if are_of_sites entries then option_map (λ place. fault.BadDelta place) (first_break 1 0 0 entries)
+    else Some fault.BadSite
+
+-- ---- Pairs of an origin and its count, which make a version vector.
+
+-- each origin is a site
+abbrev pub are_sites : List (ℕ × ℕ) → Bool
+are_sites pairs = list_all (λ pair. is_site pair.0) pairs
+
+-- the place of the first pair whose origin is not above the one before it, where the first pair has the place given
+abbrev pub first_fall : ℕ → ℕ → List (ℕ × ℕ) → Option ℕ
+first_fall place before [] = None
+first_fall place before (pair ∷ pairs) = if nat_lt before pair.0 then first_fall (place + 1) pair.0 pairs else Some place
+
+-- why pairs make no vector: 44 an origin is no site, then 45 with the place, from 1, of the first that does not ascend
+unfoldable pub vector_refusal : List (ℕ × ℕ) → Option DeltaFault
+vector_refusal pairs =
+    if are_sites pairs then option_map (λ place. fault.BadDelta place) (first_fall 1 0 pairs) else Some fault.BadSite
+
+-- the count that pairs give an origin: that of the pair that names it, the last one; and else what was counted before
+abbrev pub count_among : List (ℕ × ℕ) → ℕ → ℕ → ℕ
+count_among [] origin before = before
+count_among (pair ∷ pairs) origin before = count_among pairs origin (if nat_eq pair.0 origin then pair.1 else before)

@@ -1,0 +1,117 @@
+//! Why a delta is refused.
+
+ghost use Rattle.std.specs.Prelude.{◌≡◌, ◌≢◌, None, Ok, Err, OnOk, IfErr, MatchOption};
+
+use crate::delta::Delta;
+use crate::entry::Entry;
+use crate::fault::DeltaFault;
+use crate::logs::Logs;
+
+impl Logs {
+    ghost use Rattle.sct_delta.specs.declared.fault.DeltaFault.TheVariants as fault;
+    ghost use Rattle.sct_delta.specs.Logs.{log_in};
+    ghost use Rattle.sct_delta.specs.Refusals.{is_outside, is_ahead, is_fork, is_past, outside_refusal, ahead_refusal, gap_refusal, fork_refusal, first_refusal};
+
+    fn is_outside(&self, entry: &Entry) -> bool
+        ensures { result ≡ is_outside self.now.group entry.now }
+    {
+        !self.has_site(entry.origin)
+    }
+
+    fn outside(&self, delta: &[Entry]) -> Option<DeltaFault>
+        ensures { result ≡ outside_refusal self.now.group delta.now }
+    {
+        match delta.iter().find(|entry| self.is_outside(entry)) {
+            Some(_) => Some(DeltaFault::BadSite),
+            None => None,
+        }
+    }
+
+    fn is_ahead(&self, own: u16, entry: &Entry) -> bool
+        ensures { result ≡ is_ahead own (log_in self.now) entry.now }
+    {
+        entry.origin == own && self.count(own) < entry.n
+    }
+
+    fn ahead(&self, own: u16, delta: &[Entry]) -> Option<DeltaFault>
+        ensures { result ≡ ahead_refusal own (log_in self.now) delta.now }
+    {
+        match delta.iter().find(|entry| self.is_ahead(own, entry)) {
+            Some(entry) => Some(DeltaFault::OwnAhead { n: entry.n }),
+            None => None,
+        }
+    }
+
+    fn gap(&self, delta: &[Entry]) -> Option<DeltaFault>
+        ensures { result ≡ gap_refusal (log_in self.now) delta.now }
+    {
+        let mut previous = 0;
+        for entry in delta {
+            if entry.origin != previous {
+                previous = entry.origin;
+                let have = self.count(entry.origin);
+                if have < entry.n.saturating_sub(1) {
+                    return Some(DeltaFault::Gap {
+                        origin: entry.origin,
+                        have,
+                        first: entry.n,
+                    });
+                }
+            }
+        }
+        None
+    }
+
+    // Whether the number of an entry is held with another message.
+    fn is_fork(&self, entry: &Entry) -> bool
+        ensures { result ≡ is_fork (log_in self.now) entry.now }
+    {
+        match self.get(entry.origin, entry.n) {
+            Some(held) => **held != *entry.message,
+            None => false,
+        }
+    }
+
+    fn fork(&self, delta: &[Entry]) -> Option<DeltaFault>
+        ensures { result ≡ fork_refusal (log_in self.now) delta.now }
+    {
+        match delta.iter().find(|entry| self.is_fork(entry)) {
+            Some(entry) => Some(DeltaFault::Fork {
+                origin: entry.origin,
+                n: entry.n,
+            }),
+            None => None,
+        }
+    }
+
+    #[tactic(auto, unfolding(crate::specs::Refusals::first_refusal))]
+    fn refusal(&self, own: u16, delta: &[Entry]) -> Option<DeltaFault>
+        ensures { result ≡ first_refusal own self.now.group (log_in self.now) delta.now }
+    {
+        if let Some(refusal) = self.outside(delta) {
+            return Some(refusal);
+        }
+        if let Some(refusal) = self.ahead(own, delta) {
+            return Some(refusal);
+        }
+        if let Some(refusal) = self.gap(delta) {
+            return Some(refusal);
+        }
+        self.fork(delta)
+    }
+
+    /// Whether the site `own` takes a delta, and the first reason why it does not: 44 `BadSite` for an origin that the
+    /// group does not have, 43 `OwnAhead` for an own entry above the own count, 41 `Gap` for an origin that begins past
+    /// its next number, 42 `Fork` for an entry whose number is held with another message.
+    pub fn fits(&self, own: u16, delta: &Delta) -> Result<(), DeltaFault>
+        ensures first { MatchOption (first_refusal own self.now.group (log_in self.now) delta.now)
+            (result ≡ Ok tt) (λ refusal. result ≡ Err refusal) }
+        ensures ok { OnOk result (first_refusal own self.now.group (log_in self.now) delta.now ≡ None) }
+        ensures no_memory { IfErr result (λ refusal. refusal ≢ fault.Memory) }
+    {
+        match self.refusal(own, delta.entries()) {
+            Some(refusal) => Err(refusal),
+            None => Ok(()),
+        }
+    }
+}

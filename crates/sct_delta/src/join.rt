@@ -1,0 +1,90 @@
+//! Entries of another site's delta, taken into the logs.
+
+ghost use Rattle.std.specs.Prelude.{◌≡◌, ◌≢◌, ◌≤◌, ◌+◌, ◌++◌, ℕ, None, false, length, OnOk, OnErr, IfOk, IfErr, IsOk, MatchOption};
+
+use crate::delta::Delta;
+use crate::entry::Entry;
+use crate::fault::DeltaFault;
+use crate::logs::Logs;
+
+impl Logs {
+    ghost use Rattle.std.specs.List.{list_any};
+    ghost use Rattle.sct_delta.specs.declared.fault.DeltaFault.TheVariants as fault;
+    ghost use Rattle.sct_delta.specs.Entries.{held_from, log_of};
+    ghost use Rattle.sct_delta.specs.Logs.{log_in, room_at, HasRoomFor, HoldSame};
+    ghost use Rattle.sct_delta.specs.Refusals.{first_refusal, fresh_in, is_held, is_outside, joined};
+
+    /// Makes room for the entries of a delta: joining it then asks for no memory.
+    pub fn reserve(&mut self, delta: &Delta) -> Result<(), DeltaFault>
+        ensures group { self.new.group ≡ self.old.group }
+        ensures same { HoldSame self.new self.old }
+        ensures ok { OnOk result (HasRoomFor self.new delta.now) }
+        ensures err { IfErr result (λ refusal. refusal ≡ fault.Memory) }
+        ensures there { HasRoomFor self.old delta.now → IsOk result }
+    {
+        let mut previous = 0;
+        let mut places = 0;
+        for entry in delta.entries() {
+            if entry.origin != previous {
+                previous = entry.origin;
+                places = 0;
+            }
+            places += 1;
+            self.room_for(entry.origin, places)?;
+        }
+        Ok(())
+    }
+
+    // Whether the entry is held.
+    fn is_held(&self, entry: &Entry) -> bool
+        ensures { result ≡ is_held (log_in self.now) entry.now }
+    {
+        match self.get(entry.origin, entry.n) {
+            Some(held) => **held == *entry.message,
+            None => false,
+        }
+    }
+
+    // Drops the entries that are held.
+    fn keep_fresh(&self, entries: &mut Vec<Entry>)
+        ensures { entries.new.items ≡ fresh_in (log_in self.now) entries.old.items }
+    {
+        entries.retain(|entry| !self.is_held(entry));
+    }
+
+    // Appends entries, for which there is room, each to the log of its origin.
+    fn append_all(&mut self, entries: Vec<Entry>) -> Result<(), DeltaFault>
+        requires room { HasRoomFor self.old entries.items }
+        requires inside { list_any (is_outside self.old.group) entries.items ≡ false }
+        ensures group { self.new.group ≡ self.old.group }
+        ensures ok { IsOk result }
+        ensures logs { (origin : ℕ) → log_in self.new origin ≡ log_in self.old origin ++ log_of origin entries.items }
+    {
+        for entry in entries {
+            self.append(entry.origin, entry.message)?;
+        }
+        Ok(())
+    }
+
+    /// Joins a delta that fits the site `own`, and tells how many of its entries were not held. A delta that does not
+    /// fit is refused as `fits` refuses it, and dropped; the logs are then what they were. Right after `reserve` of the
+    /// delta it asks for no memory.
+    pub fn join(&mut self, own: u16, delta: Delta) -> Result<u64, DeltaFault>
+        ensures group { self.new.group ≡ self.old.group }
+        ensures answer { IfOk result (λ fresh. fresh ≡ length (fresh_in (log_in self.old) delta)) }
+        ensures ok { OnOk result ((origin : ℕ) → log_in self.new origin ≡ joined (log_in self.old) delta origin) }
+        ensures fits { OnOk result (first_refusal own self.old.group (log_in self.old) delta ≡ None) }
+        ensures err { IfErr result (λ refusal. MatchOption (first_refusal own self.old.group (log_in self.old) delta)
+            (refusal ≡ fault.Memory) (λ first. refusal ≡ first)) }
+        ensures unchanged { OnErr result (HoldSame self.new self.old) }
+        ensures room { HasRoomFor self.old delta → IfErr result (λ refusal. refusal ≢ fault.Memory) }
+    {
+        self.fits(own, &delta)?;
+        self.reserve(&delta)?;
+        let mut entries = delta.into_entries();
+        self.keep_fresh(&mut entries);
+        let fresh = entries.len() as u64;
+        self.append_all(entries)?;
+        Ok(fresh)
+    }
+}

@@ -1,0 +1,33 @@
+//! What one site holds and what another lacks: entries numbered by the site that took their message, version vectors
+//! that count them, deltas cut by a vector, and logs that a delta is joined into.
+#![tactic(auto)]
+
+mod delta;
+mod entry;
+mod fault;
+mod fits;
+mod join;
+pub mod laws;
+mod logs;
+mod raise;
+mod share;
+mod shelf;
+mod sites;
+mod text;
+mod vector;
+
+pub use delta::{Delta, entries_make_a_delta};
+pub use entry::Entry;
+pub use fault::DeltaFault;
+pub use logs::Logs;
+pub use text::laws::{
+    a_text_is_a_form_of_one_delta, a_text_is_read_where_it_is_a_form,
+    a_wrong_line_goes_by_its_front, a_wrong_line_means_no_form, lines_make_the_text,
+    the_lines_before_a_wrong_one_are_right,
+};
+pub use text::reading::read_delta;
+pub use text::writing::write_delta;
+pub use vector::{Vector, vectors_are_equal_by_their_counts};
+
+#[cfg(test)]
+mod tests;

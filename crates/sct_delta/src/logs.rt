@@ -1,0 +1,154 @@
+//! What one site holds: a log for each origin, beside the vector that counts them.
+
+ghost use Rattle.std.specs.Prelude.{◌≡◌, ◌≢◌, ◌≤◌, ◌+◌, ℕ, [], true, false, length, nat_eq, if◌then◌else◌, OnOk, OnErr, IfOk, IfErr, IsOk, option_map};
+ghost use Rattle.std.specs.Arc.{arc_value};
+ghost use Rattle.std.specs.Option.{option_copied};
+ghost use Rattle.sct_delta.specs.Entries.{IsDelta};
+ghost use Rattle.sct_delta.specs.Vectors.{count_in};
+ghost use Rattle.sct_delta.specs.Shelves.{log_on};
+ghost use Rattle.sct_delta.specs.Refusals.{appended, has_site, message_at, refusal_at, vector_of, IsCut};
+ghost use Rattle.sct_delta.specs.Sites.{is_group};
+
+use crate::delta::Delta;
+use crate::fault::DeltaFault;
+use crate::shelf::Shelf;
+use crate::sites::is_site;
+use crate::vector::Vector;
+use sct_message::Message;
+use std::alloc::Global;
+use std::sync::Arc;
+
+/// The entries that one site holds: of each origin of the group those with the numbers 1 to some count.
+#[derive(Drop)]
+pub struct Logs {
+    group: u16,
+    shelf: Shelf,
+    vector: Vector,
+    ghost in_step: { (origin : ℕ) → count_in vector origin ≡ length (log_on shelf origin) },
+    ghost small: { is_group group ≡ true },
+    ghost inside: { (origin : ℕ) → has_site group origin ≡ false → log_on shelf origin ≡ [] },
+}
+
+impl Logs {
+    ghost use Rattle.sct_delta.specs.declared.fault.DeltaFault.TheVariants as fault;
+    ghost use Rattle.sct_delta.specs.Logs.{log_in, room_at, HasRoom, HoldSame};
+
+    /// Empty logs of a group of 1 to 64 sites; any other size is 44 `BadSite`.
+    pub fn new(alloc: Global, group: u16) -> Result<Logs, DeltaFault>
+        ensures empty { IfOk result (λ logs. (origin : ℕ) → log_in logs origin ≡ []) }
+        ensures group { IfOk result (λ logs. logs.group ≡ group) }
+        ensures ok { OnOk result (is_group group ≡ true) }
+        ensures err { IfErr result (λ refusal. (refusal ≡ fault.BadSite) × (is_group group ≡ false)) }
+    {
+        if !is_site(group) {
+            return Err(DeltaFault::BadSite);
+        }
+        Ok(Logs {
+            group,
+            shelf: Shelf::new(alloc),
+            vector: Vector::empty(alloc),
+        })
+    }
+
+    /// How many entries of each origin are held.
+    pub fn vector(&self) -> &Vector
+        ensures { (origin : ℕ) → count_in result.now origin ≡ vector_of (log_in self.now) origin }
+    {
+        &self.vector
+    }
+
+    /// The message of an entry: its number counts from 1. None where no such entry is held.
+    pub fn get(&self, origin: u16, n: u64) -> Option<&Arc<Message>>
+        ensures { option_map arc_value (option_copied result) ≡ message_at (log_in self.now origin) n }
+    {
+        self.shelf.get(origin, n)
+    }
+
+    /// What a site that holds the entries up to a vector lacks of these: the entries numbered above it, of each origin.
+    pub fn cut(&self, vector: &Vector) -> Result<Delta, DeltaFault>
+        ensures cut { IfOk result (λ delta. IsCut (log_in self.now) (count_in vector.now) delta) }
+        ensures shape { IfOk result (λ delta. IsDelta delta) }
+        ensures err { IfErr result (λ refusal. refusal ≡ fault.Memory) }
+    {
+        let entries = self.shelf.above(vector)?;
+        Ok(Delta::of_shape(entries))
+    }
+
+    // How many entries of the origin are held.
+    pub(crate) fn count(&self, origin: u16) -> u64
+        ensures { result ≡ vector_of (log_in self.now) origin }
+    {
+        self.shelf.count(origin)
+    }
+
+    // Whether the group has such a site.
+    pub(crate) fn has_site(&self, site: u16) -> bool
+        ensures { result ≡ has_site self.now.group site }
+    {
+        0 < site && site <= self.group
+    }
+
+    // Room for more messages of an origin, whatever the group.
+    pub(crate) fn room_for(&mut self, origin: u16, places: usize) -> Result<(), DeltaFault>
+        ensures group { self.new.group ≡ self.old.group }
+        ensures same { HoldSame self.new self.old }
+        ensures keeps { (k : ℕ) → room_at self.old k ≤ room_at self.new k }
+        ensures ok { OnOk result (places ≤ room_at self.new origin) }
+        ensures err { IfErr result (λ refusal. refusal ≡ fault.Memory) }
+        ensures there { places ≤ room_at self.old origin → 1 ≤ places → IsOk result }
+    {
+        self.vector.room(origin)?;
+        self.shelf.room(origin, places)?;
+        Ok(())
+    }
+
+    /// Makes room for one more message of the origin: a `push` at that origin then asks for no memory. An origin that
+    /// the group does not have is 44 `BadSite`.
+    pub fn room(&mut self, origin: u16) -> Result<(), DeltaFault>
+        ensures group { self.new.group ≡ self.old.group }
+        ensures same { HoldSame self.new self.old }
+        ensures ok { OnOk result (HasRoom self.new origin) }
+        ensures site { OnOk result (has_site self.old.group origin ≡ true) }
+        ensures err { IfErr result (λ refusal. refusal ≡ refusal_at self.old.group origin) }
+    {
+        if !self.has_site(origin) {
+            return Err(DeltaFault::BadSite);
+        }
+        self.room_for(origin, 1)
+    }
+
+    /// Appends a message as the next entry of its origin, and tells the number of that entry. An origin that the group
+    /// does not have is 44 `BadSite`. Right after `room` of the origin it asks for no memory.
+    pub fn push(&mut self, origin: u16, message: Arc<Message>) -> Result<u64, DeltaFault>
+        ensures group { self.new.group ≡ self.old.group }
+        ensures answer { IfOk result (λ n. n ≡ vector_of (log_in self.old) origin + 1) }
+        ensures ok { OnOk result ((k : ℕ) → log_in self.new k ≡ appended (log_in self.old) origin (arc_value message) k) }
+        ensures site { OnOk result (has_site self.old.group origin ≡ true) }
+        ensures err { IfErr result (λ refusal. refusal ≡ refusal_at self.old.group origin) }
+        ensures unchanged { OnErr result (HoldSame self.new self.old) }
+        ensures room { HasRoom self.old origin → IfErr result (λ refusal. refusal ≢ fault.Memory) }
+    {
+        if !self.has_site(origin) {
+            return Err(DeltaFault::BadSite);
+        }
+        self.append(origin, message)
+    }
+
+    // Appends a message as the next entry of its origin, a site of the group.
+    pub(crate) fn append(&mut self, origin: u16, message: Arc<Message>) -> Result<u64, DeltaFault>
+        requires { has_site self.old.group origin ≡ true }
+        ensures group { self.new.group ≡ self.old.group }
+        ensures answer { IfOk result (λ n. n ≡ vector_of (log_in self.old) origin + 1) }
+        ensures ok { OnOk result ((k : ℕ) → log_in self.new k ≡ appended (log_in self.old) origin (arc_value message) k) }
+        ensures err { IfErr result (λ refusal. refusal ≡ fault.Memory) }
+        ensures unchanged { OnErr result (HoldSame self.new self.old) }
+        ensures room { HasRoom self.old origin → IsOk result }
+        ensures keeps { (k : ℕ) → room_at self.old k ≤ room_at self.new k + (if nat_eq origin k then 1 else 0) }
+    {
+        self.room_for(origin, 1)?;
+        let n = self.shelf.count(origin) + 1;
+        self.vector.set(origin, n)?;
+        self.shelf.push(origin, message)?;
+        Ok(n)
+    }
+}

@@ -1,0 +1,41 @@
+//! Entries and deltas that share their messages with others.
+
+ghost use Rattle.std.specs.Prelude.{◌≡◌, IfOk};
+
+use crate::delta::Delta;
+use crate::entry::Entry;
+use std::alloc::{AllocError, Global};
+
+impl Entry {
+    /// The same entry, sharing the message.
+    pub fn share(&self) -> Result<Entry, AllocError>
+        ensures { IfOk result (λ entry. entry ≡ self.now) }
+    {
+        Ok(Entry {
+            origin: self.origin,
+            n: self.n,
+            message: self.message.clone()?,
+        })
+    }
+}
+
+// The same entries, sharing their messages.
+fn shared(alloc: Global, entries: &[Entry]) -> Result<Vec<Entry>, AllocError>
+    ensures { IfOk result (λ copy. copy.items ≡ entries.now) }
+{
+    let mut copy = Vec::new(alloc);
+    for entry in entries {
+        copy.push(entry.share()?)?;
+    }
+    Ok(copy)
+}
+
+impl Delta {
+    /// The same delta, sharing the messages.
+    pub fn share(&self, alloc: Global) -> Result<Delta, AllocError>
+        ensures { IfOk result (λ delta. delta ≡ self.now) }
+    {
+        let entries = shared(alloc, self.entries())?;
+        Ok(Delta::of_shape(entries))
+    }
+}

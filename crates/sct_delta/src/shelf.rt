@@ -1,0 +1,128 @@
+//! The logs themselves: one list of messages for each origin.
+
+ghost use Rattle.std.specs.Prelude.{◌≡◌, ◌≤◌, ◌+◌, ◌++◌, ℕ, [], map, drop, length, nat_eq, if◌then◌else◌, OnOk, OnErr, IfOk, IsOk, option_map};
+ghost use Rattle.std.specs.Arc.{arc_value};
+ghost use Rattle.std.specs.Option.{option_copied};
+ghost use Rattle.std.specs.BTreeMap.{IsOrdered};
+ghost use Rattle.std.specs.Ordering.{nat_cmp};
+ghost use Rattle.sct_delta.specs.Entries.{numbered};
+ghost use Rattle.sct_delta.specs.Refusals.{appended, message_at};
+
+use crate::entry::Entry;
+use crate::vector::Vector;
+use sct_message::Message;
+use std::alloc::{AllocError, Global};
+use std::collections::BTreeMap;
+use std::sync::Arc;
+
+// Appends the entries of one origin's log that are numbered above a count.
+fn push_above(
+    out: &mut Vec<Entry>,
+    origin: u16,
+    have: u64,
+    log: &[Arc<Message>],
+) -> Result<(), AllocError>
+    ensures { OnOk result (out.new.items ≡ out.old.items ++ numbered origin (have + 1) (drop have (map arc_value log.now))) }
+{
+    let mut place = have;
+    while place < log.len() as u64 {
+        out.push(Entry {
+            origin,
+            n: place + 1,
+            message: log[place as usize].clone()?,
+        })?;
+        place += 1;
+    }
+    Ok(())
+}
+
+/// Messages by origin, each origin's in the order of their numbers.
+#[derive(Drop)]
+pub struct Shelf {
+    alloc: Global,
+    logs: BTreeMap<u16, Vec<Arc<Message>>>,
+}
+
+impl Shelf {
+    ghost use Rattle.sct_delta.specs.Shelves.{log_on, places_at, above_in};
+    ghost use Rattle.sct_delta.specs.Vectors.{count_in};
+
+    pub fn new(alloc: Global) -> Shelf
+        ensures { (origin : ℕ) → log_on result origin ≡ [] }
+    {
+        Shelf {
+            alloc,
+            logs: BTreeMap::new(alloc),
+        }
+    }
+
+    pub fn allocator(&self) -> Global {
+        self.alloc
+    }
+
+    /// How many messages of the origin are held.
+    pub fn count(&self, origin: u16) -> u64
+        ensures { result ≡ length (log_on self.now origin) }
+    {
+        match self.logs.get(&origin) {
+            Some(log) => log.len() as u64,
+            None => 0,
+        }
+    }
+
+    /// The message of a number, from 1.
+    pub fn get(&self, origin: u16, n: u64) -> Option<&Arc<Message>>
+        ensures { option_map arc_value (option_copied result) ≡ message_at (log_on self.now origin) n }
+    {
+        let log = self.logs.get(&origin)?;
+        if n == 0 {
+            return None;
+        }
+        log.get((n - 1) as usize)
+    }
+
+    /// Makes room for more messages of the origin, as many as are named.
+    pub fn room(&mut self, origin: u16, places: usize) -> Result<(), AllocError>
+        ensures same { (k : ℕ) → log_on self.new k ≡ log_on self.old k }
+        ensures keeps { (k : ℕ) → places_at self.old k ≤ places_at self.new k }
+        ensures ok { OnOk result (places ≤ places_at self.new origin) }
+        ensures there { places ≤ places_at self.old origin → 1 ≤ places → IsOk result }
+    {
+        if let Some(log) = self.logs.get_mut(&origin) {
+            return log.reserve(places);
+        }
+        let mut log = Vec::new(self.alloc);
+        log.reserve(places)?;
+        self.logs.insert(origin, log)?;
+        Ok(())
+    }
+
+    /// Appends a message to the log of the origin.
+    pub fn push(&mut self, origin: u16, message: Arc<Message>) -> Result<(), AllocError>
+        ensures ok { OnOk result ((k : ℕ) → log_on self.new k ≡ appended (log_on self.old) origin (arc_value message) k) }
+        ensures err { OnErr result ((k : ℕ) → log_on self.new k ≡ log_on self.old k) }
+        ensures room { 1 ≤ places_at self.old origin → IsOk result }
+        ensures keeps { (k : ℕ) → places_at self.old k ≤ places_at self.new k + (if nat_eq origin k then 1 else 0) }
+    {
+        if let Some(log) = self.logs.get_mut(&origin) {
+            log.push(message)?;
+            return Ok(());
+        }
+        let mut log = Vec::new(self.alloc);
+        log.push(message)?;
+        self.logs.insert(origin, log)?;
+        Ok(())
+    }
+
+    /// The entries of each origin that are numbered above the vector's count, by origin and number.
+    pub fn above(&self, vector: &Vector) -> Result<Vec<Entry>, AllocError>
+        ensures ok { IfOk result (λ entries. entries.items ≡ above_in (count_in vector.now) self.now) }
+        ensures ascend { IsOrdered nat_cmp self.now.logs }
+    {
+        let mut out = Vec::new(self.alloc);
+        for (origin, log) in &self.logs {
+            push_above(&mut out, *origin, vector.get(*origin), log)?;
+        }
+        Ok(out)
+    }
+}

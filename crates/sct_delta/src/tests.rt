@@ -1,0 +1,8 @@
+//! Logs, deltas, vectors and the delta text on worked examples, with ample memory.
+
+mod forms;
+mod logs;
+mod scenes;
+mod shapes;
+mod texts;
+mod wrong;

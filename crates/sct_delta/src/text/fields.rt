@@ -1,0 +1,55 @@
+//! The fields of an entry line, parted by one space.
+ghost use Rattle.std.specs.Prelude.{◌≡◌, ◌<◌, ◌==◌, length, option_map, IfSome, position, codes};
+ghost use Rattle.sct_delta.specs.DeltaText.{is_space, number_before_space, after_prefix, fields_in, site_in};
+
+use crate::sites::is_site;
+use crate::text::numbers::number_of;
+
+// Where the first space stands.
+fn space(text: &[u8]) -> Option<usize>
+    ensures place { result ≡ position is_space text.now }
+    ensures within { IfSome result (λ at. at < length text.now) }
+{
+    text.iter().position(|byte| *byte == b' ')
+}
+
+// The number that a text begins with, up to the first space, and what stands behind the space.
+#[tactic(auto, unfolding(crate::specs::DeltaText::number_before_space))]
+fn number_before_space(text: &[u8]) -> Option<(u64, &[u8])>
+    ensures { option_map (λ field. (field.0, field.1.now)) result ≡ number_before_space text.now }
+{
+    let at = space(text)?;
+    let (field, _) = text.split_at(at);
+    let (_, rest) = text.split_at(at + 1);
+    let n = number_of(field)?;
+    Some((n, rest))
+}
+
+// The site of that number.
+fn site_of(number: u64) -> Option<u16>
+    ensures { result ≡ site_in number }
+{
+    match u16::try_from(number) {
+        Ok(origin) if is_site(origin) => Some(origin),
+        _ => None,
+    }
+}
+
+// What stands behind the word that an entry line begins with.
+fn behind_word(line: &[u8]) -> Option<&[u8]>
+    ensures { option_map (λ rest. rest.now) result ≡ after_prefix (codes "entry ") line.now }
+{
+    line.strip_prefix(b"entry ")
+}
+
+/// The origin, the number and the JSON text of an entry line; none where the line is not of this shape.
+#[tactic(auto, unfolding(crate::specs::DeltaText::fields_in))]
+pub fn fields_of(line: &[u8]) -> Option<(u16, u64, &[u8])>
+    ensures { option_map (λ fields. (fields.0, fields.1, fields.2.now)) result ≡ fields_in line.now }
+{
+    let rest = behind_word(line)?;
+    let (number, rest) = number_before_space(rest)?;
+    let origin = site_of(number)?;
+    let (n, json) = number_before_space(rest)?;
+    Some((origin, n, json))
+}

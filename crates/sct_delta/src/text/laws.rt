@@ -1,0 +1,45 @@
+//! What holds of the delta text. These functions do nothing; their contracts are laws.
+ghost use Rattle.std.specs.Prelude.{◌≡◌, ◌≢◌, ◌↔◌, ◌<◌, ◌+◌, ◌^◌, ℕ, List, Some, Ok, IsTrue, flat_map, length};
+ghost use Rattle.std.specs.List.{list_all};
+ghost use Rattle.sct_json.specs.Writing.{has_no_line_feed};
+ghost use Rattle.sct_delta.specs.Entries.{Placed};
+ghost use Rattle.sct_delta.specs.DeltaText.{AgreeTo, IsDeltaText, delta_in, ended, first_wrong_line, lines_of, lines_as};
+
+/// The lines of a text are the ones given, each ended by a line feed, exactly where they make the text one after
+/// another and none of them has a line feed of its own.
+pub fn lines_make_the_text()
+    ensures { (bytes : List ℕ) (lines : List (List ℕ)) → (lines_of bytes ≡ lines_as lines)
+        ↔ ((bytes ≡ flat_map ended lines) × IsTrue (list_all has_no_line_feed lines)) }
+{}
+
+/// A text is read as a delta exactly where it is a form of it.
+pub fn a_text_is_read_where_it_is_a_form()
+    ensures { (bytes : List ℕ) (entries : List Placed) → (delta_in bytes ≡ Ok entries) ↔ IsDeltaText bytes entries }
+{}
+
+/// A text is a form of one delta at most.
+pub fn a_text_is_a_form_of_one_delta()
+    ensures { (bytes : List ℕ) (left right : List Placed)
+        → IsDeltaText bytes left → IsDeltaText bytes right → left ≡ right }
+{}
+
+/// A text with a wrong line is a form of no delta, and each other text is one of some delta.
+pub fn a_wrong_line_means_no_form()
+    ensures none { (bytes : List ℕ) (line : ℕ) (entries : List Placed)
+        → first_wrong_line bytes ≡ Some line → ¬ (IsDeltaText bytes entries) }
+    ensures some { (bytes : List ℕ) → first_wrong_line bytes ≡ None
+        → (entries : List Placed) × IsDeltaText bytes entries }
+{}
+
+/// The lines behind the first wrong one do not matter: a text with the same lines up to it has the same first wrong
+/// line, and so is a form of no delta either.
+pub fn a_wrong_line_goes_by_its_front()
+    ensures { (bytes other : List ℕ) (line : ℕ) → first_wrong_line bytes ≡ Some line → AgreeTo line bytes other
+        → first_wrong_line other ≡ Some line }
+{}
+
+/// The lines before the first wrong one are right: some text that begins with the same lines is a form of a delta.
+pub fn the_lines_before_a_wrong_one_are_right()
+    ensures { (bytes : List ℕ) (before : ℕ) → length bytes < 2 ^ 64 → first_wrong_line bytes ≡ Some (before + 1)
+        → (other : List ℕ) × (entries : List Placed) × AgreeTo before bytes other × IsDeltaText other entries }
+{}

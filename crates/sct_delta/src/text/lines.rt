@@ -1,0 +1,29 @@
+//! Lines of a text.
+ghost use Rattle.std.specs.Prelude.{◌≡◌, ◌+◌, ◌<◌, ◌==◌, ◌∷◌, length, Some, None, MatchOption, IfSome};
+ghost use Rattle.std.specs.List.{position_from};
+ghost use Rattle.sct_delta.specs.DeltaText.{lines_of, ended_first};
+
+// Where the first line feed stands.
+fn line_feed(bytes: &[u8]) -> Option<usize>
+    ensures first { result ≡ position_from (λ byte. byte == 10) 0 bytes.now }
+    ensures within { IfSome result (λ at. at < length bytes.now) }
+{
+    bytes.iter().position(|byte| *byte == b'\n')
+}
+
+/// What stands before the first line feed, and what stands behind it; none where there is no line feed.
+pub fn first_line(bytes: &[u8]) -> Option<(&[u8], &[u8])>
+    ensures lines { MatchOption result (ended_first (lines_of bytes.now) ≡ None)
+        (λ parts. lines_of bytes.now ≡ Some parts.0.now ∷ lines_of parts.1.now) }
+    ensures whole { IfSome result (λ parts. length parts.0.now + (1 + length parts.1.now) ≡ length bytes.now) }
+    ensures shorter { IfSome result (λ parts. length parts.1.now < length bytes.now) }
+{
+    match line_feed(bytes) {
+        Some(at) => {
+            let (line, _) = bytes.split_at(at);
+            let (_, rest) = bytes.split_at(at + 1);
+            Some((line, rest))
+        }
+        None => None,
+    }
+}

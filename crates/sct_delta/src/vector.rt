@@ -1,0 +1,125 @@
+//! A version vector: how many entries of each origin are held.
+
+ghost use Rattle.std.specs.BTreeMap.{keys};
+ghost use Rattle.std.specs.Cmp.{partial_equiv_from_equiv};
+ghost use Rattle.std.specs.List.{list_all};
+ghost use Rattle.std.specs.Prelude.{◌≡◌, ◌≢◌, ◌↔◌, ℕ, Some, None, true, IfOk, IfErr, OnOk, IsTrue};
+ghost use Rattle.sct_delta.specs.declared.fault.DeltaFault.TheVariants as fault;
+ghost use Rattle.sct_delta.specs.Shapes.{are_sites, first_fall, count_among, vector_refusal};
+ghost use Rattle.sct_delta.specs.Vectors.{CountAlike, count_in, counted_alike, same_counts};
+ghost use Rattle.sct_delta.specs.VectorLaws.{same_counts_equiv};
+
+use crate::fault::DeltaFault;
+use crate::sites::is_site;
+use std::alloc::Global;
+use std::collections::BTreeMap;
+
+/// How many entries of each origin are held. An origin of which none is held counts 0, whether it is named or not.
+#[derive(Drop)]
+pub struct Vector {
+    pub(crate) counts: BTreeMap<u16, u64>,
+}
+
+// Each origin is a site.
+fn are_sites(pairs: &[(u16, u64)]) -> bool
+    ensures { result ≡ are_sites pairs.now }
+{
+    pairs.iter().all(|pair| is_site(pair.0))
+}
+
+// The place, from 1, of the first pair whose origin is not above the one before it.
+fn first_fall(pairs: &[(u16, u64)]) -> Option<u64>
+    ensures { result ≡ first_fall 1 0 pairs.now }
+{
+    let mut place = 1;
+    let mut before = 0;
+    for pair in pairs {
+        if before >= pair.0 {
+            return Some(place);
+        }
+        place += 1;
+        before = pair.0;
+    }
+    None
+}
+
+// Why the pairs make no vector.
+#[tactic(auto, unfolding(crate::specs::Shapes::vector_refusal))]
+fn refusal(pairs: &[(u16, u64)]) -> Option<DeltaFault>
+    ensures { result ≡ vector_refusal pairs.now }
+{
+    if !are_sites(pairs) {
+        return Some(DeltaFault::BadSite);
+    }
+    match first_fall(pairs) {
+        Some(place) => Some(DeltaFault::BadDelta(place)),
+        None => None,
+    }
+}
+
+// The counts that pairs give.
+fn counted(alloc: Global, pairs: &[(u16, u64)]) -> Result<Vector, DeltaFault>
+    ensures counts { IfOk result (λ vector. (origin : ℕ) → count_in vector origin ≡ count_among pairs.now origin 0) }
+    ensures memory { IfErr result (λ refusal. refusal ≡ fault.Memory) }
+{
+    let mut vector = Vector::empty(alloc);
+    for pair in pairs {
+        vector.set(pair.0, pair.1)?;
+    }
+    Ok(vector)
+}
+
+// Both count the same at each origin that the first one names.
+fn counted_alike(some: &Vector, other: &Vector) -> bool
+    ensures { result ≡ counted_alike some.now other.now }
+{
+    some.counts
+        .keys()
+        .all(|origin| some.get(*origin) == other.get(*origin))
+}
+
+impl Vector {
+    /// The vector with the counts of these pairs of an origin and a count, which ascend by origin. Refused are 44
+    /// (BadSite) an origin outside 1 to 64, and then 45 (BadDelta) with the place, from 1, of the first pair that does
+    /// not ascend.
+    pub fn of(alloc: Global, pairs: &[(u16, u64)]) -> Result<Vector, DeltaFault>
+        ensures counts { IfOk result (λ vector. (origin : ℕ) → count_in vector origin ≡ count_among pairs.now origin 0) }
+        ensures accepted { OnOk result (vector_refusal pairs.now ≡ None) }
+        ensures refused { IfErr result (λ refusal. refusal ≢ fault.Memory → vector_refusal pairs.now ≡ Some refusal) }
+    {
+        if let Some(refusal) = refusal(pairs) {
+            return Err(refusal);
+        }
+        counted(alloc, pairs)
+    }
+
+    /// How many entries of the origin are held, 0 where the vector does not name it.
+    pub fn get(&self, origin: u16) -> u64
+        ensures { result ≡ count_in self.now origin }
+    {
+        match self.counts.get(&origin) {
+            Some(count) => *count,
+            None => 0,
+        }
+    }
+}
+
+/// Vectors are equal exactly where they count the same at each origin.
+pub fn vectors_are_equal_by_their_counts()
+    ensures { (some other : Vector) → (same_counts some other ≡ true) ↔ CountAlike some other }
+{}
+
+impl PartialEq for Vector {
+    ghost eq = { same_counts };
+
+    ghost laws = { partial_equiv_from_equiv same_counts_equiv };
+
+    #[tactic(auto, unfolding(crate::specs::Vectors::same_counts))]
+    fn eq(&self, other: &Self) -> bool {
+        counted_alike(self, other) && counted_alike(other, self)
+    }
+}
+
+impl Eq for Vector {
+    ghost laws = { same_counts_equiv };
+}
