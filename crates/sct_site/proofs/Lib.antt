@@ -1,0 +1,6 @@
+-- The lemmas of one site.
+pub mod AboveLemmas
+pub mod AcceptLemmas
+pub mod ArrivalLemmas
+pub mod JoinLemmas
+pub mod TakeLemmas

@@ -1,0 +1,54 @@
+-- A take is a repeat where the archive holds the message; else the message is the next own entry.
+use Rattle.std.proofs.Common.{◌≡◌, ap, sym, refl, ◌∙◌, ◌++◌, ◌∷◌, [], ◌+◌, ℕ, List, false, true, cond, nat_eq}
+use Rattle.std.specs.Arc.{arc_value}
+use Rattle.std.specs.FinSet as set
+use Rattle.sct_message.specs.declared.draft.Draft.{Draft}
+use Rattle.sct_delta.specs.Entries.{Placed, held_from}
+use Rattle.sct_delta.specs.Logs.{log_in}
+use Rattle.sct_site.specs.Cores.{Core, is_repeat, took_by, arrivals_taken, own_entry}
+use Rattle.sct_site.proofs.TakeLemmas.{repeat_is, took-held, took-new, arrivals-held, arrivals-new, next_is, IsCore-taken}
+use Rattle.sct_site.proofs.site.SiteCore.take.Goals as goal
+
+pub returns-then-holds-clause-answer : goal.returns-then-holds-clause-answer
+returns-then-holds-clause-answer c =
+    took-held _ _ (repeat_is _ _ _ _ _ _ true c.self.view_is c.self.invariant.messages c.deref.ensures c.holds.ensures c.if-holds.true)
+
+pub returns-then-holds-clause-ok : goal.returns-then-holds-clause-ok
+returns-then-holds-clause-ok c =
+    arrivals-held _ _ (repeat_is _ _ _ _ _ _ true c.self.view_is c.self.invariant.messages c.deref.ensures c.holds.ensures c.if-holds.true)
+
+-- the number of the new entry is the next own one
+own_number : (c : goal.After-push_reserved) → c.in_ok-n.n ≡ held_from c.self.inside.number c.self.inside.arrivals.items + 1
+own_number c =
+    c.in_ok-n.ensures.answer
+    ∙ next_is c.self.inside.number _ c.self.inside.arrivals.items (c.in_ok-room.ensures.same c.self.inside.number ∙ c.self.invariant.by_origin c.self.inside.number)
+
+-- and the arrivals end with it
+came : (c : goal.After-push_reserved) → c.push_reserved.new.self.items
+    ≡ c.self.inside.arrivals.items ++ own_entry (record { number = c.self.inside.number; group = c.self.inside.group; arrivals = c.self.inside.arrivals.items }) (arc_value c.args.message) ∷ []
+came c =
+    c.push_reserved.ensures.items
+    ∙ ap (λ (xs : List Placed). xs ++ record { origin = c.self.inside.number; n = c.in_ok-n.n; message = arc_value c.args.message } ∷ []) c.in_ok-reserve.ensures.items
+    ∙ ap (λ (n : ℕ). c.self.inside.arrivals.items ++ record { origin = c.self.inside.number; n = n; message = arc_value c.args.message } ∷ []) (own_number c)
+
+pub invariant_of-self-2 : goal.invariant_of-self-2
+invariant_of-self-2 c =
+    IsCore-taken _ _ c.self.inside.logs _ c.self.inside.arrivals.items _ c.self.inside.archive _ (arc_value c.args.message)
+    c.self.invariant
+    (c.in_ok-n.ensures.group ∙ c.in_ok-room.ensures.group)
+    (λ o. c.in_ok-n.ensures.ok o
+    ∙ ap (λ (l : List Draft). cond (nat_eq c.self.inside.number o) (l ++ arc_value c.in_ok-logged.logged ∷ []) l) (c.in_ok-room.ensures.same o)
+    ∙ ap (λ (m : Draft). cond (nat_eq c.self.inside.number o) (log_in c.self.inside.logs o ++ m ∷ []) (log_in c.self.inside.logs o)) c.in_ok-logged.ensures.cases)
+    (c.in_default.ensures.ok ∙ ap (set.insert c.self.inside.archive) c.in_ok-held.ensures.cases)
+    (came c)
+
+pub returns-clause-answer : goal.returns-clause-answer
+returns-clause-answer c =
+    took-new _ _ (repeat_is _ _ _ _ _ _ false c.self.view_is c.self.invariant.messages c.deref.ensures c.holds.ensures c.if-holds.false) _
+    (own_number c ∙ ap (λ (core : Core). held_from core.number core.arrivals + 1) c.self.view_is)
+
+pub returns-clause-ok : goal.returns-clause-ok
+returns-clause-ok c =
+    came c
+    ∙ ap (λ (core : Core). core.arrivals ++ own_entry core (arc_value c.args.message) ∷ []) c.self.view_is
+    ∙ arrivals-new _ _ (repeat_is _ _ _ _ _ _ false c.self.view_is c.self.invariant.messages c.deref.ensures c.holds.ensures c.if-holds.false)

@@ -1,0 +1,80 @@
+-- One site as a caller sees it: its number, its group and its arrivals, and what takes, deltas and cuts make of
+-- them. Read by an auditor; worlds and desks speak of sites in these words.
+use Rattle.std.specs.FinSet as set
+use Rattle.std.specs.Prelude.{ℕ, ◌+◌, ◌++◌, ◌∷◌, [], not, ◌&&◌, Bool, List, Option, filter, length, nat_lt, if◌then◌else◌}
+use Rattle.std.specs.Ordering.{nat_cmp, ordering_then}
+use Rattle.std.specs.declared.cmp.Ordering.{Ordering}
+use Rattle.sct_message.specs.Ascending.{ascending}
+use Rattle.sct_message.specs.Order.{message_order}
+use Rattle.sct_message.specs.declared.draft.Draft.{Draft}
+use Rattle.sct_delta.specs.Entries.{Placed, log_of, held_from, messages_of}
+use Rattle.sct_delta.specs.Refusals.{first_refusal, fresh_in}
+use Rattle.sct_delta.specs.declared.fault.DeltaFault.{DeltaFault}
+use Rattle.sct_site.specs.declared.answers.Took.{Took}
+use Rattle.sct_site.specs.declared.answers.Took.TheVariants as took
+
+-- a site of a group, with all entries that it took or accepted in the order in which they came
+pub record Core : Type 0 where
+  pub number : ℕ
+  pub group : ℕ
+  pub arrivals : List Placed
+
+-- a group has 1 to 64 sites, and these are numbered from 1
+abbrev pub is_open : ℕ → ℕ → Bool
+is_open number group = nat_lt 0 number && not (nat_lt group number) && not (nat_lt 64 group)
+
+-- the logs of a list of entries: of each origin its messages, in the order in which they stand
+abbrev pub logs_of : List Placed → ℕ → List Draft
+logs_of entries origin = log_of origin entries
+
+-- ---- taking a message
+
+-- the message is held, from whatever origin
+abbrev pub is_repeat : Core → Draft → Bool
+is_repeat core message = set.contains (messages_of core.arrivals) message
+
+-- the next own number
+abbrev pub next_own : Core → ℕ
+next_own core = held_from core.number core.arrivals + 1
+
+-- the message as the next own entry
+abbrev pub own_entry : Core → Draft → Placed
+own_entry core message = record { origin = core.number; n = next_own core; message = message }
+
+-- what a take is answered: a repeat, or the number of the new own entry
+unfoldable pub took_by : Core → Draft → Took
+took_by core message = if is_repeat core message then took.Repeat else took.Taken (next_own core)
+
+-- the arrivals after a take
+unfoldable pub arrivals_taken : Core → Draft → List Placed
+arrivals_taken core message =
+    if is_repeat core message then core.arrivals else core.arrivals ++ own_entry core message ∷ []
+
+-- ---- accepting a delta
+
+-- the first reason why the site does not take the delta, where there is one
+abbrev pub refusal_by : Core → List Placed → Option DeltaFault
+refusal_by core delta = first_refusal core.number core.group (logs_of core.arrivals) delta
+
+-- the entries of the delta that the site does not hold, in the delta's order
+abbrev pub fresh_of : List Placed → List Placed → List Placed
+fresh_of arrivals delta = fresh_in (logs_of arrivals) delta
+
+-- the arrivals after an accepted delta
+abbrev pub arrivals_joined : List Placed → List Placed → List Placed
+arrivals_joined arrivals delta = arrivals ++ fresh_of arrivals delta
+
+-- ---- cutting
+
+-- entries by origin, number and message
+abbrev pub entry_order : Placed → Placed → Ordering
+entry_order a b =
+    ordering_then (nat_cmp a.origin b.origin) (ordering_then (nat_cmp a.n b.n) (message_order a.message b.message))
+
+-- the entry is numbered above the count of its origin
+abbrev pub is_above : (ℕ → ℕ) → Placed → Bool
+is_above count entry = nat_lt (count entry.origin) entry.n
+
+-- the entries above a version vector, whatever their origin, by origin and number
+unfoldable pub entries_above : (ℕ → ℕ) → List Placed → List Placed
+entries_above count arrivals = ascending entry_order (filter (is_above count) arrivals)

@@ -1,0 +1,1 @@
+-- What holds of sites, whatever they hold. Read by an auditor.

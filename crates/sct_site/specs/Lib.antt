@@ -1,0 +1,4 @@
+-- The definitions of one site.
+pub mod Cores
+pub mod Inside
+pub mod Laws

@@ -1,0 +1,45 @@
+//! The entries of a delta that a site does not hold.
+
+ghost use Rattle.std.specs.Prelude.{◌≡◌, not, map, IfOk};
+ghost use Rattle.sct_delta.specs.Logs.{log_in};
+ghost use Rattle.sct_delta.specs.Refusals.{is_held, fresh_in};
+ghost use Rattle.sct_set.specs.Drafts.{drafts_in};
+
+use sct_delta::{Entry, Logs};
+use sct_message::Message;
+use std::alloc::{AllocError, Global};
+use std::sync::Arc;
+
+// Whether the entry is not held.
+fn is_new(logs: &Logs, entry: &Entry) -> bool
+    ensures { result ≡ not (is_held (log_in logs.now) entry.now) }
+{
+    match logs.get(entry.origin, entry.n) {
+        Some(held) => **held != *entry.message,
+        None => true,
+    }
+}
+
+/// The entries that are not held, in their order, with their messages shared.
+pub fn fresh_in(alloc: Global, logs: &Logs, entries: &[Entry]) -> Result<Vec<Entry>, AllocError>
+    ensures { IfOk result (λ fresh. fresh.items ≡ fresh_in (log_in logs.now) entries.now) }
+{
+    let mut fresh = Vec::new(alloc);
+    for entry in entries {
+        if is_new(logs, entry) {
+            fresh.push(entry.share()?)?;
+        }
+    }
+    Ok(fresh)
+}
+
+/// The messages of the entries, in their order, shared.
+pub fn messages_in(alloc: Global, entries: &[Entry]) -> Result<Vec<Arc<Message>>, AllocError>
+    ensures { IfOk result (λ messages. drafts_in messages.items ≡ map (λ entry. entry.message) entries.now) }
+{
+    let mut messages = Vec::new(alloc);
+    for entry in entries {
+        messages.push(entry.message.clone()?)?;
+    }
+    Ok(messages)
+}

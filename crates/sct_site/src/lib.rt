@@ -1,0 +1,12 @@
+//! One site of a group: it takes messages, cuts deltas for other sites and accepts theirs.
+#![tactic(auto)]
+
+mod answers;
+mod fresh;
+mod site;
+
+pub use answers::{Accepted, Took};
+pub use site::SiteCore;
+
+#[cfg(test)]
+mod tests;

@@ -1,0 +1,190 @@
+//! The core of one site.
+
+ghost use Rattle.std.specs.Prelude.{◌≡◌, ◌∷◌, ◌++◌, ℕ, [], true, false, None, length, nat_eq, OnOk, OnErr, IfOk, IfErr, MatchOption};
+ghost use Rattle.std.specs.Arc.{arc_value};
+ghost use Rattle.sct_delta.specs.Entries.{IsArrivals, IsDelta, held_from, messages_of};
+ghost use Rattle.sct_delta.specs.Vectors.{count_in};
+ghost use Rattle.sct_delta.specs.declared.fault.DeltaFault.TheVariants as fault;
+ghost use Rattle.sct_site.specs.Cores.{Core, is_open, took_by, arrivals_taken, refusal_by, fresh_of, arrivals_joined, entries_above};
+
+use crate::answers::{Accepted, Took};
+use crate::fresh::{fresh_in, messages_in};
+use sct_delta::{Delta, DeltaFault, Entry, Logs, Vector};
+use sct_message::Message;
+use sct_set::Archive;
+use std::alloc::Global;
+use std::marker::Model;
+use std::sync::Arc;
+
+/// What one site of a group holds: the messages that it took under its own numbers, and the entries of others that it
+/// accepted. Its number is for the life of this site alone.
+#[derive(Drop)]
+pub struct SiteCore {
+    alloc: Global,
+    number: u16,
+    group: u16,
+    logs: Logs,
+    arrivals: Vec<Entry>,
+    archive: Archive,
+}
+
+impl Model for SiteCore {
+    ghost use Rattle.sct_site.specs.Cores.{Core};
+    ghost use Rattle.sct_site.specs.Inside.{IsCore};
+
+    ghost Value = { Core };
+
+    ghost view = { λ c. record { number = c.number; group = c.group; arrivals = c.arrivals.items } };
+
+    ghost invariant = { λ c. IsCore c.number c.group c.logs c.arrivals.items c.archive };
+}
+
+impl SiteCore {
+    /// The site `number` of a group of `group` sites, with no entry. 44 `BadSite` where the group is not one of 1 to 64
+    /// sites, or has no such site.
+    pub fn open(alloc: Global, number: u16, group: u16) -> Result<SiteCore, DeltaFault>
+        ensures ok { IfOk result (λ core. core ≡ record { number = number; group = group; arrivals = [] }) }
+        ensures site { OnOk result (is_open number group ≡ true) }
+        ensures err { IfErr result (λ refusal. (refusal ≡ fault.BadSite) × (is_open number group ≡ false)) }
+    {
+        if number == 0 || number > group {
+            return Err(DeltaFault::BadSite);
+        }
+        Ok(SiteCore {
+            alloc,
+            number,
+            group,
+            logs: Logs::new(alloc, group)?,
+            arrivals: Vec::new(alloc),
+            archive: Archive::new(alloc),
+        })
+    }
+
+    /// The number of the site, from 1.
+    pub fn number(&self) -> u16
+        ensures { result ≡ self.now.number }
+    {
+        self.number
+    }
+
+    /// How many sites the group has.
+    pub fn group(&self) -> u16
+        ensures { result ≡ self.now.group }
+    {
+        self.group
+    }
+
+    /// How many entries of each origin the site holds.
+    pub fn vector(&self) -> &Vector
+        ensures { (origin : ℕ) → count_in result.now origin ≡ held_from origin self.now.arrivals }
+    {
+        self.logs.vector()
+    }
+
+    /// The messages that the site holds, as a set.
+    pub fn archive(&self) -> &Archive
+        ensures { result.now ≡ messages_of self.now.arrivals }
+    {
+        &self.archive
+    }
+
+    /// All entries that the site holds, in the order in which they came; those of one delta in the delta's order.
+    pub fn arrivals(&self) -> &[Entry]
+        ensures arrivals { result.now ≡ self.now.arrivals }
+        ensures order { IsArrivals result.now }
+        ensures site { is_open self.now.number self.now.group ≡ true }
+    {
+        &self.arrivals
+    }
+
+    /// Takes a message: it becomes the next own entry, unless the site holds it from whatever origin. Where memory is
+    /// wanting (40) nothing has changed.
+    pub fn take(&mut self, message: Arc<Message>) -> Result<Took, DeltaFault>
+        ensures answer { IfOk result (λ took. took ≡ took_by self.old (arc_value message)) }
+        ensures number { self.new.number ≡ self.old.number }
+        ensures group { self.new.group ≡ self.old.group }
+        ensures ok { OnOk result (self.new.arrivals ≡ arrivals_taken self.old (arc_value message)) }
+        ensures err { IfErr result (λ refusal. refusal ≡ fault.Memory) }
+        ensures unchanged { OnErr result (self.new ≡ self.old) }
+    {
+        if self.archive.holds(&message) {
+            return Ok(Took::Repeat);
+        }
+        let held = message.clone()?;
+        let logged = message.clone()?;
+        self.arrivals.reserve(1)?;
+        self.logs.room(self.number)?;
+        if let Err(_) = self.archive.add(held) {
+            return Err(DeltaFault::Memory);
+        }
+        let n = self.logs.push(self.number, logged)?;
+        self.arrivals.push_reserved(Entry {
+            origin: self.number,
+            n,
+            message,
+        });
+        Ok(Took::Taken { n })
+    }
+
+    // The first reason why the site does not take a delta.
+    fn refusal(&self, delta: &Delta) -> Option<DeltaFault>
+        ensures { result ≡ refusal_by self.now delta.now }
+    {
+        match self.logs.fits(self.number, delta) {
+            Ok(()) => None,
+            Err(refusal) => Some(refusal),
+        }
+    }
+
+    // Takes in the entries of a delta that nothing refuses. Where memory is wanting nothing has changed.
+    fn admit(&mut self, delta: &Delta) -> Result<Accepted, DeltaFault>
+        requires { refusal_by self.old delta.now ≡ None }
+        ensures answer { IfOk result (λ accepted. accepted.fresh ≡ length (fresh_of self.old.arrivals delta.now)) }
+        ensures number { self.new.number ≡ self.old.number }
+        ensures group { self.new.group ≡ self.old.group }
+        ensures ok { OnOk result (self.new.arrivals ≡ arrivals_joined self.old.arrivals delta.now) }
+        ensures err { IfErr result (λ refusal. refusal ≡ fault.Memory) }
+        ensures unchanged { OnErr result (self.new ≡ self.old) }
+    {
+        let copy = delta.share(self.alloc)?;
+        let mut fresh = fresh_in(self.alloc, &self.logs, delta.entries())?;
+        let messages = messages_in(self.alloc, &fresh)?;
+        self.arrivals.reserve(fresh.len())?;
+        self.logs.reserve(&copy)?;
+        if let Err(_) = self.archive.add_all(&messages) {
+            return Err(DeltaFault::Memory);
+        }
+        let count = self.logs.join(self.number, copy)?;
+        self.arrivals.append(&mut fresh)?;
+        Ok(Accepted { fresh: count })
+    }
+
+    /// Accepts another site's delta: the entries that the site does not hold come to it, in the delta's order. A delta
+    /// is refused for the first of these reasons: 44 `BadSite` for an origin that the group does not have, 43 `OwnAhead`
+    /// for an own entry above the own count, 41 `Gap` for an origin that begins past its next number, 42 `Fork` for an
+    /// entry whose number is held with another message, 40 `Memory`. Where it is refused nothing has changed.
+    pub fn accept(&mut self, delta: &Delta) -> Result<Accepted, DeltaFault>
+        ensures answer { IfOk result (λ accepted. accepted.fresh ≡ length (fresh_of self.old.arrivals delta.now)) }
+        ensures number { self.new.number ≡ self.old.number }
+        ensures group { self.new.group ≡ self.old.group }
+        ensures ok { OnOk result (self.new.arrivals ≡ arrivals_joined self.old.arrivals delta.now) }
+        ensures accepted { OnOk result (refusal_by self.old delta.now ≡ None) }
+        ensures err { IfErr result (λ refusal. MatchOption (refusal_by self.old delta.now)
+            (refusal ≡ fault.Memory) (λ first. refusal ≡ first)) }
+        ensures unchanged { OnErr result (self.new ≡ self.old) }
+    {
+        if let Some(refusal) = self.refusal(delta) {
+            return Err(refusal);
+        }
+        self.admit(delta)
+    }
+
+    /// The entries that a site lacks which holds those up to a vector, whatever their origin.
+    pub fn cut(&self, vector: &Vector) -> Result<Delta, DeltaFault>
+        ensures cut { IfOk result (λ delta. delta ≡ entries_above (count_in vector.now) self.now.arrivals) }
+        ensures shape { IfOk result (λ delta. IsDelta delta) }
+        ensures err { IfErr result (λ refusal. refusal ≡ fault.Memory) }
+    {
+        self.logs.cut(vector)
+    }
+}

@@ -1,0 +1,240 @@
+-- Convergence: what a site holds after events is exactly what it took or accepted. An induction over the events.
+use Rattle.std.proofs.Common.{◌≡◌, ◌∙◌, refl, ap, sym, ℕ, zero, suc, ◌-◌, ◌<◌, Bool, arith, true, false, not, cond, ◌||◌, List, [], ◌∷◌, ◌++◌, map, filter, length, nat_eq, nat_lt}
+use Rattle.std.specs.FinSet as set
+use Rattle.std.specs.FinSet.{contains-union, same_set, contains-from_list}
+use Rattle.std.specs.Prelude.{Option, Some, None, Err}
+use Rattle.std.specs.Ordering.{eq_by_cmp}
+use Rattle.std.specs.Arc.{arc_value}
+use Rattle.std.specs.List.{list_any, slice_get}
+use Rattle.std.proofs.lemmas.Bool.Decides.{nat_tests}
+use Rattle.std.proofs.lemmas.Bool.{false≢true}
+use Rattle.std.proofs.lemmas.List.{get_or-replicate, length-replicate}
+use Rattle.sct_message.specs.declared.draft.Draft.{Draft}
+use Rattle.sct_message.specs.OrderLaws.{message_total, message_same}
+use Rattle.sct_message.specs.Order.{message_order, same_message}
+use Rattle.sct_set.specs.Contents.{Contents, contents_of}
+use Rattle.sct_set.proofs.ContentsLemmas.{insert-held, union-none, union-push, contains-contents_of, same_is, same_itself}
+use Rattle.sct_set.proofs.LawLemmas.{associative}
+use Rattle.sct_message.proofs.Members.{tie_is}
+use Rattle.sct_delta.specs.Entries.{Placed, messages_of, log_of, is_from}
+use Rattle.sct_delta.specs.Refusals.{is_held, is_same_as, message_at}
+use Rattle.sct_delta.specs.declared.fault.DeltaFault.{DeltaFault}
+use Rattle.sct_site.specs.Cores.{Core, is_repeat, own_entry, arrivals_taken, arrivals_joined, refusal_by, fresh_of, logs_of}
+use Rattle.sct_site.proofs.AcceptLemmas.{contents-append, messages-append}
+use Rattle.sct_site.proofs.TakeLemmas.{messages-push}
+use Rattle.sct_world.specs.States.{State, opened, is_no_site, held_at, core_at, with_held, delta_at}
+use Rattle.sct_world.specs.Histories.{site_of, step_accepted, step_handed, step_at, step_of, after_accepted, after_handed, after_at, world_after, world_after_all, ended, outcome_of, outcomes_of}
+use Rattle.sct_world.specs.Taken.{messages_in, got_by, all_got_by, taken_at}
+use Rattle.sct_world.specs.declared.event.Event.{Event}
+use Rattle.sct_world.specs.declared.event.Event.TheVariants as event
+use Rattle.sct_world.specs.declared.event.Outcome.{Outcome}
+use Rattle.sct_world.specs.declared.event.Outcome.TheVariants as outcome
+use Rattle.sct_world.specs.declared.fault.WorldFault.TheVariants as fault
+use Rattle.sct_world.proofs.StateLemmas.{held-with_same, held-with_other, no_such, sites-after, sites-all, there-after, there-all, IsThere}
+
+-- ---- sets
+
+union-one : (s : Contents) (m : Draft) → set.union s (contents_of (m ∷ [])) ≡ set.insert s m
+union-one s m = union-push s [] m ∙ ap (λ (t : Contents). set.insert t m) (union-none s)
+
+union-more : (s : Contents) (xs ys : List Draft) → set.union (set.union s (contents_of xs)) (contents_of ys) ≡ set.union s (contents_of (xs ++ ys))
+union-more s xs ys = associative s (contents_of xs) (contents_of ys) ∙ ap (set.union s) (sym (contents-append xs ys))
+
+or_true : (b : Bool) → (b || true) ≡ true
+or_true true = refl
+or_true false = refl
+
+kept : (a t r s : Bool) → (a || r) ≡ (a || s) → (a || (t || r)) ≡ (a || (t || s))
+kept true t r s e = refl
+kept false true r s e = refl
+kept false false r s e = e
+
+left : (a t r s : Bool) → (a || r) ≡ (a || s) → (t ≡ true → a ≡ true) → (a || r) ≡ (a || (t || s))
+left true t r s e also = refl
+left false true r s e also = absurd (false≢true (also refl))
+left false false r s e also = e
+
+-- ---- a held entry has its message among those held
+
+inside_some : (x y : Draft) → Some x ≡ Some y → x ≡ y
+inside_some x y e = cc
+
+at_first : (x : Draft) (rest : List Draft) (y : Draft) (others : Bool) (k : ℕ) → slice_get (x ∷ rest) k ≡ Some y
+    → ((j : ℕ) → slice_get rest j ≡ Some y → others ≡ true) → (same_message x y || others) ≡ true
+at_first x rest y others zero is later =
+    ap (λ (b : Bool). b || others) (ap (same_message x) (sym (inside_some x y is)) ∙ same_itself x)
+at_first x rest y others (suc j) is later = ap (λ (b : Bool). same_message x y || b) (later j is) ∙ or_true (same_message x y)
+
+found : (p : Placed → Bool) (es : List Placed) (k : ℕ) (y : Draft) → slice_get (map (λ e. e.message) (filter p es)) k ≡ Some y
+    → list_any (λ d. same_message d y) (map (λ e. e.message) es) ≡ true
+found p [] k y is = cc
+found p (e ∷ es) k y is =
+    elim (p e) as (λ b. slice_get (map (λ e. e.message) (cond b (e ∷ filter p es) (filter p es))) k ≡ Some y
+    → (same_message e.message y || list_any (λ d. same_message d y) (map (λ e. e.message) es)) ≡ true) [
+      | true ↦ λ at. at_first e.message (map (λ e. e.message) (filter p es)) y (list_any (λ d. same_message d y) (map (λ e. e.message) es)) k at (λ j. found p es j y)
+      | false ↦ λ later. ap (λ (b : Bool). same_message e.message y || b) (found p es k y later) ∙ or_true (same_message e.message y)
+    ] is
+
+at_place : (log : List Draft) (n : ℕ) (y : Draft) → message_at log n ≡ Some y → slice_get log (n - 1) ≡ Some y
+at_place log n y is = elim (nat_eq n 0) as (λ b. cond b None (slice_get log (n - 1)) ≡ Some y → slice_get log (n - 1) ≡ Some y) [
+  | true ↦ λ e. cc
+  | false ↦ λ e. e
+] is
+
+same_as_some : (m : Draft) (ds : List Draft) (o : Option Draft) → ((y : Draft) → o ≡ Some y → list_any (λ d. same_message d y) ds ≡ true) → is_same_as m o ≡ true
+    → list_any (λ d. same_message d m) ds ≡ true
+same_as_some m ds None held same = cc
+same_as_some m ds (Some y) held same = ap (λ (z : Draft). list_any (λ d. same_message d z) ds) (sym (same_is y m same)) ∙ held y refl
+
+held_has_message : (es : List Placed) (e : Placed) → is_held (logs_of es) e ≡ true → set.contains (messages_of es) e.message ≡ true
+held_has_message es e held =
+    contains-contents_of (map (λ e. e.message) es) e.message
+    ∙ same_as_some e.message (map (λ e. e.message) es) (message_at (log_of e.origin es) e.n)
+    (λ y is. found (is_from e.origin) es (e.n - 1) y (at_place (log_of e.origin es) e.n y is)) held
+
+-- so the messages of what is new, beside those held, are the messages of the whole delta
+module _ (s : Contents) (log : ℕ → List Draft) (has : (e : Placed) → is_held log e ≡ true → set.contains s e.message ≡ true) (q : Draft) where
+  any_new : (ds : List Placed) → (set.contains s q || list_any (eq_by_cmp message_order q) (map (λ e. e.message) (filter (λ e. not (is_held log e)) ds)))
+      ≡ (set.contains s q || list_any (eq_by_cmp message_order q) (map (λ e. e.message) ds))
+  any_new [] = refl
+  any_new (d ∷ ds) =
+      elim (is_held log d) as (λ b. is_held log d ≡ b
+      → (set.contains s q || list_any (eq_by_cmp message_order q) (map (λ e. e.message) (cond (not b) (d ∷ filter (λ e. not (is_held log e)) ds) (filter (λ e. not (is_held log e)) ds))))
+      ≡ (set.contains s q || (eq_by_cmp message_order q d.message || list_any (eq_by_cmp message_order q) (map (λ e. e.message) ds)))) [
+        | true ↦ λ held. left (set.contains s q) (eq_by_cmp message_order q d.message) _ _ (any_new ds)
+            (λ tie. ap (set.contains s) (tie_is message_total message_same q d.message tie) ∙ has d held)
+        | false ↦ λ new. kept (set.contains s q) (eq_by_cmp message_order q d.message) _ _ (any_new ds)
+      ] refl
+
+joined_messages : (es ds : List Placed) → messages_of (arrivals_joined es ds) ≡ set.union (messages_of es) (messages_of ds)
+joined_messages es ds =
+    messages-append es (fresh_of es ds)
+    ∙ same_set message_total message_same _ _ (λ q.
+    contains-union message_total (messages_of es) (messages_of (fresh_of es ds)) q
+    ∙ ap (λ (b : Bool). set.contains (messages_of es) q || b) (contains-from_list message_total (map (λ e. e.message) (fresh_of es ds)) q)
+    ∙ any_new (messages_of es) (logs_of es) (held_has_message es) q ds
+    ∙ sym (ap (λ (b : Bool). set.contains (messages_of es) q || b) (contains-from_list message_total (map (λ e. e.message) ds) q))
+    ∙ sym (contains-union message_total (messages_of es) (messages_of ds) q))
+
+taken_messages : (core : Core) (m : Draft) → messages_of (arrivals_taken core m) ≡ set.union (messages_of core.arrivals) (contents_of (m ∷ []))
+unfolding arrivals_taken
+taken_messages core m =
+    elim (is_repeat core m) as (λ b. is_repeat core m ≡ b → messages_of (cond b core.arrivals (core.arrivals ++ own_entry core m ∷ [])) ≡ set.insert (messages_of core.arrivals) m) [
+      | true ↦ λ held. sym (insert-held (messages_of core.arrivals) m held)
+      | false ↦ λ new. sym (messages-push core.arrivals (own_entry core m))
+    ] refl
+    ∙ sym (union-one (messages_of core.arrivals) m)
+
+-- ---- one event
+
+same_number : (a b : ℕ) → nat_eq a b ≡ true → a ≡ b
+same_number a b e = grind (arith, nat_tests)
+
+-- what a site holds after another list was put at a site, by whether it is that site
+module _ (i : ℕ) (w : State) (there : is_no_site w i ≡ false) (at : ℕ) (here : is_no_site w at ≡ false) where
+  put_is : (arrivals : List Placed) (got : List Draft) → messages_of arrivals ≡ set.union (messages_of (held_at w at)) (contents_of got)
+      → messages_of (held_at (with_held w at arrivals) i) ≡ set.union (messages_of (held_at w i)) (contents_of (cond (nat_eq at i) got []))
+  put_is arrivals got is =
+      elim (nat_eq at i) as (λ b. nat_eq at i ≡ b → messages_of (held_at (with_held w at arrivals) i) ≡ set.union (messages_of (held_at w i)) (contents_of (cond b got []))) [
+        | true ↦ λ same.
+            let site : at ≡ i = same_number at i same in
+            ap (λ (k : ℕ). messages_of (held_at (with_held w at arrivals) k)) (sym site)
+            ∙ ap messages_of (held-with_same w at arrivals here)
+            ∙ is
+            ∙ ap (λ (k : ℕ). set.union (messages_of (held_at w k)) (contents_of got)) site
+        | false ↦ λ other. ap messages_of (held-with_other w at i arrivals there here other) ∙ sym (union-none (messages_of (held_at w i)))
+      ] refl
+
+module _ (i : ℕ) (D : List (List Placed)) where
+  -- the messages of a site after an event are those before it and what the event brought to it
+  abbrev Got : State → State → List Draft → Type 0
+  Got w v got = messages_of (held_at v i) ≡ set.union (messages_of (held_at w i)) (contents_of got)
+
+  nothing_got : (w : State) → Got w w []
+  nothing_got w = sym (union-none (messages_of (held_at w i)))
+
+  accepted_got : (w : State) → is_no_site w i ≡ false → (at : ℕ) → is_no_site w at ≡ false → (number : ℕ) (d : List Placed) → delta_at D number ≡ Some d → (fresh : ℕ) (r : Option DeltaFault)
+      → Got w (after_accepted w at d r) (got_by i D (event.Hand number at) (ended (step_accepted fresh r)))
+  accepted_got w there at here number d is fresh None =
+      put_is i w there at here (arrivals_joined (held_at w at) d) (map (λ e. e.message) d) (joined_messages (held_at w at) d)
+      ∙ ap (λ (o : Option (List Placed)). set.union (messages_of (held_at w i)) (contents_of (cond (nat_eq at i) (messages_in o) []))) (sym is)
+  accepted_got w there at here number d is fresh (Some refusal) = nothing_got w
+
+  handed_got : (w : State) → is_no_site w i ≡ false → (at : ℕ) → is_no_site w at ≡ false → (number : ℕ) → ((k : ℕ) (d : List Placed) → IsThere w k d → delta_at D k ≡ Some d) → (o : Option (List Placed)) → delta_at w.deltas number ≡ o
+      → Got w (after_handed w at o) (got_by i D (event.Hand number at) (ended (step_handed (core_at w at) o)))
+  handed_got w there at here number finds None is = nothing_got w
+  handed_got w there at here number finds (Some d) is =
+      accepted_got w there at here number d (finds number d is) (length (fresh_of (held_at w at) d)) (refusal_by (core_at w at) d)
+
+  got_at : (w : State) → is_no_site w i ≡ false → ((k : ℕ) (d : List Placed) → IsThere w k d → delta_at D k ≡ Some d) → (e : Event) → is_no_site w (site_of e) ≡ false
+      → Got w (after_at w e) (got_by i D e (ended (step_at w e)))
+  got_at w there finds (event.Take at m) here =
+      put_is i w there at here (arrivals_taken (core_at w at) (arc_value m)) (arc_value m ∷ []) (taken_messages (core_at w at) (arc_value m))
+  got_at w there finds (event.Cut at vector) here = nothing_got w
+  got_at w there finds (event.Hand number at) here = handed_got w there at here number finds (delta_at w.deltas number) refl
+
+  -- an event at no site brings nothing
+  got_nowhere : (w : State) → is_no_site w i ≡ false → (e : Event) → is_no_site w (site_of e) ≡ true → Got w w (got_by i D e (outcome.Refused fault.BadSite))
+  got_nowhere w there (event.Take at m) none =
+      nothing_got w ∙ ap (λ (b : Bool). set.union (messages_of (held_at w i)) (contents_of (cond b (arc_value m ∷ []) []))) (sym (no_such w at i none there))
+  got_nowhere w there (event.Cut at vector) none = nothing_got w
+  got_nowhere w there (event.Hand number at) none = nothing_got w
+
+  got_is : (w : State) → is_no_site w i ≡ false → ((k : ℕ) (d : List Placed) → IsThere w k d → delta_at D k ≡ Some d) → (e : Event)
+      → Got w (world_after w e) (got_by i D e (outcome_of w e))
+  unfolding world_after step_of
+  got_is w there finds e =
+      elim (is_no_site w (site_of e)) as (λ b. is_no_site w (site_of e) ≡ b → Got w (cond b w (after_at w e)) (got_by i D e (ended (cond b (Err fault.BadSite) (step_at w e))))) [
+        | true ↦ λ none. got_nowhere w there e none
+        | false ↦ λ here. got_at w there finds e here
+      ] refl
+
+-- ---- all events
+
+all_got : (i : ℕ) (events : List Event) (w : State) → is_no_site w i ≡ false → (D : List (List Placed))
+    → ((k : ℕ) (d : List Placed) → IsThere (world_after_all w events) k d → delta_at D k ≡ Some d)
+    → messages_of (held_at (world_after_all w events) i) ≡ set.union (messages_of (held_at w i)) (contents_of (all_got_by i D events (outcomes_of w events)))
+all_got i [] w there D finds = sym (union-none (messages_of (held_at w i)))
+all_got i (e ∷ events) w there D finds =
+    all_got i events (world_after w e) (sites-after w e i ∙ there) D finds
+    ∙ ap (λ (s : Contents). set.union s (contents_of (all_got_by i D events (outcomes_of (world_after w e) events))))
+    (got_is i D w there (λ k d is. finds k d (there-all events (world_after w e) k d (there-after w e k d is))) e)
+    ∙ union-more (messages_of (held_at w i)) (got_by i D e (outcome_of w e)) (all_got_by i D events (outcomes_of (world_after w e) events))
+
+-- ---- from a world without an entry on
+
+none_opened : (n i : ℕ) → (nat_lt i 1 || nat_lt n i) ≡ false → i - 1 < n
+none_opened n i there = grind (arith, nat_tests)
+
+pub held-opened : (n i : ℕ) → is_no_site (opened n) i ≡ false → held_at (opened n) i ≡ []
+held-opened n i there =
+    let none : List Placed = [] in
+    get_or-replicate n (i - 1) none none (none_opened n i (ap (λ (k : ℕ). nat_lt i 1 || nat_lt k i) (sym (length-replicate n none)) ∙ there))
+
+-- each site holds exactly the messages that it took or accepted
+pub exactly : (n : ℕ) (events : List Event) (i : ℕ) → is_no_site (world_after_all (opened n) events) i ≡ false
+    → messages_of (held_at (world_after_all (opened n) events) i)
+    ≡ taken_at i (world_after_all (opened n) events).deltas events (outcomes_of (opened n) events)
+exactly n events i there =
+    let opened_there : is_no_site (opened n) i ≡ false = sym (sites-all events (opened n) i) ∙ there in
+    all_got i events (opened n) opened_there (world_after_all (opened n) events).deltas (λ k d is. is)
+    ∙ ap (λ (es : List Placed). set.union (messages_of es) (taken_at i (world_after_all (opened n) events).deltas events (outcomes_of (opened n) events))) (held-opened n i opened_there)
+    ∙ sym (contents-append [] (all_got_by i (world_after_all (opened n) events).deltas events (outcomes_of (opened n) events)))
+
+-- ---- one event more
+
+pub world-push : (w : State) (events : List Event) (e : Event) → world_after (world_after_all w events) e ≡ world_after_all w (events ++ e ∷ [])
+world-push w [] e = refl
+world-push w (d ∷ events) e = world-push (world_after w d) events e
+
+pub outcomes-push : (w : State) (events : List Event) (e : Event) → outcomes_of w events ++ outcome_of (world_after_all w events) e ∷ [] ≡ outcomes_of w (events ++ e ∷ [])
+outcomes-push w [] e = refl
+outcomes-push w (d ∷ events) e = ap (λ (os : List Outcome). outcome_of w d ∷ os) (outcomes-push (world_after w d) events e)
+
+-- the same, of a world and outcomes that are those of the events
+pub exactly_of : (n : ℕ) (events : List Event) (w : State) (outcomes : List Outcome) → w ≡ world_after_all (opened n) events → outcomes ≡ outcomes_of (opened n) events
+    → (site : ℕ) → is_no_site w site ≡ false → messages_of (held_at w site) ≡ taken_at site w.deltas events outcomes
+exactly_of n events w outcomes world told site there =
+    ap (λ (v : State). messages_of (held_at v site)) world
+    ∙ exactly n events site (ap (λ (v : State). is_no_site v site) (sym world) ∙ there)
+    ∙ sym (λ i. taken_at site (world i).deltas events (told i))

@@ -1,0 +1,245 @@
+-- In a world no fork comes, and events keep what that rests on. Proof plumbing.
+use Rattle.std.proofs.Common.{◌≡◌, ◌≢◌, ◌∙◌, ◌⊎◌, refl, ap, sym, subst, inl, inr, ℕ, zero, suc, ◌+◌, ◌-◌, ◌<◌, Bool, true, false, not, cond, ◌&&◌, ◌||◌, List, [], ◌∷◌, ◌++◌, filter, length, arith, nat_eq, nat_lt, get_or}
+use Rattle.std.specs.Prelude.{Option, Some, None, IfSome, slice_set, slice_index_or}
+use Rattle.std.specs.List.{list_any, find, slice_get}
+use Rattle.std.specs.Option.{option_or}
+use Rattle.std.proofs.lemmas.Bool.Decides.{nat_tests}
+use Rattle.std.proofs.lemmas.Bool.{false≢true}
+use Rattle.std.proofs.lemmas.List.{get_or-set_same, get_or-set_other}
+use Rattle.std.proofs.lemmas.List.Folds.{list_any-append}
+use Rattle.std.proofs.lemmas.Option.{slice_get_within}
+use Rattle.sct_message.specs.declared.draft.Draft.{Draft}
+use Rattle.sct_message.specs.Ascending.{ascending}
+use Rattle.sct_message.specs.Order.{same_message}
+use Rattle.sct_message.proofs.AscendingLemmas.{any_ascending, ascending-filter, ascending-sorted}
+use Rattle.sct_set.proofs.ContentsLemmas.{same_itself}
+use Rattle.sct_delta.specs.Entries.{Placed, is_from, log_of, same_entry, holds, IsArrivals, IsRun}
+use Rattle.sct_delta.specs.Refusals.{message_at, is_other_than, is_held, is_fork, is_ahead, is_past, is_outside, firsts_after, told, first_refusal, outside_refusal, ahead_refusal, gap_refusal, vector_of}
+use Rattle.sct_delta.specs.declared.fault.DeltaFault.{DeltaFault}
+use Rattle.sct_delta.specs.declared.fault.DeltaFault.TheVariants as fault
+use Rattle.sct_delta.proofs.EntryLemmas.{rises-numbered, run_is}
+use Rattle.sct_site.specs.Cores.{logs_of, is_above, entry_order, entries_above, fresh_of, arrivals_joined, arrivals_taken, is_repeat, own_entry, refusal_by}
+use Rattle.sct_site.proofs.AboveLemmas.{entry_total, entry_same, rises_as_entries, from_above}
+use Rattle.sct_site.proofs.ArrivalLemmas.{arrivals-push}
+use Rattle.sct_site.proofs.JoinLemmas.{fits, arrivals-joined}
+use Rattle.sct_world.specs.Closed.{IsClosed}
+use Rattle.sct_world.specs.Faults.{IsNoFork}
+use Rattle.sct_world.specs.States.{State, is_no_site, held_at, core_at, with_held}
+use Rattle.sct_world.proofs.HeldLemmas.{or_true, either, same_entry_is, entry_itself, one_place, held_number}
+use Rattle.sct_world.proofs.StateLemmas.{held-with_same}
+
+-- ---- what a search finds stands in the list
+
+inside_some : {X : Type 0} {x y : X} → Some x ≡ Some y → x ≡ y
+inside_some e = cc
+
+found_in : (p : Placed → Bool) (ds : List Placed) (e : Placed) → find p ds ≡ Some e → (holds ds e ≡ true) × (p e ≡ true)
+found_in p [] e is = cc
+found_in p (d ∷ ds) e is =
+    elim (p d) as (λ b. p d ≡ b → cond b (Some d) (find p ds) ≡ Some e → ((same_entry d e || holds ds e) ≡ true) × (p e ≡ true)) [
+      | true ↦ λ passes first.
+          let same : d ≡ e = inside_some first in
+          (ap (λ (b : Bool). b || holds ds e) (ap (λ (x : Placed). same_entry x e) same ∙ entry_itself e), ap p (sym same) ∙ passes)
+      | false ↦ λ fails later.
+          let rest : (holds ds e ≡ true) × (p e ≡ true) = found_in p ds e later in
+          (ap (λ (b : Bool). same_entry d e || b) rest.0 ∙ or_true (same_entry d e), rest.1)
+    ] refl is
+
+module _ (P : DeltaFault → Type 0) (tells : Placed → DeltaFault) (p : Placed → Bool) (ds : List Placed) where
+  told_all : ((e : Placed) → P (tells e)) → (o : Option Placed) → IfSome (told tells o) P
+  told_all all None = tt
+  told_all all (Some e) = all e
+
+  told_never : ((e : Placed) → holds ds e ≡ true → p e ≡ false) → IfSome (told tells (find p ds)) P
+  told_never never =
+      elim (find p ds) as (λ o. find p ds ≡ o → IfSome (told tells o) P) [
+        | None ↦ λ is. tt
+        | Some e ↦ λ is.
+            let found : (holds ds e ≡ true) × (p e ≡ true) = found_in p ds e is in
+            absurd (false≢true (sym (never e found.0) ∙ found.1))
+      ] refl
+
+or_else : (P : DeltaFault → Type 0) (a b : Option DeltaFault) → IfSome a P → IfSome b P → IfSome (option_or a b) P
+or_else P None b p q = q
+or_else P (Some f) b p q = p
+
+-- ---- no fork
+
+pub within : (log : List Draft) (n : ℕ) (m : Draft) → message_at log n ≡ Some m → nat_lt (length log) n ≡ false
+within log n m is =
+    elim (nat_eq n 0) as (λ b. nat_eq n 0 ≡ b → cond b None (slice_get log (n - 1)) ≡ Some m → nat_lt (length log) n ≡ false) [
+      | true ↦ λ zero e. cc
+      | false ↦ λ above e.
+          let below : n - 1 < length log = slice_get_within log (n - 1) m e in
+          grind (arith, nat_tests)
+    ] refl is
+
+module _ (w : State) (closed : IsClosed w) (s : ℕ) where
+  -- what is held at the number of an entry is this entry
+  pub no_other : (e : Placed) → holds (held_at w e.origin) e ≡ true → (o : Option Draft) → message_at (log_of e.origin (held_at w s)) e.n ≡ o → is_other_than e.message o ≡ false
+  no_other e own None is = refl
+  no_other e own (Some x) is =
+      let found : Placed = record { origin = e.origin; n = e.n; message = x } in
+      let there : message_at (log_of e.origin (held_at w e.origin)) e.n ≡ Some x
+      = one_place (held_at w e.origin) (closed.arrivals e.origin) found (closed.held s found (held_number (held_at w s) (closed.arrivals s) e.origin e.n x is)) in
+      let same : x ≡ e.message = inside_some (sym there ∙ one_place (held_at w e.origin) (closed.arrivals e.origin) e own) in
+      ap (λ (y : Draft). not (same_message y e.message)) same ∙ ap not (same_itself e.message)
+
+  -- no entry that its origin holds is above the origin's own count
+  pub not_ahead : (e : Placed) → holds (held_at w e.origin) e ≡ true → is_ahead s (logs_of (held_at w s)) e ≡ false
+  not_ahead e own =
+      elim (nat_eq e.origin s) as (λ b. nat_eq e.origin s ≡ b → (b && nat_lt (length (log_of s (held_at w s))) e.n) ≡ false) [
+        | true ↦ λ same.
+            let site : e.origin ≡ s = grind (arith, nat_tests) in
+            within (log_of s (held_at w s)) e.n e.message
+            (ap (λ (o : ℕ). message_at (log_of o (held_at w o)) e.n) (sym site) ∙ one_place (held_at w e.origin) (closed.arrivals e.origin) e own)
+        | false ↦ λ other. refl
+      ] refl
+
+  -- so a site refuses a delta neither for a fork nor for an entry ahead of its owner
+  pub no_fork_here : (group k : ℕ) → IfSome (first_refusal s group (logs_of (held_at w s)) (slice_index_or w.deltas k [])) IsNoFork
+  unfolding first_refusal
+  no_fork_here group k =
+      let d : List Placed = slice_index_or w.deltas k [] in
+      let log : ℕ → List Draft = logs_of (held_at w s) in
+      or_else IsNoFork (outside_refusal group d) _ (told_all IsNoFork (λ e. fault.BadSite) (is_outside group) d (λ e. tt) (find (is_outside group) d))
+      (or_else IsNoFork (ahead_refusal s log d) _ (told_never IsNoFork (λ e. fault.OwnAhead e.n) (is_ahead s log) d (λ e held. not_ahead e (closed.cut k e held)))
+      (or_else IsNoFork (gap_refusal log d) _ (told_all IsNoFork (λ e. fault.Gap e.origin (vector_of log e.origin) e.n) (is_past log) (firsts_after 0 d) (λ e. tt) (find (is_past log) (firsts_after 0 d)))
+      (told_never IsNoFork (λ e. fault.Fork e.origin e.n) (is_fork log) d (λ e held. no_other e (closed.cut k e held) (message_at (log e.origin) e.n) refl))))
+
+-- ---- one site holds other entries
+
+inside : (n site : ℕ) → (nat_lt site 1 || nat_lt n site) ≡ false → site - 1 < n
+inside n site there = grind (arith, nat_tests)
+
+number_is : (a b : ℕ) → nat_eq a b ≡ true → a ≡ b
+number_is a b e = grind (arith, nat_tests)
+
+number_other : (a b : ℕ) → nat_eq a b ≡ false → a ≢ b
+number_other a b e same = false≢true (sym e ∙ (let is : nat_eq a b ≡ true = grind (arith, nat_tests) in is))
+
+module _ (w : State) (s : ℕ) (there : is_no_site w s ≡ false) (es : List Placed) where
+  abbrev Put : ℕ → Type 0
+  Put x = ((held_at (with_held w s es) x ≡ es) × (x - 1 ≡ s - 1)) ⊎ (held_at (with_held w s es) x ≡ held_at w x)
+
+  held_where : (x : ℕ) → Put x
+  held_where x =
+      elim (nat_eq (x - 1) (s - 1)) as (λ b. nat_eq (x - 1) (s - 1) ≡ b → Put x) [
+        | true ↦ λ same.
+            let place : x - 1 ≡ s - 1 = number_is (x - 1) (s - 1) same in
+            inl (ap (λ (k : ℕ). get_or (slice_set w.held (s - 1) es) k []) place ∙ get_or-set_same w.held (s - 1) es [] (inside (length w.held) s there), place)
+        | false ↦ λ other. inr (get_or-set_other w.held (s - 1) (x - 1) es [] (number_other (x - 1) (s - 1) other))
+      ] refl
+
+module _ (w : State) (closed : IsClosed w) (s : ℕ) (there : is_no_site w s ≡ false) (es : List Placed) (arrive : IsArrivals es)
+    (keeps : (e : Placed) → holds (held_at w s) e ≡ true → holds es e ≡ true)
+    (owned : (e : Placed) → holds es e ≡ true → (holds (held_at w e.origin) e ≡ true) ⊎ (e.origin ≡ s)) where
+  still : (x : ℕ) (e : Placed) → holds (held_at w x) e ≡ true → holds (held_at (with_held w s es) x) e ≡ true
+  still x e held =
+      elim (held_where w s there es x) as (λ c. holds (held_at (with_held w s es) x) e ≡ true) [
+        | inl at ↦ ap (λ (l : List Placed). holds l e) at.0 ∙ keeps e (ap (λ (k : ℕ). holds (get_or w.held k []) e) (sym at.1) ∙ held)
+        | inr other ↦ ap (λ (l : List Placed). holds l e) other ∙ held
+      ]
+
+  at_own : (e : Placed) → holds es e ≡ true → holds (held_at (with_held w s es) e.origin) e ≡ true
+  at_own e in_list =
+      elim (owned e in_list) as (λ c. holds (held_at (with_held w s es) e.origin) e ≡ true) [
+        | inl held ↦ still e.origin e held
+        | inr own ↦ ap (λ (o : ℕ). holds (held_at (with_held w s es) o) e) own ∙ ap (λ (l : List Placed). holds l e) (held-with_same w s es there) ∙ in_list
+      ]
+
+  pub closed_with : IsClosed (with_held w s es)
+  closed_with = record {
+    arrivals = λ x. elim (held_where w s there es x) as (λ c. IsArrivals (held_at (with_held w s es) x)) [
+      | inl at ↦ subst (λ (l : List Placed). IsArrivals l) (sym at.0) arrive
+      | inr other ↦ subst (λ (l : List Placed). IsArrivals l) (sym other) (closed.arrivals x)
+    ];
+    runs = closed.runs;
+    held = λ x e in_list. elim (held_where w s there es x) as (λ c. holds (held_at (with_held w s es) e.origin) e ≡ true) [
+      | inl at ↦ at_own e (ap (λ (l : List Placed). holds l e) (sym at.0) ∙ in_list)
+      | inr other ↦ still e.origin e (closed.held x e (ap (λ (l : List Placed). holds l e) (sym other) ∙ in_list))
+    ];
+    cut = λ k e in_list. still e.origin e (closed.cut k e in_list);
+  }
+
+-- ---- a take, an accepted delta, a cut
+
+pub kept_first : (es fs : List Placed) (e : Placed) → holds es e ≡ true → holds (es ++ fs) e ≡ true
+kept_first es fs e held = list_any-append (λ x. same_entry x e) es fs ∙ ap (λ (b : Bool). b || holds fs e) held
+
+one_of : (es fs : List Placed) (e : Placed) → holds (es ++ fs) e ≡ true → (holds es e ≡ true) ⊎ (holds fs e ≡ true)
+one_of es fs e held = either (holds es e) (holds fs e) (sym (list_any-append (λ x. same_entry x e) es fs) ∙ held)
+
+-- a test that is passed in part of a list is passed in it
+any_kept : (p q : Placed → Bool) (ds : List Placed) → list_any q (filter p ds) ≡ true → list_any q ds ≡ true
+any_kept p q [] is = is
+any_kept p q (d ∷ ds) is =
+    elim (p d) as (λ b. list_any q (cond b (d ∷ filter p ds) (filter p ds)) ≡ true → (q d || list_any q ds) ≡ true) [
+      | true ↦ λ some. elim (either (q d) (list_any q (filter p ds)) some) as (λ c. (q d || list_any q ds) ≡ true) [
+        | inl first ↦ ap (λ (b : Bool). b || list_any q ds) first
+        | inr later ↦ ap (λ (b : Bool). q d || b) (any_kept p q ds later) ∙ or_true (q d)
+      ]
+      | false ↦ λ later. ap (λ (b : Bool). q d || b) (any_kept p q ds later) ∙ or_true (q d)
+    ] is
+
+or_false : (b : Bool) → (b || false) ≡ b
+or_false true = refl
+or_false false = refl
+
+module _ (w : State) (closed : IsClosed w) (s : ℕ) (there : is_no_site w s ≡ false) where
+  pub closed_taken : (m : Draft) → IsClosed (with_held w s (arrivals_taken (core_at w s) m))
+  unfolding arrivals_taken
+  closed_taken m =
+      elim (is_repeat (core_at w s) m) as (λ b. IsClosed (with_held w s (cond b (held_at w s) (held_at w s ++ own_entry (core_at w s) m ∷ [])))) [
+        | true ↦ closed_with w closed s there (held_at w s) (closed.arrivals s) (λ e held. held) (λ e held. inl (closed.held s e held))
+        | false ↦
+            closed_with w closed s there (held_at w s ++ own_entry (core_at w s) m ∷ []) (arrivals-push (held_at w s) (own_entry (core_at w s) m) (closed.arrivals s) refl)
+            (λ e held. kept_first (held_at w s) (own_entry (core_at w s) m ∷ []) e held)
+            (λ e held. elim (one_of (held_at w s) (own_entry (core_at w s) m ∷ []) e held) as (λ c. (holds (held_at w e.origin) e ≡ true) ⊎ (e.origin ≡ s)) [
+              | inl was ↦ inl (closed.held s e was)
+              | inr new ↦ inr (ap (λ (x : Placed). x.origin) (sym (same_entry_is (own_entry (core_at w s) m) e (sym (or_false (same_entry (own_entry (core_at w s) m) e)) ∙ new))))
+            ])
+      ]
+
+  pub closed_joined : (k : ℕ) → refusal_by (core_at w s) (slice_index_or w.deltas k []) ≡ None → IsClosed (with_held w s (arrivals_joined (held_at w s) (slice_index_or w.deltas k [])))
+  closed_joined k none =
+      closed_with w closed s there (arrivals_joined (held_at w s) (slice_index_or w.deltas k []))
+      (arrivals-joined s (length w.held) (held_at w s) (slice_index_or w.deltas k []) (closed.arrivals s) (closed.runs k) (fits s (length w.held) (logs_of (held_at w s)) (slice_index_or w.deltas k []) none))
+      (λ e held. kept_first (held_at w s) (fresh_of (held_at w s) (slice_index_or w.deltas k [])) e held)
+      (λ e held. elim (one_of (held_at w s) (fresh_of (held_at w s) (slice_index_or w.deltas k [])) e held) as (λ c. (holds (held_at w e.origin) e ≡ true) ⊎ (e.origin ≡ s)) [
+        | inl was ↦ inl (closed.held s e was)
+        | inr new ↦ inl (closed.cut k e (any_kept (λ x. not (is_held (logs_of (held_at w s)) x)) (λ x. same_entry x e) (slice_index_or w.deltas k []) new))
+      ])
+
+-- what is cut runs on as the arrivals do, and is among them
+run_above : (count : ℕ → ℕ) (es : List Placed) → IsArrivals es → (o : ℕ) → IsRun o (entries_above count es)
+unfolding entries_above
+run_above count es arrive o =
+    run_is o (count o + 1) _ (entries_above count es) (omega arith)
+    (sym (ascending-filter entry_total entry_same (is_from o) (filter (is_above count) es))
+    ∙ ap (ascending entry_order) (from_above count es arrive o)
+    ∙ ascending-sorted entry_total entry_same _ (rises_as_entries _ (rises-numbered o (count o + 1) _)))
+
+among_above : (count : ℕ → ℕ) (es : List Placed) (e : Placed) → holds (entries_above count es) e ≡ true → holds es e ≡ true
+unfolding entries_above
+among_above count es e held = any_kept (is_above count) (λ x. same_entry x e) es (sym (any_ascending entry_total entry_same (λ x. same_entry x e) (filter (is_above count) es)) ∙ held)
+
+last_or : (ds : List (List Placed)) (x : List Placed) (k : ℕ) → (get_or (ds ++ x ∷ []) k [] ≡ get_or ds k []) ⊎ (get_or (ds ++ x ∷ []) k [] ≡ x)
+last_or [] x zero = inr refl
+last_or [] x (suc k) = inl refl
+last_or (d ∷ ds) x zero = inl refl
+last_or (d ∷ ds) x (suc k) = last_or ds x k
+
+pub closed_cut : (w : State) → IsClosed w → (s : ℕ) (count : ℕ → ℕ) → IsClosed (record { held = w.held; deltas = w.deltas ++ entries_above count (held_at w s) ∷ [] })
+closed_cut w closed s count = record {
+  arrivals = closed.arrivals;
+  runs = λ k o. elim (last_or w.deltas (entries_above count (held_at w s)) k) as (λ c. IsRun o (get_or (w.deltas ++ entries_above count (held_at w s) ∷ []) k [])) [
+    | inl old ↦ subst (λ (l : List Placed). IsRun o l) (sym old) (closed.runs k o)
+    | inr new ↦ subst (λ (l : List Placed). IsRun o l) (sym new) (run_above count (held_at w s) (closed.arrivals s) o)
+  ];
+  held = closed.held;
+  cut = λ k e in_list. elim (last_or w.deltas (entries_above count (held_at w s)) k) as (λ c. holds (held_at w e.origin) e ≡ true) [
+    | inl old ↦ closed.cut k e (ap (λ (l : List Placed). holds l e) (sym old) ∙ in_list)
+    | inr new ↦ closed.held s e (among_above count (held_at w s) e (ap (λ (l : List Placed). holds l e) (sym new) ∙ in_list))
+  ];
+}

@@ -1,0 +1,96 @@
+-- What events do to a world, and what each is answered: functions of what the sites hold and of the deltas cut, by
+-- the words in which one site takes, accepts and cuts. Read by an auditor.
+use Rattle.std.specs.Prelude.{ℕ, ◌+◌, ◌++◌, List, [], ◌∷◌, length, Option, Some, None, Result, Ok, Err, if◌then◌else◌}
+use Rattle.std.specs.Arc.{arc_value}
+use Rattle.std.specs.List.{fold}
+use Rattle.sct_delta.specs.Entries.{Placed}
+use Rattle.sct_delta.specs.Vectors.{count_in}
+use Rattle.sct_delta.specs.declared.fault.DeltaFault.{DeltaFault}
+use Rattle.sct_site.specs.declared.answers.Took.{Took}
+use Rattle.sct_site.specs.declared.answers.Took.TheVariants as took
+use Rattle.sct_site.specs.Cores.{Core, took_by, arrivals_taken, refusal_by, fresh_of, arrivals_joined, entries_above}
+use Rattle.sct_world.specs.States.{State, is_no_site, held_at, core_at, with_held, delta_at}
+use Rattle.sct_world.specs.declared.event.Event.{Event}
+use Rattle.sct_world.specs.declared.event.Event.TheVariants as event
+use Rattle.sct_world.specs.declared.event.Step.{Step}
+use Rattle.sct_world.specs.declared.event.Step.TheVariants as step
+use Rattle.sct_world.specs.declared.event.Outcome.{Outcome}
+use Rattle.sct_world.specs.declared.event.Outcome.TheVariants as outcome
+use Rattle.sct_world.specs.declared.fault.WorldFault.{WorldFault}
+use Rattle.sct_world.specs.declared.fault.WorldFault.TheVariants as fault
+
+-- the site at which an event happens
+abbrev pub site_of : Event → ℕ
+site_of (event.Take site message) = site
+site_of (event.Cut site vector) = site
+site_of (event.Hand delta site) = site
+
+-- ---- what an event is answered
+
+-- a take, by what the site answered
+abbrev pub step_taken : Took → Step
+step_taken (took.Taken n) = step.Taken n
+step_taken took.Repeat = step.Repeat
+
+-- a hand, by the site's refusal, where there is one, and by how many entries are new
+abbrev pub step_accepted : ℕ → Option DeltaFault → Result Step WorldFault
+step_accepted fresh None = Ok (step.Accepted fresh)
+step_accepted fresh (Some refusal) = Err (fault.Delta refusal)
+
+-- a hand, by the delta, where there is one
+abbrev pub step_handed : Core → Option (List Placed) → Result Step WorldFault
+step_handed core None = Err fault.NoSuchDelta
+step_handed core (Some delta) = step_accepted (length (fresh_of core.arrivals delta)) (refusal_by core delta)
+
+-- an event at a site that is there
+abbrev pub step_at : State → Event → Result Step WorldFault
+step_at w (event.Take site message) = Ok (step_taken (took_by (core_at w site) (arc_value message)))
+step_at w (event.Cut site vector) =
+    Ok (step.Cut (length w.deltas + 1) (length (entries_above (count_in vector) (held_at w site))))
+step_at w (event.Hand delta site) = step_handed (core_at w site) (delta_at w.deltas delta)
+
+-- what an event is answered: before all else, that there is no such site
+unfoldable pub step_of : State → Event → Result Step WorldFault
+step_of w e = if is_no_site w (site_of e) then Err fault.BadSite else step_at w e
+
+-- ---- what an event leaves
+
+-- after a hand, by the site's refusal, where there is one
+abbrev pub after_accepted : State → ℕ → List Placed → Option DeltaFault → State
+after_accepted w site delta None = with_held w site (arrivals_joined (held_at w site) delta)
+after_accepted w site delta (Some refusal) = w
+
+-- after a hand, by the delta, where there is one
+abbrev pub after_handed : State → ℕ → Option (List Placed) → State
+after_handed w site None = w
+after_handed w site (Some delta) = after_accepted w site delta (refusal_by (core_at w site) delta)
+
+-- after an event at a site that is there
+abbrev pub after_at : State → Event → State
+after_at w (event.Take site message) = with_held w site (arrivals_taken (core_at w site) (arc_value message))
+after_at w (event.Cut site vector) =
+    record { held = w.held; deltas = w.deltas ++ entries_above (count_in vector) (held_at w site) ∷ [] }
+after_at w (event.Hand delta site) = after_handed w site (delta_at w.deltas delta)
+
+-- the world after an event; one at no site leaves it
+unfoldable pub world_after : State → Event → State
+world_after w e = if is_no_site w (site_of e) then w else after_at w e
+
+-- ---- lists of events
+
+-- the world after events, one after the other
+abbrev pub world_after_all : State → List Event → State
+world_after_all w events = fold world_after w events
+
+-- how an event ends
+abbrev pub ended : Result Step WorldFault → Outcome
+ended (Ok done) = outcome.Done done
+ended (Err refusal) = outcome.Refused refusal
+
+abbrev pub outcome_of : State → Event → Outcome
+outcome_of w e = ended (step_of w e)
+
+-- how each of the events ends
+abbrev pub outcomes_of : State → List Event → List Outcome
+outcomes_of w [] = []
+outcomes_of w (e ∷ events) = outcome_of w e ∷ outcomes_of (world_after w e) events

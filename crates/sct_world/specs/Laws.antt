@@ -1,0 +1,47 @@
+-- What holds of worlds, whatever their histories. Read by an auditor.
+use Rattle.std.specs.Prelude.{◌≡◌, ℕ, true, false, List, Ok}
+use Rattle.sct_message.specs.Sets.{MessageSet}
+use Rattle.sct_delta.specs.Entries.{Placed, held_from, holds, messages_of}
+use Rattle.sct_world.specs.States.{State, opened, is_no_site, held_at}
+use Rattle.sct_world.specs.Histories.{step_of, world_after, world_after_all, outcomes_of}
+use Rattle.sct_world.specs.Taken.{taken_at}
+use Rattle.sct_world.specs.declared.event.Event.{Event}
+use Rattle.sct_world.specs.declared.event.Event.TheVariants as event
+use Rattle.sct_world.specs.declared.event.Step.TheVariants as step
+
+-- the world after events, from so many sites without an entry on
+abbrev pub history : ℕ → List Event → State
+history sites events = world_after_all (opened sites) events
+
+-- the messages that a site took or accepted in a history
+abbrev pub taken_in : ℕ → List Event → ℕ → MessageSet
+taken_in sites events site = taken_at site (history sites events).deltas events (outcomes_of (opened sites) events)
+
+-- Sites, of one world or of two, that took or accepted the same messages hold the same.
+abbrev pub EqualSetsHoldAlike : Type 0
+EqualSetsHoldAlike = (m n : ℕ) (events others : List Event) (i j : ℕ)
+    → is_no_site (history m events) i ≡ false → is_no_site (history n others) j ≡ false
+    → taken_in m events i ≡ taken_in n others j
+    → messages_of (held_at (history m events) i) ≡ messages_of (held_at (history n others) j)
+
+-- A site never loses an entry.
+abbrev pub NeverLosesAnEntry : Type 0
+NeverLosesAnEntry = (w : State) (events : List Event) (site : ℕ) (entry : Placed) → is_no_site w site ≡ false
+    → holds (held_at w site) entry ≡ true → holds (held_at (world_after_all w events) site) entry ≡ true
+
+-- In one world sites with equal version vectors hold the same entries.
+abbrev pub EqualVectorsHoldAlike : Type 0
+EqualVectorsHoldAlike = (sites : ℕ) (events : List Event) (i j : ℕ)
+    → ((origin : ℕ) → held_from origin (held_at (history sites events) i) ≡ held_from origin (held_at (history sites events) j))
+    → (entry : Placed) → holds (held_at (history sites events) i) entry ≡ holds (held_at (history sites events) j) entry
+
+-- the event is done, brings nothing new and leaves the world as it was
+pub record ChangesNothing (w : State) (e : Event) : Type 0 where
+  pub answer : step_of w e ≡ Ok (step.Accepted 0)
+  pub world : world_after w e ≡ w
+
+-- To hand a site a delta again that it accepted changes nothing, at whatever later time.
+abbrev pub HandingAgainChangesNothing : Type 0
+HandingAgainChangesNothing = (sites : ℕ) (before between : List Event) (delta site fresh : ℕ)
+    → step_of (history sites before) (event.Hand delta site) ≡ Ok (step.Accepted fresh)
+    → ChangesNothing (world_after_all (world_after (history sites before) (event.Hand delta site)) between) (event.Hand delta site)

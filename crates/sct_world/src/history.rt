@@ -1,0 +1,62 @@
+//! Histories: lists of events, from a world without an entry on.
+
+ghost use Rattle.std.specs.Prelude.{◌≡◌, ◌≢◌, ℕ, false, All, OnOk, IfOk, IfErr};
+ghost use Rattle.sct_delta.specs.Entries.{messages_of};
+ghost use Rattle.sct_delta.specs.declared.fault.DeltaFault.TheVariants as delta;
+ghost use Rattle.sct_world.specs.Faults.{IsNoForkOutcome};
+ghost use Rattle.sct_world.specs.Histories.{outcome_of, outcomes_of, world_after, world_after_all};
+ghost use Rattle.sct_world.specs.States.{opened, is_size, is_no_site, held_at};
+ghost use Rattle.sct_world.specs.Taken.{taken_at};
+ghost use Rattle.sct_world.specs.declared.fault.WorldFault.TheVariants as fault;
+
+use crate::event::{Event, Outcome};
+use crate::fault::WorldFault;
+use crate::world::World;
+use std::alloc::Global;
+
+/// A world after a list of events, and how each of the events ended.
+#[derive(Drop)]
+pub struct Ran {
+    pub world: World,
+    pub outcomes: Vec<Outcome>,
+}
+
+// How an event ends. Want of memory alone is no outcome.
+fn outcome(world: &mut World, event: &Event) -> Result<Outcome, WorldFault>
+    ensures ok { IfOk result (λ outcome. outcome ≡ outcome_of world.old event.now) }
+    ensures world { OnOk result (world.new ≡ world_after world.old event.now) }
+    ensures no_fork { IfOk result (λ outcome. IsNoForkOutcome outcome) }
+    ensures err { IfErr result (λ refusal. refusal ≡ fault.Delta delta.Memory) }
+{
+    match world.step(event) {
+        Ok(step) => Ok(Outcome::Done(step)),
+        Err(refusal) => {
+            if refusal.is_memory() {
+                return Err(refusal);
+            }
+            Ok(Outcome::Refused(refusal))
+        }
+    }
+}
+
+/// Runs events, one after the other, in a new world of so many sites. Each event has its outcome, be it done or refused;
+/// `run` itself is refused by 44 `BadSite`, where the number of sites is not 1 to 64, and by 40 alone.
+///
+/// The clause `exactly` is the promise of convergence: the messages that a site holds after the events are exactly those
+/// that it took or accepted, as events, outcomes and deltas tell them.
+pub fn run(alloc: Global, sites: u16, events: &[Event]) -> Result<Ran, WorldFault>
+    ensures world { IfOk result (λ ran. ran.world ≡ world_after_all (opened sites) events.now) }
+    ensures outcomes { IfOk result (λ ran. ran.outcomes.items ≡ outcomes_of (opened sites) events.now) }
+    ensures exactly { IfOk result (λ ran. (site : ℕ) → is_no_site ran.world site ≡ false
+        → messages_of (held_at ran.world site) ≡ taken_at site ran.world.deltas events.now ran.outcomes.items) }
+    ensures no_fork { IfOk result (λ ran. All IsNoForkOutcome ran.outcomes.items) }
+    ensures err { IfErr result (λ refusal. refusal ≢ fault.Delta delta.Memory
+        → (refusal ≡ fault.BadSite) × (is_size sites ≡ false)) }
+{
+    let mut world = World::open(alloc, sites)?;
+    let mut outcomes = Vec::new(alloc);
+    for event in events {
+        outcomes.push(outcome(&mut world, event)?)?;
+    }
+    Ok(Ran { world, outcomes })
+}

@@ -1,0 +1,17 @@
+//! Worlds of sites that take messages, cut deltas and are handed them: after every list of events each site's archive is
+//! exactly the set of messages that it took or accepted.
+#![tactic(auto)]
+
+mod event;
+mod fault;
+mod history;
+pub mod laws;
+mod world;
+
+pub use event::{Event, Outcome, Step};
+pub use fault::WorldFault;
+pub use history::{Ran, run};
+pub use world::World;
+
+#[cfg(test)]
+mod tests;

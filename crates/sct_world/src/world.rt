@@ -1,0 +1,211 @@
+//! A world: the sites of one group, and the deltas that they cut.
+
+ghost use Rattle.std.specs.Prelude.{◌≡◌, ◌≢◌, ℕ, [], true, false, Ok, Err, length, replicate, OnOk, OnErr, IfOk, IfErr};
+ghost use Rattle.sct_delta.specs.Entries.{messages_of};
+ghost use Rattle.sct_delta.specs.Vectors.{count_in};
+ghost use Rattle.sct_delta.specs.declared.fault.DeltaFault.TheVariants as delta;
+ghost use Rattle.sct_world.specs.declared.event.Event.TheVariants as event;
+ghost use Rattle.sct_world.specs.declared.fault.WorldFault.TheVariants as fault;
+ghost use Rattle.sct_world.specs.Inside.{cores_from};
+ghost use Rattle.sct_world.specs.Histories.{step_taken, site_of};
+ghost use Rattle.sct_world.specs.States.{is_size};
+
+use crate::event::{Event, Step};
+use crate::fault::WorldFault;
+use sct_delta::{Delta, DeltaFault, Vector};
+use sct_message::Message;
+use sct_set::Archive;
+use sct_site::{SiteCore, Took};
+use std::alloc::Global;
+use std::marker::Model;
+use std::sync::Arc;
+
+/// The sites 1 to n of one group, and every delta that was cut.
+#[derive(Drop)]
+pub struct World {
+    alloc: Global,
+    cores: Vec<SiteCore>,
+    deltas: Vec<Delta>,
+}
+
+// The most sites that a world has.
+const MOST: u16 = 64;
+
+impl Model for World {
+    ghost use Rattle.sct_world.specs.States.{State};
+    ghost use Rattle.sct_world.specs.Inside.{state_of, IsWorld};
+
+    ghost Value = { State };
+
+    ghost view = { λ w. state_of w.cores.items w.deltas.items };
+
+    ghost invariant = { λ w. IsWorld w.cores.items w.deltas.items };
+}
+
+// The sites from 1 on, none with an entry.
+fn open_cores(alloc: Global, sites: u16) -> Result<Vec<SiteCore>, DeltaFault>
+    requires { is_size sites ≡ true }
+    ensures ok { IfOk result (λ cores. cores.items ≡ cores_from 1 sites (replicate sites [])) }
+    ensures size { is_size sites ≡ true }
+    ensures err { IfErr result (λ refusal. refusal ≡ delta.Memory) }
+{
+    let mut cores = Vec::new(alloc);
+    for number in 0..sites {
+        let core = SiteCore::open(alloc, number + 1, sites)?;
+        cores.push(core)?;
+    }
+    Ok(cores)
+}
+
+// The step that a take was.
+fn step_taken(took: Took) -> Step
+    ensures { result ≡ step_taken took }
+{
+    match took {
+        Took::Taken { n } => Step::Taken { n },
+        Took::Repeat => Step::Repeat,
+    }
+}
+
+// The site at which an event happens.
+fn site_of(event: &Event) -> u16
+    ensures { result ≡ site_of event.now }
+{
+    match event {
+        Event::Take { site, .. } => *site,
+        Event::Cut { site, .. } => *site,
+        Event::Hand { site, .. } => *site,
+    }
+}
+
+impl World {
+    ghost use Rattle.sct_world.specs.Faults.{IsNoForkFault};
+    ghost use Rattle.sct_world.specs.Histories.{step_of, step_at, world_after, after_at};
+    ghost use Rattle.sct_world.specs.States.{opened, is_no_site, held_at};
+
+    /// A world of 1 to 64 sites, without an entry or a delta. Any other number of sites is 44 `BadSite`.
+    pub fn open(alloc: Global, sites: u16) -> Result<World, WorldFault>
+        ensures ok { IfOk result (λ world. world ≡ opened sites) }
+        ensures size { OnOk result (is_size sites ≡ true) }
+        ensures err { IfErr result (λ refusal. refusal ≢ fault.Delta delta.Memory → (refusal ≡ fault.BadSite) × (is_size sites ≡ false)) }
+    {
+        if sites == 0 || sites > MOST {
+            return Err(WorldFault::BadSite);
+        }
+        match open_cores(alloc, sites) {
+            Ok(cores) => Ok(World {
+                alloc,
+                cores,
+                deltas: Vec::new(alloc),
+            }),
+            Err(refusal) => Err(WorldFault::Delta(refusal)),
+        }
+    }
+
+    /// How many sites there are.
+    pub fn sites(&self) -> u16
+        ensures count { result ≡ length self.now.held }
+        ensures size { is_size result ≡ true }
+    {
+        self.cores.len() as u16
+    }
+
+    /// The archive of a site; 44 `BadSite` where there is no such site.
+    pub fn archive(&self, site: u16) -> Result<&Archive, WorldFault>
+        ensures ok { IfOk result (λ archive. archive.now ≡ messages_of (held_at self.now site)) }
+        ensures there { OnOk result (is_no_site self.now site ≡ false) }
+        ensures err { IfErr result (λ refusal. (refusal ≡ fault.BadSite) × (is_no_site self.now site ≡ true)) }
+    {
+        if self.is_no_site(site) {
+            return Err(WorldFault::BadSite);
+        }
+        let core = &self.cores[(site - 1) as usize];
+        Ok(core.archive())
+    }
+
+    // There is no such site.
+    fn is_no_site(&self, site: u16) -> bool
+        ensures { result ≡ is_no_site self.now site }
+    {
+        site < 1 || (site as usize) > self.cores.len()
+    }
+
+    fn take(&mut self, site: u16, message: &Arc<Message>) -> Result<Step, WorldFault>
+        requires { is_no_site self.old site ≡ false }
+        ensures answer { IfOk result (λ step. step_at self.old (event.Take site message.now) ≡ Ok step) }
+        ensures ok { OnOk result (self.new ≡ after_at self.old (event.Take site message.now)) }
+        ensures err { IfErr result (λ refusal. refusal ≡ fault.Delta delta.Memory) }
+        ensures unchanged { OnErr result (self.new ≡ self.old) }
+    {
+        let message = message.clone()?;
+        let took = match self.cores[(site - 1) as usize].take(message) {
+            Ok(took) => took,
+            Err(refusal) => return Err(WorldFault::Delta(refusal)),
+        };
+        Ok(step_taken(took))
+    }
+
+    fn cut(&mut self, site: u16, vector: &Vector) -> Result<Step, WorldFault>
+        requires { is_no_site self.old site ≡ false }
+        ensures answer { IfOk result (λ step. step_at self.old (event.Cut site vector.now) ≡ Ok step) }
+        ensures ok { OnOk result (self.new ≡ after_at self.old (event.Cut site vector.now)) }
+        ensures err { IfErr result (λ refusal. refusal ≡ fault.Delta delta.Memory) }
+        ensures unchanged { OnErr result (self.new ≡ self.old) }
+    {
+        let delta = match self.cores[(site - 1) as usize].cut(vector) {
+            Ok(delta) => delta,
+            Err(refusal) => return Err(WorldFault::Delta(refusal)),
+        };
+        let entries = delta.entries().len() as u64;
+        let number = self.deltas.len() as u64 + 1;
+        self.deltas.push(delta)?;
+        Ok(Step::Cut {
+            delta: number,
+            entries,
+        })
+    }
+
+    fn hand(&mut self, number: u64, site: u16) -> Result<Step, WorldFault>
+        requires { is_no_site self.old site ≡ false }
+        ensures answer { IfOk result (λ step. step_at self.old (event.Hand number site) ≡ Ok step) }
+        ensures ok { OnOk result (self.new ≡ after_at self.old (event.Hand number site)) }
+        ensures refused { IfErr result (λ refusal. refusal ≢ fault.Delta delta.Memory
+            → step_at self.old (event.Hand number site) ≡ Err refusal) }
+        ensures no_fork { IfErr result (λ refusal. IsNoForkFault refusal) }
+        ensures unchanged { OnErr result (self.new ≡ self.old) }
+    {
+        if number == 0 || number > self.deltas.len() as u64 {
+            return Err(WorldFault::NoSuchDelta);
+        }
+        let delta = &self.deltas[(number - 1) as usize];
+        let accepted = match self.cores[(site - 1) as usize].accept(delta) {
+            Ok(accepted) => accepted,
+            Err(refusal) => return Err(WorldFault::Delta(refusal)),
+        };
+        Ok(Step::Accepted {
+            fresh: accepted.fresh,
+        })
+    }
+
+    /// One event. It is refused by 44 `BadSite` where there is no such site, then by 47 `NoSuchDelta`, then by what the
+    /// site answers to the delta: 41 `Gap`. Neither 42 nor 43 comes in a world. 40 is want of memory. A refused event
+    /// leaves the world as it was.
+    #[tactic(auto, unfolding(crate::specs::Histories::step_of, crate::specs::Histories::world_after))]
+    pub fn step(&mut self, event: &Event) -> Result<Step, WorldFault>
+        ensures answer { IfOk result (λ step. step_of self.old event.now ≡ Ok step) }
+        ensures ok { OnOk result (self.new ≡ world_after self.old event.now) }
+        ensures refused { IfErr result (λ refusal. refusal ≢ fault.Delta delta.Memory
+            → step_of self.old event.now ≡ Err refusal) }
+        ensures no_fork { IfErr result (λ refusal. IsNoForkFault refusal) }
+        ensures unchanged { OnErr result (self.new ≡ self.old) }
+    {
+        if self.is_no_site(site_of(event)) {
+            return Err(WorldFault::BadSite);
+        }
+        match event {
+            Event::Take { site, message } => self.take(*site, message),
+            Event::Cut { site, vector } => self.cut(*site, vector),
+            Event::Hand { delta, site } => self.hand(*delta, *site),
+        }
+    }
+}
