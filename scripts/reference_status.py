@@ -1,8 +1,8 @@
 """What the program must answer for an input, by the definitions alone: text, refused lines, exit status.
 
-Usage: reference_status.py [status|archive] INPUT TEXT REFUSED   (writes the last two)
+Usage: reference_status.py [status|archive|totals] INPUT TEXT REFUSED   (writes the last two)
 
-TEXT gets the status text, or with `archive` the archive text.
+TEXT gets the status text, with `archive` the archive text, and with `totals` the totals text.
 """
 import json, re, sys
 
@@ -317,10 +317,15 @@ def standing(mine, against):
     return status, found, [c + "|" + ("CONTRADICTED" if found else clean.recall_status(c)) for c in recalls]
 
 
-def status_text(messages):
+def by_transfer(messages):
     by = {}
     for m in messages:
         by.setdefault(transfer(m), []).append(m)
+    return by
+
+
+def status_text(messages):
+    by = by_transfer(messages)
     against = contradicted(messages)
     text = []
     for t in sorted(by):
@@ -337,7 +342,30 @@ def archive_text(messages):
     return b"".join(line + b"\n" for _, line in lines).decode()
 
 
-TEXT = {"status": status_text, "archive": archive_text}
+def totals_text(messages):
+    """Of each bank: sent, their cents, returned in, rejected, waiting, missing, contradicted, received, cents, returned out."""
+    against, totals = contradicted(messages), {}
+
+    def add(bank, place, n):
+        totals.setdefault(bank.encode(), [0] * 10)[place] += n
+
+    for (bank, _), mine in by_transfer(messages).items():
+        clean = Clean([m for m in mine if identity(m) not in against])
+        word = standing(mine, against)[0].partition("|")[0]
+        if word in ("ACCEPTED", "RETURNED"):
+            paid, = clean.instructions
+            back = sum({amount for _, _, amount in clean.returns}) if word == "RETURNED" else 0
+            for side, first in ((bank.decode(), 0), (paid["CdtrAgt"], 7)):
+                for place, n in enumerate((1, paid["IntrBkSttlmAmt"], back)):
+                    add(side, first + place, n)
+        else:
+            place = {"REJECTED": 3, "PENDING": 4, "INVESTIGATED": 4, "MISSING": 5, "CONTRADICTED": 6}[word]
+            add(bank.decode(), place, 1)
+    fields = lambda row: [euros(n) if place in (1, 2, 8, 9) else str(n) for place, n in enumerate(row)]
+    return "".join("|".join([bank.decode()] + fields(row)) + "\n" for bank, row in sorted(totals.items()) if any(row))
+
+
+TEXT = {"status": status_text, "archive": archive_text, "totals": totals_text}
 
 
 def answer(job, data):

@@ -8,7 +8,7 @@ work) and prints the outputs of each case.
 import pathlib, re, shutil, subprocess, sys, tempfile
 
 TOP = pathlib.Path(__file__).resolve().parent.parent
-COMMANDS = ["status", "archive"]
+COMMANDS = ["status", "archive", "totals"]
 
 
 def cases():

@@ -2,8 +2,6 @@
 mod Adapters
 mod AgainLemmas
 mod CommandLineLemmas
-mod FiledLemmas
 pub mod LineLawLemmas
 pub mod LineLemmas
 mod Prefixes
-mod StatusLemmas

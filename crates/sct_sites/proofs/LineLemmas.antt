@@ -2,10 +2,14 @@
 use Rattle.std.proofs.Common.{ℕ, ◌≡◌, ◌+◌, ◌<◌, ◌++◌, ◌∷◌, [], List, Bool, true, false, cond, Option, Some, None, Result, Ok, Err, ◌==◌, not, length, take, drop, refl, sym, ap, ◌∙◌, rules, arith, add-one, take_all, append_assoc, length-append}
 use Rattle.std.specs.List.{position_from}
 use Rattle.std.proofs.Math.Seq.{drop-length}
-use Rattle.std.proofs.lemmas.List.{append-nil}
+use Rattle.std.specs.Arc.{arc_value}
+use Rattle.std.specs.Global.{Global}
+use Rattle.std.specs.declared.sync.Arc.{Arc}
+use Rattle.std.proofs.lemmas.List.{append-nil, map-append}
 use Rattle.std.proofs.lemmas.Grind.{flat_map-append}
 use Rattle.std.proofs.lemmas.List.Elements.{filter_map-append}
 use Rattle.sct_message.specs.declared.draft.Draft.{Draft}
+use Rattle.sct_message.specs.Sets.{messages_in}
 use Rattle.sct_json.specs.declared.faults.JsonFault.{JsonFault}
 use Rattle.sct_json.specs.Reading.{message_in}
 use Rattle.sct_sites.specs.Lines.{is_blank, lines_of, numbered_from, messages_among, refusals_among, told_text_of, refusal_line}
@@ -124,6 +128,15 @@ refusals_of_none = refl
 
 -- what one line more gives
 pub ruleset one_line = (blank_line, written_line, message_line, no_refusal, no_message, refused_line, told_none, told_one, messages_of_none, refusals_of_none, append-nil)
+
+-- a message behind the others, where it is what its line is read as
+pub message_behind : (messages : List (Arc Draft Global)) (shared : Arc Draft Global) (number : ℕ) (line : List ℕ) (message : Draft)
+    → is_blank line ≡ false → message_in line ≡ Ok message → arc_value shared ≡ message
+    → messages_in (messages ++ shared ∷ []) ≡ messages_in messages ++ messages_among (numbered_from number (line ∷ []))
+message_behind messages shared number line message written read same =
+    map-append arc_value messages (shared ∷ [])
+    ∙ ap (λ (m : Draft). messages_in messages ++ m ∷ []) same
+    ∙ ap (λ (ms : List Draft). messages_in messages ++ ms) (sym (ap messages_among (written_line number line written) ∙ message_line number line message read))
 
 -- ---- the first line, and then the others
 

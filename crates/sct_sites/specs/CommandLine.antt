@@ -4,7 +4,7 @@ use Rattle.clap.specs.Words.{App, Text, new_app, subcommand_of, with_subcommand,
 use Rattle.clap.specs.declared.error.kind.ErrorKind.{ErrorKind}
 use Rattle.clap.specs.declared.error.kind.ErrorKind.TheVariants as kind
 use Rattle.sct_sites.specs.declared.engine.Job.{Job}
-use Rattle.sct_sites.specs.declared.engine.Job.TheVariants.{Status, Archive}
+use Rattle.sct_sites.specs.declared.engine.Job.TheVariants.{Status, Archive, Totals}
 use Rattle.sct_sites.specs.declared.fault.ProgramFault.{ProgramFault}
 use Rattle.sct_sites.specs.declared.fault.ProgramFault.TheVariants as fault
 use Rattle.sct_sites.specs.declared.request.Request.{Request}
@@ -15,11 +15,15 @@ use Rattle.sct_sites.specs.Request.{is_mistake, job_named}
 abbrev pub wanting_one : App → App
 wanting_one app = record app { top = record app.top { subcommand_required = true } }
 
--- the program's command line as clap sees it: one command a job, and one of them is wanted
-abbrev pub command_line : App
-command_line =
+-- the commands that tell of each transfer and of each message, one of which is wanted
+abbrev pub listing_commands : App
+listing_commands =
     with_subcommand (with_subcommand (wanting_one (new_app (codes "sct_sites"))) (new_app (codes "status")).top)
     (new_app (codes "archive")).top
+
+-- the program's command line as clap sees it: one command a job, and one of them is wanted
+abbrev pub command_line : App
+command_line = with_subcommand listing_commands (new_app (codes "totals")).top
 
 -- the job of the command that clap finds in the words, the first of which is the program's name
 abbrev pub job_asked : List Text → Option Job
@@ -58,3 +62,4 @@ pub record AskForTheJob (words : List Text) (job : Job) : Type 0 where
 pub record CommandsAskForTheirJobs : Type 0 where
   pub status : (program : Text) → AskForTheJob (program ∷ codes "status" ∷ []) Status
   pub archive : (program : Text) → AskForTheJob (program ∷ codes "archive" ∷ []) Archive
+  pub totals : (program : Text) → AskForTheJob (program ∷ codes "totals" ∷ []) Totals

@@ -2,17 +2,19 @@
 use Rattle.std.specs.Prelude.{ℕ, ◌≡◌, ◌+◌, ◌⊎◌, List, Option, IfSome}
 use Rattle.std.specs.Option.{option_map}
 use Rattle.sct_sites.specs.declared.engine.Job.{Job}
-use Rattle.sct_sites.specs.declared.engine.Job.TheVariants.{Status, Archive}
+use Rattle.sct_sites.specs.declared.engine.Job.TheVariants.{Status, Archive, Totals}
 use Rattle.sct_sites.specs.Lines.{refusals_told, set_read, told_text_of}
-use Rattle.sct_sites.specs.Status.{status_text_of}
+use Rattle.sct_view.specs.StatusText.{status_text_of}
+use Rattle.sct_view.specs.TotalsText.{totals_text_of}
 use Rattle.sct_set.specs.Archive.{archive_text_of}
 use Rattle.sct_set.specs.Contents.{Contents}
 use Rattle.sct_sites.specs.Stream.{AppendsIfTold, AppendsPrefixIfTold}
 
--- the text that a job makes of a set of messages: where each transfer stands, or the archive text
+-- the text that a job makes of a set of messages: where each transfer stands, the archive text, or the totals of each bank
 abbrev pub text_of : Job → Contents → List ℕ
 text_of Status contents = status_text_of contents
 text_of Archive contents = archive_text_of contents
+text_of Totals contents = totals_text_of contents
 
 -- the text that a job makes of an input: that of the set of the messages read
 abbrev pub job_text_of : Job → List ℕ → List ℕ

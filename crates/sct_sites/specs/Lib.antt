@@ -8,5 +8,4 @@ pub mod LineLaws
 pub mod Lines
 pub mod Request
 pub mod Run
-pub mod Status
 pub mod Stream

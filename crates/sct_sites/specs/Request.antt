@@ -2,7 +2,7 @@
 use Rattle.std.specs.Prelude.{ℕ, ◌≡◌, List, [], length, Option, Some, None, IfSome, Bool, true, false, if◌then◌else◌, codes, string_bytes}
 use Rattle.sct_element.specs.Text.{is_text}
 use Rattle.sct_sites.specs.declared.engine.Job.{Job}
-use Rattle.sct_sites.specs.declared.engine.Job.TheVariants.{Status, Archive}
+use Rattle.sct_sites.specs.declared.engine.Job.TheVariants.{Status, Archive, Totals}
 use Rattle.sct_sites.specs.declared.ending.Ending.{Ending}
 use Rattle.sct_sites.specs.declared.ending.Ending.TheVariants.{Done, Helped, Mistaken}
 use Rattle.sct_sites.specs.declared.request.Request.{Request}
@@ -27,6 +27,7 @@ abbrev pub job_named : List ℕ → Option Job
 job_named word =
     if is_text word (codes "status") then Some Status
     else if is_text word (codes "archive") then Some Archive
+    else if is_text word (codes "totals") then Some Totals
     else None
 
 -- a mistake, and neither a job nor help

@@ -18,21 +18,23 @@ ghost use Rattle.std.specs.Prelude.{
   IfSome,
   OnOk,
 };
+ghost use Rattle.sct_message.specs.Sets.{messages_in};
 ghost use Rattle.sct_sites.specs.declared.fault.ProgramFault.TheVariants as fault;
 ghost use Rattle.sct_sites.specs.Engine.{job_text_if_told, job_text_of, told_text_if_told, IsCutOff, IsWritten};
 ghost use Rattle.sct_sites.specs.Fault.{failed_reads};
 ghost use Rattle.sct_sites.specs.Lines.{messages_read, refusals_told};
 ghost use Rattle.sct_sites.specs.Stream.{HasTakenIfTold};
 
+use crate::answers::{status_text, totals_text};
 use crate::fault::ProgramFault;
 use crate::holding::archive_text;
 use crate::lines::{Intake, read_lines};
 use crate::sink::Sink;
 use crate::source::Source;
-use crate::standing::status_text;
 use crate::transfer::{MOST_BYTES, read_all, write_all};
 use sct_message::Message;
 use std::alloc::Global;
+use std::sync::Arc;
 
 /// What is asked of an input.
 #[derive(Clone, Copy, Debug, PartialEq, Eq)]
@@ -41,6 +43,8 @@ pub enum Job {
     Status,
     /// Each message held, written on a line of its own.
     Archive,
+    /// What each bank sent and received.
+    Totals,
 }
 
 /// A run that ended well.
@@ -51,14 +55,15 @@ pub struct Done {
 }
 
 // The text that the job makes of the messages read from an input.
-fn job_text(alloc: Global, job: &Job, messages: Vec<Message>) -> Result<Vec<u8>, ProgramFault>
-    ensures text { IfOk result (λ text. (input : List ℕ) → messages.items ≡ messages_read input
+fn job_text(alloc: Global, job: &Job, messages: Vec<Arc<Message>>) -> Result<Vec<u8>, ProgramFault>
+    ensures text { IfOk result (λ text. (input : List ℕ) → messages_in messages.items ≡ messages_read input
         → text.items ≡ job_text_of job.now input) }
     ensures memory { IfErr result (λ e. e ≡ fault.Memory) }
 {
     match job {
         Job::Status => status_text(alloc, messages),
         Job::Archive => archive_text(alloc, messages),
+        Job::Totals => totals_text(alloc, messages),
     }
 }
 
@@ -113,6 +118,7 @@ pub fn engine<R: Source, O: Sink, E: Sink>(
         told,
         refused,
     } = read_lines(alloc, &input)?;
+    drop(input);
     let text = job_text(alloc, job, messages)?;
     write_all(err, told.as_bytes())?;
     write_all(out, &text)?;

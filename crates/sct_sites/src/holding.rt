@@ -1,5 +1,6 @@
 //! The archive text of the messages read.
 ghost use Rattle.std.specs.Prelude.{◌≡◌, IfErr, IfOk};
+ghost use Rattle.sct_message.specs.Sets.{messages_in};
 ghost use Rattle.sct_set.specs.Archive.{archive_text_of};
 ghost use Rattle.sct_set.specs.Contents.{contents_of};
 ghost use Rattle.sct_sites.specs.Again.{ArchiveGivesBack, GivesBack};
@@ -12,13 +13,13 @@ use std::alloc::Global;
 use std::sync::Arc;
 
 /// An archive that holds the messages.
-pub fn archive_of(alloc: Global, messages: Vec<Message>) -> Result<Archive, ProgramFault>
-    ensures held { IfOk result (λ archive. archive ≡ contents_of messages.items) }
+pub fn archive_of(alloc: Global, messages: Vec<Arc<Message>>) -> Result<Archive, ProgramFault>
+    ensures held { IfOk result (λ archive. archive ≡ contents_of (messages_in messages.items)) }
     ensures memory { IfErr result (λ e. e ≡ fault.Memory) }
 {
     let mut archive = Archive::new(alloc);
     for message in messages {
-        archive.add(Arc::new(alloc, message)?)?;
+        archive.add(message)?;
     }
     Ok(archive)
 }
@@ -29,9 +30,9 @@ fn the_archive_text_gives_the_set_back()
 {}
 
 /// Each message once, written on a line of its own, by identity and then by text. Only want of memory is a fault.
-pub fn archive_text(alloc: Global, messages: Vec<Message>) -> Result<Vec<u8>, ProgramFault>
-    ensures text { IfOk result (λ text. text.items ≡ archive_text_of (contents_of messages.items)) }
-    ensures again { IfOk result (λ text. GivesBack (contents_of messages.items) text.items) }
+pub fn archive_text(alloc: Global, messages: Vec<Arc<Message>>) -> Result<Vec<u8>, ProgramFault>
+    ensures text { IfOk result (λ text. text.items ≡ archive_text_of (contents_of (messages_in messages.items))) }
+    ensures again { IfOk result (λ text. GivesBack (contents_of (messages_in messages.items)) text.items) }
     ensures memory { IfErr result (λ e. e ≡ fault.Memory) }
 {
     the_archive_text_gives_the_set_back();

@@ -2,6 +2,7 @@
 ghost use Rattle.std.specs.Prelude.{◌≡◌, ◌+◌, ◌<◌, ◌≤◌, ◌++◌, ◌∷◌, [], ◌==◌, ◌^◌, ◌-◌, length, IfSome, IfOk, Ok, Err, OnOk, IfErr, string_bytes};
 ghost use Rattle.std.specs.List.{position_from};
 ghost use Rattle.sct_json.specs.Reading.{message_in};
+ghost use Rattle.sct_message.specs.Sets.{messages_in};
 ghost use Rattle.sct_sites.specs.declared.fault.ProgramFault.TheVariants as fault;
 ghost use Rattle.sct_sites.specs.LineLaws.{LinesMakeTheText, NoLineHasAFeed};
 ghost use Rattle.sct_sites.specs.Lines.{
@@ -20,11 +21,12 @@ use crate::told::push_refusal;
 use sct_json::{JsonFault, read_message};
 use sct_message::Message;
 use std::alloc::Global;
+use std::sync::Arc;
 
 /// What the lines of an input are: the messages read, the lines that tell the refused ones, and how many these are.
 #[derive(Drop)]
 pub struct Intake {
-    pub messages: Vec<Message>,
+    pub messages: Vec<Arc<Message>>,
     pub told: String,
     pub refused: u64,
 }
@@ -82,7 +84,7 @@ fn read_line(alloc: Global, line: &[u8]) -> Result<Result<Message, JsonFault>, P
 impl Intake {
     // Of no lines.
     fn new(alloc: Global) -> Intake
-        ensures messages { result.messages.items ≡ [] }
+        ensures messages { messages_in result.messages.items ≡ [] }
         ensures told { string_bytes result.told ≡ [] }
         ensures refused { result.refused ≡ 0 }
     {
@@ -97,8 +99,8 @@ impl Intake {
     #[tactic(auto, using(crate::proofs::LineLemmas::one_line))]
     fn take(&mut self, alloc: Global, number: u64, line: &[u8]) -> Result<(), ProgramFault>
         requires { self.old.refused < 2 ^ 64 - 1 }
-        ensures messages { OnOk result (self.new.messages.items
-            ≡ self.old.messages.items ++ messages_among (numbered_from number (line.now ∷ []))) }
+        ensures messages { OnOk result (messages_in self.new.messages.items
+            ≡ messages_in self.old.messages.items ++ messages_among (numbered_from number (line.now ∷ []))) }
         ensures told { OnOk result (string_bytes self.new.told
             ≡ string_bytes self.old.told ++ told_text_of (refusals_among (numbered_from number (line.now ∷ [])))) }
         ensures refused { OnOk result (self.new.refused
@@ -110,7 +112,7 @@ impl Intake {
             return Ok(());
         }
         match read_line(alloc, line)? {
-            Ok(message) => self.messages.push(message)?,
+            Ok(message) => self.messages.push(Arc::new(alloc, message)?)?,
             Err(fault) => {
                 push_refusal(alloc, &mut self.told, number, &fault)?;
                 self.refused += 1;
@@ -122,7 +124,7 @@ impl Intake {
 
 /// Goes over the lines of the input once.
 pub fn read_lines(alloc: Global, input: &[u8]) -> Result<Intake, ProgramFault>
-    ensures messages { IfOk result (λ intake. intake.messages.items ≡ messages_read input.now) }
+    ensures messages { IfOk result (λ intake. messages_in intake.messages.items ≡ messages_read input.now) }
     ensures told { IfOk result (λ intake. string_bytes intake.told ≡ told_text_of (refusals_told input.now)) }
     ensures refused { IfOk result (λ intake. intake.refused ≡ length (refusals_told input.now)) }
     ensures memory { IfErr result (λ e. e ≡ fault.Memory) }

@@ -1,21 +1,19 @@
 //! The program: answers on the messages of standard input, as the command line asks.
 #![tactic(auto)]
 
+mod answers;
 mod ending;
 mod engine;
 mod failures;
 mod fault;
-mod filed;
 mod holding;
 mod lines;
 mod program;
 mod request;
 mod sink;
 mod source;
-mod standing;
 mod told;
 mod transfer;
-mod words;
 
 use program::run_over_std;
 use request::read_words;

@@ -6,7 +6,7 @@ ghost use Rattle.std.specs.IoError.{error_kind};
 ghost use Rattle.clap.specs.Matches.{subcommand_name_of};
 ghost use Rattle.clap.specs.Values.{kind_of};
 ghost use Rattle.clap.specs.Words.{app_of};
-ghost use Rattle.sct_sites.specs.CommandLine.{command_line, AnswersKind, AreAsking, CommandsAskForTheirJobs};
+ghost use Rattle.sct_sites.specs.CommandLine.{command_line, listing_commands, AnswersKind, AreAsking, CommandsAskForTheirJobs};
 ghost use Rattle.clap.specs.declared.error.kind.ErrorKind.TheVariants as kind;
 ghost use Rattle.sct_sites.specs.Request.{job_named, is_mistake, AsksForNoJob};
 
@@ -51,8 +51,9 @@ pub fn read_words(alloc: Global, words: io::Result<Args>) -> Result<Vec<String>,
     }
 }
 
-fn command<'a>(alloc: Global) -> Result<Command<'a>, AllocError>
-    ensures { IfOk result (λ c. app_of c ≡ command_line) }
+// The commands that tell of each transfer and of each message.
+fn listing_commands<'a>(alloc: Global) -> Result<Command<'a>, AllocError>
+    ensures { IfOk result (λ c. app_of c ≡ listing_commands) }
 {
     let status = Command::new(alloc, "status").about(
         "Writes the status of each transfer in the messages on standard input",
@@ -65,6 +66,15 @@ fn command<'a>(alloc: Global) -> Result<Command<'a>, AllocError>
         .subcommand_required(true)
         .subcommand(status)?
         .subcommand(archive)
+}
+
+fn command<'a>(alloc: Global) -> Result<Command<'a>, AllocError>
+    ensures { IfOk result (λ c. app_of c ≡ command_line) }
+{
+    let totals = Command::new(alloc, "totals").about(
+        "Writes what each bank sent and received by the messages on standard input",
+    );
+    listing_commands(alloc)?.subcommand(totals)
 }
 
 // What clap answers in place of matches: a request for help, or a mistake.
@@ -93,11 +103,12 @@ fn job_of(matches: &ArgMatches<'_>) -> Option<Job>
     match matches.subcommand_name() {
         Some("status") => Some(Job::Status),
         Some("archive") => Some(Job::Archive),
+        Some("totals") => Some(Job::Totals),
         _ => None,
     }
 }
 
-// Each of the two commands, after any name of the program, asks for its job.
+// Each of the commands, after any name of the program, asks for its job.
 fn commands_ask_for_their_jobs()
     ensures { CommandsAskForTheirJobs }
 {}

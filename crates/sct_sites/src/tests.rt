@@ -3,6 +3,7 @@ mod archived;
 mod commands;
 mod fakes;
 mod inputs;
+mod totalled;
 
 use crate::engine::{Done, Job};
 use crate::fault::ProgramFault;
@@ -12,6 +13,7 @@ use commands::{BOTH, COMMANDS};
 use fakes::{Given, run_engine, run_program};
 use inputs::{CASES, Case, REFUSED_AND_TAKEN};
 use std::alloc::{AllocError, Global};
+use totalled::TOTALLED;
 
 const AMPLE: usize = 1_000_000;
 
@@ -46,6 +48,13 @@ fn answers_over_slow_streams(rt: HostRuntime) {
 fn writes_the_archive_over_slow_streams(rt: HostRuntime) {
     for case in &ARCHIVED {
         assert!(rt; fits(rt.alloc(), Job::Archive, case));
+    }
+}
+
+#[test]
+fn writes_the_totals_over_slow_streams(rt: HostRuntime) {
+    for case in &TOTALLED {
+        assert!(rt; fits(rt.alloc(), Job::Totals, case));
     }
 }
 

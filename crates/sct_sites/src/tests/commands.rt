@@ -13,7 +13,7 @@ pub struct Command {
 pub static BOTH: &[u8] =
     b"{\"MsgNmId\":\"pacs.008\",\"MsgId\":\"M1\",\"CreDtTm\":\"2024-05-02T10:00:00Z\",\"InstgAgt\":\"BANKDEFF\",\"IntrBkSttlmDt\":\"2024-05-02\",\"SvcLvl\":\"SEPA\",\"LclInstrm\":\"INST\",\"EndToEndId\":\"E1\",\"TxId\":\"T1\",\"IntrBkSttlmAmt\":\"0.01\",\"Ccy\":\"EUR\",\"ChrgBr\":\"SLEV\",\"Dbtr\":\"Anna Weber\",\"DbtrAcct\":\"DE89370400440532013000\",\"DbtrAgt\":\"BANKDEFF\",\"CdtrAgt\":\"BANQFRPP\",\"Cdtr\":\"Bo Maes\",\"CdtrAcct\":\"BE68539007547034\"}\n{\"MsgNmId\":\"pacs.002\",\"MsgId\":\"C1\",\"CreDtTm\":\"2024-05-02T10:00:02Z\",\"InstgAgt\":\"BANQFRPP\",\"OrgnlMsgId\":\"M1\",\"OrgnlMsgNmId\":\"pacs.008\",\"OrgnlTxId\":\"T1\",\"TxSts\":\"ACCP\",\"DbtrAgt\":\"BANKDEFF\"}\n";
 
-pub static COMMANDS: [Command; 9] = [
+pub static COMMANDS: [Command; 10] = [
     // each command
     Command {
         words: &["sct_sites", "status"],
@@ -27,6 +27,13 @@ pub static COMMANDS: [Command; 9] = [
         input: b"{\"MsgNmId\":\"pacs.008\",\"MsgId\":\"M1\",\"CreDtTm\":\"2024-05-02T10:00:00Z\",\"InstgAgt\":\"BANKDEFF\",\"IntrBkSttlmDt\":\"2024-05-02\",\"SvcLvl\":\"SEPA\",\"LclInstrm\":\"INST\",\"EndToEndId\":\"E1\",\"TxId\":\"T1\",\"IntrBkSttlmAmt\":\"0.01\",\"Ccy\":\"EUR\",\"ChrgBr\":\"SLEV\",\"Dbtr\":\"Anna Weber\",\"DbtrAcct\":\"DE89370400440532013000\",\"DbtrAgt\":\"BANKDEFF\",\"CdtrAgt\":\"BANQFRPP\",\"Cdtr\":\"Bo Maes\",\"CdtrAcct\":\"BE68539007547034\"}\n{\"MsgNmId\":\"pacs.002\",\"MsgId\":\"C1\",\"CreDtTm\":\"2024-05-02T10:00:02Z\",\"InstgAgt\":\"BANQFRPP\",\"OrgnlMsgId\":\"M1\",\"OrgnlMsgNmId\":\"pacs.008\",\"OrgnlTxId\":\"T1\",\"TxSts\":\"ACCP\",\"DbtrAgt\":\"BANKDEFF\"}\n",
         status: 0,
         out: b"{\"Ccy\":\"EUR\",\"Cdtr\":\"Bo Maes\",\"CdtrAcct\":\"BE68539007547034\",\"CdtrAgt\":\"BANQFRPPXXX\",\"ChrgBr\":\"SLEV\",\"CreDtTm\":\"2024-05-02T10:00:00Z\",\"Dbtr\":\"Anna Weber\",\"DbtrAcct\":\"DE89370400440532013000\",\"DbtrAgt\":\"BANKDEFFXXX\",\"EndToEndId\":\"E1\",\"InstgAgt\":\"BANKDEFFXXX\",\"IntrBkSttlmAmt\":\"0.01\",\"IntrBkSttlmDt\":\"2024-05-02\",\"LclInstrm\":\"INST\",\"MsgId\":\"M1\",\"MsgNmId\":\"pacs.008\",\"SvcLvl\":\"SEPA\",\"TxId\":\"T1\"}\n{\"CreDtTm\":\"2024-05-02T10:00:02Z\",\"DbtrAgt\":\"BANKDEFFXXX\",\"InstgAgt\":\"BANQFRPPXXX\",\"MsgId\":\"C1\",\"MsgNmId\":\"pacs.002\",\"OrgnlMsgId\":\"M1\",\"OrgnlMsgNmId\":\"pacs.008\",\"OrgnlTxId\":\"T1\",\"TxSts\":\"ACCP\"}\n",
+        err: b"",
+    },
+    Command {
+        words: &["sct_sites", "totals"],
+        input: b"{\"MsgNmId\":\"pacs.008\",\"MsgId\":\"M1\",\"CreDtTm\":\"2024-05-02T10:00:00Z\",\"InstgAgt\":\"BANKDEFF\",\"IntrBkSttlmDt\":\"2024-05-02\",\"SvcLvl\":\"SEPA\",\"LclInstrm\":\"INST\",\"EndToEndId\":\"E1\",\"TxId\":\"T1\",\"IntrBkSttlmAmt\":\"0.01\",\"Ccy\":\"EUR\",\"ChrgBr\":\"SLEV\",\"Dbtr\":\"Anna Weber\",\"DbtrAcct\":\"DE89370400440532013000\",\"DbtrAgt\":\"BANKDEFF\",\"CdtrAgt\":\"BANQFRPP\",\"Cdtr\":\"Bo Maes\",\"CdtrAcct\":\"BE68539007547034\"}\n{\"MsgNmId\":\"pacs.002\",\"MsgId\":\"C1\",\"CreDtTm\":\"2024-05-02T10:00:02Z\",\"InstgAgt\":\"BANQFRPP\",\"OrgnlMsgId\":\"M1\",\"OrgnlMsgNmId\":\"pacs.008\",\"OrgnlTxId\":\"T1\",\"TxSts\":\"ACCP\",\"DbtrAgt\":\"BANKDEFF\"}\n",
+        status: 0,
+        out: b"BANKDEFFXXX|1|0.01|0.00|0|0|0|0|0|0.00|0.00\nBANQFRPPXXX|0|0.00|0.00|0|0|0|0|1|0.01|0.00\n",
         err: b"",
     },
     // a refused line
@@ -43,7 +50,7 @@ pub static COMMANDS: [Command; 9] = [
         input: b"{\"MsgNmId\":\"pacs.008\",\"MsgId\":\"M1\",\"CreDtTm\":\"2024-05-02T10:00:00Z\",\"InstgAgt\":\"BANKDEFF\",\"IntrBkSttlmDt\":\"2024-05-02\",\"SvcLvl\":\"SEPA\",\"LclInstrm\":\"INST\",\"EndToEndId\":\"E1\",\"TxId\":\"T1\",\"IntrBkSttlmAmt\":\"0.01\",\"Ccy\":\"EUR\",\"ChrgBr\":\"SLEV\",\"Dbtr\":\"Anna Weber\",\"DbtrAcct\":\"DE89370400440532013000\",\"DbtrAgt\":\"BANKDEFF\",\"CdtrAgt\":\"BANQFRPP\",\"Cdtr\":\"Bo Maes\",\"CdtrAcct\":\"BE68539007547034\"}\n{\"MsgNmId\":\"pacs.002\",\"MsgId\":\"C1\",\"CreDtTm\":\"2024-05-02T10:00:02Z\",\"InstgAgt\":\"BANQFRPP\",\"OrgnlMsgId\":\"M1\",\"OrgnlMsgNmId\":\"pacs.008\",\"OrgnlTxId\":\"T1\",\"TxSts\":\"ACCP\",\"DbtrAgt\":\"BANKDEFF\"}\n",
         status: 2,
         out: b"",
-        err: b"fault 64\nerror: 'sct_sites' requires a subcommand but one was not provided\n  [subcommands: status, archive, help]\n\nUsage: sct_sites <COMMAND>\n\nFor more information, try '--help'.\n",
+        err: b"fault 64\nerror: 'sct_sites' requires a subcommand but one was not provided\n  [subcommands: status, archive, totals, help]\n\nUsage: sct_sites <COMMAND>\n\nFor more information, try '--help'.\n",
     },
     // an unknown one
     Command {
@@ -55,11 +62,11 @@ pub static COMMANDS: [Command; 9] = [
     },
     // one that is still to come
     Command {
-        words: &["sct_sites", "totals"],
+        words: &["sct_sites", "replay"],
         input: b"{\"MsgNmId\":\"pacs.008\",\"MsgId\":\"M1\",\"CreDtTm\":\"2024-05-02T10:00:00Z\",\"InstgAgt\":\"BANKDEFF\",\"IntrBkSttlmDt\":\"2024-05-02\",\"SvcLvl\":\"SEPA\",\"LclInstrm\":\"INST\",\"EndToEndId\":\"E1\",\"TxId\":\"T1\",\"IntrBkSttlmAmt\":\"0.01\",\"Ccy\":\"EUR\",\"ChrgBr\":\"SLEV\",\"Dbtr\":\"Anna Weber\",\"DbtrAcct\":\"DE89370400440532013000\",\"DbtrAgt\":\"BANKDEFF\",\"CdtrAgt\":\"BANQFRPP\",\"Cdtr\":\"Bo Maes\",\"CdtrAcct\":\"BE68539007547034\"}\n{\"MsgNmId\":\"pacs.002\",\"MsgId\":\"C1\",\"CreDtTm\":\"2024-05-02T10:00:02Z\",\"InstgAgt\":\"BANQFRPP\",\"OrgnlMsgId\":\"M1\",\"OrgnlMsgNmId\":\"pacs.008\",\"OrgnlTxId\":\"T1\",\"TxSts\":\"ACCP\",\"DbtrAgt\":\"BANKDEFF\"}\n",
         status: 2,
         out: b"",
-        err: b"fault 64\nerror: unrecognized subcommand 'totals'\n\nUsage: sct_sites <COMMAND>\n\nFor more information, try '--help'.\n",
+        err: b"fault 64\nerror: unrecognized subcommand 'replay'\n\nUsage: sct_sites <COMMAND>\n\nFor more information, try '--help'.\n",
     },
     // two commands
     Command {
@@ -74,7 +81,7 @@ pub static COMMANDS: [Command; 9] = [
         words: &["sct_sites", "--help"],
         input: b"{\"MsgNmId\":\"pacs.008\",\"MsgId\":\"M1\",\"CreDtTm\":\"2024-05-02T10:00:00Z\",\"InstgAgt\":\"BANKDEFF\",\"IntrBkSttlmDt\":\"2024-05-02\",\"SvcLvl\":\"SEPA\",\"LclInstrm\":\"INST\",\"EndToEndId\":\"E1\",\"TxId\":\"T1\",\"IntrBkSttlmAmt\":\"0.01\",\"Ccy\":\"EUR\",\"ChrgBr\":\"SLEV\",\"Dbtr\":\"Anna Weber\",\"DbtrAcct\":\"DE89370400440532013000\",\"DbtrAgt\":\"BANKDEFF\",\"CdtrAgt\":\"BANQFRPP\",\"Cdtr\":\"Bo Maes\",\"CdtrAcct\":\"BE68539007547034\"}\n{\"MsgNmId\":\"pacs.002\",\"MsgId\":\"C1\",\"CreDtTm\":\"2024-05-02T10:00:02Z\",\"InstgAgt\":\"BANQFRPP\",\"OrgnlMsgId\":\"M1\",\"OrgnlMsgNmId\":\"pacs.008\",\"OrgnlTxId\":\"T1\",\"TxSts\":\"ACCP\",\"DbtrAgt\":\"BANKDEFF\"}\n",
         status: 0,
-        out: b"Answers on the SEPA Instant messages of a clearing hub\n\nUsage: sct_sites <COMMAND>\n\nCommands:\n  status   Writes the status of each transfer in the messages on standard input\n  archive  Writes the messages on standard input, each once, by sender, kind and identification\n  help     Print this message or the help of the given subcommand(s)\n\nOptions:\n  -h, --help  Print help\n",
+        out: b"Answers on the SEPA Instant messages of a clearing hub\n\nUsage: sct_sites <COMMAND>\n\nCommands:\n  status   Writes the status of each transfer in the messages on standard input\n  archive  Writes the messages on standard input, each once, by sender, kind and identification\n  totals   Writes what each bank sent and received by the messages on standard input\n  help     Print this message or the help of the given subcommand(s)\n\nOptions:\n  -h, --help  Print help\n",
         err: b"",
     },
     Command {

@@ -8,4 +8,5 @@ unfolding clap_on_literals
 returns c = record {
   status = λ program. record { no_error = refl; found = refl };
   archive = λ program. record { no_error = refl; found = refl };
+  totals = λ program. record { no_error = refl; found = refl };
 }
