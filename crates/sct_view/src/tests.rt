@@ -351,6 +351,106 @@ fn lists_what_a_late_message_contradicts(rt: HostRuntime) -> Result<(), Fail> {
     assert_late(&rt, rt.alloc(), &mut view)
 }
 
+/// A batch, how many of its messages are fresh, and how many transfers they touch.
+struct Batch {
+    rows: &'static [Row],
+    fresh: u64,
+    touched: u64,
+}
+
+// Two accepted transfers in one batch, again, and then one identity on both and on a third.
+static AGAINST_TWO: [Batch; 4] = [
+    Batch {
+        rows: &[
+            Row::Instructed("M1", "T1", "100.00", "BANQFRPP"),
+            Row::Accepted("C1", "T1"),
+            Row::Instructed("M2", "T2", "50.00", "BANQFRPP"),
+            Row::Accepted("C2", "T2"),
+        ],
+        fresh: 4,
+        touched: 2,
+    },
+    Batch {
+        rows: &[Row::Accepted("C1", "T1"), Row::Accepted("C2", "T2")],
+        fresh: 0,
+        touched: 0,
+    },
+    Batch {
+        rows: &[Row::Accepted("C1", "T2")],
+        fresh: 1,
+        touched: 2,
+    },
+    Batch {
+        rows: &[Row::Accepted("C1", "T3")],
+        fresh: 1,
+        touched: 1,
+    },
+];
+
+// An identity that is contradicted within its batch, and once more of it.
+static AGAINST_ITSELF: [Batch; 2] = [
+    Batch {
+        rows: &[Row::Accepted("C1", "T1"), Row::Accepted("C1", "T2")],
+        fresh: 2,
+        touched: 2,
+    },
+    Batch {
+        rows: &[Row::Rejected("C1", "T1", "AC04")],
+        fresh: 1,
+        touched: 1,
+    },
+];
+
+// One message twice.
+static TWICE: [Batch; 1] = [Batch {
+    rows: &[Row::Accepted("C1", "T1"), Row::Accepted("C1", "T1")],
+    fresh: 1,
+    touched: 1,
+}];
+
+// Whether the batch brings what it should.
+fn assert_applied(
+    rt: &impl Abort,
+    alloc: Global,
+    view: &mut View,
+    batch: &Batch,
+) -> Result<(), Fail> {
+    let applied = view.apply(&messages_of(alloc, batch.rows)?)?;
+    assert_eq!(rt; applied.fresh, batch.fresh);
+    assert_eq!(rt; applied.touched, batch.touched);
+    Ok(())
+}
+
+fn assert_all_applied(
+    rt: &impl Abort,
+    alloc: Global,
+    view: &mut View,
+    batches: &[Batch],
+) -> Result<(), Fail> {
+    for batch in batches {
+        assert_applied(rt, alloc, view, batch)?;
+    }
+    Ok(())
+}
+
+#[test]
+fn touches_transfers_of_messages_contradicted(rt: HostRuntime) -> Result<(), Fail> {
+    let mut view = View::new(rt.alloc());
+    assert_all_applied(&rt, rt.alloc(), &mut view, &AGAINST_TWO)
+}
+
+#[test]
+fn touches_each_transfer_of_a_batch_once(rt: HostRuntime) -> Result<(), Fail> {
+    let mut view = View::new(rt.alloc());
+    assert_all_applied(&rt, rt.alloc(), &mut view, &AGAINST_ITSELF)
+}
+
+#[test]
+fn takes_a_message_twice_in_one_batch(rt: HostRuntime) -> Result<(), Fail> {
+    let mut view = View::new(rt.alloc());
+    assert_all_applied(&rt, rt.alloc(), &mut view, &TWICE)
+}
+
 // The word of a status that the scenes have without an argument.
 fn word(status: &Status) -> &'static str {
     match status {
