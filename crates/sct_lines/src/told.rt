@@ -2,7 +2,7 @@
 ghost use Rattle.std.specs.Prelude.{◌≡◌, ◌++◌, IfOk, string_bytes};
 ghost use Rattle.serde_json.specs.Data.{string};
 ghost use Rattle.serde_json.specs.Written.{compact_text};
-ghost use Rattle.sct_sites.specs.Lines.{json_fault_text, refusal_line};
+ghost use Rattle.sct_lines.specs.Lines.{json_fault_text, refusal_line};
 
 use sct_json::{ExtraKey, JsonFault};
 use serde_json::Value;
@@ -17,9 +17,13 @@ fn quoted(alloc: Global, key: &ExtraKey) -> Result<String, AllocError>
     Value::String(key).to_string(alloc)
 }
 
-// Adds a fault of a line: its number and its arguments, parted by spaces.
+/// Adds why a line is refused: the number of the fault and its arguments, parted by spaces.
 #[tactic(auto, unfolding(crate::specs::Lines::json_fault_text))]
-fn push_fault(alloc: Global, text: &mut String, fault: &JsonFault) -> Result<(), AllocError>
+pub fn push_json_fault(
+    alloc: Global,
+    text: &mut String,
+    fault: &JsonFault,
+) -> Result<(), AllocError>
     ensures { IfOk result (λ _. string_bytes text.new ≡ string_bytes text.old ++ json_fault_text fault.now) }
 {
     match fault {
@@ -38,7 +42,7 @@ fn push_fault(alloc: Global, text: &mut String, fault: &JsonFault) -> Result<(),
     }
 }
 
-/// Adds the line that tells a refused line by its number.
+/// Adds the line that tells a refused line by its number, with its line feed.
 #[tactic(auto, unfolding(crate::specs::Lines::refusal_line))]
 pub fn push_refusal(
     alloc: Global,
@@ -49,6 +53,6 @@ pub fn push_refusal(
     ensures { IfOk result (λ _. string_bytes text.new ≡ string_bytes text.old ++ refusal_line (number, fault.now)) }
 {
     write!(text, "line {number}: ")?;
-    push_fault(alloc, text, fault)?;
+    push_json_fault(alloc, text, fault)?;
     text.push('\n')
 }

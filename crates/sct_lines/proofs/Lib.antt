@@ -1,0 +1,4 @@
+-- The lemmas behind the lines.
+pub mod LineLawLemmas
+pub mod LineLemmas
+mod PartLemmas

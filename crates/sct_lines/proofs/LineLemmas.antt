@@ -1,0 +1,213 @@
+-- Lines of a text, one after another. Proof plumbing.
+use Rattle.std.proofs.Common.{ℕ, ◌≡◌, ◌+◌, ◌<◌, ◌++◌, ◌∷◌, [], List, Bool, true, false, cond, Option, Some, None, Result, Ok, Err, ◌==◌, not, length, take, drop, refl, sym, ap, ◌∙◌, rules, arith, add-one, take_all, append_assoc, length-append}
+use Rattle.std.specs.List.{position_from}
+use Rattle.std.proofs.Math.Seq.{drop-length}
+use Rattle.std.specs.Arc.{arc_value}
+use Rattle.std.specs.Global.{Global}
+use Rattle.std.specs.declared.sync.Arc.{Arc}
+use Rattle.std.proofs.lemmas.List.{append-nil, map-append}
+use Rattle.std.proofs.lemmas.Grind.{flat_map-append}
+use Rattle.std.proofs.lemmas.List.Elements.{filter_map-append}
+use Rattle.sct_message.specs.declared.draft.Draft.{Draft}
+use Rattle.sct_message.specs.Sets.{messages_in}
+use Rattle.sct_json.specs.declared.faults.JsonFault.{JsonFault}
+use Rattle.sct_json.specs.Reading.{message_in}
+use Rattle.sct_lines.specs.Lines.{is_blank, lines_of, numbered_from, messages_among, refusals_among, told_after, told_text_of, refusal_line}
+
+-- a byte is a line feed
+abbrev pub is_feed : ℕ → Bool
+is_feed byte = byte == 10
+
+-- the first line of a text whose first line feed stands at a place, where places count from one given
+pub record EndsFirstAt (text : List ℕ) (from place : ℕ) : Type 0 where
+  pub count : ℕ
+  pub at : place ≡ from + count
+  pub within : count < length text
+  pub lines : lines_of text ≡ take count text ∷ lines_of (drop (count + 1) text)
+
+later : (byte : ℕ) (bytes : List ℕ) (from place : ℕ) → EndsFirstAt bytes (from + 1) place → (byte == 10) ≡ false → EndsFirstAt (byte ∷ bytes) from place
+unfolding lines_of
+later byte bytes from place found other = record {
+  count = found.count + 1;
+  at = omega (arith, found.at);
+  within = omega (arith, found.within);
+  lines = rw (other, found.lines) (simp add-one);
+}
+
+here : (byte : ℕ) (bytes : List ℕ) (from place : ℕ) → Some from ≡ Some place → (byte == 10) ≡ true → EndsFirstAt (byte ∷ bytes) from place
+unfolding lines_of
+here byte bytes from place found feed = record {
+  count = 0;
+  at = let same : from ≡ place = cc in omega (arith, same);
+  within = omega arith;
+  lines = rw feed refl;
+}
+
+pub first_line_to_feed : (text : List ℕ) (from place : ℕ) → position_from is_feed from text ≡ Some place → EndsFirstAt text from place
+first_line_to_feed [] from place found = cc
+first_line_to_feed (byte ∷ bytes) from place found =
+    (elim (byte == 10) as (λ feed. (byte == 10) ≡ feed → cond feed (Some from) (position_from is_feed (from + 1) bytes) ≡ Some place → EndsFirstAt (byte ∷ bytes) from place) [
+      | true ↦ λ feed first. here byte bytes from place first feed
+      | false ↦ λ other next. later byte bytes from place (first_line_to_feed bytes (from + 1) place next) other
+    ]) refl found
+
+one_more : (byte : ℕ) (bytes : List ℕ) → (byte == 10) ≡ false → lines_of bytes ≡ bytes ∷ [] → lines_of (byte ∷ bytes) ≡ (byte ∷ bytes) ∷ []
+unfolding lines_of
+one_more byte bytes other only = rw (other, only) refl
+
+alone : (byte : ℕ) → (byte == 10) ≡ false → lines_of (byte ∷ []) ≡ (byte ∷ []) ∷ []
+unfolding lines_of
+alone byte other = rw other refl
+
+pub only_line : (byte : ℕ) (bytes : List ℕ) (from : ℕ) → position_from is_feed from (byte ∷ bytes) ≡ None → lines_of (byte ∷ bytes) ≡ (byte ∷ bytes) ∷ []
+only_line byte [] from none =
+    (elim (byte == 10) as (λ feed. (byte == 10) ≡ feed → cond feed (Some from) None ≡ None → lines_of (byte ∷ []) ≡ (byte ∷ []) ∷ [])
+    [ true ↦ λ feed first. cc | false ↦ λ other next. alone byte other ]) refl none
+only_line byte (next ∷ bytes) from none =
+    (elim (byte == 10) as (λ feed. (byte == 10) ≡ feed → cond feed (Some from) (position_from is_feed (from + 1) (next ∷ bytes)) ≡ None → lines_of (byte ∷ next ∷ bytes) ≡ (byte ∷ next ∷ bytes) ∷ []) [
+      | true ↦ λ feed first. cc
+      | false ↦ λ other later. one_more byte (next ∷ bytes) other (only_line next bytes (from + 1) later)
+    ]) refl none
+
+pub line_to_feed : (text : List ℕ) (place : ℕ) → position_from is_feed 0 text ≡ Some place → lines_of text ≡ take place text ∷ lines_of (drop (place + 1) text)
+line_to_feed text place found =
+    let first = first_line_to_feed text 0 place found in
+    let same : place ≡ first.count = omega (arith, first.at) in
+    rw same first.lines
+
+pub lines_of_none : lines_of [] ≡ []
+unfolding lines_of
+lines_of_none = refl
+
+pub line_to_end : (text : List ℕ) → 0 < length text → position_from is_feed 0 text ≡ None → lines_of text ≡ take (length text) text ∷ lines_of (drop (length text) text)
+line_to_end [] some none = absurd (omega arith)
+line_to_end (byte ∷ bytes) some none =
+    rw (drop-length, lines_of_none, take_all (length (byte ∷ bytes)) (byte ∷ bytes) (omega arith)) (only_line byte bytes 0 none)
+
+-- ---- one line more
+
+pub blank_line : (number : ℕ) (line : List ℕ) → is_blank line ≡ true → numbered_from number (line ∷ []) ≡ []
+unfolding numbered_from
+blank_line number line blank = rw blank refl
+
+pub written_line : (number : ℕ) (line : List ℕ) → is_blank line ≡ false → numbered_from number (line ∷ []) ≡ (number, line) ∷ []
+unfolding numbered_from
+written_line number line written = rw written refl
+
+pub message_line : (number : ℕ) (line : List ℕ) (message : Draft) → message_in line ≡ Ok message → messages_among ((number, line) ∷ []) ≡ message ∷ []
+unfolding messages_among
+message_line number line message read = rw read refl
+
+pub no_refusal : (number : ℕ) (line : List ℕ) (message : Draft) → message_in line ≡ Ok message → refusals_among ((number, line) ∷ []) ≡ []
+unfolding refusals_among
+no_refusal number line message read = rw read refl
+
+pub no_message : (number : ℕ) (line : List ℕ) (fault : JsonFault) → message_in line ≡ Err fault → messages_among ((number, line) ∷ []) ≡ []
+unfolding messages_among
+no_message number line fault read = rw read refl
+
+pub refused_line : (number : ℕ) (line : List ℕ) (fault : JsonFault) → message_in line ≡ Err fault → refusals_among ((number, line) ∷ []) ≡ (number, fault) ∷ []
+unfolding refusals_among
+refused_line number line fault read = rw read refl
+
+pub told_none : (front : List ℕ) → told_after front [] ≡ []
+unfolding told_after
+told_none front = refl
+
+pub told_one : (front : List ℕ) (number : ℕ) (fault : JsonFault) → told_after front ((number, fault) ∷ []) ≡ front ++ refusal_line (number, fault)
+unfolding told_after
+told_one front number fault = append-nil (front ++ refusal_line (number, fault))
+
+-- with nothing in front
+pub told_plainly : (refusals : List (ℕ × JsonFault)) → told_after [] refusals ≡ told_text_of refusals
+unfolding told_after told_text_of
+told_plainly refusals = refl
+
+pub messages_of_none : messages_among [] ≡ []
+unfolding messages_among
+messages_of_none = refl
+
+pub refusals_of_none : refusals_among [] ≡ []
+unfolding refusals_among
+refusals_of_none = refl
+
+-- what one line more gives
+pub ruleset one_line = (blank_line, written_line, message_line, no_refusal, no_message, refused_line, told_none, told_one, messages_of_none, refusals_of_none, append-nil)
+
+-- a message behind the others, where it is what its line is read as
+pub message_behind : (messages : List (Arc Draft Global)) (shared : Arc Draft Global) (number : ℕ) (line : List ℕ) (message : Draft)
+    → is_blank line ≡ false → message_in line ≡ Ok message → arc_value shared ≡ message
+    → messages_in (messages ++ shared ∷ []) ≡ messages_in messages ++ messages_among (numbered_from number (line ∷ []))
+message_behind messages shared number line message written read same =
+    map-append arc_value messages (shared ∷ [])
+    ∙ ap (λ (m : Draft). messages_in messages ++ m ∷ []) same
+    ∙ ap (λ (ms : List Draft). messages_in messages ++ ms) (sym (ap messages_among (written_line number line written) ∙ message_line number line message read))
+
+-- ---- the first line, and then the others
+
+pub numbered-cons : (number : ℕ) (line : List ℕ) (lines : List (List ℕ)) → numbered_from number (line ∷ lines) ≡ numbered_from number (line ∷ []) ++ numbered_from (number + 1) lines
+unfolding numbered_from
+numbered-cons number line lines =
+    elim (is_blank line) as (λ blank. cond (not blank) ((number, line) ∷ numbered_from (number + 1) lines) (numbered_from (number + 1) lines) ≡ cond (not blank) ((number, line) ∷ []) [] ++ numbered_from (number + 1) lines)
+    [ true ↦ refl | false ↦ refl ]
+
+pub numbered_none : (number : ℕ) → numbered_from number [] ≡ []
+unfolding numbered_from
+numbered_none number = refl
+
+pub messages-append : (some more : List (ℕ × List ℕ)) → messages_among (some ++ more) ≡ messages_among some ++ messages_among more
+unfolding messages_among
+messages-append some more = filter_map-append _ some more
+
+pub refusals-append : (some more : List (ℕ × List ℕ)) → refusals_among (some ++ more) ≡ refusals_among some ++ refusals_among more
+unfolding refusals_among
+refusals-append some more = filter_map-append _ some more
+
+pub told-append : (front : List ℕ) (some more : List (ℕ × JsonFault)) → told_after front (some ++ more) ≡ told_after front some ++ told_after front more
+unfolding told_after
+told-append front some more = flat_map-append (λ refusal. front ++ refusal_line refusal) some more
+
+-- the lines of what is left are the first line and those of what stands after it
+abbrev pub lines_left : ℕ → List ℕ → List (ℕ × List ℕ)
+lines_left number text = numbered_from number (lines_of text)
+
+lines_left-cons : (number : ℕ) (line rest text : List ℕ) → lines_of text ≡ line ∷ lines_of rest → lines_left number text ≡ numbered_from number (line ∷ []) ++ lines_left (number + 1) rest
+lines_left-cons number line rest text first = rw first (numbered-cons number line (lines_of rest))
+
+lines_left_none : (number : ℕ) (text : List ℕ) → text ≡ [] → lines_left number text ≡ []
+lines_left_none number text none = rw (none, lines_of_none, numbered_none) refl
+
+pub messages_step : (before after all : List Draft) (number : ℕ) (line rest text : List ℕ) → lines_of text ≡ line ∷ lines_of rest → before ++ messages_among (lines_left number text) ≡ all → after ≡ before ++ messages_among (numbered_from number (line ∷ [])) → after ++ messages_among (lines_left (number + 1) rest) ≡ all
+messages_step before after all number line rest text first whole now =
+    rw (now, append_assoc, ← messages-append (numbered_from number (line ∷ [])) (lines_left (number + 1) rest), ← lines_left-cons number line rest text first) whole
+
+pub told_step : (front before after all : List ℕ) (number : ℕ) (line rest text : List ℕ) → lines_of text ≡ line ∷ lines_of rest → before ++ told_after front (refusals_among (lines_left number text)) ≡ all → after ≡ before ++ told_after front (refusals_among (numbered_from number (line ∷ []))) → after ++ told_after front (refusals_among (lines_left (number + 1) rest)) ≡ all
+told_step front before after all number line rest text first whole now =
+    rw (now, append_assoc, ← told-append front (refusals_among (numbered_from number (line ∷ []))) (refusals_among (lines_left (number + 1) rest)), ← refusals-append (numbered_from number (line ∷ [])) (lines_left (number + 1) rest), ← lines_left-cons number line rest text first) whole
+
+pub refused_step : (before after all number : ℕ) (line rest text : List ℕ) → lines_of text ≡ line ∷ lines_of rest → before + length (refusals_among (lines_left number text)) ≡ all → after ≡ before + length (refusals_among (numbered_from number (line ∷ []))) → after + length (refusals_among (lines_left (number + 1) rest)) ≡ all
+refused_step before after all number line rest text first whole now =
+    let both : length (refusals_among (lines_left number text)) ≡ length (refusals_among (numbered_from number (line ∷ []))) + length (refusals_among (lines_left (number + 1) rest)) =
+    rw (lines_left-cons number line rest text first, refusals-append) (length-append (refusals_among (numbered_from number (line ∷ []))) (refusals_among (lines_left (number + 1) rest))) in
+    omega (arith, both)
+
+pub messages_end : (so_far all : List Draft) (number : ℕ) (text : List ℕ) → text ≡ [] → so_far ++ messages_among (lines_left number text) ≡ all → so_far ≡ all
+messages_end so_far all number text none whole = rw (lines_left_none number text none, messages_of_none, append-nil) at whole
+
+pub told_end : (front so_far all : List ℕ) (number : ℕ) (text : List ℕ) → text ≡ [] → so_far ++ told_after front (refusals_among (lines_left number text)) ≡ all → so_far ≡ all
+told_end front so_far all number text none whole = rw (lines_left_none number text none, refusals_of_none, told_none front, append-nil) at whole
+
+pub refused_end : (so_far all number : ℕ) (text : List ℕ) → text ≡ [] → so_far + length (refusals_among (lines_left number text)) ≡ all → so_far ≡ all
+refused_end so_far all number text none whole =
+    let nothing : length (refusals_among (lines_left number text)) ≡ 0 = rw (lines_left_none number text none, refusals_of_none) refl in
+    omega (arith, nothing, whole)
+
+-- a refusal behind the others, with its text in front, where it is why its line is none
+pub refusal_behind : (told between after front : List ℕ) (number : ℕ) (line : List ℕ) (fault : JsonFault)
+    → is_blank line ≡ false → message_in line ≡ Err fault → between ≡ told ++ front → after ≡ between ++ refusal_line (number, fault)
+    → after ≡ told ++ told_after front (refusals_among (numbered_from number (line ∷ [])))
+refusal_behind told between after front number line fault written refused first second =
+    second
+    ∙ ap (λ (t : List ℕ). t ++ refusal_line (number, fault)) first
+    ∙ append_assoc told front (refusal_line (number, fault))
+    ∙ ap (λ (t : List ℕ). told ++ t) (sym (ap (λ ls. told_after front (refusals_among ls)) (written_line number line written) ∙ ap (told_after front) (refused_line number line fault refused) ∙ told_one front number fault))

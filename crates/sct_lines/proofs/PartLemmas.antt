@@ -1,0 +1,107 @@
+-- A text cut behind a line feed, and what is read of its two parts. Proof plumbing.
+use Rattle.std.proofs.Common.{ℕ, ◌≡◌, ◌+◌, ◌<◌, ◌≤◌, suc, zero, ◌++◌, ◌∷◌, [], List, Bool, true, false, cond, ◌==◌, length, take, drop, get_or, filter, string_bytes, refl, sym, ap, ◌∙◌, arith, add-one, append_assoc, length-append}
+use Rattle.sct_message.specs.Sets.{messages_in}
+use Rattle.sct_lines.specs.declared.intake.Intake.{Intake}
+use Rattle.sct_lines.specs.Lines.{lines_of, numbered_from, onto_first}
+use Rattle.sct_lines.specs.Parts.{messages_after, refusals_after, IsReadAfter}
+use Rattle.sct_lines.proofs.LineLemmas.{is_feed, messages-append, numbered-cons, numbered_none, refusals-append, told-append}
+
+-- a text is cut in two behind a line feed
+pub record IsCutAt (text front back : List ℕ) : Type 0 where
+  pub some : 0 < length front
+  pub lines : lines_of text ≡ lines_of front ++ lines_of back
+  pub feeds : length (lines_of front) ≡ length (filter is_feed front)
+
+onto-append : (byte : ℕ) (lines more : List (List ℕ)) → 0 < length lines → onto_first byte (lines ++ more) ≡ onto_first byte lines ++ more
+onto-append byte [] more some = absurd (omega arith)
+onto-append byte (line ∷ lines) more some = refl
+
+onto-length : (byte : ℕ) (lines : List (List ℕ)) → 0 < length lines → length (onto_first byte lines) ≡ length lines
+onto-length byte [] some = absurd (omega arith)
+onto-length byte (line ∷ lines) some = refl
+
+onto_some : (byte : ℕ) (lines : List (List ℕ)) → 0 < length (onto_first byte lines)
+onto_some byte [] = omega arith
+onto_some byte (line ∷ lines) = omega arith
+
+lines_of_some : (text : List ℕ) → 0 < length text → 0 < length (lines_of text)
+unfolding lines_of
+lines_of_some [] some = absurd (omega arith)
+lines_of_some (byte ∷ bytes) some =
+    elim (byte == 10) as (λ feed. 0 < length (cond feed ([] ∷ lines_of bytes) (onto_first byte (lines_of bytes))))
+    [ true ↦ omega arith | false ↦ onto_some byte (lines_of bytes) ]
+
+cut_here : (byte : ℕ) (bytes : List ℕ) → byte ≡ 10 → IsCutAt (byte ∷ bytes) (byte ∷ []) bytes
+unfolding lines_of
+cut_here byte bytes feed = record {
+  some = omega arith;
+  lines = rw feed refl;
+  feeds = rw feed refl;
+}
+
+cut_later : (byte : ℕ) (bytes front back : List ℕ) → 0 < length (lines_of front) → IsCutAt bytes front back → IsCutAt (byte ∷ bytes) (byte ∷ front) back
+unfolding lines_of
+cut_later byte bytes front back some cut = record {
+  some = omega arith;
+  lines =
+      rw cut.lines
+      (elim (byte == 10) as (λ feed. cond feed ([] ∷ (lines_of front ++ lines_of back)) (onto_first byte (lines_of front ++ lines_of back))
+      ≡ cond feed ([] ∷ lines_of front) (onto_first byte (lines_of front)) ++ lines_of back) [
+        | true ↦ refl
+        | false ↦ onto-append byte (lines_of front) (lines_of back) some
+      ]);
+  feeds =
+      elim (byte == 10) as (λ feed. length (cond feed ([] ∷ lines_of front) (onto_first byte (lines_of front)))
+      ≡ length (cond feed (byte ∷ filter is_feed front) (filter is_feed front))) [
+        | true ↦ ap suc cut.feeds
+        | false ↦ onto-length byte (lines_of front) some ∙ cut.feeds
+      ];
+}
+
+pub cut_at_feed : (text : List ℕ) (at : ℕ) → at < length text → get_or text at 0 ≡ 10 → IsCutAt text (take (at + 1) text) (drop (at + 1) text)
+cut_at_feed [] at within feed = absurd (omega arith)
+cut_at_feed (byte ∷ bytes) zero within feed = cut_here byte bytes feed
+cut_at_feed (byte ∷ bytes) (suc at) within feed =
+    let cut : IsCutAt bytes (take (suc at) bytes) (drop (suc at) bytes) = simp add-one at (cut_at_feed bytes at (omega arith) feed) in
+    simp add-one (cut_later byte bytes (take (suc at) bytes) (drop (suc at) bytes) (lines_of_some (take (suc at) bytes) cut.some) cut)
+
+-- ---- what is read of both parts
+
+pub numbered-append : (first : ℕ) (some more : List (List ℕ)) → numbered_from first (some ++ more) ≡ numbered_from first some ++ numbered_from (first + length some) more
+numbered-append first [] more =
+    let same : first + 0 ≡ first = omega arith in
+    rw (numbered_none, same) refl
+numbered-append first (line ∷ lines) more =
+    let next : first + 1 + length lines ≡ first + length (line ∷ lines) = omega arith in
+    numbered-cons first line (lines ++ more)
+    ∙ ap (λ l. numbered_from first (line ∷ []) ++ l) (numbered-append (first + 1) lines more)
+    ∙ sym (append_assoc (numbered_from first (line ∷ [])) (numbered_from (first + 1) lines) (numbered_from (first + 1 + length lines) more))
+    ∙ ap (λ l. l ++ numbered_from (first + 1 + length lines) more) (sym (numbered-cons first line lines))
+    ∙ ap (λ n. numbered_from first (line ∷ lines) ++ numbered_from n more) next
+
+pub read_in_two : (shown : List ℕ) (before : ℕ) (text front back : List ℕ) (first second both : Intake) → lines_of text ≡ lines_of front ++ lines_of back
+    → IsReadAfter shown before front first → IsReadAfter shown (before + length (lines_of front)) back second
+    → messages_in both.messages.items ≡ messages_in first.messages.items ++ messages_in second.messages.items
+    → string_bytes both.told ≡ string_bytes first.told ++ string_bytes second.told
+    → both.refused ≡ first.refused + second.refused
+    → length front + length back ≡ length text
+    → IsReadAfter shown before text both
+read_in_two shown before text front back first second both lines one two messages told refused whole =
+    let next : before + length (lines_of front) + 1 ≡ before + 1 + length (lines_of front) = omega arith in
+    let numbered : numbered_from (before + 1) (lines_of text) ≡ numbered_from (before + 1) (lines_of front) ++ numbered_from (before + length (lines_of front) + 1) (lines_of back) =
+    rw (lines, next) (numbered-append (before + 1) (lines_of front) (lines_of back)) in
+    let refusals : refusals_after before text ≡ refusals_after before front ++ refusals_after (before + length (lines_of front)) back =
+    rw numbered (refusals-append (numbered_from (before + 1) (lines_of front)) (numbered_from (before + length (lines_of front) + 1) (lines_of back))) in
+    let few : both.refused ≤ length text = omega (arith, one.few, two.few, refused, whole) in
+    let count : length (refusals_after before text) ≡ length (refusals_after before front) + length (refusals_after (before + length (lines_of front)) back) =
+    rw refusals (length-append (refusals_after before front) (refusals_after (before + length (lines_of front)) back)) in
+    record {
+      messages =
+          messages ∙ rw (one.messages, two.messages, numbered)
+          (sym (messages-append (numbered_from (before + 1) (lines_of front)) (numbered_from (before + length (lines_of front) + 1) (lines_of back))));
+      told =
+          told ∙ rw (one.told, two.told, refusals)
+          (sym (told-append shown (refusals_after before front) (refusals_after (before + length (lines_of front)) back)));
+      refused = omega (arith, refused, one.refused, two.refused, count);
+      few = few;
+    }

@@ -1,0 +1,4 @@
+-- The definitions of lines.
+pub mod LineLaws
+pub mod Lines
+pub mod Parts

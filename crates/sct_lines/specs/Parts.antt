@@ -1,0 +1,22 @@
+-- A part of an input, before which so many lines stand. Serves proofs.
+use Rattle.std.specs.Prelude.{ℕ, ◌≡◌, ◌+◌, ◌≤◌, List, length, string_bytes}
+use Rattle.sct_json.specs.declared.faults.JsonFault.{JsonFault}
+use Rattle.sct_message.specs.declared.draft.Draft.{Draft}
+use Rattle.sct_message.specs.Sets.{messages_in}
+use Rattle.sct_lines.specs.declared.intake.Intake.{Intake}
+use Rattle.sct_lines.specs.Lines.{lines_of, messages_among, numbered_from, refusals_among, told_after}
+
+-- the messages that are read from the part, in the order of its lines
+abbrev pub messages_after : ℕ → List ℕ → List Draft
+messages_after before part = messages_among (numbered_from (before + 1) (lines_of part))
+
+-- the lines of the part that are refused, in their order, which count on from those before it
+abbrev pub refusals_after : ℕ → List ℕ → List (ℕ × JsonFault)
+refusals_after before part = refusals_among (numbered_from (before + 1) (lines_of part))
+
+-- what is read of the part, where each line that tells a refused one has a text in front
+pub record IsReadAfter (front : List ℕ) (before : ℕ) (part : List ℕ) (intake : Intake) : Type 0 where
+  pub messages : messages_in intake.messages.items ≡ messages_after before part
+  pub told : string_bytes intake.told ≡ told_after front (refusals_after before part)
+  pub refused : intake.refused ≡ length (refusals_after before part)
+  pub few : intake.refused ≤ length part

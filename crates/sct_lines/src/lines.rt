@@ -1,0 +1,58 @@
+//! A text as its lines.
+ghost use Rattle.std.specs.Prelude.{◌≡◌, ◌<◌, ◌==◌, ◌∷◌, [], length, slice_index, IfSome, IfNone};
+ghost use Rattle.std.specs.List.{position_from};
+ghost use Rattle.sct_lines.specs.LineLaws.{LinesMakeTheText, NoLineHasAFeed};
+ghost use Rattle.sct_lines.specs.Lines.{is_blank, lines_of};
+
+/// The lines of a text are what stands between its line feeds, and nothing of it is lost.
+pub fn lines_tile_the_text()
+    ensures whole { LinesMakeTheText }
+    ensures parted { NoLineHasAFeed }
+{}
+
+// Where the first line feed stands.
+pub(crate) fn line_feed(bytes: &[u8]) -> Option<usize>
+    ensures first { result ≡ position_from (λ byte. byte == 10) 0 bytes.now }
+    ensures within { IfSome result (λ at. at < length bytes.now) }
+    ensures feed { IfSome result (λ at. slice_index bytes.now at ≡ 10) }
+{
+    bytes.iter().position(|byte| *byte == b'\n')
+}
+
+// The first line of a text that is not empty, and what comes after its line feed.
+fn front_line(text: &[u8]) -> (&[u8], &[u8])
+    requires { 0 < length text.now }
+    ensures lines { lines_of text.now ≡ result.0.now ∷ lines_of result.1.now }
+    ensures shorter { length result.1.now < length text.now }
+{
+    match line_feed(text) {
+        Some(at) => {
+            let (line, _) = text.split_at(at);
+            let (_, rest) = text.split_at(at + 1);
+            (line, rest)
+        }
+        None => text.split_at(text.len()),
+    }
+}
+
+/// The first line of a text, without its line feed, and what comes after that. There is none where the text is empty,
+/// and only there.
+pub fn first_line(text: &[u8]) -> Option<(&[u8], &[u8])>
+    ensures lines { IfSome result (λ parts. lines_of text.now ≡ parts.0.now ∷ lines_of parts.1.now) }
+    ensures shorter { IfSome result (λ parts. length parts.1.now < length text.now) }
+    ensures none { IfNone result (text.now ≡ []) }
+{
+    if text.is_empty() {
+        return None;
+    }
+    Some(front_line(text))
+}
+
+/// Whether a line is of spaces, tabs and carriage returns alone.
+#[tactic(auto, unfolding(crate::specs::Lines::is_blank))]
+pub fn is_blank_line(line: &[u8]) -> bool
+    ensures { result ≡ is_blank line.now }
+{
+    line.iter()
+        .all(|byte| *byte == b' ' || *byte == b'\t' || *byte == b'\r')
+}

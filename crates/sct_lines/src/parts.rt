@@ -1,0 +1,105 @@
+//! An input read in parts, each in a thread of its own where one can be made.
+ghost use Rattle.std.specs.Prelude.{◌≡◌, ◌+◌, ◌<◌, ◌≤◌, ◌++◌, ◌==◌, ◌^◌, [], filter, length, slice_index, IfOk, IfSome, string_bytes};
+ghost use Rattle.std.specs.Thread.{IsSync};
+ghost use Rattle.sct_lines.specs.Lines.{lines_of, messages_read, refusals_told, told_text_of};
+ghost use Rattle.sct_lines.specs.Parts.{IsReadAfter};
+ghost use Rattle.sct_message.specs.Sets.{messages_in};
+
+use crate::intake::{Intake, read_part};
+use crate::lines::line_feed;
+use std::alloc::{AllocError, Global};
+use std::thread::{Threads, available_parallelism, join};
+
+// An input of fewer bytes is read in one part.
+const WORTH_A_THREAD: usize = 65_536;
+
+// How many line feeds a text has.
+fn count_feeds(text: &[u8]) -> u64
+    ensures count { result ≡ length (filter (λ byte. byte == 10) text.now) }
+    ensures most { result ≤ length text.now }
+{
+    text.iter().filter(|byte| **byte == b'\n').count() as u64
+}
+
+// The first line feed from a place on.
+fn feed_from(text: &[u8], place: usize) -> Option<usize>
+    requires { place ≤ length text.now }
+    ensures within { IfSome result (λ at. at < length text.now) }
+    ensures feed { IfSome result (λ at. slice_index text.now at ≡ 10) }
+{
+    let (_, behind) = text.split_at(place);
+    Some(place + line_feed(behind)?)
+}
+
+// A text in two, cut behind the first line feed from a place on.
+pub(crate) fn cut_from(text: &[u8], place: usize) -> Option<(&[u8], &[u8])>
+    requires { place ≤ length text.now }
+    ensures lines { IfSome result (λ parts. lines_of text.now ≡ lines_of parts.0.now ++ lines_of parts.1.now) }
+    ensures feeds { IfSome result (λ parts.
+        length (lines_of parts.0.now) ≡ length (filter (λ byte. byte == 10) parts.0.now)) }
+    ensures whole { IfSome result (λ parts. length parts.0.now + length parts.1.now ≡ length text.now) }
+{
+    let at = feed_from(text, place)?;
+    Some(text.split_at(at + 1))
+}
+
+// Reads a part of an input, before which so many lines stand, by halves of halves.
+#[cycle(halves)]
+pub(crate) fn read_by_halves<R: Threads + Sync>(
+    rt: &R,
+    alloc: Global,
+    before: u64,
+    part: &[u8],
+    halvings: u32,
+) -> Result<Intake, AllocError>
+    requires { before + length part.now < 2 ^ 64 }
+    ensures { IfOk result (IsReadAfter [] before part.now) }
+{
+    if halvings == 0 {
+        return read_part(alloc, "", before, part);
+    }
+    let Some((front, back)) = cut_from(part, part.len() / 2) else {
+        return read_part(alloc, "", before, part);
+    };
+    let behind = before + count_feeds(front);
+    let (first, second) = join(
+        rt,
+        || -> Result<Intake, AllocError>
+            requires { IsSync R.row × (0 < halvings) × (before + length front.now < 2 ^ 64) }
+            ensures { IfOk result (IsReadAfter [] before front.entry.now) }
+        { read_by_halves(rt, alloc, before, front, halvings - 1) },
+        || -> Result<Intake, AllocError>
+            requires { IsSync R.row × (0 < halvings) × (behind + length back.now < 2 ^ 64) }
+            ensures { IfOk result (IsReadAfter [] behind back.entry.now) }
+        { read_by_halves(rt, alloc, behind, back, halvings - 1) },
+    );
+    let mut intake = first?;
+    intake.append(second?)?;
+    Ok(intake)
+}
+
+// How often an input is cut in halves: for two parts a processor.
+fn halvings<R: Threads>(rt: &R, input: &[u8]) -> u32 {
+    if input.len() < WORTH_A_THREAD {
+        return 0;
+    }
+    match available_parallelism(rt) {
+        Ok(processors) => processors.get().saturating_mul(2).ilog2(),
+        Err(_) => 0,
+    }
+}
+
+/// Goes over the lines of an input once, which count from 1, in as many threads as there are processors. Only want of
+/// memory is an error: where no thread can be made, one does the work of several.
+#[tactic(auto, using(crate::proofs::LineLemmas::told_plainly))]
+pub fn read_lines<R: Threads + Sync>(
+    rt: &R,
+    alloc: Global,
+    input: &[u8],
+) -> Result<Intake, AllocError>
+    ensures messages { IfOk result (λ intake. messages_in intake.messages.items ≡ messages_read input.now) }
+    ensures told { IfOk result (λ intake. string_bytes intake.told ≡ told_text_of (refusals_told input.now)) }
+    ensures refused { IfOk result (λ intake. intake.refused ≡ length (refusals_told input.now)) }
+{
+    read_by_halves(rt, alloc, 0, input, halvings(rt, input))
+}
