@@ -1,9 +1,8 @@
 -- What an accepted delta leaves of logs, arrivals and archive. Proof plumbing.
-use Rattle.std.proofs.Common.{◌≡◌, ◌∙◌, refl, ap, sym, subst, ℕ, Bool, true, false, ◌||◌, List, [], ◌∷◌, ◌++◌, map}
+use Rattle.std.proofs.Common.{◌≡◌, ◌∙◌, refl, ap, sym, ℕ, ◌||◌, List, ◌++◌, map}
 use Rattle.std.specs.FinSet as set
 use Rattle.std.specs.FinSet.{contains-from_list, contains-union, same_set}
 use Rattle.std.specs.Prelude.{Option, Some, None, MatchOption}
-use Rattle.std.specs.List.{list_any}
 use Rattle.std.specs.Ordering.{eq_by_cmp}
 use Rattle.std.proofs.lemmas.List.{map-append}
 use Rattle.std.proofs.lemmas.List.Folds.{list_any-append}
@@ -11,7 +10,7 @@ use Rattle.sct_message.specs.declared.draft.Draft.{Draft}
 use Rattle.sct_message.specs.OrderLaws.{message_total, message_same}
 use Rattle.sct_message.specs.Order.{message_order}
 use Rattle.sct_set.specs.Contents.{Contents, contents_of}
-use Rattle.sct_delta.specs.Entries.{Placed, log_of, messages_of, IsArrivals, IsDelta}
+use Rattle.sct_delta.specs.Entries.{Placed, log_of, messages_of, IsDelta}
 use Rattle.sct_delta.specs.Logs.{log_in, HoldSame}
 use Rattle.sct_delta.specs.Refusals.{first_refusal, fresh_in, joined}
 use Rattle.sct_delta.specs.declared.fault.DeltaFault.{DeltaFault}

@@ -1,20 +1,9 @@
 -- What takes and accepted deltas make of arrivals. They serve sites, and the worlds above, whose crate cites them.
-use Rattle.std.proofs.Common.{◌≡◌, ◌∙◌, refl, ap, sym, subst, ℕ, suc, ◌+◌, ◌-◌, ◌<◌, ◌≤◌, Bool, true, false, not, cond, ◌&&◌, ◌||◌, List, [], ◌∷◌, ◌++◌, map, filter, length, drop, append_assoc, arith, length-append, add-one, nat_eq, nat_lt}
-use Rattle.std.specs.FinSet as set
-use Rattle.std.specs.Prelude.{Option, Some, None}
-use Rattle.std.specs.List.{list_any, find, slice_get, AllByRecursion}
-use Rattle.std.specs.Option.{option_or}
+use Rattle.std.proofs.Common.{◌≡◌, ◌∙◌, refl, ap, sym, ℕ, ◌+◌, Bool, true, false, cond, List, [], ◌∷◌, ◌++◌, map, length, arith, nat_eq}
 use Rattle.std.proofs.lemmas.Bool.Decides.{nat_tests}
-use Rattle.std.proofs.lemmas.Bool.{false≢true}
-use Rattle.std.proofs.lemmas.Option.{slice_get_cases}
-use Rattle.std.proofs.lemmas.List.{length-map, append-nil}
-use Rattle.std.proofs.lemmas.List.Elements.{filter-append}
-use Rattle.sct_message.specs.declared.draft.Draft.{Draft}
-use Rattle.sct_message.specs.Order.{same_message}
-use Rattle.sct_delta.specs.Entries.{Placed, is_from, entries_from, log_of, held_from, numbered, messages_of, IsRun, IsArrivals}
-use Rattle.sct_delta.specs.Refusals.{message_at, is_same_as, is_other_than, is_held, is_fork, is_past, firsts_after, fresh_in}
-use Rattle.sct_delta.proofs.EntryLemmas.{same_number, length-numbered, messages-numbered, from-numbered, from-numbered_other, numbered-append, from-append, log-append}
-use Rattle.sct_site.specs.Cores.{Core, logs_of, own_entry, fresh_of, arrivals_joined}
+use Rattle.std.proofs.lemmas.List.{length-map}
+use Rattle.sct_delta.specs.Entries.{Placed, entries_from, log_of, held_from, numbered, IsArrivals}
+use Rattle.sct_delta.proofs.EntryLemmas.{numbered-append, from-append, log-append}
 
 -- ---- arrivals that follow each other
 

@@ -1,5 +1,5 @@
 -- Arrivals joined with a delta that nothing refuses are arrivals. It serves sites, and the worlds above.
-use Rattle.std.proofs.Common.{◌≡◌, ◌∙◌, refl, ap, sym, subst, inl, inr, ℕ, suc, ◌+◌, ◌-◌, ◌<◌, ◌≤◌, Bool, true, false, not, cond, ◌&&◌, ◌||◌, List, [], ◌∷◌, ◌++◌, map, filter, length, drop, arith, nat_eq, nat_lt}
+use Rattle.std.proofs.Common.{◌≡◌, ◌∙◌, refl, ap, sym, inl, inr, ℕ, suc, ◌+◌, ◌-◌, ◌<◌, ◌≤◌, Bool, true, false, not, cond, ◌||◌, List, [], ◌∷◌, filter, length, drop, arith, nat_eq, nat_lt}
 use Rattle.std.specs.Prelude.{Option, Some, None}
 use Rattle.std.specs.List.{list_any, find, slice_get, AllByRecursion}
 use Rattle.std.specs.Option.{option_or}
@@ -7,9 +7,8 @@ use Rattle.std.proofs.Math.Seq.{drop-nil}
 use Rattle.std.proofs.lemmas.Bool.Decides.{nat_tests}
 use Rattle.std.proofs.lemmas.Option.{slice_get_cases}
 use Rattle.sct_message.specs.declared.draft.Draft.{Draft}
-use Rattle.sct_message.specs.Order.{same_message}
 use Rattle.sct_delta.specs.Entries.{Placed, is_from, entries_from, log_of, held_from, numbered, IsRun, IsArrivals}
-use Rattle.sct_delta.specs.Refusals.{message_at, is_same_as, is_other_than, is_held, is_fork, is_past, is_ahead, is_outside, firsts_after, fresh_in, told, first_refusal, outside_refusal, ahead_refusal, gap_refusal, fork_refusal, vector_of}
+use Rattle.sct_delta.specs.Refusals.{message_at, is_same_as, is_other_than, is_held, is_fork, is_past, is_ahead, is_outside, firsts_after, told, first_refusal, outside_refusal, ahead_refusal, gap_refusal, fork_refusal, vector_of}
 use Rattle.sct_delta.specs.declared.fault.DeltaFault.{DeltaFault}
 use Rattle.sct_delta.specs.declared.fault.DeltaFault.TheVariants as fault
 use Rattle.sct_delta.proofs.EntryLemmas.{log_is}

@@ -1,11 +1,11 @@
 -- What a take is answered and leaves, told from what the body finds. Proof plumbing.
-use Rattle.std.proofs.Common.{◌≡◌, ◌∙◌, refl, ap, sym, ℕ, ◌+◌, Bool, true, false, cond, List, [], ◌∷◌, ◌++◌, map, length, nat_eq, arith}
+use Rattle.std.proofs.Common.{◌≡◌, ◌∙◌, refl, ap, sym, ℕ, ◌+◌, Bool, true, false, cond, List, [], ◌∷◌, ◌++◌, map, length, nat_eq}
 use Rattle.std.specs.FinSet as set
 use Rattle.std.proofs.lemmas.List.{append-nil, map-append}
 use Rattle.sct_message.specs.declared.draft.Draft.{Draft}
 use Rattle.sct_set.specs.Contents.{Contents}
 use Rattle.sct_set.proofs.ContentsLemmas.{contents-push}
-use Rattle.sct_delta.specs.Entries.{Placed, log_of, held_from, messages_of, IsArrivals}
+use Rattle.sct_delta.specs.Entries.{Placed, log_of, held_from, messages_of}
 use Rattle.sct_delta.specs.Logs.{log_in}
 use Rattle.sct_delta.specs.declared.logs.Logs.{Logs}
 use Rattle.sct_delta.proofs.EntryLemmas.{log-append}

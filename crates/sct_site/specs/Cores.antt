@@ -1,14 +1,15 @@
 -- One site as a caller sees it: its number, its group and its arrivals, and what takes, deltas and cuts make of
 -- them. Read by an auditor; worlds and desks speak of sites in these words.
 use Rattle.std.specs.FinSet as set
-use Rattle.std.specs.Prelude.{ℕ, ◌+◌, ◌++◌, ◌∷◌, [], not, ◌&&◌, Bool, List, Option, filter, length, nat_lt, if◌then◌else◌}
+use Rattle.std.specs.Prelude.{◌≡◌, ℕ, ◌+◌, ◌++◌, ◌∷◌, [], not, ◌&&◌, Bool, true, List, Option, filter, nat_lt, if◌then◌else◌}
 use Rattle.std.specs.Ordering.{nat_cmp, ordering_then}
 use Rattle.std.specs.declared.cmp.Ordering.{Ordering}
 use Rattle.sct_message.specs.Ascending.{ascending}
 use Rattle.sct_message.specs.Order.{message_order}
 use Rattle.sct_message.specs.declared.draft.Draft.{Draft}
-use Rattle.sct_delta.specs.Entries.{Placed, log_of, held_from, messages_of}
-use Rattle.sct_delta.specs.Refusals.{first_refusal, fresh_in}
+use Rattle.sct_delta.specs.Entries.{Placed, IsArrivals, log_of, held_from, holds, messages_of}
+use Rattle.sct_delta.specs.Refusals.{first_refusal, fresh_in, has_site}
+use Rattle.sct_delta.specs.Sites.{most_sites}
 use Rattle.sct_delta.specs.declared.fault.DeltaFault.{DeltaFault}
 use Rattle.sct_site.specs.declared.answers.Took.{Took}
 use Rattle.sct_site.specs.declared.answers.Took.TheVariants as took
@@ -19,9 +20,15 @@ pub record Core : Type 0 where
   pub group : ℕ
   pub arrivals : List Placed
 
--- a group has 1 to 64 sites, and these are numbered from 1
+-- a group has at least one site and at most the most that may be, and these are numbered from 1
 abbrev pub is_open : ℕ → ℕ → Bool
-is_open number group = nat_lt 0 number && not (nat_lt group number) && not (nat_lt 64 group)
+is_open number group = nat_lt 0 number && not (nat_lt group number) && not (nat_lt most_sites group)
+
+-- What holds of every site: its arrivals are in order, and each entry is of a site of its group.
+pub record IsSite (core : Core) : Type 0 where
+  pub opened : is_open core.number core.group ≡ true
+  pub order : IsArrivals core.arrivals
+  pub inside : (entry : Placed) → holds core.arrivals entry ≡ true → has_site core.group entry.origin ≡ true
 
 -- the logs of a list of entries: of each origin its messages, in the order in which they stand
 abbrev pub logs_of : List Placed → ℕ → List Draft

@@ -5,7 +5,7 @@ ghost use Rattle.std.specs.Arc.{arc_value};
 ghost use Rattle.sct_delta.specs.Entries.{IsArrivals, IsDelta, held_from, messages_of};
 ghost use Rattle.sct_delta.specs.Vectors.{count_in};
 ghost use Rattle.sct_delta.specs.declared.fault.DeltaFault.TheVariants as fault;
-ghost use Rattle.sct_site.specs.Cores.{Core, is_open, took_by, arrivals_taken, refusal_by, fresh_of, arrivals_joined, entries_above};
+ghost use Rattle.sct_site.specs.Cores.{Core, IsSite, is_open, took_by, arrivals_taken, refusal_by, fresh_of, arrivals_joined, entries_above};
 
 use crate::answers::{Accepted, Took};
 use crate::fresh::{fresh_in, messages_in};
@@ -128,7 +128,8 @@ impl SiteCore {
 
     // The first reason why the site does not take a delta.
     fn refusal(&self, delta: &Delta) -> Option<DeltaFault>
-        ensures { result ≡ refusal_by self.now delta.now }
+        ensures first { result ≡ refusal_by self.now delta.now }
+        ensures site { IsSite self.now }
     {
         match self.logs.fits(self.number, delta) {
             Ok(()) => None,
@@ -172,6 +173,7 @@ impl SiteCore {
         ensures err { IfErr result (λ refusal. MatchOption (refusal_by self.old delta.now)
             (refusal ≡ fault.Memory) (λ first. refusal ≡ first)) }
         ensures unchanged { OnErr result (self.new ≡ self.old) }
+        ensures site { IsSite self.old }
     {
         if let Some(refusal) = self.refusal(delta) {
             return Err(refusal);
@@ -184,6 +186,7 @@ impl SiteCore {
         ensures cut { IfOk result (λ delta. delta ≡ entries_above (count_in vector.now) self.now.arrivals) }
         ensures shape { IfOk result (λ delta. IsDelta delta) }
         ensures err { IfErr result (λ refusal. refusal ≡ fault.Memory) }
+        ensures site { IsSite self.now }
     {
         self.logs.cut(vector)
     }

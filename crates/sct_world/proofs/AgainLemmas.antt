@@ -72,7 +72,7 @@ kept_last [] fs x held = held
 kept_last (e ∷ es) fs x held = ap (λ (b : Bool). same_entry e x || b) (kept_last es fs x held) ∙ or_true (same_entry e x)
 
 -- after a delta was accepted each of its entries is held
-joined_holds : (es ds : List Placed) → IsArrivals es → (x : Placed) → holds ds x ≡ true → holds (arrivals_joined es ds) x ≡ true
+pub joined_holds : (es ds : List Placed) → IsArrivals es → (x : Placed) → holds ds x ≡ true → holds (arrivals_joined es ds) x ≡ true
 joined_holds es ds arrive x in_delta =
     elim (is_held (logs_of es) x) as (λ b. is_held (logs_of es) x ≡ b → holds (arrivals_joined es ds) x ≡ true) [
       | true ↦ λ held. kept_first es (fresh_of es ds) x (stands_held es arrive x held)

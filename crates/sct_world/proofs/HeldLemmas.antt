@@ -62,7 +62,7 @@ place_in o n (m ∷ ms) e is =
           (omega arith, ap (slice_get (m ∷ ms)) next ∙ rest.1)
     ]
 
-implied : (a b : Bool) → (b ≡ true → a ≡ true) → (a && b) ≡ b
+pub implied : (a b : Bool) → (b ≡ true → a ≡ true) → (a && b) ≡ b
 implied true b h = refl
 implied false true h = h refl
 implied false false h = refl

@@ -14,8 +14,11 @@ use Rattle.sct_delta.specs.Vectors.{count_in}
 use Rattle.sct_delta.specs.declared.fault.DeltaFault.{DeltaFault}
 use Rattle.sct_site.specs.Cores.{Core, is_repeat, own_entry, arrivals_taken, arrivals_joined, fresh_of, refusal_by}
 use Rattle.sct_site.proofs.ArrivalLemmas.{length-log}
+use Rattle.sct_message.specs.Sets.{MessageSet}
+use Rattle.sct_reconcile.specs.Reports.{report_of, report_text_of}
+use Rattle.sct_world.specs.Answers.{texts_of}
 use Rattle.sct_world.specs.Closed.{IsClosed}
-use Rattle.sct_world.specs.Laws.{history, EqualSetsHoldAlike, NeverLosesAnEntry, EqualVectorsHoldAlike}
+use Rattle.sct_world.specs.Laws.{history, EqualSetsHoldAlike, EqualSetsAnswerAlike, EqualSetsReportAlike, NeverLosesAnEntry, EqualVectorsHoldAlike}
 use Rattle.sct_world.specs.States.{State, opened, is_no_site, held_at, core_at, with_held, delta_at}
 use Rattle.sct_world.specs.Histories.{site_of, after_accepted, after_handed, after_at, world_after, world_after_all}
 use Rattle.sct_world.specs.declared.event.Event.{Event}
@@ -29,6 +32,13 @@ use Rattle.sct_world.proofs.StateLemmas.{held-with_same, held-with_other, sites-
 
 pub equal_sets : EqualSetsHoldAlike
 equal_sets m n events others i j here there same = exactly m events i here ∙ same ∙ sym (exactly n others j there)
+
+pub equal_answers : EqualSetsAnswerAlike
+equal_answers m n events others i j here there same = ap texts_of (equal_sets m n events others i j here there same)
+
+pub equal_reports : EqualSetsReportAlike
+equal_reports m n events others i j here there same bank day list =
+    ap (λ (held : MessageSet). report_text_of (report_of held bank day list)) (equal_sets m n events others i j here there same)
 
 -- ---- a site never loses an entry
 
@@ -147,7 +157,7 @@ inside_some : {X : Type 0} {x y : X} → Some x ≡ Some y → x ≡ y
 inside_some e = cc
 
 -- there is a message at each number of a log
-at_number : (log : List Draft) (n : ℕ) → nat_eq n 0 ≡ false → nat_lt (length log) n ≡ false → (P : Type 0) → ((m : Draft) → message_at log n ≡ Some m → P) → P
+pub at_number : (log : List Draft) (n : ℕ) → nat_eq n 0 ≡ false → nat_lt (length log) n ≡ false → (P : Type 0) → ((m : Draft) → message_at log n ≡ Some m → P) → P
 at_number log n above inside P some =
     elim ((slice_get_cases log (n - 1)).1) as (λ c. P) [
       | inl found ↦ some found.0 (ap (λ (b : Bool). cond b None (slice_get log (n - 1))) above ∙ found.2)
@@ -157,7 +167,7 @@ at_number log n above inside P some =
           absurd (false≢true (sym inside ∙ never))
     ]
 
-not_0 : (log : List Draft) (n : ℕ) (m : Draft) → message_at log n ≡ Some m → nat_eq n 0 ≡ false
+pub not_0 : (log : List Draft) (n : ℕ) (m : Draft) → message_at log n ≡ Some m → nat_eq n 0 ≡ false
 not_0 log n m is = elim (nat_eq n 0) as (λ b. cond b None (slice_get log (n - 1)) ≡ Some m → b ≡ false) [
   | true ↦ λ e. cc
   | false ↦ λ e. refl

@@ -2,9 +2,13 @@
 pub mod AgainLemmas
 pub mod CoreLemmas
 pub mod ExactlyLemmas
+pub mod HandLemmas
 pub mod HeldLemmas
+pub mod KeptLemmas
 pub mod LawLemmas
 pub mod NoForkLemmas
 pub mod OpenLemmas
+pub mod SettledLemmas
 pub mod StateLemmas
+pub mod ValueLemmas
 pub mod WorldLemmas

@@ -33,7 +33,7 @@ use Rattle.sct_world.proofs.StateLemmas.{held-with_same}
 inside_some : {X : Type 0} {x y : X} → Some x ≡ Some y → x ≡ y
 inside_some e = cc
 
-found_in : (p : Placed → Bool) (ds : List Placed) (e : Placed) → find p ds ≡ Some e → (holds ds e ≡ true) × (p e ≡ true)
+pub found_in : (p : Placed → Bool) (ds : List Placed) (e : Placed) → find p ds ≡ Some e → (holds ds e ≡ true) × (p e ≡ true)
 found_in p [] e is = cc
 found_in p (d ∷ ds) e is =
     elim (p d) as (λ b. p d ≡ b → cond b (Some d) (find p ds) ≡ Some e → ((same_entry d e || holds ds e) ≡ true) × (p e ≡ true)) [
@@ -50,7 +50,7 @@ module _ (P : DeltaFault → Type 0) (tells : Placed → DeltaFault) (p : Placed
   told_all all None = tt
   told_all all (Some e) = all e
 
-  told_never : ((e : Placed) → holds ds e ≡ true → p e ≡ false) → IfSome (told tells (find p ds)) P
+  pub told_never : ((e : Placed) → holds ds e ≡ true → p e ≡ false) → IfSome (told tells (find p ds)) P
   told_never never =
       elim (find p ds) as (λ o. find p ds ≡ o → IfSome (told tells o) P) [
         | None ↦ λ is. tt
@@ -59,7 +59,7 @@ module _ (P : DeltaFault → Type 0) (tells : Placed → DeltaFault) (p : Placed
             absurd (false≢true (sym (never e found.0) ∙ found.1))
       ] refl
 
-or_else : (P : DeltaFault → Type 0) (a b : Option DeltaFault) → IfSome a P → IfSome b P → IfSome (option_or a b) P
+pub or_else : (P : DeltaFault → Type 0) (a b : Option DeltaFault) → IfSome a P → IfSome b P → IfSome (option_or a b) P
 or_else P None b p q = q
 or_else P (Some f) b p q = p
 
@@ -112,10 +112,10 @@ module _ (w : State) (closed : IsClosed w) (s : ℕ) where
 inside : (n site : ℕ) → (nat_lt site 1 || nat_lt n site) ≡ false → site - 1 < n
 inside n site there = grind (arith, nat_tests)
 
-number_is : (a b : ℕ) → nat_eq a b ≡ true → a ≡ b
+pub number_is : (a b : ℕ) → nat_eq a b ≡ true → a ≡ b
 number_is a b e = grind (arith, nat_tests)
 
-number_other : (a b : ℕ) → nat_eq a b ≡ false → a ≢ b
+pub number_other : (a b : ℕ) → nat_eq a b ≡ false → a ≢ b
 number_other a b e same = false≢true (sym e ∙ (let is : nat_eq a b ≡ true = grind (arith, nat_tests) in is))
 
 module _ (w : State) (s : ℕ) (there : is_no_site w s ≡ false) (es : List Placed) where
@@ -167,11 +167,11 @@ module _ (w : State) (closed : IsClosed w) (s : ℕ) (there : is_no_site w s ≡
 pub kept_first : (es fs : List Placed) (e : Placed) → holds es e ≡ true → holds (es ++ fs) e ≡ true
 kept_first es fs e held = list_any-append (λ x. same_entry x e) es fs ∙ ap (λ (b : Bool). b || holds fs e) held
 
-one_of : (es fs : List Placed) (e : Placed) → holds (es ++ fs) e ≡ true → (holds es e ≡ true) ⊎ (holds fs e ≡ true)
+pub one_of : (es fs : List Placed) (e : Placed) → holds (es ++ fs) e ≡ true → (holds es e ≡ true) ⊎ (holds fs e ≡ true)
 one_of es fs e held = either (holds es e) (holds fs e) (sym (list_any-append (λ x. same_entry x e) es fs) ∙ held)
 
 -- a test that is passed in part of a list is passed in it
-any_kept : (p q : Placed → Bool) (ds : List Placed) → list_any q (filter p ds) ≡ true → list_any q ds ≡ true
+pub any_kept : (p q : Placed → Bool) (ds : List Placed) → list_any q (filter p ds) ≡ true → list_any q ds ≡ true
 any_kept p q [] is = is
 any_kept p q (d ∷ ds) is =
     elim (p d) as (λ b. list_any q (cond b (d ∷ filter p ds) (filter p ds)) ≡ true → (q d || list_any q ds) ≡ true) [
@@ -220,7 +220,7 @@ run_above count es arrive o =
     ∙ ap (ascending entry_order) (from_above count es arrive o)
     ∙ ascending-sorted entry_total entry_same _ (rises_as_entries _ (rises-numbered o (count o + 1) _)))
 
-among_above : (count : ℕ → ℕ) (es : List Placed) (e : Placed) → holds (entries_above count es) e ≡ true → holds es e ≡ true
+pub among_above : (count : ℕ → ℕ) (es : List Placed) (e : Placed) → holds (entries_above count es) e ≡ true → holds es e ≡ true
 unfolding entries_above
 among_above count es e held = any_kept (is_above count) (λ x. same_entry x e) es (sym (any_ascending entry_total entry_same (λ x. same_entry x e) (filter (is_above count) es)) ∙ held)
 

@@ -1,14 +1,13 @@
 -- What events do to a world, and what each is answered: functions of what the sites hold and of the deltas cut, by
 -- the words in which one site takes, accepts and cuts. Read by an auditor.
 use Rattle.std.specs.Prelude.{ℕ, ◌+◌, ◌++◌, List, [], ◌∷◌, length, Option, Some, None, Result, Ok, Err, if◌then◌else◌}
-use Rattle.std.specs.Arc.{arc_value}
 use Rattle.std.specs.List.{fold}
 use Rattle.sct_delta.specs.Entries.{Placed}
-use Rattle.sct_delta.specs.Vectors.{count_in}
 use Rattle.sct_delta.specs.declared.fault.DeltaFault.{DeltaFault}
 use Rattle.sct_site.specs.declared.answers.Took.{Took}
 use Rattle.sct_site.specs.declared.answers.Took.TheVariants as took
 use Rattle.sct_site.specs.Cores.{Core, took_by, arrivals_taken, refusal_by, fresh_of, arrivals_joined, entries_above}
+use Rattle.sct_world.specs.Happenings.{Happening, Taken, Cut, Handed, happening_of, place_of}
 use Rattle.sct_world.specs.States.{State, is_no_site, held_at, core_at, with_held, delta_at}
 use Rattle.sct_world.specs.declared.event.Event.{Event}
 use Rattle.sct_world.specs.declared.event.Event.TheVariants as event
@@ -42,12 +41,15 @@ abbrev pub step_handed : Core → Option (List Placed) → Result Step WorldFaul
 step_handed core None = Err fault.NoSuchDelta
 step_handed core (Some delta) = step_accepted (length (fresh_of core.arrivals delta)) (refusal_by core delta)
 
+-- what happens at a site that is there
+abbrev pub step_there : State → Happening → Result Step WorldFault
+step_there w (Taken site message) = Ok (step_taken (took_by (core_at w site) message))
+step_there w (Cut site counts) = Ok (step.Cut (length w.deltas + 1) (length (entries_above counts (held_at w site))))
+step_there w (Handed delta site) = step_handed (core_at w site) (delta_at w.deltas delta)
+
 -- an event at a site that is there
 abbrev pub step_at : State → Event → Result Step WorldFault
-step_at w (event.Take site message) = Ok (step_taken (took_by (core_at w site) (arc_value message)))
-step_at w (event.Cut site vector) =
-    Ok (step.Cut (length w.deltas + 1) (length (entries_above (count_in vector) (held_at w site))))
-step_at w (event.Hand delta site) = step_handed (core_at w site) (delta_at w.deltas delta)
+step_at w e = step_there w (happening_of e)
 
 -- what an event is answered: before all else, that there is no such site
 unfoldable pub step_of : State → Event → Result Step WorldFault
@@ -65,12 +67,15 @@ abbrev pub after_handed : State → ℕ → Option (List Placed) → State
 after_handed w site None = w
 after_handed w site (Some delta) = after_accepted w site delta (refusal_by (core_at w site) delta)
 
+-- after what happened at a site that is there
+abbrev pub after_there : State → Happening → State
+after_there w (Taken site message) = with_held w site (arrivals_taken (core_at w site) message)
+after_there w (Cut site counts) = record { held = w.held; deltas = w.deltas ++ entries_above counts (held_at w site) ∷ [] }
+after_there w (Handed delta site) = after_handed w site (delta_at w.deltas delta)
+
 -- after an event at a site that is there
 abbrev pub after_at : State → Event → State
-after_at w (event.Take site message) = with_held w site (arrivals_taken (core_at w site) (arc_value message))
-after_at w (event.Cut site vector) =
-    record { held = w.held; deltas = w.deltas ++ entries_above (count_in vector) (held_at w site) ∷ [] }
-after_at w (event.Hand delta site) = after_handed w site (delta_at w.deltas delta)
+after_at w e = after_there w (happening_of e)
 
 -- the world after an event; one at no site leaves it
 unfoldable pub world_after : State → Event → State
@@ -94,3 +99,20 @@ outcome_of w e = ended (step_of w e)
 abbrev pub outcomes_of : State → List Event → List Outcome
 outcomes_of w [] = []
 outcomes_of w (e ∷ events) = outcome_of w e ∷ outcomes_of (world_after w e) events
+
+-- ---- the same of what happens, told by values
+
+abbrev pub step_by : State → Happening → Result Step WorldFault
+step_by w h = if is_no_site w (place_of h) then Err fault.BadSite else step_there w h
+
+abbrev pub after_by : State → Happening → State
+after_by w h = if is_no_site w (place_of h) then w else after_there w h
+
+-- the world after all of it, one after the other
+abbrev pub world_by : State → List Happening → State
+world_by w happenings = fold after_by w happenings
+
+-- how each ends
+abbrev pub outcomes_by : State → List Happening → List Outcome
+outcomes_by w [] = []
+outcomes_by w (h ∷ happenings) = ended (step_by w h) ∷ outcomes_by (after_by w h) happenings

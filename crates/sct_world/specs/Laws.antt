@@ -2,8 +2,12 @@
 use Rattle.std.specs.Prelude.{◌≡◌, ℕ, true, false, List, Ok}
 use Rattle.sct_message.specs.Sets.{MessageSet}
 use Rattle.sct_delta.specs.Entries.{Placed, held_from, holds, messages_of}
+use Rattle.sct_reconcile.specs.Reports.{report_of, report_text_of}
+use Rattle.sct_reconcile.specs.declared.rows.ListedRow.{ListedRow}
+use Rattle.sct_world.specs.Answers.{texts_of}
 use Rattle.sct_world.specs.States.{State, opened, is_no_site, held_at}
-use Rattle.sct_world.specs.Histories.{step_of, world_after, world_after_all, outcomes_of}
+use Rattle.sct_world.specs.Happenings.{happenings_of}
+use Rattle.sct_world.specs.Histories.{step_of, world_after, world_after_all, outcomes_of, world_by, outcomes_by}
 use Rattle.sct_world.specs.Taken.{taken_at}
 use Rattle.sct_world.specs.declared.event.Event.{Event}
 use Rattle.sct_world.specs.declared.event.Event.TheVariants as event
@@ -23,6 +27,22 @@ EqualSetsHoldAlike = (m n : ℕ) (events others : List Event) (i j : ℕ)
     → is_no_site (history m events) i ≡ false → is_no_site (history n others) j ≡ false
     → taken_in m events i ≡ taken_in n others j
     → messages_of (held_at (history m events) i) ≡ messages_of (held_at (history n others) j)
+
+-- Sites, of one world or of two, that took or accepted the same messages answer the same texts.
+abbrev pub EqualSetsAnswerAlike : Type 0
+EqualSetsAnswerAlike = (m n : ℕ) (events others : List Event) (i j : ℕ)
+    → is_no_site (history m events) i ≡ false → is_no_site (history n others) j ≡ false
+    → taken_in m events i ≡ taken_in n others j
+    → texts_of (messages_of (held_at (history m events) i)) ≡ texts_of (messages_of (held_at (history n others) j))
+
+-- Sites, of one world or of two, that took or accepted the same messages give the same report, and its text is the same.
+abbrev pub EqualSetsReportAlike : Type 0
+EqualSetsReportAlike = (m n : ℕ) (events others : List Event) (i j : ℕ)
+    → is_no_site (history m events) i ≡ false → is_no_site (history n others) j ≡ false
+    → taken_in m events i ≡ taken_in n others j
+    → (bank day : List ℕ) (list : List ListedRow)
+    → report_text_of (report_of (messages_of (held_at (history m events) i)) bank day list)
+    ≡ report_text_of (report_of (messages_of (held_at (history n others) j)) bank day list)
 
 -- A site never loses an entry.
 abbrev pub NeverLosesAnEntry : Type 0
@@ -45,3 +65,11 @@ abbrev pub HandingAgainChangesNothing : Type 0
 HandingAgainChangesNothing = (sites : ℕ) (before between : List Event) (delta site fresh : ℕ)
     → step_of (history sites before) (event.Hand delta site) ≡ Ok (step.Accepted fresh)
     → ChangesNothing (world_after_all (world_after (history sites before) (event.Hand delta site)) between) (event.Hand delta site)
+
+-- Events of the same values end alike and leave the same: a history goes by what happens.
+pub record GoByValues (w : State) (events : List Event) : Type 0 where
+  pub outcomes : outcomes_of w events ≡ outcomes_by w (happenings_of events)
+  pub world : world_after_all w events ≡ world_by w (happenings_of events)
+
+abbrev pub HistoriesGoByValues : Type 0
+HistoriesGoByValues = (w : State) (events : List Event) → GoByValues w events

@@ -2,6 +2,7 @@
 use Rattle.std.specs.Prelude.{ℕ, ◌-◌, ◌||◌, ◌&&◌, not, Bool, List, [], length, nat_eq, nat_lt, slice_index_or, slice_set, replicate, Option, None, if◌then◌else◌}
 use Rattle.std.specs.List.{slice_get}
 use Rattle.sct_delta.specs.Entries.{Placed}
+use Rattle.sct_delta.specs.Sites.{most_sites}
 use Rattle.sct_site.specs.Cores.{Core}
 
 -- of each site, from the first on, the entries that it holds in the order in which they came; and the deltas in the
@@ -14,9 +15,9 @@ pub record State : Type 0 where
 abbrev pub opened : ℕ → State
 opened sites = record { held = replicate sites []; deltas = [] }
 
--- a world has 1 to 64 sites
+-- a world has at least one site and at most the most that a group may have
 abbrev pub is_size : ℕ → Bool
-is_size sites = nat_lt 0 sites && not (nat_lt 64 sites)
+is_size sites = nat_lt 0 sites && not (nat_lt most_sites sites)
 
 -- there is no such site: sites are numbered from 1
 abbrev pub is_no_site : State → ℕ → Bool

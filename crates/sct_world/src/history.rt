@@ -3,15 +3,23 @@
 ghost use Rattle.std.specs.Prelude.{◌≡◌, ◌≢◌, ℕ, false, All, OnOk, IfOk, IfErr};
 ghost use Rattle.sct_delta.specs.Entries.{messages_of};
 ghost use Rattle.sct_delta.specs.declared.fault.DeltaFault.TheVariants as delta;
+ghost use Rattle.sct_reconcile.specs.Reports.{report_of};
+ghost use Rattle.sct_set.specs.Archive.{archive_text_of};
+ghost use Rattle.sct_view.specs.StatusText.{status_text_of};
+ghost use Rattle.sct_view.specs.TotalsText.{totals_text_of};
 ghost use Rattle.sct_world.specs.Faults.{IsNoForkOutcome};
 ghost use Rattle.sct_world.specs.Histories.{outcome_of, outcomes_of, world_after, world_after_all};
+ghost use Rattle.sct_world.specs.Laws.{history, taken_in};
 ghost use Rattle.sct_world.specs.States.{opened, is_size, is_no_site, held_at};
 ghost use Rattle.sct_world.specs.Taken.{taken_at};
 ghost use Rattle.sct_world.specs.declared.fault.WorldFault.TheVariants as fault;
 
+use crate::answers::Answers;
 use crate::event::{Event, Outcome};
 use crate::fault::WorldFault;
 use crate::world::World;
+use sct_element::{Bic, Day};
+use sct_reconcile::{List, Report};
 use std::alloc::Global;
 
 /// A world after a list of events, and how each of the events ended.
@@ -59,4 +67,44 @@ pub fn run(alloc: Global, sites: u16, events: &[Event]) -> Result<Ran, WorldFaul
         outcomes.push(outcome(&mut world, event)?)?;
     }
     Ok(Ran { world, outcomes })
+}
+
+/// What a site answers after events in a new world of so many sites. 44 `BadSite` where the number of sites is not 1 to 64,
+/// or there is no such site among them, and else nothing but want of memory (40) refuses it.
+///
+/// This is the promise of convergence whole: each text is that of exactly the messages that the site took or accepted.
+pub fn answers_after(
+    alloc: Global,
+    sites: u16,
+    events: &[Event],
+    site: u16,
+) -> Result<Answers, WorldFault>
+    ensures archive { IfOk result (λ answers. answers.archive.items ≡ archive_text_of (taken_in sites events.now site)) }
+    ensures statuses { IfOk result (λ answers. answers.statuses.items ≡ status_text_of (taken_in sites events.now site)) }
+    ensures totals { IfOk result (λ answers. answers.totals.items ≡ totals_text_of (taken_in sites events.now site)) }
+    ensures there { OnOk result (is_no_site (history sites events.now) site ≡ false) }
+    ensures err { IfErr result (λ refusal. refusal ≢ fault.Delta delta.Memory → refusal ≡ fault.BadSite) }
+{
+    let ran = run(alloc, sites, events)?;
+    ran.world.answers(site)
+}
+
+/// The report on a bank's list for a settlement day that a site gives after events in a new world of so many sites: that
+/// of exactly the messages that the site took or accepted. Refused as `answers_after` is.
+pub fn report_after(
+    alloc: Global,
+    sites: u16,
+    events: &[Event],
+    site: u16,
+    bank: &Bic,
+    day: &Day,
+    list: &List,
+) -> Result<Report, WorldFault>
+    ensures report { IfOk result (λ report. report
+        ≡ report_of (taken_in sites events.now site) bank.now day.now list.now) }
+    ensures there { OnOk result (is_no_site (history sites events.now) site ≡ false) }
+    ensures err { IfErr result (λ refusal. refusal ≢ fault.Delta delta.Memory → refusal ≡ fault.BadSite) }
+{
+    let ran = run(alloc, sites, events)?;
+    ran.world.report(site, bank, day, list)
 }

@@ -2,15 +2,19 @@
 //! exactly the set of messages that it took or accepted.
 #![tactic(auto)]
 
+mod answers;
 mod event;
 mod fault;
 mod history;
 pub mod laws;
+mod settling;
 mod world;
 
+pub use answers::Answers;
 pub use event::{Event, Outcome, Step};
 pub use fault::WorldFault;
-pub use history::{Ran, run};
+pub use history::{Ran, answers_after, report_after, run};
+pub use settling::settle;
 pub use world::World;
 
 #[cfg(test)]

@@ -1,6 +1,7 @@
 //! Histories of worlds, with ample memory.
 
 mod scenes;
+mod settling;
 
 use crate::*;
 use scenes::{Line, events_of};
@@ -70,6 +71,25 @@ fn expect_alike(rt: &impl Abort, world: &World) {
     }
 }
 
+// What each of three sites answers of the transfer and its confirmation.
+static NIGHT_ARCHIVE: &str = concat!(
+    r#"{"Ccy":"EUR","Cdtr":"Bo Maes","CdtrAcct":"BE68539007547034","CdtrAgt":"BANQFRPPXXX","ChrgBr":"SLEV","CreDtTm":"2024-05-02T10:00:00Z","Dbtr":"Anna Weber","DbtrAcct":"DE89370400440532013000","DbtrAgt":"BANKDEFFXXX","EndToEndId":"E1","InstgAgt":"BANKDEFFXXX","IntrBkSttlmAmt":"1.00","IntrBkSttlmDt":"2024-05-02","LclInstrm":"INST","MsgId":"M1","MsgNmId":"pacs.008","SvcLvl":"SEPA","TxId":"T1"}"#,
+    "\n",
+    r#"{"CreDtTm":"2024-05-02T10:00:02Z","DbtrAgt":"BANKDEFFXXX","InstgAgt":"BANQFRPPXXX","MsgId":"C1","MsgNmId":"pacs.002","OrgnlMsgId":"M1","OrgnlMsgNmId":"pacs.008","OrgnlTxId":"T1","TxSts":"ACCP"}"#,
+    "\n"
+);
+
+static NIGHT_STATUSES: &str = "T|BANKDEFFXXX|T1|ACCEPTED\n";
+
+static NIGHT_TOTALS: &str =
+    "BANKDEFFXXX|1|1.00|0.00|0|0|0|0|0|0.00|0.00\nBANQFRPPXXX|0|0.00|0.00|0|0|0|0|1|1.00|0.00\n";
+
+fn expect_night(rt: &impl Abort, answers: &Answers) {
+    assert_eq!(rt; answers.archive.as_slice(), NIGHT_ARCHIVE.as_bytes());
+    assert_eq!(rt; answers.statuses.as_slice(), NIGHT_STATUSES.as_bytes());
+    assert_eq!(rt; answers.totals.as_slice(), NIGHT_TOTALS.as_bytes());
+}
+
 // How the event ends in the world.
 fn expect_outcome(rt: &impl Abort, world: &mut World, event: &Event, wanted: &Outcome) {
     match (world.step(event), wanted) {
@@ -113,4 +133,29 @@ fn a_night_at_three_sites_in_one_run(rt: HostRuntime) {
         assert_eq!(rt; *outcome, *wanted);
     }
     expect_alike(&rt, &ran.world);
+}
+
+// A site answers what is right after the night.
+fn expect_answers(rt: &impl Abort, world: &World, site: u16) {
+    let answers = world.answers(site).expect(rt, "answers");
+    expect_night(rt, &answers);
+}
+
+#[test]
+fn three_sites_answer_alike(rt: HostRuntime) {
+    let events = events_of(rt.alloc(), &NIGHT).expect(&rt, "events");
+    let ran = run(rt.alloc(), 3, &events).expect(&rt, "a run");
+    for site in 1..4 {
+        expect_answers(&rt, &ran.world, site);
+    }
+    assert!(rt; ran.world.answers(0).is_err());
+    assert!(rt; ran.world.answers(4).is_err());
+}
+
+#[test]
+fn a_site_answers_after_a_night(rt: HostRuntime) {
+    let events = events_of(rt.alloc(), &NIGHT).expect(&rt, "events");
+    let answers = answers_after(rt.alloc(), 3, &events, 2).expect(&rt, "answers");
+    expect_night(&rt, &answers);
+    assert!(rt; answers_after(rt.alloc(), 3, &events, 4).is_err());
 }

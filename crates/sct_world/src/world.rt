@@ -1,8 +1,12 @@
 //! A world: the sites of one group, and the deltas that they cut.
 
-ghost use Rattle.std.specs.Prelude.{◌≡◌, ◌≢◌, ℕ, [], true, false, Ok, Err, length, replicate, OnOk, OnErr, IfOk, IfErr};
+ghost use Rattle.std.specs.Prelude.{◌≡◌, ◌≢◌, ℕ, [], true, false, Ok, Err, length, replicate, if◌then◌else◌, OnOk, OnErr, IfOk, IfErr};
 ghost use Rattle.sct_delta.specs.Entries.{messages_of};
 ghost use Rattle.sct_delta.specs.Vectors.{count_in};
+ghost use Rattle.sct_reconcile.specs.Reports.{report_of};
+ghost use Rattle.sct_set.specs.Archive.{archive_text_of};
+ghost use Rattle.sct_view.specs.StatusText.{status_text_of};
+ghost use Rattle.sct_view.specs.TotalsText.{totals_text_of};
 ghost use Rattle.sct_delta.specs.declared.fault.DeltaFault.TheVariants as delta;
 ghost use Rattle.sct_world.specs.declared.event.Event.TheVariants as event;
 ghost use Rattle.sct_world.specs.declared.fault.WorldFault.TheVariants as fault;
@@ -10,10 +14,13 @@ ghost use Rattle.sct_world.specs.Inside.{cores_from};
 ghost use Rattle.sct_world.specs.Histories.{step_taken, site_of};
 ghost use Rattle.sct_world.specs.States.{is_size};
 
+use crate::answers::{Answers, answers_of, report_on};
 use crate::event::{Event, Step};
 use crate::fault::WorldFault;
-use sct_delta::{Delta, DeltaFault, Vector};
+use sct_delta::{Delta, DeltaFault, MOST_SITES, Vector};
+use sct_element::{Bic, Day};
 use sct_message::Message;
+use sct_reconcile::{List, Report};
 use sct_set::Archive;
 use sct_site::{SiteCore, Took};
 use std::alloc::Global;
@@ -27,9 +34,6 @@ pub struct World {
     cores: Vec<SiteCore>,
     deltas: Vec<Delta>,
 }
-
-// The most sites that a world has.
-const MOST: u16 = 64;
 
 impl Model for World {
     ghost use Rattle.sct_world.specs.States.{State};
@@ -89,7 +93,7 @@ impl World {
         ensures size { OnOk result (is_size sites ≡ true) }
         ensures err { IfErr result (λ refusal. refusal ≢ fault.Delta delta.Memory → (refusal ≡ fault.BadSite) × (is_size sites ≡ false)) }
     {
-        if sites == 0 || sites > MOST {
+        if sites == 0 || sites > MOST_SITES {
             return Err(WorldFault::BadSite);
         }
         match open_cores(alloc, sites) {
@@ -121,6 +125,42 @@ impl World {
         }
         let core = &self.cores[(site - 1) as usize];
         Ok(core.archive())
+    }
+
+    /// What a site answers of the messages that it holds. 44 `BadSite` where there is no such site, and else nothing but
+    /// want of memory (40) refuses it.
+    pub fn answers(&self, site: u16) -> Result<Answers, WorldFault>
+        ensures archive { IfOk result (λ answers. answers.archive.items ≡ archive_text_of (messages_of (held_at self.now site))) }
+        ensures statuses { IfOk result (λ answers. answers.statuses.items ≡ status_text_of (messages_of (held_at self.now site))) }
+        ensures totals { IfOk result (λ answers. answers.totals.items ≡ totals_text_of (messages_of (held_at self.now site))) }
+        ensures there { OnOk result (is_no_site self.now site ≡ false) }
+        ensures err { IfErr result (λ refusal. refusal ≡ (if is_no_site self.now site then fault.BadSite else fault.Delta delta.Memory)) }
+    {
+        let Ok(archive) = self.archive(site) else {
+            return Err(WorldFault::BadSite);
+        };
+        answers_of(self.alloc, archive)
+    }
+
+    /// The report on a bank's list for a settlement day, over the messages that a site holds. 44 `BadSite` where there is
+    /// no such site, and else nothing but want of memory (40) refuses it.
+    pub fn report(
+        &self,
+        site: u16,
+        bank: &Bic,
+        day: &Day,
+        list: &List,
+    ) -> Result<Report, WorldFault>
+        ensures report { IfOk result (λ report. report
+            ≡ report_of (messages_of (held_at self.now site)) bank.now day.now list.now) }
+        ensures there { OnOk result (is_no_site self.now site ≡ false) }
+        ensures err { IfErr result (λ refusal. refusal
+            ≡ (if is_no_site self.now site then fault.BadSite else fault.Delta delta.Memory)) }
+    {
+        let Ok(archive) = self.archive(site) else {
+            return Err(WorldFault::BadSite);
+        };
+        report_on(self.alloc, archive, bank, day, list)
     }
 
     // There is no such site.

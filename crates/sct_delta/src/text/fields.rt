@@ -13,9 +13,10 @@ fn space(text: &[u8]) -> Option<usize>
     text.iter().position(|byte| *byte == b' ')
 }
 
-// The number that a text begins with, up to the first space, and what stands behind the space.
+/// The number that a text begins with, up to the first space, and what stands behind the space; none where no number
+/// stands before a space.
 #[tactic(auto, unfolding(crate::specs::DeltaText::number_before_space))]
-fn number_before_space(text: &[u8]) -> Option<(u64, &[u8])>
+pub fn number_before_space(text: &[u8]) -> Option<(u64, &[u8])>
     ensures { option_map (λ field. (field.0, field.1.now)) result ≡ number_before_space text.now }
 {
     let at = space(text)?;

@@ -1,9 +1,12 @@
 //! Events to try worlds on.
 
 use crate::*;
-use sct_delta::Vector;
+use sct_delta::{Delta, DeltaFault, Entry, Vector};
 use sct_json::read_message;
+use sct_message::Message;
+use sct_site::SiteCore;
 use std::alloc::Global;
+use std::process::Abort;
 use std::sync::Arc;
 
 /// An event, by what it varies in.
@@ -53,4 +56,100 @@ pub(crate) fn events_of(alloc: Global, lines: &[Line]) -> Option<Vec<Event>> {
         events.push(event_of(alloc, *line)?).ok()?;
     }
     Some(events)
+}
+
+/// A site: its number, its group, the identifications of the confirmations that it took, and the one that it accepted as
+/// the first entry of site 1, where there is one.
+#[derive(Clone, Copy)]
+pub(crate) struct Life(
+    pub u16,
+    pub u16,
+    pub &'static [&'static str],
+    pub Option<&'static str>,
+);
+
+// A confirmation of that identification.
+fn confirmation_of(alloc: Global, id: &str) -> Option<Arc<Message>> {
+    let text = format!(in alloc;
+        r#"{{"MsgNmId":"pacs.002","MsgId":"{id}","CreDtTm":"2024-05-02T10:00:02Z","InstgAgt":"BANQFRPP","OrgnlMsgId":"M1","OrgnlMsgNmId":"pacs.008","OrgnlTxId":"T1","TxSts":"ACCP","DbtrAgt":"BANKDEFF"}}"#
+    );
+    let message = read_message(alloc, text.ok()?.as_bytes()).ok()?;
+    Arc::new(alloc, message).ok()
+}
+
+// The confirmation as the first entry of site 1.
+fn delta_of(alloc: Global, id: &str) -> Option<Delta> {
+    let mut entries = Vec::new(alloc);
+    let entry = Entry {
+        origin: 1,
+        n: 1,
+        message: confirmation_of(alloc, id)?,
+    };
+    entries.push(entry).ok()?;
+    Delta::of(entries).ok()
+}
+
+fn site_of(alloc: Global, life: Life) -> Option<SiteCore> {
+    let mut site = SiteCore::open(alloc, life.0, life.1).ok()?;
+    for id in life.2 {
+        site.take(confirmation_of(alloc, id)?).ok()?;
+    }
+    if let Some(id) = life.3 {
+        site.accept(&delta_of(alloc, id)?).ok()?;
+    }
+    Some(site)
+}
+
+// The sites of some lives. There are none only where memory is wanting.
+fn sites_of(alloc: Global, lives: &[Life]) -> Option<Vec<SiteCore>> {
+    let mut sites = Vec::new(alloc);
+    for life in lives {
+        sites.push(site_of(alloc, *life)?).ok()?;
+    }
+    Some(sites)
+}
+
+// The site holds so many entries of the sites 1, 2 and 3, and its archive has the text.
+fn expect_site(rt: &impl Abort, site: &SiteCore, counts: &[u64; 3], text: &[u8]) {
+    let vector = site.vector();
+    assert_eq!(rt; vector.get(1), counts[0]);
+    assert_eq!(rt; vector.get(2), counts[1]);
+    assert_eq!(rt; vector.get(3), counts[2]);
+    let own = site.archive().text().expect(rt, "a text");
+    assert_eq!(rt; own.as_slice(), text);
+}
+
+// Each site holds so many entries of the sites 1, 2 and 3, and all archives have the text of the first.
+fn expect_alike(rt: &impl Abort, sites: &[SiteCore], counts: &[u64; 3]) {
+    let first = sites.first().expect(rt, "a site");
+    let text = first.archive().text().expect(rt, "a text");
+    for site in sites {
+        expect_site(rt, site, counts, &text);
+    }
+}
+
+/// The sites are settled, and settled again, and each holds so many entries of the sites 1, 2 and 3.
+pub(crate) fn expect_settled(rt: &impl Abort, alloc: Global, lives: &[Life], counts: &[u64; 3]) {
+    let mut sites = sites_of(alloc, lives).expect(rt, "sites");
+    settle(alloc, &mut sites).expect(rt, "memory");
+    expect_alike(rt, &sites, counts);
+    settle(alloc, &mut sites).expect(rt, "memory");
+    expect_alike(rt, &sites, counts);
+}
+
+/// Settling the sites is refused, and each has so many arrivals afterwards.
+pub(crate) fn expect_unsettled(
+    rt: &impl Abort,
+    alloc: Global,
+    lives: &[Life],
+    wanted: &DeltaFault,
+    arrivals: &[usize],
+) {
+    let mut sites = sites_of(alloc, lives).expect(rt, "sites");
+    let refusal = settle(alloc, &mut sites).err().expect(rt, "a refusal");
+    assert_eq!(rt; refusal, *wanted);
+    assert_eq!(rt; sites.len(), arrivals.len());
+    for (site, count) in sites.iter().zip(arrivals) {
+        assert_eq!(rt; site.arrivals().len(), *count);
+    }
 }

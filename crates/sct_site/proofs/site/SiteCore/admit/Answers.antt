@@ -1,14 +1,12 @@
 -- A delta that nothing refuses comes to logs, arrivals and archive alike; right after `reserve` its joining cannot fail.
-use Rattle.std.proofs.Common.{◌≡◌, ap, sym, subst, ◌∙◌, ◌++◌, map, ℕ, List}
+use Rattle.std.proofs.Common.{◌≡◌, ap, subst, ◌∙◌, ◌++◌, map, List}
 use Rattle.std.specs.FinSet as set
-use Rattle.std.specs.Prelude.{None}
 use Rattle.sct_message.specs.declared.draft.Draft.{Draft}
 use Rattle.sct_set.specs.Contents.{contents_of}
 use Rattle.sct_set.specs.Drafts.{drafts_in}
 use Rattle.sct_delta.specs.Entries.{Placed, IsDelta, messages_of}
 use Rattle.sct_delta.specs.Logs.{log_in}
-use Rattle.sct_delta.specs.Refusals.{first_refusal, fresh_in, joined}
-use Rattle.sct_site.specs.Cores.{Core}
+use Rattle.sct_delta.specs.Refusals.{fresh_in, joined}
 use Rattle.sct_site.proofs.AcceptLemmas.{none_is, memory_alone, IsCore-joined, none_inside}
 use Rattle.sct_site.proofs.site.SiteCore.admit.Goals as goal
 

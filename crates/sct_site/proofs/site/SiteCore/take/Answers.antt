@@ -1,11 +1,11 @@
 -- A take is a repeat where the archive holds the message; else the message is the next own entry.
-use Rattle.std.proofs.Common.{◌≡◌, ap, sym, refl, ◌∙◌, ◌++◌, ◌∷◌, [], ◌+◌, ℕ, List, false, true, cond, nat_eq}
+use Rattle.std.proofs.Common.{◌≡◌, ap, ◌∙◌, ◌++◌, ◌∷◌, [], ◌+◌, ℕ, List, false, true, cond, nat_eq}
 use Rattle.std.specs.Arc.{arc_value}
 use Rattle.std.specs.FinSet as set
 use Rattle.sct_message.specs.declared.draft.Draft.{Draft}
 use Rattle.sct_delta.specs.Entries.{Placed, held_from}
 use Rattle.sct_delta.specs.Logs.{log_in}
-use Rattle.sct_site.specs.Cores.{Core, is_repeat, took_by, arrivals_taken, own_entry}
+use Rattle.sct_site.specs.Cores.{Core, own_entry}
 use Rattle.sct_site.proofs.TakeLemmas.{repeat_is, took-held, took-new, arrivals-held, arrivals-new, next_is, IsCore-taken}
 use Rattle.sct_site.proofs.site.SiteCore.take.Goals as goal
 

@@ -1,0 +1,97 @@
+-- Several sites of one group brought to one answer: what settling leaves, and why it is refused. Read by an auditor.
+use Rattle.std.specs.Prelude.{◌≡◌, ◌≢◌, ◌<◌, ◌&&◌, not, ℕ, Bool, true, List, [], ◌∷◌, length, nat_eq, slice_index_or, ⊤}
+use Rattle.std.specs.List.{list_any, list_all}
+use Rattle.sct_message.specs.declared.draft.Draft.{Draft}
+use Rattle.sct_delta.specs.Entries.{Placed, entries_from, held_from, holds}
+use Rattle.sct_delta.specs.declared.fault.DeltaFault.{DeltaFault}
+use Rattle.sct_delta.specs.declared.fault.DeltaFault.TheVariants as fault
+use Rattle.sct_site.specs.Cores.{Core}
+
+-- ---- several sites
+
+-- a site that holds nothing
+abbrev pub no_core : Core
+no_core = record { number = 0; group = 0; arrivals = [] }
+
+-- the site at a place, from 0; past the last one, a site that holds nothing
+abbrev pub core_in : List Core → ℕ → Core
+core_in cores place = slice_index_or cores place no_core
+
+-- some site holds the entry
+abbrev pub held_by_some : List Core → Placed → Bool
+held_by_some cores entry = list_any (λ core. holds core.arrivals entry) cores
+
+-- each of the others is of the site's group, and none has its number
+abbrev pub is_beside : Core → List Core → Bool
+is_beside core others =
+    list_all (λ other. nat_eq other.group core.group && not (nat_eq other.number core.number)) others
+
+-- the sites are of one group, and no number stands twice
+abbrev pub are_one_group : List Core → Bool
+are_one_group [] = true
+are_one_group (core ∷ others) = is_beside core others && are_one_group others
+
+-- ---- what is left
+
+-- A site as it was and as it is: it has the same number and group, it holds all that it held, beyond that only what
+-- some site held, and of its own entries those that it had.
+pub record IsKept (before : List Core) (old new : Core) : Type 0 where
+  pub number : new.number ≡ old.number
+  pub group : new.group ≡ old.group
+  pub keeps : (entry : Placed) → holds old.arrivals entry ≡ true → holds new.arrivals entry ≡ true
+  pub no_other : (entry : Placed) → holds new.arrivals entry ≡ true → held_by_some before entry ≡ true
+  pub own : entries_from old.number new.arrivals ≡ entries_from old.number old.arrivals
+
+-- each site is kept
+pub record AreKept (before after : List Core) : Type 0 where
+  pub size : length after ≡ length before
+  pub each : (place : ℕ) → IsKept before (core_in before place) (core_in after place)
+
+-- Settled: each site holds what any of them held, and none has gained an entry of its own number.
+pub record AreSettled (before after : List Core) : Type 0 where
+  pub kept : AreKept before after
+  pub joined : (place : ℕ) → place < length before
+      → (entry : Placed) → holds (core_in after place).arrivals entry ≡ held_by_some before entry
+
+-- ---- why sites of one group are not settled
+
+-- Two sites hold different messages under one origin and number.
+pub record HoldApart (cores : List Core) (origin n : ℕ) : Type 0 where
+  pub one : ℕ
+  pub other : ℕ
+  pub message : Draft
+  pub another : Draft
+  pub held : holds (core_in cores one).arrivals (record { origin = origin; n = n; message = message }) ≡ true
+  pub also_held : holds (core_in cores other).arrivals (record { origin = origin; n = n; message = another }) ≡ true
+  pub different : message ≢ another
+
+-- A site holds an entry of this number whose origin is another site, above that site's own count.
+pub record IsAhead (cores : List Core) (n : ℕ) : Type 0 where
+  pub holder : ℕ
+  pub owner : ℕ
+  pub entry : Placed
+  pub there : owner < length cores
+  pub held : holds (core_in cores holder).arrivals entry ≡ true
+  pub number : entry.n ≡ n
+  pub of_owner : entry.origin ≡ (core_in cores owner).number
+  pub above : held_from entry.origin (core_in cores owner).arrivals < n
+
+-- want of memory (40), a fork (42) or an entry ahead of its owner (43), each only where there is one; and never a gap
+-- (41), a site that the group does not have (44) or a wrong place (45)
+abbrev pub IsWhy : List Core → DeltaFault → Type 0
+IsWhy cores fault.Memory = ⊤
+IsWhy cores (fault.Gap origin have first) = ⊥
+IsWhy cores (fault.Fork origin n) = HoldApart cores origin n
+IsWhy cores (fault.OwnAhead n) = IsAhead cores n
+IsWhy cores fault.BadSite = ⊥
+IsWhy cores (fault.BadDelta line) = ⊥
+
+-- ---- one site after another
+
+-- what one site holds the other holds, too
+abbrev pub HasAll : Core → Core → Type 0
+HasAll one other = (entry : Placed) → holds one.arrivals entry ≡ true → holds other.arrivals entry ≡ true
+
+-- the sites are of the group of the first
+abbrev pub OfOneGroup : List Core → Type 0
+OfOneGroup cores = (place : ℕ) → place < length cores → (core_in cores place).group ≡ (core_in cores 0).group

@@ -1,0 +1,105 @@
+//! Several sites of one group brought to one answer.
+
+ghost use Rattle.std.specs.Prelude.{◌≡◌, ◌≢◌, ◌<◌, ℕ, true, false, length, OnOk, OnErr, IfOk, IfErr};
+ghost use Rattle.sct_delta.specs.Vectors.{count_in};
+ghost use Rattle.sct_delta.specs.declared.fault.DeltaFault.TheVariants as fault;
+ghost use Rattle.sct_world.specs.Settling.{core_in, is_beside, are_one_group, AreKept, AreSettled, IsWhy, HasAll, OfOneGroup};
+
+use sct_delta::{DeltaFault, Vector};
+use sct_site::SiteCore;
+use std::alloc::Global;
+
+// Whether each of the others is of the site's group, and none has its number.
+fn is_beside(core: &SiteCore, others: &[SiteCore]) -> bool
+    ensures { result ≡ is_beside core.now others.now }
+{
+    others.iter().all(|other| other.group() == core.group() && other.number() != core.number())
+}
+
+// Whether the sites are of one group, and no number stands twice.
+fn are_one_group(cores: &[SiteCore]) -> bool
+    ensures { result ≡ are_one_group cores.now }
+{
+    match cores.split_first() {
+        Some((core, others)) => is_beside(core, others) && are_one_group(others),
+        None => true,
+    }
+}
+
+// The vector of a site that holds nothing.
+fn empty_vector(alloc: Global) -> Result<Vector, DeltaFault>
+    ensures counts { IfOk result (λ vector. (origin : ℕ) → count_in vector origin ≡ 0) }
+    ensures err { IfErr result (λ refusal. refusal ≡ fault.Memory) }
+{
+    match Vector::of(alloc, &[]) {
+        Ok(vector) => Ok(vector),
+        Err(_) => Err(DeltaFault::Memory),
+    }
+}
+
+// Hands all that one site holds to another of its group.
+fn hand(cores: &mut [SiteCore], from: usize, to: usize, empty: &Vector) -> Result<(), DeltaFault>
+    requires giver { from < length cores.old }
+    requires taker { to < length cores.old }
+    requires group { (core_in cores.old from).group ≡ (core_in cores.old to).group }
+    requires empty { (origin : ℕ) → count_in empty.now origin ≡ 0 }
+    ensures kept { OnOk result (AreKept cores.old cores.new) }
+    ensures handed { OnOk result (HasAll (core_in cores.old from) (core_in cores.new to)) }
+    ensures why { IfErr result (λ refusal. IsWhy cores.old refusal) }
+    ensures unchanged { OnErr result (cores.new ≡ cores.old) }
+{
+    let delta = cores[from].cut(empty)?;
+    cores[to].accept(&delta)?;
+    Ok(())
+}
+
+// Hands all that the others hold to the first.
+fn gather(cores: &mut [SiteCore], empty: &Vector) -> Result<(), DeltaFault>
+    requires group { OfOneGroup cores.old }
+    requires empty { (origin : ℕ) → count_in empty.now origin ≡ 0 }
+    ensures kept { AreKept cores.old cores.new }
+    ensures ok { OnOk result ((place : ℕ) → place < length cores.old → HasAll (core_in cores.old place) (core_in cores.new 0)) }
+    ensures why { IfErr result (λ refusal. IsWhy cores.old refusal) }
+{
+    for place in 1..cores.len() {
+        hand(cores, place, 0, empty)?;
+    }
+    Ok(())
+}
+
+// Hands all that the first holds to each of the others.
+fn spread(cores: &mut [SiteCore], empty: &Vector) -> Result<(), DeltaFault>
+    requires group { OfOneGroup cores.old }
+    requires empty { (origin : ℕ) → count_in empty.now origin ≡ 0 }
+    ensures kept { AreKept cores.old cores.new }
+    ensures ok { OnOk result ((place : ℕ) → place < length cores.old → HasAll (core_in cores.old 0) (core_in cores.new place)) }
+    ensures why { IfErr result (λ refusal. IsWhy cores.old refusal) }
+{
+    for place in 1..cores.len() {
+        hand(cores, 0, place, empty)?;
+    }
+    Ok(())
+}
+
+/// Brings sites of one group to one answer: all that each holds comes to the first, and then from it to each. Afterwards
+/// each site holds what any of them held, and has of its own entries those that it had.
+///
+/// 44 `BadSite` where the groups differ or a number stands twice; then nothing has changed. Else it is refused by 42
+/// `Fork` where two sites hold different messages under one origin and number, by 43 `OwnAhead` where a site holds an
+/// entry of another above that one's own count, and by want of memory (40), and by nothing else. After such a refusal
+/// each site holds all that it held, and beyond that only entries that another held.
+pub fn settle(alloc: Global, cores: &mut [SiteCore]) -> Result<(), DeltaFault>
+    ensures ok { OnOk result (AreSettled cores.old cores.new) }
+    ensures one_group { OnOk result (are_one_group cores.old ≡ true) }
+    ensures kept { AreKept cores.old cores.new }
+    ensures apart { IfErr result (λ refusal. are_one_group cores.old ≡ false
+        → (refusal ≡ fault.BadSite) × (cores.new ≡ cores.old)) }
+    ensures why { IfErr result (λ refusal. are_one_group cores.old ≡ true → IsWhy cores.old refusal) }
+{
+    if !are_one_group(cores) {
+        return Err(DeltaFault::BadSite);
+    }
+    let empty = empty_vector(alloc)?;
+    gather(cores, &empty)?;
+    spread(cores, &empty)
+}
