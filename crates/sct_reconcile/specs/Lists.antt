@@ -1,0 +1,87 @@
+-- A participant's list, by the bytes of its text. Read by an auditor.
+-- A list is CSV (RFC 4180): records of fields parted by commas, with double quotes round a field that needs them. Which
+-- records a text has is the definition of the crate `csv`, with its defaults.
+use Rattle.std.specs.Prelude.{◌≡◌, ◌+◌, ◌&&◌, ℕ, Bool, false, List, [], ◌∷◌, codes, Option, Some, None, Result, Ok, Err, ⊤, option_and_then, if◌then◌else◌}
+use Rattle.std.specs.Str.{is_utf8}
+use Rattle.csv.specs.Reading.{default_config, records, strip_bom}
+use Rattle.sct_element.specs.Bank.{written_bic}
+use Rattle.sct_element.specs.Identification.{written_identification}
+use Rattle.sct_element.specs.Money.{cents_of}
+use Rattle.sct_element.specs.Text.{is_text, where_read}
+use Rattle.sct_reconcile.specs.Words.{list_status_of}
+use Rattle.sct_reconcile.specs.declared.fault.ReconcileFault.{ReconcileFault}
+use Rattle.sct_reconcile.specs.declared.fault.ReconcileFault.TheVariants.{BadList, Memory}
+use Rattle.sct_reconcile.specs.declared.rows.ListedRow.{ListedRow}
+use Rattle.sct_reconcile.specs.declared.words.ListStatus.{ListStatus}
+
+abbrev pub fault_number : ReconcileFault → ℕ
+fault_number (BadList row) = 48
+fault_number Memory = 49
+
+-- ---- the records of a text
+
+-- A record is the list of its fields, a field the list of its bytes. A byte order mark before the text is dropped.
+abbrev pub records_of : List ℕ → List (List (List ℕ))
+records_of bytes = records default_config (strip_bom bytes)
+
+-- ---- one record
+
+-- a field as text; none where it is no UTF-8
+abbrev pub text_of : List ℕ → Option (List ℕ)
+text_of field = where_read (is_utf8 field) field
+
+-- what a field reads as; none where it is no text, or no text of its type
+abbrev pub read_by : {X : Type 0} → (List ℕ → Option X) → List ℕ → Option X
+read_by reads field = option_and_then reads (text_of field)
+
+-- a row of what its four fields read as; none where one of them is not read
+abbrev pub said_by : Option (List ℕ) → Option (List ℕ) → Option ℕ → Option ListStatus → Option ListedRow
+said_by (Some bank) (Some tx) (Some cents) (Some status) = Some (record {
+  key = record { debtor_agent = bank; tx = tx };
+  listed = record { amount = cents; status = status };
+})
+said_by bank tx cents status = None
+
+-- the row that a record is: its fields are a bank, an identification, an amount and a status, and no others
+unfoldable pub row_of : List (List ℕ) → Option ListedRow
+row_of (bank ∷ tx ∷ amount ∷ status ∷ []) =
+    said_by (read_by written_bic bank) (read_by written_identification tx) (read_by cents_of amount) (read_by list_status_of status)
+row_of other = None
+
+-- the names of what a list says
+abbrev pub are_names : List ℕ → List ℕ → List ℕ → List ℕ → Bool
+are_names bank tx amount status =
+    is_text bank (codes "DbtrAgt") && is_text tx (codes "TxId") && is_text amount (codes "Amt") && is_text status (codes "Sts")
+
+-- the record is the header of a list: its fields are these names, and no others
+unfoldable pub is_header : List (List ℕ) → Bool
+is_header (bank ∷ tx ∷ amount ∷ status ∷ []) = are_names bank tx amount status
+is_header other = false
+
+-- ---- the list
+
+-- a row before others; where there is no row, the record of that number is bad
+abbrev pub row_before : Option ListedRow → ℕ → Result (List ListedRow) ReconcileFault → Result (List ListedRow) ReconcileFault
+row_before None number others = Err (BadList number)
+row_before (Some row) number (Ok rows) = Ok (row ∷ rows)
+row_before (Some row) number (Err fault) = Err fault
+
+-- the rows that these records are, the first of which has that number; or the first record that is none
+unfoldable pub rows_below : ℕ → List (List (List ℕ)) → Result (List ListedRow) ReconcileFault
+rows_below number [] = Ok []
+rows_below number (fields ∷ more) = row_before (row_of fields) number (rows_below (number + 1) more)
+
+-- the rows under a header that is the first record; without one, the first record is bad
+unfoldable pub list_in : List (List (List ℕ)) → Result (List ListedRow) ReconcileFault
+list_in [] = Err (BadList 1)
+list_in (fields ∷ more) = if is_header fields then rows_below 2 more else Err (BadList 1)
+
+-- the list that a text is, or the number of its first bad record, counted from 1 with the header
+abbrev pub list_of : List ℕ → Result (List ListedRow) ReconcileFault
+list_of bytes = list_in (records_of bytes)
+
+-- an answer is the one told; want of memory may stand in its place
+abbrev pub Gives : {X : Type 0} → Result X ReconcileFault → Result X ReconcileFault → Type 0
+Gives (Ok x) asked = asked ≡ Ok x
+Gives (Err (BadList number)) asked = asked ≡ Err (BadList number)
+Gives (Err Memory) asked = ⊤

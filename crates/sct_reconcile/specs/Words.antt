@@ -1,0 +1,68 @@
+-- The words of lists and reports. Read by an auditor.
+use Rattle.std.specs.Prelude.{ℕ, Bool, List, Option, Some, None, codes, if◌then◌else◌}
+use Rattle.sct_element.specs.Text.{is_text}
+use Rattle.sct_case.specs.Statuses.{Standing, Contradicted, Unknown, Missing, Rejected, Returned, Accepted, Investigated, Pending}
+use Rattle.sct_reconcile.specs.declared.words.ListStatus.{ListStatus}
+use Rattle.sct_reconcile.specs.declared.words.ListStatus.TheVariants as listed
+use Rattle.sct_reconcile.specs.declared.words.StatusWord.{StatusWord}
+use Rattle.sct_reconcile.specs.declared.words.StatusWord.TheVariants as word
+use Rattle.sct_reconcile.specs.declared.words.Verdict.{Verdict}
+use Rattle.sct_reconcile.specs.declared.words.Verdict.TheVariants as verdict
+
+-- ---- where a list says that a transfer stands
+
+abbrev pub list_status_text : ListStatus → List ℕ
+list_status_text listed.Accepted = codes "ACCEPTED"
+list_status_text listed.Rejected = codes "REJECTED"
+list_status_text listed.Returned = codes "RETURNED"
+list_status_text listed.Pending = codes "PENDING"
+list_status_text listed.Investigated = codes "INVESTIGATED"
+
+-- the status of a word; none where it is none of the five
+abbrev pub list_status_of : List ℕ → Option ListStatus
+list_status_of text =
+    if is_text text (codes "ACCEPTED") then Some listed.Accepted
+    else if is_text text (codes "REJECTED") then Some listed.Rejected
+    else if is_text text (codes "RETURNED") then Some listed.Returned
+    else if is_text text (codes "PENDING") then Some listed.Pending
+    else if is_text text (codes "INVESTIGATED") then Some listed.Investigated
+    else None
+
+-- ---- where a transfer stands
+
+-- the word of a status, without its argument
+abbrev pub word_of : Standing → StatusWord
+word_of (Contradicted found) = word.Contradicted
+word_of Unknown = word.Unknown
+word_of Missing = word.Missing
+word_of (Rejected reason) = word.Rejected
+word_of (Returned amount) = word.Returned
+word_of Accepted = word.Accepted
+word_of Investigated = word.Investigated
+word_of Pending = word.Pending
+
+abbrev pub word_text : StatusWord → List ℕ
+word_text word.Contradicted = codes "CONTRADICTED"
+word_text word.Unknown = codes "UNKNOWN"
+word_text word.Missing = codes "MISSING"
+word_text word.Rejected = codes "REJECTED"
+word_text word.Returned = codes "RETURNED"
+word_text word.Accepted = codes "ACCEPTED"
+word_text word.Investigated = codes "INVESTIGATED"
+word_text word.Pending = codes "PENDING"
+
+-- the list and the messages have the same word
+abbrev pub agrees : ListStatus → StatusWord → Bool
+agrees status told = is_text (list_status_text status) (word_text told)
+
+-- ---- what a comparison gives
+
+abbrev pub verdict_text : Verdict → List ℕ
+verdict_text verdict.ListedTwice = codes "LISTED_TWICE"
+verdict_text verdict.Contradicted = codes "CONTRADICTED"
+verdict_text verdict.OnlyInList = codes "ONLY_IN_LIST"
+verdict_text verdict.Missing = codes "MISSING"
+verdict_text verdict.OnlyInArchive = codes "ONLY_IN_ARCHIVE"
+verdict_text verdict.AmountDiffers = codes "AMOUNT_DIFFERS"
+verdict_text verdict.StatusDiffers = codes "STATUS_DIFFERS"
+verdict_text verdict.Matched = codes "MATCHED"

@@ -1,0 +1,12 @@
+-- What a writer of csv has written. Serves proofs.
+use Rattle.std.specs.Prelude.{◌≡◌, ℕ, List, Some, false}
+use Rattle.std.specs.Global.{Vec}
+use Rattle.csv.specs.Writing.{default_writer, fields_written, has_written, text_written, writer_setup}
+use Rattle.csv.specs.declared.writer.Writer.{Writer}
+
+-- A writer with the defaults stands between two rows, and this text has been written.
+pub record HasWritten (writer : Writer (Vec ℕ)) (text : List ℕ) : Type 0 where
+  pub setup : writer_setup writer ≡ default_writer
+  pub between : fields_written writer ≡ 0
+  pub clean : has_written writer ≡ false
+  pub text_is : text_written (λ v. Some v.items) writer ≡ Some text

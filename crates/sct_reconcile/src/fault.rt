@@ -1,0 +1,63 @@
+//! Why a list was not read, or a report not made.
+
+ghost use Rattle.std.specs.Prelude.{◌≡◌};
+ghost use Rattle.sct_reconcile.specs.Lists.{fault_number};
+ghost use Rattle.sct_reconcile.specs.declared.fault.ReconcileFault.TheVariants as fault;
+
+use sct_case::CaseFault;
+use std::alloc::{AllocError, AllocFailed};
+use thiserror::Error;
+
+/// A list that is none, or want of memory.
+#[derive(Debug, Drop, PartialEq, Eq, Error)]
+pub enum ReconcileFault {
+    /// The first bad record of a list, counted from 1 with the header row.
+    #[error("record {0} of the list is no row of a list")]
+    BadList(u64),
+    #[error("memory is wanting")]
+    Memory,
+}
+
+impl ReconcileFault {
+    /// The number by which the fault is told.
+    pub fn number(&self) -> u8
+        ensures { result ≡ fault_number self.now }
+    {
+        match self {
+            ReconcileFault::BadList(_) => 48,
+            ReconcileFault::Memory => 49,
+        }
+    }
+}
+
+impl From<AllocError> for ReconcileFault {
+    ghost from_gives = { λ _ f. f ≡ fault.Memory };
+
+    fn from(_: AllocError) -> Self {
+        ReconcileFault::Memory
+    }
+}
+
+impl<T: Drop> From<AllocFailed<T>> for ReconcileFault {
+    ghost from_gives = { λ _ f. f ≡ fault.Memory };
+
+    fn from(_: AllocFailed<T>) -> Self {
+        ReconcileFault::Memory
+    }
+}
+
+impl From<CaseFault> for ReconcileFault {
+    ghost from_gives = { λ _ f. f ≡ fault.Memory };
+
+    fn from(_: CaseFault) -> Self {
+        ReconcileFault::Memory
+    }
+}
+
+impl From<csv::Error> for ReconcileFault {
+    ghost from_gives = { λ _ f. f ≡ fault.Memory };
+
+    fn from(_: csv::Error) -> Self {
+        ReconcileFault::Memory
+    }
+}

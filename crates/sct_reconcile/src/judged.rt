@@ -1,0 +1,127 @@
+//! The row of one transfer.
+ghost use Rattle.std.specs.Prelude.{◌≡◌, Some};
+ghost use Rattle.sct_message.specs.Transfers.{instruction_of, sole};
+ghost use Rattle.sct_reconcile.specs.Reports.{amount_in, has_amount, has_status, is_contradicted, is_listed, is_listed_twice, is_uninstructed, row_from, verdict_of, word_on};
+
+use crate::rows::{Listed, ReportRow};
+use crate::words::{StatusWord, Verdict};
+use sct_element::Amount;
+use sct_message::{Draft, Message, TransferKey};
+use sct_view::View;
+
+fn is_contradicted(told: StatusWord) -> bool
+    ensures { result ≡ is_contradicted told }
+{
+    matches!(told, StatusWord::Contradicted)
+}
+
+fn is_uninstructed(told: StatusWord) -> bool
+    ensures { result ≡ is_uninstructed told }
+{
+    matches!(told, StatusWord::Unknown | StatusWord::Missing)
+}
+
+// What a list says of a transfer that it names once.
+fn sole(listed: &[Listed]) -> Option<Listed>
+    ensures { result ≡ sole listed.now }
+{
+    match listed {
+        [one] => Some(*one),
+        _ => None,
+    }
+}
+
+fn has_amount(listed: Option<Listed>, amount: &Option<Amount>) -> bool
+    ensures { result ≡ has_amount listed amount.now }
+{
+    match (listed, amount) {
+        (Some(listed), Some(amount)) => listed.amount == *amount,
+        _ => false,
+    }
+}
+
+fn has_status(listed: Option<Listed>, told: StatusWord) -> bool
+    ensures { result ≡ has_status listed told }
+{
+    match listed {
+        Some(listed) => listed.status.agrees(told),
+        None => false,
+    }
+}
+
+// The first case that holds.
+#[tactic(auto, unfolding(crate::specs::Reports::verdict_of))]
+fn verdict_of(listed: &[Listed], told: StatusWord, amount: &Option<Amount>) -> Verdict
+    ensures { result ≡ verdict_of listed.now told amount.now }
+{
+    if listed.len() > 1 {
+        return Verdict::ListedTwice;
+    }
+    if is_contradicted(told) {
+        return Verdict::Contradicted;
+    }
+    if is_uninstructed(told) && listed.len() > 0 {
+        return Verdict::OnlyInList;
+    }
+    if is_uninstructed(told) {
+        return Verdict::Missing;
+    }
+    if !(listed.len() > 0) {
+        return Verdict::OnlyInArchive;
+    }
+    if !has_amount(sole(listed), amount) {
+        return Verdict::AmountDiffers;
+    }
+    if !has_status(sole(listed), told) {
+        return Verdict::StatusDiffers;
+    }
+    Verdict::Matched
+}
+
+// The amount of a message that instructs a transfer.
+fn amount_of(message: &Message) -> Option<Amount>
+    ensures { result ≡ amount_in (Some message.now) }
+{
+    match message.draft() {
+        Draft::CreditTransfer(instruction) => Some(instruction.settlement_amount),
+        _ => None,
+    }
+}
+
+// The amount of the instruction, where there is exactly one.
+fn amount_on(view: &View, key: &TransferKey) -> Option<Amount>
+    ensures { result ≡ amount_in (instruction_of view.now key.now) }
+{
+    match view.instruction(key) {
+        Some(message) => amount_of(message),
+        None => None,
+    }
+}
+
+// The row of a transfer, of which a list, the messages and the instruction say this.
+fn row_from(
+    key: TransferKey,
+    listed: &[Listed],
+    status: StatusWord,
+    amount: Option<Amount>,
+) -> ReportRow
+    ensures { result ≡ row_from key listed.now status amount }
+{
+    let verdict = verdict_of(listed, status, &amount);
+    ReportRow {
+        key,
+        verdict,
+        listed: sole(listed),
+        amount,
+        status,
+    }
+}
+
+/// The row of a transfer, of which a list says this.
+pub fn row_on(view: &View, listed: &[Listed], key: &TransferKey) -> ReportRow
+    ensures { result ≡ row_from key.now listed.now (word_on view.now key.now) (amount_in (instruction_of view.now key.now)) }
+{
+    let status = StatusWord::of(view.status(key));
+    let amount = amount_on(view, key);
+    row_from(key.copy(), listed, status, amount)
+}

@@ -1,0 +1,24 @@
+//! Reconciliation of a participant's list: row by row, where the list and the messages held differ.
+#![tactic(auto)]
+
+mod fault;
+mod filed;
+mod judged;
+mod keys;
+pub mod laws;
+mod lists;
+mod records;
+mod reports;
+mod rows;
+mod words;
+mod writing;
+
+pub use fault::ReconcileFault;
+pub use judged::row_on;
+pub use lists::List;
+pub use reports::{Report, reconcile};
+pub use rows::{Listed, ListedRow, ReportRow};
+pub use words::{ListStatus, StatusWord, Verdict};
+
+#[cfg(test)]
+mod tests;

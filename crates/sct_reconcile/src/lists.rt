@@ -1,0 +1,159 @@
+//! A participant's list.
+ghost use Rattle.std.specs.Prelude.{◌≡◌, ◌+◌, ◌<◌, ◌^◌, map, drop};
+ghost use Rattle.csv.specs.Records.{fields_of};
+ghost use Rattle.sct_element.specs.Bank.{written_bic};
+ghost use Rattle.sct_element.specs.Identification.{written_identification};
+ghost use Rattle.sct_element.specs.Money.{cents_of};
+ghost use Rattle.sct_reconcile.specs.Lists.{Gives, are_names, is_header, list_in, list_of, read_by, row_of, rows_below, said_by};
+ghost use Rattle.sct_reconcile.specs.Turns.{GivesRows};
+ghost use Rattle.sct_reconcile.specs.declared.fault.ReconcileFault.TheVariants as fault;
+ghost use Rattle.sct_reconcile.specs.Words.{list_status_of};
+
+use crate::fault::ReconcileFault;
+use crate::records::{all_records, field, text_of};
+use crate::rows::{Listed, ListedRow};
+use crate::words::ListStatus;
+use csv::ByteRecord;
+use sct_element::{Amount, Bic, Id35, read_bic, read_identification};
+use sct_message::TransferKey;
+use std::alloc::Global;
+use std::marker::Model;
+
+/// The list of a participant for a settlement day: what it says of each transfer that it names.
+#[derive(Debug, Drop)]
+pub struct List {
+    rows: Vec<ListedRow>,
+}
+
+impl Model for List {
+    ghost use Rattle.std.specs.Prelude.{List as Rows};
+    ghost use Rattle.sct_reconcile.specs.declared.rows.ListedRow.{ListedRow as Row};
+
+    ghost Value = { Rows Row };
+
+    ghost view = { λ l. l.rows.items };
+}
+
+impl List {
+    /// Reads a list: CSV whose first record is the header `DbtrAgt,TxId,Amt,Sts`, and each further record a bank, an
+    /// identification, an amount and one of the words ACCEPTED, REJECTED, RETURNED, PENDING and INVESTIGATED. The first
+    /// record that is not so is refused 48 (BadList) with its number, counted from 1 with the header; a list of no record
+    /// with number 1. Want of memory is 49 (Memory), which a fault of `csv` underneath is told as, too.
+    pub fn read(alloc: Global, text: &[u8]) -> Result<List, ReconcileFault>
+        ensures { Gives result (list_of text.now) }
+    {
+        let records = all_records(alloc, text)?;
+        let rows = rows_in(alloc, &records)?;
+        Ok(List { rows })
+    }
+
+    /// The rows, in the order of the list.
+    pub fn rows(&self) -> &[ListedRow]
+        ensures { result.now ≡ self.now }
+    {
+        &self.rows
+    }
+}
+
+fn read_bank(field: &[u8]) -> Option<Bic>
+    ensures { result ≡ read_by written_bic field.now }
+{
+    read_bic(text_of(field)?).ok()
+}
+
+fn read_tx(field: &[u8]) -> Option<Id35>
+    ensures { result ≡ read_by written_identification field.now }
+{
+    read_identification(text_of(field)?).ok()
+}
+
+fn read_amount(field: &[u8]) -> Option<Amount>
+    ensures { result ≡ read_by cents_of field.now }
+{
+    Amount::read(text_of(field)?).ok()
+}
+
+fn read_status(field: &[u8]) -> Option<ListStatus>
+    ensures { result ≡ read_by list_status_of field.now }
+{
+    ListStatus::read(text_of(field)?)
+}
+
+// What four fields say.
+fn read_fields(bank: &[u8], tx: &[u8], amount: &[u8], status: &[u8]) -> Option<ListedRow>
+    ensures { result ≡ said_by (read_by written_bic bank.now) (read_by written_identification tx.now) (read_by cents_of amount.now) (read_by list_status_of status.now) }
+{
+    let debtor_agent = read_bank(bank)?;
+    let tx = read_tx(tx)?;
+    let amount = read_amount(amount)?;
+    let status = read_status(status)?;
+    Some(ListedRow {
+        key: TransferKey { debtor_agent, tx },
+        listed: Listed { amount, status },
+    })
+}
+
+// What a record says, if it is a row of a list.
+fn read_row(row: &ByteRecord) -> Option<ListedRow>
+    ensures { result ≡ row_of (fields_of row.now) }
+{
+    if row.len() != 4 {
+        return None;
+    }
+    read_fields(field(row, 0), field(row, 1), field(row, 2), field(row, 3))
+}
+
+// Whether four fields are the names of what a list says.
+fn are_names(bank: &[u8], tx: &[u8], amount: &[u8], status: &[u8]) -> bool
+    ensures { result ≡ are_names bank.now tx.now amount.now status.now }
+{
+    bank == b"DbtrAgt".as_slice()
+        && tx == b"TxId".as_slice()
+        && amount == b"Amt".as_slice()
+        && status == b"Sts".as_slice()
+}
+
+// Whether a record is the header of a list.
+fn is_header(row: &ByteRecord) -> bool
+    ensures { result ≡ is_header (fields_of row.now) }
+{
+    if row.len() != 4 {
+        return false;
+    }
+    are_names(field(row, 0), field(row, 1), field(row, 2), field(row, 3))
+}
+
+// The record at an index is bad: records are counted from 1.
+fn bad_record(index: usize) -> ReconcileFault
+    requires { index + 1 < 2 ^ 64 }
+    ensures { result ≡ fault.BadList (index + 1) }
+{
+    ReconcileFault::BadList(index as u64 + 1)
+}
+
+// The rows of the records after the first.
+fn rows_after_first(alloc: Global, records: &[ByteRecord]) -> Result<Vec<ListedRow>, ReconcileFault>
+    ensures { GivesRows result (rows_below 2 (drop 1 (map fields_of records.now))) }
+{
+    let mut rows = Vec::new(alloc);
+    for at in 1..records.len() {
+        let Some(row) = read_row(&records[at]) else {
+            return Err(bad_record(at));
+        };
+        rows.push(row)?;
+    }
+    Ok(rows)
+}
+
+// The rows of all records.
+fn rows_in(alloc: Global, records: &[ByteRecord]) -> Result<Vec<ListedRow>, ReconcileFault>
+    ensures { GivesRows result (list_in (map fields_of records.now)) }
+{
+    let Some(first) = records.first() else {
+        return Err(ReconcileFault::BadList(1));
+    };
+    if !is_header(first) {
+        return Err(ReconcileFault::BadList(1));
+    }
+    rows_after_first(alloc, records)
+}

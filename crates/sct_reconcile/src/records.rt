@@ -1,0 +1,46 @@
+//! The records of a text, as `csv` reads them.
+ghost use Rattle.std.specs.Prelude.{◌≡◌, map, IfOk, option_map};
+ghost use Rattle.csv.specs.Records.{field_at, fields_of};
+ghost use Rattle.sct_reconcile.specs.Lists.{records_of, text_of};
+ghost use Rattle.sct_reconcile.specs.Turns.{field_or};
+
+use csv::{ByteRecord, Error, ReaderBuilder};
+use std::alloc::Global;
+use std::str;
+
+/// The records of a text, each of as many fields as it has.
+pub(crate) fn all_records(alloc: Global, text: &[u8]) -> Result<Vec<ByteRecord>, Error>
+    ensures { IfOk result (λ records. map fields_of records.items ≡ records_of text.now) }
+{
+    let reader = ReaderBuilder::new()
+        .has_headers(false)
+        .flexible(true)
+        .from_reader(alloc, text);
+    let mut records = Vec::new(alloc);
+    for record in reader.into_byte_records() {
+        if records.push(record?).is_err() {
+            return Err(Error::out_of_memory());
+        }
+    }
+    Ok(records)
+}
+
+/// A field as text, if it is UTF-8.
+pub(crate) fn text_of(field: &[u8]) -> Option<&str>
+    ensures { option_map (λ s. s.now) result ≡ text_of field.now }
+{
+    match str::from_utf8(field) {
+        Ok(text) => Some(text),
+        Err(_) => None,
+    }
+}
+
+/// The field at a place, empty past the end.
+pub(crate) fn field(row: &ByteRecord, at: usize) -> &[u8]
+    ensures { result.now ≡ field_or (field_at (fields_of row.now) at) }
+{
+    match row.get(at) {
+        Some(field) => field,
+        None => &[],
+    }
+}

@@ -1,0 +1,89 @@
+//! The report that reconciles a list with the messages of a view.
+ghost use Rattle.std.specs.Prelude.{◌≡◌, List as Rows, IfOk, IfErr, map};
+ghost use Rattle.sct_reconcile.specs.Filed.{IsFiled};
+ghost use Rattle.sct_reconcile.specs.Reports.{report_of, report_text_of, row_on};
+ghost use Rattle.sct_reconcile.specs.declared.fault.ReconcileFault.TheVariants as fault;
+ghost use Rattle.sct_reconcile.specs.declared.rows.ListedRow.{ListedRow as Row};
+
+use crate::fault::ReconcileFault;
+use crate::filed::{Index, by_transfer, listed_on};
+use crate::judged::row_on;
+use crate::keys::keys_reported;
+use crate::lists::List;
+use crate::rows::ReportRow;
+use crate::writing::written;
+use sct_element::{Bic, Day};
+use sct_message::TransferKey;
+use sct_view::View;
+use std::alloc::{AllocError, Global};
+use std::marker::Model;
+
+/// What the comparison of a list with the messages held gives, a row for each transfer, ascending.
+#[derive(Debug, Drop)]
+pub struct Report {
+    alloc: Global,
+    rows: Vec<ReportRow>,
+}
+
+impl Model for Report {
+    ghost use Rattle.std.specs.Prelude.{List as Rows};
+    ghost use Rattle.sct_reconcile.specs.declared.rows.ReportRow.{ReportRow as Row};
+
+    ghost Value = { Rows Row };
+
+    ghost view = { λ r. r.rows.items };
+}
+
+impl Report {
+    /// The rows, ascending by transfer.
+    pub fn rows(&self) -> &[ReportRow]
+        ensures { result.now ≡ self.now }
+    {
+        &self.rows
+    }
+
+    /// The report as CSV: the header `DbtrAgt,TxId,Result,ListAmt,ListSts,Amt,Sts`, and a record for each row, each ended by a
+    /// line feed. Want of memory is 49 (Memory).
+    pub fn write(&self) -> Result<Vec<u8>, ReconcileFault>
+        ensures text { IfOk result (λ text. text.items ≡ report_text_of self.now) }
+        ensures fault { IfErr result (λ refusal. refusal ≡ fault.Memory) }
+    {
+        Ok(written(self.alloc, &self.rows)?)
+    }
+}
+
+// The row of each transfer in turn.
+fn rows_on(
+    alloc: Global,
+    view: &View,
+    index: &Index,
+    keys: &[TransferKey],
+) -> Result<Vec<ReportRow>, AllocError>
+    ensures { IfOk result (λ found. (rows : Rows Row) → IsFiled index.now rows
+        → found.items ≡ map (row_on view.now rows) keys.now) }
+{
+    let mut found = Vec::new(alloc);
+    for key in keys {
+        found.push(row_on(view, listed_on(index, key), key))?;
+    }
+    Ok(found)
+}
+
+/// Compares a bank's list for a settlement day with the messages held: a row for each transfer that the list names, and
+/// for each transfer of the bank whose instruction has no other settlement day. Want of memory is 49 (Memory).
+#[tactic(auto, unfolding(crate::specs::Reports::report_of))]
+pub fn reconcile(
+    alloc: Global,
+    view: &View,
+    bank: &Bic,
+    day: &Day,
+    list: &List,
+) -> Result<Report, ReconcileFault>
+    ensures report { IfOk result (λ report. report ≡ report_of view.now bank.now day.now list.now) }
+    ensures fault { IfErr result (λ refusal. refusal ≡ fault.Memory) }
+{
+    let index = by_transfer(alloc, list.rows())?;
+    let keys = keys_reported(alloc, view, bank, day, list.rows())?;
+    let rows = rows_on(alloc, view, &index, &keys)?;
+    Ok(Report { alloc, rows })
+}

@@ -1,0 +1,138 @@
+//! The words of lists and reports.
+ghost use Rattle.std.specs.Prelude.{◌≡◌};
+ghost use Rattle.sct_case.specs.Statuses.{told};
+ghost use Rattle.sct_reconcile.specs.Words.{list_status_of, list_status_text, word_of, word_text, verdict_text, agrees};
+
+use sct_case::Status;
+
+/// Where a list says that a transfer stands.
+#[derive(Clone, Copy, Debug, PartialEq, Eq)]
+pub enum ListStatus {
+    Accepted,
+    Rejected,
+    Returned,
+    Pending,
+    Investigated,
+}
+
+impl ListStatus {
+    /// The status of a word, if it is one of the five.
+    pub fn read(word: &str) -> Option<ListStatus>
+        ensures { result ≡ list_status_of word.now }
+    {
+        match word {
+            "ACCEPTED" => Some(ListStatus::Accepted),
+            "REJECTED" => Some(ListStatus::Rejected),
+            "RETURNED" => Some(ListStatus::Returned),
+            "PENDING" => Some(ListStatus::Pending),
+            "INVESTIGATED" => Some(ListStatus::Investigated),
+            _ => None,
+        }
+    }
+
+    /// The word.
+    pub fn text(self) -> &'static str
+        ensures { result.now ≡ list_status_text self }
+    {
+        match self {
+            ListStatus::Accepted => "ACCEPTED",
+            ListStatus::Rejected => "REJECTED",
+            ListStatus::Returned => "RETURNED",
+            ListStatus::Pending => "PENDING",
+            ListStatus::Investigated => "INVESTIGATED",
+        }
+    }
+
+    /// Whether a transfer that stands so is where the list says.
+    pub(crate) fn agrees(self, told: StatusWord) -> bool
+        ensures { result ≡ agrees self told }
+    {
+        self.text() == told.text()
+    }
+}
+
+/// Where a transfer stands, without the reason or the amount that goes with it.
+#[derive(Clone, Copy, Debug, PartialEq, Eq)]
+pub enum StatusWord {
+    Contradicted,
+    Unknown,
+    Missing,
+    Rejected,
+    Returned,
+    Accepted,
+    Investigated,
+    Pending,
+}
+
+impl StatusWord {
+    /// The word of a status.
+    pub fn of(status: &Status) -> StatusWord
+        ensures { result ≡ word_of (told status.now) }
+    {
+        match status {
+            Status::Contradicted(_) => StatusWord::Contradicted,
+            Status::Unknown => StatusWord::Unknown,
+            Status::Missing => StatusWord::Missing,
+            Status::Rejected(_) => StatusWord::Rejected,
+            Status::Returned(_) => StatusWord::Returned,
+            Status::Accepted => StatusWord::Accepted,
+            Status::Investigated => StatusWord::Investigated,
+            Status::Pending => StatusWord::Pending,
+        }
+    }
+
+    /// The word as it is written.
+    pub fn text(self) -> &'static str
+        ensures { result.now ≡ word_text self }
+    {
+        match self {
+            StatusWord::Contradicted => "CONTRADICTED",
+            StatusWord::Unknown => "UNKNOWN",
+            StatusWord::Missing => "MISSING",
+            StatusWord::Rejected => "REJECTED",
+            StatusWord::Returned => "RETURNED",
+            StatusWord::Accepted => "ACCEPTED",
+            StatusWord::Investigated => "INVESTIGATED",
+            StatusWord::Pending => "PENDING",
+        }
+    }
+}
+
+/// What the comparison of list and messages gives for a transfer: the first of these that holds.
+#[derive(Clone, Copy, Debug, PartialEq, Eq)]
+pub enum Verdict {
+    /// Two rows of the list or more are on it.
+    ListedTwice,
+    /// The messages on it contradict each other.
+    Contradicted,
+    /// It is listed, and no message instructs it.
+    OnlyInList,
+    /// It is not listed, and messages are on it, but none instructs it.
+    Missing,
+    /// It is not listed.
+    OnlyInArchive,
+    /// The list has another amount than the instruction.
+    AmountDiffers,
+    /// The list has another status.
+    StatusDiffers,
+    /// List and messages agree.
+    Matched,
+}
+
+impl Verdict {
+    /// The word as it is written.
+    pub fn text(self) -> &'static str
+        ensures { result.now ≡ verdict_text self }
+    {
+        match self {
+            Verdict::ListedTwice => "LISTED_TWICE",
+            Verdict::Contradicted => "CONTRADICTED",
+            Verdict::OnlyInList => "ONLY_IN_LIST",
+            Verdict::Missing => "MISSING",
+            Verdict::OnlyInArchive => "ONLY_IN_ARCHIVE",
+            Verdict::AmountDiffers => "AMOUNT_DIFFERS",
+            Verdict::StatusDiffers => "STATUS_DIFFERS",
+            Verdict::Matched => "MATCHED",
+        }
+    }
+}
