@@ -1,0 +1,4 @@
+-- The lemmas of scripts.
+pub mod ReplayLemmas
+pub mod ScriptLemmas
+pub mod VectorLemmas

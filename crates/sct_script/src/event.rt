@@ -1,0 +1,70 @@
+//! One line of a script: the event that it tells, or why it is refused.
+ghost use Rattle.std.specs.Prelude.{◌≡◌, IfOk};
+ghost use Rattle.sct_script.specs.Events.{cut_in, hand_in, happening_in, take_in, told_by};
+
+use crate::fault::LineFault;
+use crate::fields::{behind, site_before_space, site_of};
+use crate::vectors::vector_of;
+use sct_delta::number_before_space;
+use sct_lines::read_line;
+use sct_world::Event;
+use std::alloc::{AllocError, Global};
+use std::sync::Arc;
+
+// A take: a site, and a JSON text of the message.
+fn read_take(alloc: Global, text: &[u8]) -> Result<Result<Event, LineFault>, AllocError>
+    ensures { IfOk result (λ read. told_by read ≡ take_in text.now) }
+{
+    let Some((site, json)) = site_before_space(text) else {
+        return Ok(Err(LineFault::NoEvent));
+    };
+    let message = match read_line(alloc, json)? {
+        Ok(message) => message,
+        Err(fault) => return Ok(Err(LineFault::Message(fault))),
+    };
+    let message = Arc::new(alloc, message)?;
+    Ok(Ok(Event::Take { site, message }))
+}
+
+// A cut: a site, and a version vector.
+fn read_cut(alloc: Global, text: &[u8]) -> Result<Result<Event, LineFault>, AllocError>
+    ensures { IfOk result (λ read. told_by read ≡ cut_in text.now) }
+{
+    let Some((site, text)) = site_before_space(text) else {
+        return Ok(Err(LineFault::NoEvent));
+    };
+    let Some(vector) = vector_of(alloc, text)? else {
+        return Ok(Err(LineFault::NoEvent));
+    };
+    Ok(Ok(Event::Cut { site, vector }))
+}
+
+// A hand: the number of a delta, and the site that it is handed to.
+fn read_hand(text: &[u8]) -> Result<Event, LineFault>
+    ensures { told_by result ≡ hand_in text.now }
+{
+    let Some((delta, text)) = number_before_space(text) else {
+        return Err(LineFault::NoEvent);
+    };
+    let Some(site) = site_of(text) else {
+        return Err(LineFault::NoEvent);
+    };
+    Ok(Event::Hand { delta, site })
+}
+
+/// The event that a line tells, or why the line is refused.
+#[tactic(auto, unfolding(crate::specs::Events::happening_in))]
+pub fn read_event(alloc: Global, line: &[u8]) -> Result<Result<Event, LineFault>, AllocError>
+    ensures { IfOk result (λ read. told_by read ≡ happening_in line.now) }
+{
+    if let Some(text) = behind(line, b"take ") {
+        return read_take(alloc, text);
+    }
+    if let Some(text) = behind(line, b"cut ") {
+        return read_cut(alloc, text);
+    }
+    if let Some(text) = behind(line, b"hand ") {
+        return Ok(read_hand(text));
+    }
+    Ok(Err(LineFault::NoEvent))
+}

@@ -1,0 +1,45 @@
+//! Why a line or a whole input is refused.
+ghost use Rattle.std.specs.Prelude.{◌≡◌};
+ghost use Rattle.sct_script.specs.declared.fault.ScriptFault.TheVariants as fault;
+
+use sct_json::JsonFault;
+use std::alloc::{AllocError, AllocFailed};
+use thiserror::Error;
+
+/// Why a line behind the first is no event.
+#[derive(Debug, Drop, Error)]
+pub enum LineFault {
+    /// 64: the line is not of the shape of an event, or its pairs make no version vector.
+    #[error("no event")]
+    NoEvent,
+    /// 31 to 38: why the message of a take is refused.
+    #[error("{0}")]
+    Message(JsonFault),
+}
+
+/// Why an input is not read as a script.
+#[derive(Clone, Copy, Debug, PartialEq, Eq, Error)]
+pub enum ScriptFault {
+    /// 40: memory is wanting.
+    #[error("memory is wanting")]
+    Memory,
+    /// 64: the first line that is not skipped does not tell the number of sites, or there is none.
+    #[error("no script")]
+    NoScript,
+}
+
+impl From<AllocError> for ScriptFault {
+    ghost from_gives = { λ _ f. f ≡ fault.Memory };
+
+    fn from(_: AllocError) -> Self {
+        ScriptFault::Memory
+    }
+}
+
+impl<T: Drop> From<AllocFailed<T>> for ScriptFault {
+    ghost from_gives = { λ _ f. f ≡ fault.Memory };
+
+    fn from(_: AllocFailed<T>) -> Self {
+        ScriptFault::Memory
+    }
+}

@@ -1,0 +1,70 @@
+//! What a script is answered: how its events ended, and what each site then holds.
+ghost use Rattle.std.specs.Prelude.{◌≡◌, ◌≢◌, ◌++◌, [], ◌∷◌, false, true, IfErr, IfOk, string_bytes, OnOk};
+ghost use Rattle.sct_delta.specs.Entries.{messages_of};
+ghost use Rattle.sct_delta.specs.declared.fault.DeltaFault.TheVariants as delta;
+ghost use Rattle.sct_world.specs.Happenings.{happenings_of};
+ghost use Rattle.sct_world.specs.States.{held_at, is_no_site, is_size};
+ghost use Rattle.sct_world.specs.declared.fault.WorldFault.TheVariants as fault;
+ghost use Rattle.sct_script.specs.Replays.{outcomes_text, replay_text, site_head, site_text, sites_text};
+
+use crate::outcomes::outcomes_text;
+use sct_world::laws::histories_go_by_values;
+use sct_world::{Event, Ran, World, WorldFault, run};
+use std::alloc::{AllocError, Global};
+
+// The head line of a site.
+fn head_of(alloc: Global, site: u16) -> Result<String, AllocError>
+    ensures { IfOk result (λ head. string_bytes head ≡ site_head site) }
+{
+    format!(in alloc; "S|{site}\n")
+}
+
+// Adds the head line of a site, and what is answered of the messages that it holds.
+#[tactic(auto, unfolding(crate::specs::Replays::site_text))]
+fn push_site(alloc: Global, text: &mut Vec<u8>, world: &World, site: u16) -> Result<(), WorldFault>
+    ensures text { OnOk result (text.new.items ≡ text.old.items ++ site_text (site, held_at world.now site)) }
+    ensures err { IfErr result (λ refusal. refusal ≢ fault.Delta delta.Memory → is_no_site world.now site ≡ true) }
+{
+    let head = head_of(alloc, site)?;
+    let answers = world.answers(site)?;
+    text.extend_from_slice(head.as_bytes())?;
+    text.extend_from_slice(&answers.archive)?;
+    text.extend_from_slice(&answers.statuses)?;
+    text.extend_from_slice(&answers.totals)?;
+    Ok(())
+}
+
+// Adds the same of each site.
+fn push_sites(alloc: Global, text: &mut Vec<u8>, world: &World) -> Result<(), WorldFault>
+    ensures text { OnOk result (text.new.items ≡ text.old.items ++ sites_text world.now) }
+    ensures err { IfErr result (λ refusal. refusal ≡ fault.Delta delta.Memory) }
+{
+    for place in 0..world.sites() {
+        push_site(alloc, text, world, place + 1)?;
+    }
+    Ok(())
+}
+
+// How the events ended, and then what each site holds.
+fn text_of(alloc: Global, ran: &Ran) -> Result<Vec<u8>, WorldFault>
+    ensures text { IfOk result (λ text. text.items ≡ outcomes_text ran.now.outcomes.items ++ sites_text ran.now.world) }
+    ensures err { IfErr result (λ refusal. refusal ≡ fault.Delta delta.Memory) }
+{
+    let mut text = outcomes_text(alloc, &ran.outcomes)?.into_bytes();
+    push_sites(alloc, &mut text, &ran.world)?;
+    Ok(text)
+}
+
+/// What happens in a new world of so many sites by the events: a line for each event, numbered from 1, with how it ended,
+/// and then for each site a line with its number, its archive text, its status text and its totals text. Refused are 44
+/// (BadSite) a number of sites that is not 1 to 64, and 40 alone.
+#[tactic(auto, unfolding(crate::specs::Replays::replay_text))]
+pub fn replay(alloc: Global, sites: u16, events: &[Event]) -> Result<Vec<u8>, WorldFault>
+    ensures text { IfOk result (λ text. text.items ≡ replay_text sites (happenings_of events.now)) }
+    ensures err { IfErr result (λ refusal. refusal ≢ fault.Delta delta.Memory
+        → (refusal ≡ fault.BadSite) × (is_size sites ≡ false)) }
+{
+    histories_go_by_values();
+    let ran = run(alloc, sites, events)?;
+    text_of(alloc, &ran)
+}
