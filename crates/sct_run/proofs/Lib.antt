@@ -1,0 +1,4 @@
+-- The lemmas of runs.
+pub mod RunLemmas
+pub mod SettleLemmas
+pub mod UnionLemmas

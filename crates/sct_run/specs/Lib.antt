@@ -1,0 +1,3 @@
+-- The definitions of runs.
+pub mod Filled
+pub mod Runs
