@@ -1,0 +1,4 @@
+-- Lemmas on beginnings of lists, and the step of a history.
+pub mod Adding
+pub mod Arriving
+pub mod Prefixes

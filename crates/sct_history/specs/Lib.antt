@@ -1,0 +1,3 @@
+-- The definitions of histories.
+pub mod Rules
+pub mod Sights

@@ -1,0 +1,14 @@
+-- Beginnings of a site's history. Read by an auditor; receipts and queries speak of these.
+use Rattle.std.specs.Prelude.{◌≡◌, ◌⊎◌, List}
+use mathlib.Core.List.{IsPrefix}
+use Rattle.logbook.specs.Pages.{Book}
+use Rattle.sct_delta.specs.Entries.{Placed}
+
+-- A beginning of a history that was seen: which history, and its arrivals up to some position.
+pub record Sight : Type 0 where
+  pub book : Book
+  pub log : List Placed
+
+-- zs is the longer of xs and ys, which the other begins
+abbrev pub IsLonger : List Placed → List Placed → List Placed → Type 0
+IsLonger xs ys zs = ((zs ≡ xs) ⊎ (zs ≡ ys)) × IsPrefix xs zs × IsPrefix ys zs

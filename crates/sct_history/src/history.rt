@@ -1,0 +1,46 @@
+//! A history that threads share.
+
+ghost use Rattle.std.specs.Prelude.{◌≡◌, []};
+
+use crate::law::Law;
+use crate::track::Track;
+use logbook::{Seen, Start, Word};
+use sct_delta::Entry;
+use std::marker::Model;
+
+/// The history of one site. All that it has in memory is its length, a word that is written only where the history
+/// grows. Contracts see which history it is.
+#[derive(Drop)]
+pub struct History {
+    pub(crate) head: Word<Entry, u64, Law>,
+}
+
+impl Model for History {
+    ghost use Rattle.std.specs.Prelude.{◌≡◌};
+    ghost use Rattle.logbook.specs.Pages.{Book, book_coded};
+    ghost use Rattle.sct_history.specs.Rules.{head_of};
+
+    ghost Value = { Book };
+
+    ghost coded = { book_coded };
+
+    ghost view = { λ h. h.head.book };
+
+    ghost invariant = { λ h. h.head ≡ head_of h.head.book };
+}
+
+impl History {
+    /// A new history with no arrival, and the beginning of it that has none.
+    pub fn open() -> (History, Track)
+        ensures book { result.1.book ≡ result.0 }
+        ensures empty { result.1.log ≡ [] }
+    {
+        let (seen, mut first, _second) = Seen::open(Start::alone(), 0, 0);
+        (
+            History {
+                head: Word::tracked(0, &mut first),
+            },
+            Track::of(seen),
+        )
+    }
+}
