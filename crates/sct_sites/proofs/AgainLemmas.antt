@@ -7,9 +7,9 @@ use Rattle.sct_json.proofs.Texts.{text_is_one_line, text_begins}
 use Rattle.sct_set.specs.Archive.{in_text_order, line_of, IsReadAgain}
 use Rattle.sct_set.specs.Contents.{contents_of}
 use Rattle.sct_set.proofs.TextLemmas.{archive_text-lines, contents-in_text_order, Contains-in_text_order}
-use Rattle.sct_sites.specs.Lines.{is_blank, lines_of, onto_first, numbered_from, messages_among, refusals_among}
+use Rattle.sct_lines.specs.Lines.{is_blank, lines_of, onto_first, numbered_from, messages_among, refusals_among}
 use Rattle.sct_sites.specs.Again.{ArchiveGivesBack}
-use Rattle.sct_sites.proofs.LineLemmas.{lines_of_none, numbered_none, messages_of_none, refusals_of_none, numbered-cons, written_line, messages-append, refusals-append, message_line, no_refusal}
+use Rattle.sct_lines.proofs.LineLemmas.{lines_of_none, numbered_none, messages_of_none, refusals_of_none, numbered-cons, written_line, messages-append, refusals-append, message_line, no_refusal}
 
 -- the first line of a text that begins with bytes none of which is a line feed, and a line feed
 line_first : (line rest : List ℕ) → has_no_line_feed line ≡ true → lines_of (line ++ 10 ∷ rest) ≡ line ∷ lines_of rest

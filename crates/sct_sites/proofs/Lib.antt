@@ -2,6 +2,5 @@
 mod Adapters
 mod AgainLemmas
 mod CommandLineLemmas
-pub mod LineLawLemmas
-pub mod LineLemmas
 mod Prefixes
+mod Values

@@ -2,7 +2,7 @@
 use Rattle.std.specs.Prelude.{ℕ, ◌≡◌, List, []}
 use Rattle.sct_set.specs.Archive.{archive_text_of, AreReadAgain}
 use Rattle.sct_set.specs.Contents.{Contents}
-use Rattle.sct_sites.specs.Lines.{refusals_told, set_read}
+use Rattle.sct_lines.specs.Lines.{refusals_told, set_read}
 
 -- the text is an input of which no line is refused, and whose messages are the set
 pub record GivesBack (contents : Contents) (text : List ℕ) : Type 0 where

@@ -29,9 +29,14 @@ abbrev pub words_fault : ErrorKind → ProgramFault
 words_fault OutOfMemory = fault.Memory
 words_fault _ = fault.Usage
 
+-- what is told of a fault behind its number: of a bad list the row
+abbrev pub fault_arguments_of : ProgramFault → List ℕ
+fault_arguments_of (fault.BadList row) = codes " " ++ decimal row
+fault_arguments_of _ = []
+
 -- the line that tells a fault by its number
 abbrev pub fault_line_of : ProgramFault → List ℕ
-fault_line_of fault = codes "fault " ++ decimal (program_fault_number fault) ++ 10 ∷ []
+fault_line_of fault = codes "fault " ++ decimal (program_fault_number fault) ++ fault_arguments_of fault ++ 10 ∷ []
 
 -- what standard error tells of the end of a run, beside the refused lines: nothing of a job that was done and of help,
 -- fault 64 and clap's text of a mistake in the command line, and any other fault by its number

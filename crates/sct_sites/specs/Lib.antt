@@ -4,8 +4,7 @@ pub mod CommandLine
 pub mod Ending
 pub mod Engine
 pub mod Fault
-pub mod LineLaws
-pub mod Lines
 pub mod Request
 pub mod Run
 pub mod Stream
+pub mod Tasks

@@ -1,7 +1,7 @@
 -- What reading and writing do to the bytes of a stream, where these are known. Read by an auditor.
 use Rattle.std.specs.Prelude.{ℕ, ◌≡◌, ◌+◌, ◌<◌, ◌≤◌, List, [], ◌++◌, Option, Some, length, take, drop, IfSome}
 use Rattle.sct_sites.specs.declared.fault.ProgramFault.{ProgramFault}
-use Rattle.sct_sites.specs.declared.fault.ProgramFault.TheVariants.{TooLong, Read, Write, Usage, Memory}
+use Rattle.sct_sites.specs.declared.fault.ProgramFault.TheVariants.{TooLong, Read, Write, Memory}
 
 -- n bytes were read to the front of the piece, of which so many had room, from the front of what was left, and the
 -- others are left now; none where there was room only if nothing was left
@@ -25,8 +25,7 @@ abbrev pub EndsReading : ProgramFault → ℕ → Option (List ℕ) → Option (
 EndsReading TooLong limit before after = HasTakenIfTold before after (limit + 1)
 EndsReading Read limit before after = (n : ℕ) × ((n ≤ limit) × HasTakenIfTold before after n)
 EndsReading Memory limit before after = Unit {0}
-EndsReading Write limit before after = ⊥
-EndsReading Usage limit before after = ⊥
+EndsReading _ limit before after = ⊥
 
 -- the one fault that may end the writing of a text
 abbrev pub EndsWriting : ProgramFault → Type 0
@@ -41,3 +40,10 @@ AppendsIfTold before after piece = IfSome before (λ held. after ≡ Some (held 
 abbrev pub AppendsPrefixIfTold : Option (List ℕ) → Option (List ℕ) → List ℕ → Type 0
 AppendsPrefixIfTold before after text =
     IfSome before (λ held. (count : ℕ) × ((count ≤ length text) × (after ≡ Some (held ++ take count text))))
+
+-- what may end the reading of a file: it cannot be opened or a read fails, it is too long, or memory is wanting
+abbrev pub EndsFile : ProgramFault → Type 0
+EndsFile Read = Unit {0}
+EndsFile TooLong = Unit {0}
+EndsFile Memory = Unit {0}
+EndsFile _ = ⊥

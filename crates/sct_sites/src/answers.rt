@@ -1,17 +1,25 @@
-//! What is answered of the messages read: where each transfer stands, and the totals of each bank.
-ghost use Rattle.std.specs.Prelude.{◌≡◌, IfErr, IfOk};
+//! What is answered of the messages of an input: where each transfer stands, the archive text, the totals of each bank, or
+//! the report on a list.
+ghost use Rattle.std.specs.Prelude.{◌≡◌, length, string_bytes, IfErr, IfOk};
+ghost use Rattle.sct_lines.specs.Lines.{refusals_told, set_read, told_text_of};
 ghost use Rattle.sct_message.specs.Sets.{messages_in};
+ghost use Rattle.sct_reconcile.specs.Reports.{report_of, report_text_of};
 ghost use Rattle.sct_set.specs.Contents.{contents_of};
+ghost use Rattle.sct_sites.specs.Engine.{asked_text_of};
 ghost use Rattle.sct_sites.specs.declared.fault.ProgramFault.TheVariants as fault;
 ghost use Rattle.sct_view.specs.StatusText.{status_text_of};
 ghost use Rattle.sct_view.specs.TotalsText.{totals_text_of};
 
 use crate::fault::ProgramFault;
-use crate::holding::archive_of;
+use crate::holding::{archive_of, archive_text};
+use sct_element::{Bic, Day};
+use sct_lines::{Intake, read_lines};
 use sct_message::Message;
+use sct_reconcile::{List, reconcile};
 use sct_view::View;
 use std::alloc::Global;
 use std::sync::Arc;
+use std::thread::Threads;
 
 // The view of the messages.
 fn view_of(alloc: Global, messages: Vec<Arc<Message>>) -> Result<View, ProgramFault>
@@ -38,9 +46,24 @@ fn totals_text_of(view: &View) -> Result<Vec<u8>, ProgramFault>
     Ok(view.totals_text()?)
 }
 
-/// The status text of the set of some messages, which may stand in any order and more than once. Only want of memory
-/// is a fault.
-pub fn status_text(alloc: Global, messages: Vec<Arc<Message>>) -> Result<Vec<u8>, ProgramFault>
+// The report of a view on a list.
+fn report_text_of(
+    alloc: Global,
+    view: &View,
+    bank: &Bic,
+    day: &Day,
+    list: &List,
+) -> Result<Vec<u8>, ProgramFault>
+    ensures text { IfOk result (λ text. text.items ≡ report_text_of (report_of view.now bank.now day.now list.now)) }
+    ensures memory { IfErr result (λ e. e ≡ fault.Memory) }
+{
+    let report = reconcile(alloc, view, bank, day, list)?;
+    Ok(report.write()?)
+}
+
+// The status text of the set of some messages, which may stand in any order and more than once. Only want of memory
+// is a fault.
+fn status_text(alloc: Global, messages: Vec<Arc<Message>>) -> Result<Vec<u8>, ProgramFault>
     ensures text { IfOk result (λ text. text.items ≡ status_text_of (contents_of (messages_in messages.items))) }
     ensures memory { IfErr result (λ e. e ≡ fault.Memory) }
 {
@@ -48,11 +71,96 @@ pub fn status_text(alloc: Global, messages: Vec<Arc<Message>>) -> Result<Vec<u8>
     status_text_of(&view)
 }
 
-/// The totals text of the same set. Only want of memory is a fault.
-pub fn totals_text(alloc: Global, messages: Vec<Arc<Message>>) -> Result<Vec<u8>, ProgramFault>
+// The totals text of the same set. Only want of memory is a fault.
+fn totals_text(alloc: Global, messages: Vec<Arc<Message>>) -> Result<Vec<u8>, ProgramFault>
     ensures text { IfOk result (λ text. text.items ≡ totals_text_of (contents_of (messages_in messages.items))) }
     ensures memory { IfErr result (λ e. e ≡ fault.Memory) }
 {
     let view = view_of(alloc, messages)?;
     totals_text_of(&view)
+}
+
+// The report of the same set on a bank's list for a settlement day. Only want of memory is a fault.
+fn report_text(
+    alloc: Global,
+    messages: Vec<Arc<Message>>,
+    bank: &Bic,
+    day: &Day,
+    list: &List,
+) -> Result<Vec<u8>, ProgramFault>
+    ensures text { IfOk result (λ text. text.items
+        ≡ report_text_of (report_of (contents_of (messages_in messages.items)) bank.now day.now list.now)) }
+    ensures memory { IfErr result (λ e. e ≡ fault.Memory) }
+{
+    let view = view_of(alloc, messages)?;
+    report_text_of(alloc, &view, bank, day, list)
+}
+
+/// What is asked of messages.
+#[derive(Drop)]
+pub enum Question<'a> {
+    /// The status of each transfer and of its recalls, and the findings on the contradicted ones.
+    Status,
+    /// Each message held, written on a line of its own.
+    Archive,
+    /// What each bank sent and received.
+    Totals,
+    /// Where a bank's list for a settlement day differs from them.
+    Report {
+        bank: &'a Bic,
+        day: &'a Day,
+        list: List,
+    },
+}
+
+/// What an input is answered: a text, the lines that tell its refused lines, and how many these are.
+#[derive(Drop)]
+pub struct Answer {
+    pub text: Vec<u8>,
+    pub told: String,
+    pub refused: u64,
+}
+
+// The text that answers what is asked of some messages.
+fn asked_text(
+    alloc: Global,
+    question: &Question<'_>,
+    messages: Vec<Arc<Message>>,
+) -> Result<Vec<u8>, ProgramFault>
+    ensures text { IfOk result (λ text. text.items ≡ asked_text_of question.now (contents_of (messages_in messages.items))) }
+    ensures memory { IfErr result (λ e. e ≡ fault.Memory) }
+{
+    match question {
+        Question::Status => status_text(alloc, messages),
+        Question::Archive => archive_text(alloc, messages),
+        Question::Totals => totals_text(alloc, messages),
+        Question::Report { bank, day, list } => report_text(alloc, messages, bank, day, list),
+    }
+}
+
+/// What is asked of the messages of an input, whose bytes are read in as many threads as there are processors, and then
+/// dropped. Only want of memory is a fault.
+pub fn answer_of_messages<T: Threads + Sync>(
+    rt: &T,
+    alloc: Global,
+    question: Question<'_>,
+    input: Vec<u8>,
+) -> Result<Answer, ProgramFault>
+    ensures text { IfOk result (λ answer. answer.text.items ≡ asked_text_of question.entry (set_read input.items)) }
+    ensures told { IfOk result (λ answer. string_bytes answer.told ≡ told_text_of (refusals_told input.items)) }
+    ensures refused { IfOk result (λ answer. answer.refused ≡ length (refusals_told input.items)) }
+    ensures memory { IfErr result (λ e. e ≡ fault.Memory) }
+{
+    let Intake {
+        messages,
+        told,
+        refused,
+    } = read_lines(rt, alloc, &input)?;
+    drop(input);
+    let text = asked_text(alloc, &question, messages)?;
+    Ok(Answer {
+        text,
+        told,
+        refused,
+    })
 }

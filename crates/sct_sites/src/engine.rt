@@ -6,38 +6,51 @@ ghost use Rattle.std.specs.Prelude.{
   ◌<◌,
   ◌≤◌,
   ◌⊎◌,
-  ◌↔◌,
   ℕ,
-  List,
   [],
   Some,
   Err,
   length,
+  string_bytes,
   IfOk,
   IfErr,
   IfSome,
   OnOk,
 };
-ghost use Rattle.sct_message.specs.Sets.{messages_in};
 ghost use Rattle.sct_sites.specs.declared.fault.ProgramFault.TheVariants as fault;
-ghost use Rattle.sct_sites.specs.Engine.{job_text_if_told, job_text_of, told_text_if_told, IsCutOff, IsWritten};
+ghost use Rattle.sct_sites.specs.Engine.{
+  bad_row_of,
+  job_text_if_told,
+  job_text_of,
+  refused_of,
+  told_of,
+  told_text_if_told,
+  IsBadLimit,
+  EndsListing,
+  IsCutOff,
+  IsInputOf,
+  IsListOf,
+  IsNoInputOf,
+  IsRefusedInput,
+  IsWritten,
+  StandsOnList,
+};
 ghost use Rattle.sct_sites.specs.Fault.{failed_reads};
-ghost use Rattle.sct_sites.specs.Lines.{messages_read, refusals_told};
 ghost use Rattle.sct_sites.specs.Stream.{HasTakenIfTold};
 
-use crate::answers::{status_text, totals_text};
+use crate::answers::{Answer, Question, answer_of_messages};
 use crate::fault::ProgramFault;
-use crate::holding::archive_text;
-use crate::lines::{Intake, read_lines};
+use crate::replays::answer_of_script;
 use crate::sink::Sink;
 use crate::source::Source;
 use crate::transfer::{MOST_BYTES, read_all, write_all};
-use sct_message::Message;
+use sct_element::{Bic, Day};
+use sct_reconcile::List;
 use std::alloc::Global;
-use std::sync::Arc;
+use std::thread::Threads;
 
 /// What is asked of an input.
-#[derive(Clone, Copy, Debug, PartialEq, Eq)]
+#[derive(Drop)]
 pub enum Job {
     /// The status of each transfer and of its recalls, and the findings on the contradicted ones.
     Status,
@@ -45,6 +58,10 @@ pub enum Job {
     Archive,
     /// What each bank sent and received.
     Totals,
+    /// Where a bank's list for a settlement day, by the bytes of its text, differs from the messages.
+    Report { bank: Bic, day: Day, list: Vec<u8> },
+    /// How the events of a script end, and what each of its sites then holds.
+    Replay,
 }
 
 /// A run that ended well.
@@ -54,21 +71,49 @@ pub struct Done {
     pub refused: u64,
 }
 
-// The text that the job makes of the messages read from an input.
-fn job_text(alloc: Global, job: &Job, messages: Vec<Arc<Message>>) -> Result<Vec<u8>, ProgramFault>
-    ensures text { IfOk result (λ text. (input : List ℕ) → messages_in messages.items ≡ messages_read input
-        → text.items ≡ job_text_of job.now input) }
-    ensures memory { IfErr result (λ e. e ≡ fault.Memory) }
+// The list that a job compares with. One that is none is 48 BadList.
+fn list_for(alloc: Global, job: &Job) -> Result<Option<List>, ProgramFault>
+    ensures read { IfOk result (IsListOf job.now) }
+    ensures list { StandsOnList (bad_row_of job.now) result }
+    ensures faults { IfErr result EndsListing }
 {
     match job {
-        Job::Status => status_text(alloc, messages),
-        Job::Archive => archive_text(alloc, messages),
-        Job::Totals => totals_text(alloc, messages),
+        Job::Report { list, .. } => Ok(Some(List::read(alloc, list)?)),
+        _ => Ok(None),
     }
 }
 
-/// Reads the whole input, and then writes the lines that tell its refused lines to `err` and the job's text to `out`.
-pub fn engine<R: Source, O: Sink, E: Sink>(
+// What the job makes of an input, with the list that it compares with. An input that it does not take is 64 Usage.
+fn answer<T: Threads + Sync>(
+    rt: &T,
+    alloc: Global,
+    job: &Job,
+    list: Option<List>,
+    input: Vec<u8>,
+) -> Result<Answer, ProgramFault>
+    requires { IsListOf job.now list }
+    ensures text { IfOk result (λ answer. answer.text.items ≡ job_text_of job.now input.items) }
+    ensures told { IfOk result (λ answer. string_bytes answer.told ≡ told_of job.now input.items) }
+    ensures refused { IfOk result (λ answer. answer.refused ≡ refused_of job.now input.items) }
+    ensures taken { OnOk result (IsInputOf job.now input.items) }
+    ensures faults { IfErr result (λ e. e ≢ fault.Memory → (e ≡ fault.Usage) × IsNoInputOf job.now input.items) }
+{
+    match (job, list) {
+        (Job::Status, _) => answer_of_messages(rt, alloc, Question::Status, input),
+        (Job::Archive, _) => answer_of_messages(rt, alloc, Question::Archive, input),
+        (Job::Totals, _) => answer_of_messages(rt, alloc, Question::Totals, input),
+        (Job::Replay, _) => answer_of_script(alloc, &input),
+        (Job::Report { bank, day, .. }, Some(list)) => {
+            answer_of_messages(rt, alloc, Question::Report { bank, day, list }, input)
+        }
+        (Job::Report { .. }, None) => unreachable!(),
+    }
+}
+
+/// Reads the job's list, if it has one, then the whole input, and then writes the lines that tell its refused lines to `err` and the job's text to `out`. An
+/// input that the job does not take is 64 Usage, told after it was read.
+pub fn engine<T: Threads + Sync, R: Source, O: Sink, E: Sink>(
+    rt: &T,
     alloc: Global,
     job: &Job,
     limit: u64,
@@ -80,14 +125,18 @@ pub fn engine<R: Source, O: Sink, E: Sink>(
     ensures input { OnOk result (IfSome (R.left reader.old)
         (λ input. (length input ≤ limit) × (R.left reader.new ≡ Some []))) }
     ensures told { OnOk result (IsWritten (E.failures err.old) (E.failures err.new) (E.held err.old) (E.held err.new)
-        (told_text_if_told (R.left reader.old))) }
+        (told_text_if_told job.now (R.left reader.old))) }
     ensures text { OnOk result (IsWritten (O.failures out.old) (O.failures out.new) (O.held out.old) (O.held out.new)
         (job_text_if_told job.now (R.left reader.old))) }
     ensures refused { IfOk result (λ done. IfSome (R.left reader.old)
-        (λ input. done.refused ≡ length (refusals_told input))) }
+        (λ input. done.refused ≡ refused_of job.now input)) }
 
     // When each fault comes.
-    ensures usage { (result ≡ Err fault.Usage) ↔ ((limit ≡ 0) ⊎ (1073741824 < limit)) }
+    ensures limit { IsBadLimit limit → result ≡ Err fault.Usage }
+    ensures usage { result ≡ Err fault.Usage
+        → IsBadLimit limit ⊎ IsRefusedInput job.now limit (R.left reader.old) (R.left reader.new) }
+    ensures list { StandsOnList (bad_row_of job.now) result }
+    ensures taken { OnOk result (IfSome (R.left reader.old) (IsInputOf job.now)) }
     ensures too_long { result ≡ Err fault.TooLong → IfSome (R.left reader.old) (λ input. limit < length input) }
     ensures passed { result ≡ Err fault.TooLong → HasTakenIfTold (R.left reader.old) (R.left reader.new) (limit + 1) }
     ensures cut_input { result ≡ Err fault.Read
@@ -96,9 +145,9 @@ pub fn engine<R: Source, O: Sink, E: Sink>(
     ensures failed_read { IfErr result (λ e. R.failures reader.new ≡ R.failures reader.old + failed_reads e) }
     ensures cut_off { result ≡ Err fault.Write
         → (IsCutOff (E.failures err.old) (E.failures err.new) (E.held err.old) (E.held err.new)
-        (told_text_if_told (R.left reader.old)) × (out.new ≡ out.old))
+        (told_text_if_told job.now (R.left reader.old)) × (out.new ≡ out.old))
         ⊎ (IsWritten (E.failures err.old) (E.failures err.new) (E.held err.old) (E.held err.new)
-        (told_text_if_told (R.left reader.old))
+        (told_text_if_told job.now (R.left reader.old))
         × IsCutOff (O.failures out.old) (O.failures out.new) (O.held out.old) (O.held out.new)
         (job_text_if_told job.now (R.left reader.old))) }
 
@@ -106,20 +155,20 @@ pub fn engine<R: Source, O: Sink, E: Sink>(
         (λ input. (length input ≤ limit) × (R.left reader.new ≡ Some [])) }
 
     // What the others leave.
-    ensures unread { result ≡ Err fault.Usage → reader.new ≡ reader.old }
+    ensures unread { IsBadLimit limit → reader.new ≡ reader.old }
+    ensures unlisted { (row : ℕ) → result ≡ Err (fault.BadList row) → reader.new ≡ reader.old }
     ensures unwritten { IfErr result (λ e. e ≢ fault.Write → (out.new ≡ out.old) × (err.new ≡ err.old)) }
 {
     if limit == 0 || limit > MOST_BYTES {
         return Err(ProgramFault::Usage);
     }
+    let list = list_for(alloc, job)?;
     let input = read_all(alloc, reader, limit)?;
-    let Intake {
-        messages,
+    let Answer {
+        text,
         told,
         refused,
-    } = read_lines(alloc, &input)?;
-    drop(input);
-    let text = job_text(alloc, job, messages)?;
+    } = answer(rt, alloc, job, list, input)?;
     write_all(err, told.as_bytes())?;
     write_all(out, &text)?;
     Ok(Done { refused })

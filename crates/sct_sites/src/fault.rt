@@ -1,9 +1,11 @@
 //! The faults that end a run, each with its number.
 ghost use Rattle.std.specs.Prelude.{◌≡◌};
 ghost use Rattle.sct_sites.specs.declared.fault.ProgramFault.TheVariants as fault;
-ghost use Rattle.sct_sites.specs.Fault.{program_fault_number};
+ghost use Rattle.sct_sites.specs.Fault.{fault_of_list, fault_of_run, program_fault_number};
 
 use sct_case::CaseFault;
+use sct_reconcile::ReconcileFault;
+use sct_run::RunFault;
 use sct_set::SetFault;
 use std::alloc::{AllocError, AllocFailed};
 use thiserror::Error;
@@ -12,6 +14,8 @@ use thiserror::Error;
 #[derive(Clone, Copy, Debug, PartialEq, Eq, Error)]
 #[error("fault {}", self.number())]
 pub enum ProgramFault {
+    /// A record of the list is no row of a list: the first such, counted from 1 with the header row.
+    BadList(u64),
     /// The input has a byte past the limit.
     TooLong,
     /// A read failed.
@@ -29,6 +33,7 @@ impl ProgramFault {
         ensures { result ≡ program_fault_number self.now }
     {
         match self {
+            ProgramFault::BadList(_) => 48,
             ProgramFault::TooLong => 60,
             ProgramFault::Read => 62,
             ProgramFault::Write => 63,
@@ -67,5 +72,27 @@ impl<T: Drop> From<AllocFailed<T>> for ProgramFault {
 
     fn from(_error: AllocFailed<T>) -> ProgramFault {
         ProgramFault::Memory
+    }
+}
+
+impl From<ReconcileFault> for ProgramFault {
+    ghost from_gives = { λ fault e. e ≡ fault_of_list fault };
+
+    fn from(fault: ReconcileFault) -> ProgramFault {
+        match fault {
+            ReconcileFault::BadList(row) => ProgramFault::BadList(row),
+            ReconcileFault::Memory => ProgramFault::Memory,
+        }
+    }
+}
+
+impl From<RunFault> for ProgramFault {
+    ghost from_gives = { λ fault e. e ≡ fault_of_run fault };
+
+    fn from(fault: RunFault) -> ProgramFault {
+        match fault {
+            RunFault::Usage => ProgramFault::Usage,
+            RunFault::Memory => ProgramFault::Memory,
+        }
     }
 }

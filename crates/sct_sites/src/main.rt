@@ -1,18 +1,21 @@
-//! The program: answers on the messages of standard input, as the command line asks.
+//! The program: answers on the messages of standard input, or of files, as the command line asks.
 #![tactic(auto)]
 
 mod answers;
+mod commands;
 mod ending;
 mod engine;
 mod failures;
 mod fault;
+mod files;
 mod holding;
-mod lines;
 mod program;
+mod replays;
 mod request;
+mod settling;
 mod sink;
 mod source;
-mod told;
+mod task;
 mod transfer;
 
 use program::run_over_std;
@@ -23,8 +26,10 @@ use std::process::ExitCode;
 use std::sync::ledger::Blank;
 
 fn main(rt: HostRuntime) -> ExitCode {
-    ExitCode::from(run_over_std::<_, _, _, Brand, Brand, Brand>(
+    ExitCode::from(run_over_std::<_, _, _, _, _, Brand, Brand, Brand>(
+        &rt,
         rt.alloc(),
+        &rt,
         read_words(rt.alloc(), env::args(&rt)),
         (rt.stdin(), Blank::new(1)),
         (rt.stdout(), Blank::new(1)),

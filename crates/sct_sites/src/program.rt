@@ -1,70 +1,131 @@
 //! The whole program over streams of any kind: from the words of the command line to the exit status.
 ghost use Rattle.std.specs.Prelude.{◌≡◌};
-ghost use Rattle.sct_sites.specs.declared.request.Request.TheVariants as request;
-ghost use Rattle.sct_sites.specs.Run.{streams, words_told, IsAnswered, IsRun, Streams};
+ghost use Rattle.sct_sites.specs.declared.task.Task.TheVariants as task;
+ghost use Rattle.sct_sites.specs.Run.{streams, words_told, IsAnswered, IsAnsweredIfPrepared, IsAskedBy, IsPreparedIfAsked, IsRun, Streams};
 
 use crate::ending::{Ending, conclude};
 use crate::engine::{Job, engine};
 use crate::fault::ProgramFault;
 use crate::request::{Request, read_request};
+use crate::settling::settle_inputs;
 use crate::sink::{Sink, Writing};
 use crate::source::{Reading, Source};
+use crate::task::{Task, prepare};
 use crate::transfer::{MOST_BYTES, write_all};
 use std::alloc::Global;
 use std::io;
+use std::rt::Files;
 use std::sync::ledger::{Blank, Ledger};
+use std::thread::Threads;
 
 // Does a job on an input of at most 1 GiB.
-fn work<R: Source, O: Sink, E: Sink>(
+fn work<T: Threads + Sync, R: Source, O: Sink, E: Sink>(
+    rt: &T,
     alloc: Global,
     job: Job,
     reader: &mut R,
     out: &mut O,
     err: &mut E,
 ) -> Result<Ending, ProgramFault>
-    ensures { IsAnswered (request.Run job)
+    ensures { IsAnswered (task.Work job)
         (streams (R.left reader.old) (R.failures reader.old) (O.held out.old) (O.failures out.old)
         (E.held err.old) (E.failures err.old))
         (streams (R.left reader.new) (R.failures reader.new) (O.held out.new) (O.failures out.new)
         (E.held err.new) (E.failures err.new))
         result }
 {
-    match engine(alloc, &job, MOST_BYTES, reader, out, err) {
+    match engine(rt, alloc, &job, MOST_BYTES, reader, out, err) {
         Ok(done) => Ok(Ending::Done(done)),
         Err(fault) => Err(fault),
     }
 }
 
-// Answers a request. A mistake is not told here: that belongs to the end of the run.
-fn perform<R: Source, O: Sink, E: Sink>(
+// Answers a task. A mistake is not told here: that belongs to the end of the run.
+fn perform<T: Threads + Sync, R: Source, O: Sink, E: Sink>(
+    rt: &T,
     alloc: Global,
-    request: Request,
+    task: Task,
     reader: &mut R,
     out: &mut O,
     err: &mut E,
 ) -> Result<Ending, ProgramFault>
-    ensures { IsAnswered request
+    ensures { IsAnswered task
         (streams (R.left reader.old) (R.failures reader.old) (O.held out.old) (O.failures out.old)
         (E.held err.old) (E.failures err.old))
         (streams (R.left reader.new) (R.failures reader.new) (O.held out.new) (O.failures out.new)
         (E.held err.new) (E.failures err.new))
         result }
 {
-    match request {
-        Request::Run(job) => work(alloc, job, reader, out, err),
-        Request::Help(text) => {
+    match task {
+        Task::Work(job) => work(rt, alloc, job, reader, out, err),
+        Task::Settle(inputs) => match settle_inputs(alloc, inputs, out, err) {
+            Ok(done) => Ok(Ending::Done(done)),
+            Err(fault) => Err(fault),
+        },
+        Task::Help(text) => {
             write_all(out, text.as_bytes())?;
             Ok(Ending::Helped)
         }
-        Request::Mistake(text) => Ok(Ending::Mistaken(text)),
+        Task::Mistake(text) => Ok(Ending::Mistaken(text)),
     }
 }
 
-/// Runs the program: reads the words of the command line, answers what they ask for, tells the end of the run on `err`,
-/// and answers the exit status: 0 where all lines were taken or help was shown, 1 where some line was refused, 3 at want
-/// of memory (65), and 2 at any other fault.
-pub fn run<R: Source, O: Sink, E: Sink>(
+// What the words, where they could be had, ask for.
+fn ask<'a>(
     alloc: Global,
+    words: &'a Result<Vec<String>, ProgramFault>,
+) -> Result<Request<'a>, ProgramFault>
+    ensures { IsAskedBy (words_told words.now) result }
+{
+    match words {
+        Ok(words) => read_request(alloc, words),
+        Err(fault) => Err(*fault),
+    }
+}
+
+// What was asked for, if anything was, with the bytes of its files.
+fn make_ready<F: Files>(
+    alloc: Global,
+    files: &F,
+    asked: Result<Request<'_>, ProgramFault>,
+) -> Result<Task, ProgramFault>
+    ensures { IsPreparedIfAsked asked.entry result }
+{
+    match asked {
+        Ok(request) => prepare(alloc, files, request),
+        Err(fault) => Err(fault),
+    }
+}
+
+// Answers what is ready, if anything is.
+fn perform_ready<T: Threads + Sync, R: Source, O: Sink, E: Sink>(
+    rt: &T,
+    alloc: Global,
+    ready: Result<Task, ProgramFault>,
+    reader: &mut R,
+    out: &mut O,
+    err: &mut E,
+) -> Result<Ending, ProgramFault>
+    ensures { IsAnsweredIfPrepared ready
+        (streams (R.left reader.old) (R.failures reader.old) (O.held out.old) (O.failures out.old)
+        (E.held err.old) (E.failures err.old))
+        (streams (R.left reader.new) (R.failures reader.new) (O.held out.new) (O.failures out.new)
+        (E.held err.new) (E.failures err.new))
+        result }
+{
+    match ready {
+        Ok(task) => perform(rt, alloc, task, reader, out, err),
+        Err(fault) => Err(fault),
+    }
+}
+
+/// Runs the program: reads the words of the command line and the files that they name, answers what they ask for, tells the
+/// end of the run on `err`, and answers the exit status: 0 where all lines were taken or help was shown, 1 where some line was
+/// refused, 3 at want of memory (65), and 2 at any other fault.
+pub fn run<T: Threads + Sync, F: Files, R: Source, O: Sink, E: Sink>(
+    rt: &T,
+    alloc: Global,
+    files: &F,
     words: Result<Vec<String>, ProgramFault>,
     reader: &mut R,
     out: &mut O,
@@ -77,19 +138,16 @@ pub fn run<R: Source, O: Sink, E: Sink>(
         (E.held err.new) (E.failures err.new))
         result }
 {
-    let asked = match words {
-        Ok(words) => read_request(alloc, &words),
-        Err(fault) => Err(fault),
-    };
-    let ended = match asked {
-        Ok(request) => perform(alloc, request, reader, out, err),
-        Err(fault) => Err(fault),
-    };
+    let asked = ask(alloc, &words);
+    let ready = make_ready(alloc, files, asked);
+    let ended = perform_ready(rt, alloc, ready, reader, out, err);
     conclude(&ended, err)
 }
 
 /// The same over readers and writers of std, each with a ledger of its own for its failures.
 pub fn run_over_std<
+    T: Threads + Sync,
+    F: Files,
     R: io::Read + Drop,
     O: io::Write + Drop,
     E: io::Write + Drop,
@@ -97,7 +155,9 @@ pub fn run_over_std<
     B: Ledger,
     C: Ledger,
 >(
+    rt: &T,
     alloc: Global,
+    files: &F,
     words: Result<Vec<String>, ProgramFault>,
     stdin: (R, Blank),
     stdout: (O, Blank),
@@ -118,5 +178,5 @@ pub fn run_over_std<
     let mut reader = Reading::<R, A>::new(stdin.0, stdin.1);
     let mut out = Writing::<O, B>::new(stdout.0, stdout.1);
     let mut err = Writing::<E, C>::new(stderr.0, stderr.1);
-    run(alloc, words, &mut reader, &mut out, &mut err)
+    run(rt, alloc, files, words, &mut reader, &mut out, &mut err)
 }

@@ -3,6 +3,7 @@ mod archived;
 mod commands;
 mod fakes;
 mod inputs;
+mod shelf;
 mod totalled;
 
 use crate::engine::{Done, Job};
@@ -13,6 +14,7 @@ use commands::{BOTH, COMMANDS};
 use fakes::{Given, run_engine, run_program};
 use inputs::{CASES, Case, REFUSED_AND_TAKEN};
 use std::alloc::{AllocError, Global};
+use std::thread::Threads;
 use totalled::TOTALLED;
 
 const AMPLE: usize = 1_000_000;
@@ -27,8 +29,8 @@ fn given(input: &[u8]) -> Given<'_> {
 }
 
 // A run of the job writes what the case says.
-fn fits(alloc: Global, job: Job, case: &Case) -> bool {
-    let ran = run_engine(alloc, job, MOST_BYTES, &given(case.input));
+fn fits(rt: &(impl Threads + Sync), alloc: Global, job: Job, case: &Case) -> bool {
+    let ran = run_engine(rt, alloc, job, MOST_BYTES, &given(case.input));
     ran.answer
         == Ok(Done {
             refused: case.refused,
@@ -40,21 +42,21 @@ fn fits(alloc: Global, job: Job, case: &Case) -> bool {
 #[test]
 fn answers_over_slow_streams(rt: HostRuntime) {
     for case in &CASES {
-        assert!(rt; fits(rt.alloc(), Job::Status, case));
+        assert!(rt; fits(&rt, rt.alloc(), Job::Status, case));
     }
 }
 
 #[test]
 fn writes_the_archive_over_slow_streams(rt: HostRuntime) {
     for case in &ARCHIVED {
-        assert!(rt; fits(rt.alloc(), Job::Archive, case));
+        assert!(rt; fits(&rt, rt.alloc(), Job::Archive, case));
     }
 }
 
 #[test]
 fn writes_the_totals_over_slow_streams(rt: HostRuntime) {
     for case in &TOTALLED {
-        assert!(rt; fits(rt.alloc(), Job::Totals, case));
+        assert!(rt; fits(&rt, rt.alloc(), Job::Totals, case));
     }
 }
 
@@ -71,7 +73,7 @@ fn words(alloc: Global, words: &[&str]) -> Result<Vec<String>, AllocError> {
 fn does_what_the_words_ask(rt: HostRuntime) {
     for command in &COMMANDS {
         let asked = words(rt.alloc(), command.words).map_err(ProgramFault::from);
-        let ran = run_program(rt.alloc(), asked, &given(command.input));
+        let ran = run_program(&rt, rt.alloc(), asked, &given(command.input));
         assert_eq!(rt; ran.out.as_slice(), command.out);
         assert_eq!(rt; ran.err.as_slice(), command.err);
         assert_eq!(rt; ran.answer, command.status);
@@ -79,15 +81,26 @@ fn does_what_the_words_ask(rt: HostRuntime) {
 }
 
 // The status of a run of `status` over what is given, if it wrote this.
-fn status_where(alloc: Global, given: &Given<'_>, out: &[u8], err: &[u8]) -> Option<u8> {
+fn status_where(
+    rt: &(impl Threads + Sync),
+    alloc: Global,
+    given: &Given<'_>,
+    out: &[u8],
+    err: &[u8],
+) -> Option<u8> {
     let asked = words(alloc, &["sct_sites", "status"]).map_err(ProgramFault::from);
-    let ran = run_program(alloc, asked, given);
+    let ran = run_program(rt, alloc, asked, given);
     (ran.out.as_slice() == out && ran.err.as_slice() == err).then_some(ran.answer)
 }
 
 // The status of a run whose words could not be had, if it told this alone.
-fn status_unasked(alloc: Global, fault: ProgramFault, err: &[u8]) -> Option<u8> {
-    let ran = run_program(alloc, Err(fault), &given(BOTH));
+fn status_unasked(
+    rt: &(impl Threads + Sync),
+    alloc: Global,
+    fault: ProgramFault,
+    err: &[u8],
+) -> Option<u8> {
+    let ran = run_program(rt, alloc, Err(fault), &given(BOTH));
     (ran.out.is_empty() && ran.err.as_slice() == err).then_some(ran.answer)
 }
 
@@ -123,19 +136,28 @@ fn tells_each_fault_by_its_number(rt: HostRuntime) {
         fails: true,
         ..given(BOTH)
     };
-    assert_eq!(rt; status_where(alloc, &failing, b"", b"fault 62\n"), Some(2));
+    assert_eq!(rt;
+        status_where(&rt, alloc, &failing, b"", b"fault 62\n"),
+        Some(2)
+    );
     let full = Given {
         out_room: 1,
         ..given(BOTH)
     };
-    assert_eq!(rt; status_where(alloc, &full, b"T", b"fault 63\n"), Some(2));
+    assert_eq!(rt;
+        status_where(&rt, alloc, &full, b"T", b"fault 63\n"),
+        Some(2)
+    );
     let mute = Given {
         err_room: 0,
         ..given(b"foo")
     };
-    assert_eq!(rt; status_where(alloc, &mute, b"", b""), Some(2));
+    assert_eq!(rt; status_where(&rt, alloc, &mute, b"", b""), Some(2));
     for row in &UNASKED {
-        assert_eq!(rt; status_unasked(alloc, row.fault, row.err), Some(row.status));
+        assert_eq!(rt;
+            status_unasked(&rt, alloc, row.fault, row.err),
+            Some(row.status)
+        );
     }
 }
 
@@ -218,7 +240,7 @@ fn stops_past_the_limit(rt: HostRuntime) {
             fails: row.fails,
             ..given(input)
         };
-        let ran = run_engine(rt.alloc(), Job::Status, row.limit, &streams);
+        let ran = run_engine(&rt, rt.alloc(), Job::Status, row.limit, &streams);
         assert_eq!(rt; ran.answer, row.answer);
         assert_eq!(rt; ran.left, row.left);
         assert!(rt; ran.out.is_empty() && ran.err.is_empty());
@@ -234,7 +256,7 @@ fn writes_nothing_after_a_failing_read(rt: HostRuntime) {
             fails: true,
             ..given(input)
         };
-        let ran = run_engine(rt.alloc(), Job::Status, MOST_BYTES, &failing);
+        let ran = run_engine(&rt, rt.alloc(), Job::Status, MOST_BYTES, &failing);
         assert_eq!(rt; ran.answer, Err(ProgramFault::Read));
         assert!(rt; ran.out.is_empty() && ran.err.is_empty());
     }
@@ -249,7 +271,7 @@ fn writes_a_prefix_before_a_failing_write(rt: HostRuntime) {
             err_room: room,
             ..given(REFUSED_AND_TAKEN.input)
         };
-        let ran = run_engine(rt.alloc(), Job::Status, MOST_BYTES, &full);
+        let ran = run_engine(&rt, rt.alloc(), Job::Status, MOST_BYTES, &full);
         let (prefix, _) = told.split_at(room);
         assert_eq!(rt; ran.answer, Err(ProgramFault::Write));
         assert_eq!(rt; ran.err.as_slice(), prefix);
@@ -260,7 +282,7 @@ fn writes_a_prefix_before_a_failing_write(rt: HostRuntime) {
             out_room: room,
             ..given(REFUSED_AND_TAKEN.input)
         };
-        let ran = run_engine(rt.alloc(), Job::Status, MOST_BYTES, &full);
+        let ran = run_engine(&rt, rt.alloc(), Job::Status, MOST_BYTES, &full);
         let (prefix, _) = text.split_at(room);
         assert_eq!(rt; ran.answer, Err(ProgramFault::Write));
         assert_eq!(rt; ran.err.as_slice(), told);
@@ -275,6 +297,6 @@ fn writes_no_empty_text(rt: HostRuntime) {
         err_room: 0,
         ..given(b"\n")
     };
-    let ran = run_engine(rt.alloc(), Job::Status, MOST_BYTES, &full);
+    let ran = run_engine(&rt, rt.alloc(), Job::Status, MOST_BYTES, &full);
     assert_eq!(rt; ran.answer, Ok(Done { refused: 0 }));
 }

@@ -1,6 +1,7 @@
 //! Readers and writers whose bytes are known, slow ones and ones that fail, and runs over them.
 ghost use Rattle.std.specs.Prelude.{◌≡◌, Some};
 
+use super::commands::SHELF;
 use crate::engine::{Done, Job, engine};
 use crate::failures::Failures;
 use crate::fault::ProgramFault;
@@ -10,6 +11,7 @@ use crate::source::{Failed, Source};
 use std::alloc::Global;
 use std::marker::Brand;
 use std::sync::ledger::{Blank, Ledger};
+use std::thread::Threads;
 
 // Gives its bytes one at a time, and then ends or fails.
 #[derive(Drop)]
@@ -115,6 +117,7 @@ impl<L: Ledger> Taking<L> {
 }
 
 fn run_engine_over<A: Ledger, B: Ledger, C: Ledger>(
+    rt: &(impl Threads + Sync),
     alloc: Global,
     job: Job,
     limit: u64,
@@ -134,7 +137,7 @@ fn run_engine_over<A: Ledger, B: Ledger, C: Ledger>(
     let mut reader = Giving::<A>::of(given, blanks.0);
     let mut out = Taking::<B>::of(alloc, given.out_room, blanks.1);
     let mut err = Taking::<C>::of(alloc, given.err_room, blanks.2);
-    let answer = engine(alloc, &job, limit, &mut reader, &mut out, &mut err);
+    let answer = engine(rt, alloc, &job, limit, &mut reader, &mut out, &mut err);
     Ran {
         answer,
         left: reader.left.len(),
@@ -144,16 +147,18 @@ fn run_engine_over<A: Ledger, B: Ledger, C: Ledger>(
 }
 
 pub fn run_engine(
+    rt: &(impl Threads + Sync),
     alloc: Global,
     job: Job,
     limit: u64,
     given: &Given<'_>,
 ) -> Ran<Result<Done, ProgramFault>> {
     let blanks = (Blank::new(1), Blank::new(1), Blank::new(1));
-    run_engine_over::<Brand, Brand, Brand>(alloc, job, limit, given, blanks)
+    run_engine_over::<Brand, Brand, Brand>(rt, alloc, job, limit, given, blanks)
 }
 
 fn run_program_over<A: Ledger, B: Ledger, C: Ledger>(
+    rt: &(impl Threads + Sync),
     alloc: Global,
     words: Result<Vec<String>, ProgramFault>,
     given: &Given<'_>,
@@ -172,7 +177,7 @@ fn run_program_over<A: Ledger, B: Ledger, C: Ledger>(
     let mut reader = Giving::<A>::of(given, blanks.0);
     let mut out = Taking::<B>::of(alloc, given.out_room, blanks.1);
     let mut err = Taking::<C>::of(alloc, given.err_room, blanks.2);
-    let answer = run(alloc, words, &mut reader, &mut out, &mut err);
+    let answer = run(rt, alloc, &SHELF, words, &mut reader, &mut out, &mut err);
     Ran {
         answer,
         left: reader.left.len(),
@@ -182,10 +187,11 @@ fn run_program_over<A: Ledger, B: Ledger, C: Ledger>(
 }
 
 pub fn run_program(
+    rt: &(impl Threads + Sync),
     alloc: Global,
     words: Result<Vec<String>, ProgramFault>,
     given: &Given<'_>,
 ) -> Ran<u8> {
     let blanks = (Blank::new(1), Blank::new(1), Blank::new(1));
-    run_program_over::<Brand, Brand, Brand>(alloc, words, given, blanks)
+    run_program_over::<Brand, Brand, Brand>(rt, alloc, words, given, blanks)
 }

@@ -2,10 +2,10 @@
 use Rattle.sct_sites.proofs.tests.fakes.run_engine.Given as goal
 
 abbrev pub ghosts-run_engine_over-A-Ledger : goal.ghosts-run_engine_over-A-Ledger
-ghosts-run_engine_over-A-Ledger a = record { name = a.blanks.0.name; parts = a.blanks.0.parts }
+ghosts-run_engine_over-A-Ledger g a = record { name = a.blanks.0.name; parts = a.blanks.0.parts }
 
 abbrev pub ghosts-run_engine_over-B-Ledger : goal.ghosts-run_engine_over-B-Ledger
-ghosts-run_engine_over-B-Ledger a = record { name = a.blanks.1.name; parts = a.blanks.1.parts }
+ghosts-run_engine_over-B-Ledger g a = record { name = a.blanks.1.name; parts = a.blanks.1.parts }
 
 abbrev pub ghosts-run_engine_over-C-Ledger : goal.ghosts-run_engine_over-C-Ledger
-ghosts-run_engine_over-C-Ledger a = record { name = a.blanks.2.name; parts = a.blanks.2.parts }
+ghosts-run_engine_over-C-Ledger g a = record { name = a.blanks.2.name; parts = a.blanks.2.parts }
