@@ -1,0 +1,2 @@
+-- The lemmas of the program for tries.
+mod BroughtLemmas

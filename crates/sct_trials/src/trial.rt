@@ -1,0 +1,92 @@
+//! A view that is tried, line by line.
+
+ghost use Rattle.std.specs.Prelude.{◌≡◌, ◌++◌, [], codes, IfOk, OnOk};
+ghost use Rattle.std.specs.FinSet as set;
+ghost use Rattle.sct_message.specs.Sets.{messages_in};
+ghost use Rattle.sct_set.specs.Contents.{contents_of};
+ghost use Rattle.sct_trials.specs.Trials.{batch_after, brought, read_from, told_by, texts_of, view_after};
+
+use anyhow::Result;
+use sct_json::read_message;
+use sct_message::Message;
+use sct_view::View;
+use std::alloc::Global;
+use std::sync::Arc;
+
+/// A view, and the messages of the batch that is being read.
+#[derive(Drop)]
+pub struct Trial {
+    alloc: Global,
+    view: View,
+    batch: Vec<Arc<Message>>,
+}
+
+impl Trial {
+    /// A view of no message, and no batch begun.
+    pub fn new(alloc: Global) -> Trial
+        ensures view { result.view ≡ set.empty }
+        ensures batch { messages_in result.batch.items ≡ [] }
+    {
+        Trial {
+            alloc,
+            view: View::new(alloc),
+            batch: Vec::new(alloc),
+        }
+    }
+
+    // Begins anew.
+    fn begin(&mut self) -> Result<Vec<u8>>
+        ensures view { OnOk result (self.new.view ≡ set.empty) }
+        ensures batch { OnOk result (messages_in self.new.batch.items ≡ []) }
+        ensures told { IfOk result (λ told. told.items ≡ codes "new\n") }
+    {
+        *self = Trial::new(self.alloc);
+        Ok(format!(in self.alloc; "new\n")?.into_bytes())
+    }
+
+    // Applies the batch, and tells what it brought.
+    fn apply(&mut self) -> Result<Vec<u8>>
+        ensures view { OnOk result (self.new.view ≡ set.union self.old.view (contents_of (messages_in self.old.batch.items))) }
+        ensures batch { OnOk result (messages_in self.new.batch.items ≡ []) }
+        ensures told { IfOk result (λ told. told.items ≡ brought self.old.view (contents_of (messages_in self.old.batch.items))) }
+    {
+        let applied = self.view.apply(&self.batch)?;
+        self.batch = Vec::new(self.alloc);
+        let told = format!(in self.alloc; "{} {}\n", applied.fresh, applied.touched)?;
+        Ok(told.into_bytes())
+    }
+
+    // Tells both texts of the view.
+    fn tell(&self) -> Result<Vec<u8>>
+        ensures { IfOk result (λ told. told.items ≡ texts_of self.now.view) }
+    {
+        let mut told = self.view.status_text()?;
+        told.extend_from_slice(&self.view.totals_text()?)?;
+        Ok(told)
+    }
+
+    // Puts a message behind those of the batch.
+    fn push(&mut self, line: &str) -> Result<Vec<u8>>
+        ensures view { OnOk result (self.new.view ≡ self.old.view) }
+        ensures batch { OnOk result (messages_in self.new.batch.items ≡ messages_in self.old.batch.items ++ read_from line.now) }
+        ensures told { IfOk result (λ told. told.items ≡ []) }
+    {
+        let message = read_message(self.alloc, line.as_bytes())?;
+        self.batch.push(Arc::new(self.alloc, message)?)?;
+        Ok(Vec::new(self.alloc))
+    }
+
+    /// Does what a line says, and answers what is to be printed of it.
+    pub fn answer(&mut self, line: &str) -> Result<Vec<u8>>
+        ensures view { OnOk result (self.new.view ≡ view_after line.now self.old.view (messages_in self.old.batch.items)) }
+        ensures batch { OnOk result (messages_in self.new.batch.items ≡ batch_after line.now (messages_in self.old.batch.items)) }
+        ensures told { IfOk result (λ told. told.items ≡ told_by line.now self.old.view (messages_in self.old.batch.items)) }
+    {
+        match line {
+            "" => self.apply(),
+            "new" => self.begin(),
+            "tell" => self.tell(),
+            _ => self.push(line),
+        }
+    }
+}
