@@ -12,9 +12,7 @@ fn is_refused(alloc: Global, row: &Refused) -> bool {
     let Ok(script) = read_script(alloc, row.script) else {
         return false;
     };
-    script.told.as_bytes() == row.told
-        && script.refused == row.refused
-        && script.events.is_empty()
+    script.told.as_bytes() == row.told && script.refused == row.refused && script.events.is_empty()
 }
 
 #[test]
@@ -75,6 +73,11 @@ fn replays_a_script(rt: HostRuntime) {
 #[test]
 fn replays_nothing_at_no_site(rt: HostRuntime) {
     for sites in [0, 65] {
-        assert_eq!(rt; replay(rt.alloc(), sites, &[]).err().map(|refusal| refusal.number()), Some(44));
+        assert_eq!(rt;
+            replay(rt.alloc(), sites, &[])
+                .err()
+                .map(|refusal| refusal.number()),
+            Some(44)
+        );
     }
 }
