@@ -15,7 +15,7 @@ use Rattle.sct_message.specs.declared.keys.TransferKey.{TransferKey}
 use Rattle.sct_case.proofs.Membership.{In, contains_in, in_contains, in_either, in_left, in_right, in_filter, filtered_in, in_ascending, ascending_in}
 use Rattle.sct_view.specs.Answers.{transfers_of}
 use Rattle.sct_reconcile.specs.Laws.{EqualSetsHaveEqualReports, ListedTransfersAreTold, ListsChangeNoOthers, OthersAreOfTheBank, ReportsReadBack, RowsAscend, keys_listed, keys_told}
-use Rattle.sct_reconcile.specs.Reports.{amount_in, fields_of_row, is_of_day, keys_reported, listed_on, report_of, report_text_of, row_from, row_on, transfers_on_day, word_on}
+use Rattle.sct_reconcile.specs.Reports.{fields_of_row, is_of_day, keys_reported, listed_on, report_of, report_text_of, row_beside, row_on, transfers_on_day}
 use Rattle.sct_reconcile.specs.declared.rows.ListedRow.{ListedRow}
 use Rattle.sct_reconcile.specs.declared.rows.ReportRow.{ReportRow}
 use Rattle.sct_reconcile.proofs.ReadBack.{under_header}
@@ -103,7 +103,7 @@ no_others = record {
     others_stay held bank day [] list key (nothing_listed key),
   );
   same = λ held list key unlisted.
-      ap (λ ls. row_from key ls (word_on held key) (amount_in (instruction_of held key))) (none_on list key (λ h. unlisted (contains_in _ key h)));
+      ap (λ ls. row_beside held ls key) (none_on list key (λ h. unlisted (contains_in _ key h)));
 }
 
 -- ---- sets, and texts

@@ -5,12 +5,8 @@ use Rattle.std.proofs.lemmas.Bool.{ne_eqb, false≢true}
 use Rattle.std.specs.List.{drop-map, slice_get}
 use Rattle.std.proofs.lemmas.List.{drop_all}
 use Rattle.csv.specs.Records.{field_at}
-use Rattle.sct_reconcile.specs.Lists.{are_names, is_header, list_in, read_by, row_before, row_of, rows_below, said_by}
+use Rattle.sct_reconcile.specs.Lists.{are_names, is_header, list_in, row_before, row_in, row_of, rows_below}
 use Rattle.sct_reconcile.specs.Turns.{field_or, onto}
-use Rattle.sct_reconcile.specs.Words.{list_status_of}
-use Rattle.sct_element.specs.Bank.{written_bic}
-use Rattle.sct_element.specs.Identification.{written_identification}
-use Rattle.sct_element.specs.Money.{cents_of}
 use Rattle.sct_reconcile.specs.declared.rows.ListedRow.{ListedRow}
 use Rattle.sct_reconcile.specs.declared.fault.ReconcileFault.{ReconcileFault}
 use Rattle.sct_reconcile.specs.declared.fault.ReconcileFault.TheVariants.{BadList}
@@ -21,7 +17,8 @@ at fields i = field_or (field_at fields i)
 too_many : (a b c d f : List ℕ) (fs : List (List ℕ)) → (length (a ∷ b ∷ c ∷ d ∷ f ∷ fs) == 4) ≡ false
 too_many a b c d f fs = ne_eqb _ 4 (λ e. omega (arith, e))
 
-pub row_of_four : (fields : List (List ℕ)) → (length fields == 4) ≡ true → row_of fields ≡ said_by (read_by written_bic (at fields 0)) (read_by written_identification (at fields 1)) (read_by cents_of (at fields 2)) (read_by list_status_of (at fields 3))
+pub row_of_four : (fields : List (List ℕ)) → (length fields == 4) ≡ true
+    → row_of fields ≡ row_in (at fields 0) (at fields 1) (at fields 2) (at fields 3)
 unfolding row_of field_at
 row_of_four [] e = cc e
 row_of_four (a ∷ []) e = cc e

@@ -42,10 +42,14 @@ said_by (Some bank) (Some tx) (Some cents) (Some status) = Some (record {
 })
 said_by bank tx cents status = None
 
--- the row that a record is: its fields are a bank, an identification, an amount and a status, and no others
-unfoldable pub row_of : List (List ℕ) → Option ListedRow
-row_of (bank ∷ tx ∷ amount ∷ status ∷ []) =
+-- the row of a bank, an identification, an amount and a status, where each is read
+abbrev pub row_in : List ℕ → List ℕ → List ℕ → List ℕ → Option ListedRow
+row_in bank tx amount status =
     said_by (read_by written_bic bank) (read_by written_identification tx) (read_by cents_of amount) (read_by list_status_of status)
+
+-- the row that a record is: it has these four fields and no others
+unfoldable pub row_of : List (List ℕ) → Option ListedRow
+row_of (bank ∷ tx ∷ amount ∷ status ∷ []) = row_in bank tx amount status
 row_of other = None
 
 -- the names of what a list says

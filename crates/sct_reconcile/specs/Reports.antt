@@ -94,9 +94,13 @@ row_from key listed told amount = record {
   status = told;
 }
 
+-- the row of a transfer of which a list says this
+abbrev pub row_beside : MessageSet → List Listed → TransferKey → ReportRow
+row_beside held listed key = row_from key listed (word_on held key) (amount_in (instruction_of held key))
+
 -- the row of a transfer
 abbrev pub row_on : MessageSet → List ListedRow → TransferKey → ReportRow
-row_on held list key = row_from key (listed_on list key) (word_on held key) (amount_in (instruction_of held key))
+row_on held list key = row_beside held (listed_on list key) key
 
 -- no instruction names another settlement day
 abbrev pub is_of_day : List ℕ → Option Draft → Bool

@@ -1,7 +1,7 @@
 -- What a writer of csv has written. Serves proofs.
-use Rattle.std.specs.Prelude.{◌≡◌, ℕ, List, Some, false}
+use Rattle.std.specs.Prelude.{◌≡◌, ◌++◌, ℕ, List, Some, false}
 use Rattle.std.specs.Global.{Vec}
-use Rattle.csv.specs.Writing.{default_writer, fields_written, has_written, text_written, writer_setup}
+use Rattle.csv.specs.Writing.{default_writer, fields_written, has_written, row_text, text_written, writer_setup}
 use Rattle.csv.specs.declared.writer.Writer.{Writer}
 
 -- A writer with the defaults stands between two rows, and this text has been written.
@@ -10,3 +10,11 @@ pub record HasWritten (writer : Writer (Vec ℕ)) (text : List ℕ) : Type 0 whe
   pub between : fields_written writer ≡ 0
   pub clean : has_written writer ≡ false
   pub text_is : text_written (λ v. Some v.items) writer ≡ Some text
+
+-- Behind all that the writer had written stands this text.
+abbrev pub Appends : Writer (Vec ℕ) → Writer (Vec ℕ) → List ℕ → Type 0
+Appends old new more = (text : List ℕ) → HasWritten old text → HasWritten new (text ++ more)
+
+-- and so a record of these fields
+abbrev pub AppendsRecord : Writer (Vec ℕ) → Writer (Vec ℕ) → List (List ℕ) → Type 0
+AppendsRecord old new fields = Appends old new (row_text default_writer fields)

@@ -1,7 +1,8 @@
 //! The row of one transfer.
 ghost use Rattle.std.specs.Prelude.{◌≡◌, Some};
 ghost use Rattle.sct_message.specs.Transfers.{instruction_of, sole};
-ghost use Rattle.sct_reconcile.specs.Reports.{amount_in, has_amount, has_status, is_contradicted, is_listed, is_listed_twice, is_uninstructed, row_from, verdict_of, word_on};
+ghost use Rattle.sct_reconcile.specs.Reports.{amount_in, row_beside, row_from, verdict_of};
+ghost use Rattle.sct_reconcile.specs.Reports.{has_amount, has_status, is_contradicted, is_uninstructed};
 
 use crate::rows::{Listed, ReportRow};
 use crate::words::{StatusWord, Verdict};
@@ -119,7 +120,7 @@ fn row_from(
 
 /// The row of a transfer, of which a list says this.
 pub fn row_on(view: &View, listed: &[Listed], key: &TransferKey) -> ReportRow
-    ensures { result ≡ row_from key.now listed.now (word_on view.now key.now) (amount_in (instruction_of view.now key.now)) }
+    ensures { result ≡ row_beside view.now listed.now key.now }
 {
     let status = StatusWord::of(view.status(key));
     let amount = amount_on(view, key);

@@ -1,8 +1,11 @@
 //! What holds of every list and of every report: each law is the contract of a function that does nothing.
 
-ghost use Rattle.sct_reconcile.specs.Laws.{EqualSetsHaveEqualReports, ListedTransfersAreTold, ListsAreExact, ListsChangeNoOthers, MatchedExactly, OthersAreOfTheBank, ReportsReadBack, RowsAscend};
+ghost use Rattle.sct_reconcile.specs.Laws.{EqualSetsHaveEqualReports, ListedTransfersAreTold, ListsAreExact};
+ghost use Rattle.sct_reconcile.specs.Laws.{ListsChangeNoOthers, MatchedExactly, OthersAreOfTheBank};
+ghost use Rattle.sct_reconcile.specs.Laws.{ReportsReadBack, RowsAscend};
 
-/// A list is read exactly from a header with rows below it, and a refusal names the first record that is none of these.
+/// A list is read exactly from a header with rows below it, and a refusal names the first record that is none
+/// of these.
 pub fn lists_are_exact()
     ensures { ListsAreExact }
 {}
@@ -22,7 +25,8 @@ pub fn others_are_of_the_bank()
     ensures { OthersAreOfTheBank }
 {}
 
-/// A transfer is matched exactly where it is listed once, not contradicted, instructed, and amount and word agree.
+/// A transfer is matched exactly where it is listed once, not contradicted, instructed, and amount and word
+/// agree.
 pub fn matched_exactly()
     ensures { MatchedExactly }
 {}

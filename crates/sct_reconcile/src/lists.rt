@@ -4,7 +4,8 @@ ghost use Rattle.csv.specs.Records.{fields_of};
 ghost use Rattle.sct_element.specs.Bank.{written_bic};
 ghost use Rattle.sct_element.specs.Identification.{written_identification};
 ghost use Rattle.sct_element.specs.Money.{cents_of};
-ghost use Rattle.sct_reconcile.specs.Lists.{Gives, are_names, is_header, list_in, list_of, read_by, row_of, rows_below, said_by};
+ghost use Rattle.sct_reconcile.specs.Lists.{Gives, are_names, is_header, list_in, list_of, read_by};
+ghost use Rattle.sct_reconcile.specs.Lists.{row_in, row_of, rows_below};
 ghost use Rattle.sct_reconcile.specs.Turns.{GivesRows};
 ghost use Rattle.sct_reconcile.specs.declared.fault.ReconcileFault.TheVariants as fault;
 ghost use Rattle.sct_reconcile.specs.Words.{list_status_of};
@@ -35,10 +36,11 @@ impl Model for List {
 }
 
 impl List {
-    /// Reads a list: CSV whose first record is the header `DbtrAgt,TxId,Amt,Sts`, and each further record a bank, an
-    /// identification, an amount and one of the words ACCEPTED, REJECTED, RETURNED, PENDING and INVESTIGATED. The first
-    /// record that is not so is refused 48 (BadList) with its number, counted from 1 with the header; a list of no record
-    /// with number 1. Want of memory is 49 (Memory), which a fault of `csv` underneath is told as, too.
+    /// Reads a list: CSV whose first record is the header `DbtrAgt,TxId,Amt,Sts`, and each further record a
+    /// bank, an identification, an amount and one of the words ACCEPTED, REJECTED, RETURNED, PENDING and
+    /// INVESTIGATED. The first record that is not so is refused 48 (BadList) with its number, counted from 1
+    /// with the header; a list of no record with number 1. Want of memory is 49 (Memory), which a fault of
+    /// `csv` underneath is told as, too.
     pub fn read(alloc: Global, text: &[u8]) -> Result<List, ReconcileFault>
         ensures { Gives result (list_of text.now) }
     {
@@ -81,7 +83,7 @@ fn read_status(field: &[u8]) -> Option<ListStatus>
 
 // What four fields say.
 fn read_fields(bank: &[u8], tx: &[u8], amount: &[u8], status: &[u8]) -> Option<ListedRow>
-    ensures { result ≡ said_by (read_by written_bic bank.now) (read_by written_identification tx.now) (read_by cents_of amount.now) (read_by list_status_of status.now) }
+    ensures { result ≡ row_in bank.now tx.now amount.now status.now }
 {
     let debtor_agent = read_bank(bank)?;
     let tx = read_tx(tx)?;

@@ -42,8 +42,8 @@ impl Report {
         &self.rows
     }
 
-    /// The report as CSV: the header `DbtrAgt,TxId,Result,ListAmt,ListSts,Amt,Sts`, and a record for each row, each ended by a
-    /// line feed. Want of memory is 49 (Memory).
+    /// The report as CSV: the header `DbtrAgt,TxId,Result,ListAmt,ListSts,Amt,Sts`, and a record for each
+    /// row, each ended by a line feed. Want of memory is 49 (Memory).
     pub fn write(&self) -> Result<Vec<u8>, ReconcileFault>
         ensures text { IfOk result (λ text. text.items ≡ report_text_of self.now) }
         ensures fault { IfErr result (λ refusal. refusal ≡ fault.Memory) }
@@ -69,8 +69,9 @@ fn rows_on(
     Ok(found)
 }
 
-/// Compares a bank's list for a settlement day with the messages held: a row for each transfer that the list names, and
-/// for each transfer of the bank whose instruction has no other settlement day. Want of memory is 49 (Memory).
+/// Compares a bank's list for a settlement day with the messages held: a row for each transfer that the list
+/// names, and for each transfer of the bank whose instruction has no other settlement day. Want of memory is
+/// 49 (Memory).
 #[tactic(auto, unfolding(crate::specs::Reports::report_of))]
 pub fn reconcile(
     alloc: Global,

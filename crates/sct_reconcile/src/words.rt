@@ -1,7 +1,8 @@
 //! The words of lists and reports.
 ghost use Rattle.std.specs.Prelude.{◌≡◌};
 ghost use Rattle.sct_case.specs.Statuses.{told};
-ghost use Rattle.sct_reconcile.specs.Words.{list_status_of, list_status_text, word_of, word_text, verdict_text, agrees};
+ghost use Rattle.sct_reconcile.specs.Words.{agrees, list_status_of, list_status_text, verdict_text};
+ghost use Rattle.sct_reconcile.specs.Words.{word_of, word_text};
 
 use sct_case::Status;
 

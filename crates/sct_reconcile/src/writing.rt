@@ -1,9 +1,8 @@
 //! The text of a report, as `csv` writes it.
-ghost use Rattle.std.specs.Prelude.{◌≡◌, ◌++◌, ◌∷◌, List as Items, ℕ, [], map, IfOk, OnOk};
-ghost use Rattle.csv.specs.Writing.{default_writer, row_text};
-ghost use Rattle.sct_element.specs.Money.{amount_text};
-ghost use Rattle.sct_reconcile.specs.Reports.{amount_field, csv_text, fields_of_row, listed_amount_field, listed_status_field, report_header, report_text_of};
-ghost use Rattle.sct_reconcile.specs.Writers.{HasWritten};
+ghost use Rattle.std.specs.Prelude.{◌≡◌, ◌∷◌, List as Items, ℕ, [], map, IfOk, OnOk};
+ghost use Rattle.sct_reconcile.specs.Reports.{amount_field, listed_amount_field, listed_status_field};
+ghost use Rattle.sct_reconcile.specs.Reports.{csv_text, fields_of_row, report_header, report_text_of};
+ghost use Rattle.sct_reconcile.specs.Writers.{Appends, AppendsRecord, HasWritten};
 
 use crate::rows::{Listed, ReportRow};
 use arrayvec::ArrayString;
@@ -20,8 +19,7 @@ fn start(alloc: Global) -> Writer<Vec<u8>>
 
 // Writes a record.
 fn write_fields(writer: &mut Writer<Vec<u8>>, fields: &[&[u8]]) -> Result<(), Error>
-    ensures { OnOk result ((text : Items ℕ) → HasWritten writer.old text
-        → HasWritten writer.new (text ++ row_text default_writer (map (λ f. f.now) fields.now))) }
+    ensures { OnOk result (AppendsRecord writer.old writer.new (map (λ f. f.now) fields.now)) }
 {
     writer.write_fields(fields)
 }
@@ -67,8 +65,7 @@ fn listed_status_field(listed: Option<Listed>) -> &'static str
 }
 
 fn write_header(writer: &mut Writer<Vec<u8>>) -> Result<(), Error>
-    ensures { OnOk result ((text : Items ℕ) → HasWritten writer.old text
-        → HasWritten writer.new (text ++ row_text default_writer report_header)) }
+    ensures { OnOk result (AppendsRecord writer.old writer.new report_header) }
 {
     let fields: [&[u8]; 7] = [
         b"DbtrAgt", b"TxId", b"Result", b"ListAmt", b"ListSts", b"Amt", b"Sts",
@@ -87,8 +84,9 @@ fn write_seven<'a>(
     amount: &'a [u8],
     status: &'a [u8],
 ) -> Result<(), Error>
-    ensures { OnOk result ((text : Items ℕ) → HasWritten writer.old text → HasWritten writer.new (text ++ row_text default_writer
-        (bank.now ∷ tx.now ∷ verdict.now ∷ listed_amount.now ∷ listed_status.now ∷ amount.now ∷ status.now ∷ []))) }
+    ensures { OnOk result (AppendsRecord writer.old writer.new
+        (bank.now ∷ tx.now ∷ verdict.now ∷ listed_amount.now ∷ listed_status.now
+        ∷ amount.now ∷ status.now ∷ [])) }
 {
     let fields = [
         bank,
@@ -103,8 +101,7 @@ fn write_seven<'a>(
 }
 
 fn write_row(writer: &mut Writer<Vec<u8>>, row: &ReportRow) -> Result<(), Error>
-    ensures { OnOk result ((text : Items ℕ) → HasWritten writer.old text
-        → HasWritten writer.new (text ++ row_text default_writer (fields_of_row row.now))) }
+    ensures { OnOk result (AppendsRecord writer.old writer.new (fields_of_row row.now)) }
 {
     let listed_amount = listed_amount_field(row.listed);
     let amount = amount_field(row.amount);
@@ -121,8 +118,7 @@ fn write_row(writer: &mut Writer<Vec<u8>>, row: &ReportRow) -> Result<(), Error>
 }
 
 fn write_rows(writer: &mut Writer<Vec<u8>>, rows: &[ReportRow]) -> Result<(), Error>
-    ensures { OnOk result ((text : Items ℕ) → HasWritten writer.old text
-        → HasWritten writer.new (text ++ csv_text (map fields_of_row rows.now))) }
+    ensures { OnOk result (Appends writer.old writer.new (csv_text (map fields_of_row rows.now))) }
 {
     for row in rows {
         write_row(writer, row)?;

@@ -1,11 +1,10 @@
 -- Transfers that are sorted and told apart are the ascending ones.
-use Rattle.std.proofs.Common.{◌∙◌, ◌++◌, ap}
+use Rattle.std.proofs.Common.{◌∙◌, ap}
 use Rattle.std.proofs.lemmas.List.Filters.{dedup_is}
 use Rattle.sct_message.specs.Ascending.{ascending}
 use Rattle.sct_message.specs.Order.{transfer_order}
 use Rattle.sct_message.specs.OrderLaws.{transfer_total, transfers_same, transfer_ties}
 use Rattle.sct_message.proofs.AscendingLemmas.{ascending-sort_dedup_plain}
-use Rattle.sct_reconcile.specs.Reports.{transfers_on_day}
 use Rattle.sct_reconcile.proofs.keys.keys_reported.Goals as goal
 
 pub returns : goal.returns
