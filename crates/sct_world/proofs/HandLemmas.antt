@@ -1,6 +1,6 @@
 -- What one site hands to another, and why it is refused. Proof plumbing.
 use Rattle.std.proofs.Common.{◌≡◌, ◌≢◌, ◌∙◌, refl, ap, sym, subst, inl, inr, ℕ, ◌+◌, ◌<◌, ◌≤◌, Bool, true, false, not, cond, ◌&&◌, ◌||◌, List, [], ◌∷◌, ◌++◌, filter, length, arith, nat_eq, nat_lt, get_or}
-use Rattle.std.specs.Prelude.{Option, Some, None, IfSome, MatchOption, Result, Ok, Err, IfErr, slice_set}
+use Rattle.std.specs.Prelude.{Option, Some, None, IfSome, MatchOption, Result, Ok, Err, IfOk, IfErr, slice_set}
 use Rattle.std.specs.Result.{IsErrAnd}
 use Rattle.std.specs.List.{list_any, find}
 use Rattle.std.proofs.lemmas.Bool.Decides.{nat_tests}
@@ -24,7 +24,7 @@ use Rattle.sct_site.specs.Cores.{Core, IsSite, logs_of, is_above, entries_above,
 use Rattle.sct_site.proofs.AboveLemmas.{entry_total, entry_same}
 use Rattle.sct_site.proofs.ArrivalLemmas.{length-log}
 use Rattle.sct_site.proofs.JoinLemmas.{filter_none, none_also, Fits, fits}
-use Rattle.sct_world.specs.Settling.{no_core, core_in, held_by_some, IsKept, AreKept, IsWhy, IsAhead, HoldApart, HasAll}
+use Rattle.sct_world.specs.Settling.{no_core, core_in, held_by_some, IsKept, AreKept, IsWhy, IsAhead, HoldApart, HasAll, HasEach, IsWhole, IsWholeOfOne, OfOneGroup}
 use Rattle.sct_world.proofs.AgainLemmas.{joined_holds}
 use Rattle.sct_world.proofs.HeldLemmas.{either, implied, same_entry_is, one_place, held_number}
 use Rattle.sct_world.proofs.KeptLemmas.{place_some, same_kept}
@@ -256,34 +256,40 @@ pub on_err : {X : Type 0} → (r : Result X DeltaFault) (P : DeltaFault → Type
 on_err (Ok x) P f is why = tt
 on_err (Err g) P f is why = subst P (sym is) why
 
-module _ (cores : List Core) (from to : ℕ) (here : from < length cores) (there : to < length cores) (x y : Core)
-    (x_is : x ≡ get_or cores from x) (y_is : y ≡ get_or cores to y) (one_group : (core_in cores from).group ≡ (core_in cores to).group)
-    (giver : IsSite x) (taker : IsSite y) (count : ℕ → ℕ) (empty : (o : ℕ) → count o ≡ 0) (d : List Placed)
-    (cut : d ≡ entries_above count x.arrivals) (shape : IsDelta d) where
-  from_is : core_in cores from ≡ x
-  from_is = read_is cores from x here x_is
+-- the whole of a site holds what the site holds
+whole_cut : (count : ℕ → ℕ) (empty : (o : ℕ) → count o ≡ 0) (core : Core) → IsSite core → (d : List Placed) → d ≡ entries_above count core.arrivals → IsDelta d → IsWhole d core
+whole_cut count empty core site d cut shape = record {
+  site = site;
+  shape = shape;
+  among = whole_among count empty core.arrivals site.order d cut;
+  has = whole_has count empty core.arrivals site.order d cut;
+}
 
+pub whole_on : (count : ℕ → ℕ) → ((o : ℕ) → count o ≡ 0) → (core : Core) → IsSite core → (r : Result (List Placed) DeltaFault)
+    → IfOk r (λ d. d ≡ entries_above count core.arrivals) → IfOk r (λ d. IsDelta d) → IfOk r (λ d. IsWhole d core)
+whole_on count empty core site (Ok d) cut shape = whole_cut count empty core site d cut shape
+whole_on count empty core site (Err f) cut shape = tt
+
+pub whole_there : (cores : List Core) (k : ℕ) (x : Core) → k < length cores → x ≡ get_or cores k x → (d : List Placed) → IsWhole d x → IsWhole d (core_in cores k)
+whole_there cores k x there is d whole = subst (λ (c : Core). IsWhole d c) (sym (read_is cores k x there is)) whole
+
+module _ (cores : List Core) (to : ℕ) (there : to < length cores) (alike : OfOneGroup cores) (d : List Placed) (one : IsWholeOfOne d cores)
+    (y : Core) (y_is : y ≡ get_or cores to y) (taker : IsSite y) where
   to_is : core_in cores to ≡ y
   to_is = read_is cores to y there y_is
-
-  giver_is : IsSite (core_in cores from)
-  giver_is = subst (λ (c : Core). IsSite c) (sym from_is) giver
 
   taker_is : IsSite (core_in cores to)
   taker_is = subst (λ (c : Core). IsSite c) (sym to_is) taker
 
-  cut_is : d ≡ entries_above count (core_in cores from).arrivals
-  cut_is = cut ∙ ap (λ (c : Core). entries_above count c.arrivals) (sym from_is)
+  whole : IsWhole d (core_in cores one.place)
+  whole = one.whole
 
-  is_among : (e : Placed) → holds d e ≡ true → holds (core_in cores from).arrivals e ≡ true
-  is_among = whole_among count empty (core_in cores from).arrivals giver_is.order d cut_is
-
-  has_whole : (e : Placed) → holds (core_in cores from).arrivals e ≡ true → holds d e ≡ true
-  has_whole = whole_has count empty (core_in cores from).arrivals giver_is.order d cut_is
+  one_group : (core_in cores one.place).group ≡ (core_in cores to).group
+  one_group = alike one.place one.there ∙ sym (alike to there)
 
   pub hand_why : (refusal : DeltaFault) → MatchOption (refusal_by y d) (refusal ≡ fault.Memory) (λ first. refusal ≡ first) → IsWhy cores refusal
   hand_why refusal told =
-      why cores from to there giver_is taker_is one_group d shape is_among has_whole refusal
+      why cores one.place to there whole.site taker_is one_group d whole.shape whole.among whole.has refusal
       (subst (λ (c : Core). MatchOption (refusal_by c d) (refusal ≡ fault.Memory) (λ first. refusal ≡ first)) (sym to_is) told)
 
   module _ (none : refusal_by y d ≡ None) (new : Core) (number : new.number ≡ y.number) (group : new.group ≡ y.group) (came : new.arrivals ≡ arrivals_joined y.arrivals d) where
@@ -292,14 +298,18 @@ module _ (cores : List Core) (from to : ℕ) (here : from < length cores) (there
 
     pub hand_kept : AreKept cores (slice_set cores to new)
     hand_kept =
-        handed_kept cores from to there giver_is taker_is one_group d shape is_among has_whole not_refused new
+        handed_kept cores one.place to there whole.site taker_is one_group d whole.shape whole.among whole.has not_refused new
         (number ∙ ap (λ (c : Core). c.number) (sym to_is))
         (group ∙ ap (λ (c : Core). c.group) (sym to_is))
         (came ∙ ap (λ (c : Core). arrivals_joined c.arrivals d) (sym to_is))
 
-    pub hand_all : HasAll (core_in cores from) (core_in (slice_set cores to new) to)
-    hand_all =
-        handed_all cores from to there giver_is taker_is one_group d shape is_among has_whole not_refused new
+    pub hand_each : HasEach d (core_in (slice_set cores to new) to)
+    hand_each e in_delta =
+        handed_all cores one.place to there whole.site taker_is one_group d whole.shape whole.among whole.has not_refused new
         (number ∙ ap (λ (c : Core). c.number) (sym to_is))
         (group ∙ ap (λ (c : Core). c.group) (sym to_is))
         (came ∙ ap (λ (c : Core). arrivals_joined c.arrivals d) (sym to_is))
+        e (whole.among e in_delta)
+
+pub hand_other : (cores : List Core) (to : ℕ) (new : Core) (k : ℕ) → k ≢ to → core_in (slice_set cores to new) k ≡ core_in cores k
+hand_other cores to new k other = get_or-set_other cores to k new no_core other

@@ -2,10 +2,10 @@
 use Rattle.std.specs.Prelude.{◌≡◌, ◌≢◌, ◌<◌, ◌&&◌, not, ℕ, Bool, true, List, [], ◌∷◌, length, nat_eq, slice_index_or, ⊤}
 use Rattle.std.specs.List.{list_any, list_all}
 use Rattle.sct_message.specs.declared.draft.Draft.{Draft}
-use Rattle.sct_delta.specs.Entries.{Placed, entries_from, held_from, holds}
+use Rattle.sct_delta.specs.Entries.{Placed, entries_from, held_from, holds, IsDelta}
 use Rattle.sct_delta.specs.declared.fault.DeltaFault.{DeltaFault}
 use Rattle.sct_delta.specs.declared.fault.DeltaFault.TheVariants as fault
-use Rattle.sct_site.specs.Cores.{Core}
+use Rattle.sct_site.specs.Cores.{Core, IsSite}
 
 -- ---- several sites
 
@@ -87,6 +87,23 @@ IsWhy cores fault.BadSite = ⊥
 IsWhy cores (fault.BadDelta line) = ⊥
 
 -- ---- one site after another
+
+-- all that a site holds, as a delta
+pub record IsWhole (delta : List Placed) (core : Core) : Type 0 where
+  pub site : IsSite core
+  pub shape : IsDelta delta
+  pub among : (entry : Placed) → holds delta entry ≡ true → holds core.arrivals entry ≡ true
+  pub has : (entry : Placed) → holds core.arrivals entry ≡ true → holds delta entry ≡ true
+
+-- all that one of the sites holds, as a delta
+pub record IsWholeOfOne (delta : List Placed) (cores : List Core) : Type 0 where
+  pub place : ℕ
+  pub there : place < length cores
+  pub whole : IsWhole delta (core_in cores place)
+
+-- what the delta has the site holds
+abbrev pub HasEach : List Placed → Core → Type 0
+HasEach delta core = (entry : Placed) → holds delta entry ≡ true → holds core.arrivals entry ≡ true
 
 -- what one site holds the other holds, too
 abbrev pub HasAll : Core → Core → Type 0

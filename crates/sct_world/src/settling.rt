@@ -3,9 +3,9 @@
 ghost use Rattle.std.specs.Prelude.{◌≡◌, ◌≢◌, ◌<◌, ℕ, true, false, length, OnOk, OnErr, IfOk, IfErr};
 ghost use Rattle.sct_delta.specs.Vectors.{count_in};
 ghost use Rattle.sct_delta.specs.declared.fault.DeltaFault.TheVariants as fault;
-ghost use Rattle.sct_world.specs.Settling.{core_in, is_beside, are_one_group, AreKept, AreSettled, IsWhy, HasAll, OfOneGroup};
+ghost use Rattle.sct_world.specs.Settling.{core_in, is_beside, are_one_group, AreKept, AreSettled, IsWhy, IsWhole, IsWholeOfOne, HasAll, HasEach, OfOneGroup};
 
-use sct_delta::{DeltaFault, Vector};
+use sct_delta::{Delta, DeltaFault, Vector};
 use sct_site::SiteCore;
 use std::alloc::Global;
 
@@ -37,19 +37,27 @@ fn empty_vector(alloc: Global) -> Result<Vector, DeltaFault>
     }
 }
 
-// Hands all that one site holds to another of its group.
-fn hand(cores: &mut [SiteCore], from: usize, to: usize, empty: &Vector) -> Result<(), DeltaFault>
-    requires giver { from < length cores.old }
+// All that a site holds, as a delta.
+fn whole_of(core: &SiteCore, empty: &Vector) -> Result<Delta, DeltaFault>
+    requires { (origin : ℕ) → count_in empty.now origin ≡ 0 }
+    ensures whole { IfOk result (λ delta. IsWhole delta core.now) }
+    ensures err { IfErr result (λ refusal. refusal ≡ fault.Memory) }
+{
+    core.cut(empty)
+}
+
+// Hands all that one of the sites holds to the one at a place.
+fn hand(cores: &mut [SiteCore], whole: &Delta, to: usize) -> Result<(), DeltaFault>
+    requires giver { IsWholeOfOne whole.now cores.old }
     requires taker { to < length cores.old }
-    requires group { (core_in cores.old from).group ≡ (core_in cores.old to).group }
-    requires empty { (origin : ℕ) → count_in empty.now origin ≡ 0 }
+    requires group { OfOneGroup cores.old }
     ensures kept { OnOk result (AreKept cores.old cores.new) }
-    ensures handed { OnOk result (HasAll (core_in cores.old from) (core_in cores.new to)) }
+    ensures handed { OnOk result (HasEach whole.now (core_in cores.new to)) }
+    ensures others { OnOk result ((place : ℕ) → place ≢ to → core_in cores.new place ≡ core_in cores.old place) }
     ensures why { IfErr result (λ refusal. IsWhy cores.old refusal) }
     ensures unchanged { OnErr result (cores.new ≡ cores.old) }
 {
-    let delta = cores[from].cut(empty)?;
-    cores[to].accept(&delta)?;
+    cores[to].accept(whole)?;
     Ok(())
 }
 
@@ -62,12 +70,28 @@ fn gather(cores: &mut [SiteCore], empty: &Vector) -> Result<(), DeltaFault>
     ensures why { IfErr result (λ refusal. IsWhy cores.old refusal) }
 {
     for place in 1..cores.len() {
-        hand(cores, place, 0, empty)?;
+        let whole = whole_of(&cores[place], empty)?;
+        hand(cores, &whole, 0)?;
     }
     Ok(())
 }
 
-// Hands all that the first holds to each of the others.
+// Hands all that the first holds, which was cut, to each of the others.
+fn hand_on(cores: &mut [SiteCore], whole: &Delta) -> Result<(), DeltaFault>
+    requires some { 0 < length cores.old }
+    requires whole { IsWhole whole.now (core_in cores.old 0) }
+    requires group { OfOneGroup cores.old }
+    ensures kept { AreKept cores.old cores.new }
+    ensures ok { OnOk result ((place : ℕ) → place < length cores.old → HasAll (core_in cores.old 0) (core_in cores.new place)) }
+    ensures why { IfErr result (λ refusal. IsWhy cores.old refusal) }
+{
+    for place in 1..cores.len() {
+        hand(cores, whole, place)?;
+    }
+    Ok(())
+}
+
+// Hands all that the first holds to each of the others. It is cut once.
 fn spread(cores: &mut [SiteCore], empty: &Vector) -> Result<(), DeltaFault>
     requires group { OfOneGroup cores.old }
     requires empty { (origin : ℕ) → count_in empty.now origin ≡ 0 }
@@ -75,10 +99,11 @@ fn spread(cores: &mut [SiteCore], empty: &Vector) -> Result<(), DeltaFault>
     ensures ok { OnOk result ((place : ℕ) → place < length cores.old → HasAll (core_in cores.old 0) (core_in cores.new place)) }
     ensures why { IfErr result (λ refusal. IsWhy cores.old refusal) }
 {
-    for place in 1..cores.len() {
-        hand(cores, 0, place, empty)?;
+    if cores.is_empty() {
+        return Ok(());
     }
-    Ok(())
+    let whole = whole_of(&cores[0], empty)?;
+    hand_on(cores, &whole)
 }
 
 /// Brings sites of one group to one answer: all that each holds comes to the first, and then from it to each. Afterwards

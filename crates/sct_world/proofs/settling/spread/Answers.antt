@@ -1,14 +1,10 @@
--- One site more has its part.
-use Rattle.sct_world.specs.Settling.{IsWhy}
-use Rattle.sct_world.proofs.HandLemmas.{on_err}
-use Rattle.sct_world.proofs.KeptLemmas.{why_before, reached_more}
+-- The whole of the first site is cut of it.
+use Rattle.std.proofs.Common.{◌<◌, ap, get_or, length, rules}
+use Rattle.sct_world.proofs.HandLemmas.{whole_there}
 use Rattle.sct_world.proofs.settling.spread.Goals as goal
 
-pub returns-in_err-hand-clause-why : goal.returns-in_err-hand-clause-why
-returns-in_err-hand-clause-why c =
-    on_err c.from_residual.result (IsWhy c.args.cores.now) c.in_err-hand.field-0.0 c.from_residual.ensures.1
-    (why_before c.args.cores.now c.loop-place.cores c.loop-place.invariant.kept c.in_err-hand.field-0.0 c.in_err-hand.ensures.why)
-
-pub loop-place-preserved : goal.loop-place-preserved
-loop-place-preserved c =
-    reached_more c.args.cores.now c.loop-place.cores c.hand.new.cores c.loop-place.place c.loop-place.invariant c.in_ok-hand.ensures.kept c.in_ok-hand.ensures.handed
+pub hand_on-requires-clause-whole : goal.hand_on-requires-clause-whole
+hand_on-requires-clause-whole c =
+    let there : 0 < length c.args.cores.now = search rules in
+    whole_there c.args.cores.now 0 (get_or c.args.cores.now 0 c.index-cores-0.result)
+    there (ap (get_or c.args.cores.now 0) c.index-cores-0.is) c.in_ok-whole.whole c.in_ok-whole.ensures.whole
