@@ -7,9 +7,9 @@ use sct_world::{Outcome, Step, WorldFault};
 use std::alloc::{AllocError, Global};
 use std::fmt::Write;
 
-// Adds the number of a site's refusal, and what it tells.
+/// Adds the number of a site's refusal, and what it tells, with a bar before each, as in `41|1|0|2`.
 #[tactic(auto, unfolding(crate::specs::Replays::delta_fault_text))]
-fn push_delta_fault(text: &mut String, fault: &DeltaFault) -> Result<(), AllocError>
+pub fn push_delta_fault(text: &mut String, fault: &DeltaFault) -> Result<(), AllocError>
     ensures { IfOk result (λ _. string_bytes text.new ≡ string_bytes text.old ++ delta_fault_text fault.now) }
 {
     match fault {

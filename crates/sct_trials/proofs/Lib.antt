@@ -1,2 +1,3 @@
 -- The lemmas of the program for tries.
 mod BroughtLemmas
+mod GroupLemmas

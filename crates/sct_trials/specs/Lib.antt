@@ -1,2 +1,4 @@
 -- The definitions of the program for tries.
-pub mod Trials
+pub mod Groups
+pub mod Views
+pub mod Worlds

@@ -4,7 +4,7 @@ ghost use Rattle.std.specs.Prelude.{◌≡◌, ◌++◌, [], codes, IfOk, OnOk};
 ghost use Rattle.std.specs.FinSet as set;
 ghost use Rattle.sct_message.specs.Sets.{messages_in};
 ghost use Rattle.sct_set.specs.Contents.{contents_of};
-ghost use Rattle.sct_trials.specs.Trials.{batch_after, brought, read_from, told_by, texts_of, view_after};
+ghost use Rattle.sct_trials.specs.Views.{batch_after, brought, read_from, told_by, texts_of, view_after};
 
 use anyhow::Result;
 use sct_json::read_message;
@@ -15,19 +15,19 @@ use std::sync::Arc;
 
 /// A view, and the messages of the batch that is being read.
 #[derive(Drop)]
-pub struct Trial {
+pub struct ViewTrial {
     alloc: Global,
     view: View,
     batch: Vec<Arc<Message>>,
 }
 
-impl Trial {
+impl ViewTrial {
     /// A view of no message, and no batch begun.
-    pub fn new(alloc: Global) -> Trial
+    pub fn new(alloc: Global) -> ViewTrial
         ensures view { result.view ≡ set.empty }
         ensures batch { messages_in result.batch.items ≡ [] }
     {
-        Trial {
+        ViewTrial {
             alloc,
             view: View::new(alloc),
             batch: Vec::new(alloc),
@@ -40,7 +40,7 @@ impl Trial {
         ensures batch { OnOk result (messages_in self.new.batch.items ≡ []) }
         ensures told { IfOk result (λ told. told.items ≡ codes "new\n") }
     {
-        *self = Trial::new(self.alloc);
+        *self = ViewTrial::new(self.alloc);
         Ok(format!(in self.alloc; "new\n")?.into_bytes())
     }
 

@@ -3,10 +3,10 @@ use Rattle.std.proofs.Common.{◌≡◌, ◌++◌, ◌∙◌, ap, codes, decimal
 use Rattle.std.specs.FinSet as set
 use Rattle.sct_message.specs.Sets.{messages_in}
 use Rattle.sct_set.specs.Contents.{contents_of}
-use Rattle.sct_trials.specs.Trials.{brought}
+use Rattle.sct_trials.specs.Views.{brought}
 use Rattle.sct_trials.proofs.BroughtLemmas.{grown_by}
 use Rattle.sct_view.specs.Touched.{fresh_of}
-use Rattle.sct_trials.proofs.trial.Trial.apply.Goals as goal
+use Rattle.sct_trials.proofs.views.ViewTrial.apply.Goals as goal
 
 pub returns-clause-told : goal.returns-clause-told
 returns-clause-told c =
