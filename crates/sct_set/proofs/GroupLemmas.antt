@@ -1,17 +1,17 @@
 -- The order of the archive text, identity by identity: the messages of each identity by their texts. Proof plumbing.
-use Rattle.std.proofs.Common.{◌≡◌, ◌+◌, ◌<◌, ◌≤◌, ℕ, All, length, take, get_or, arith, append-nil, Bool, true, false, cond, ◌&&◌, ◌||◌, List, [], ◌∷◌, ◌++◌, map, refl, sym, ap, subst, ◌∙◌, Ordering, filter}
+use Rattle.std.proofs.Common.{◌≡◌, ◌+◌, ◌<◌, ◌≤◌, ℕ, All, length, take, drop, get_or, arith, append-nil, Bool, true, false, cond, ◌&&◌, ◌||◌, List, [], ◌∷◌, ◌++◌, map, refl, sym, ap, subst, ◌∙◌, Ordering, filter}
 use Rattle.std.specs.Arc.{arc_value}
-use Rattle.std.specs.Global.{Global}
+use Rattle.std.specs.Global.{Global, Vec}
 use Rattle.std.specs.declared.sync.Arc.{Arc}
 use Rattle.std.specs.declared.cmp.Ordering.TheVariants.{Less}
 use Rattle.std.specs.Cmp.{both_ways}
-use Rattle.std.specs.List.{AllByRecursion, flat_map, list_any}
+use Rattle.std.specs.List.{AllByRecursion, dedup, flat_map, list_any}
 use Rattle.std.specs.List.Sorted.{IsStrictlySortedBy}
 use Rattle.std.specs.Ordering.{eq_by_cmp, ordering_then}
 use Rattle.std.proofs.lemmas.Bool.{and_from}
 use Rattle.std.proofs.lemmas.Grind.{flat_map-append, take_at_read}
 use Rattle.std.proofs.lemmas.List.Elements.{All-append}
-use Rattle.std.proofs.lemmas.List.{take_all}
+use Rattle.std.proofs.Math.Seq.{take-append_seam}
 use Rattle.std.proofs.lemmas.List.Kept.{IsStrictlySortedBy-filter}
 use Rattle.sct_message.specs.declared.draft.Draft.{Draft}
 use Rattle.sct_message.specs.declared.keys.Identity.{Identity}
@@ -21,14 +21,13 @@ use Rattle.sct_message.specs.Order.{identity_order, same_identity}
 use Rattle.sct_message.specs.OrderLaws.{identity_total, identities_same}
 use Rattle.sct_message.proofs.AscendingLemmas.{any_ascending, ascending-filter, ascending-same, ascending-sorted, ascending_rises}
 use Rattle.sct_message.proofs.Members.{list_any-filter, list_any-found, list_any-map, tie_is, ties_itself}
-use Rattle.sct_set.specs.Archive.{line_of, line_order, written_order, IsReadAgain}
+use Rattle.sct_set.specs.Archive.{archive_text_of, line_of, line_order, written_order, AreReadAgain, IsReadAgain}
+use Rattle.sct_set.specs.Contents.{contents_of}
 use Rattle.sct_set.specs.Drafts.{drafts_in, drafts_of}
+use Rattle.sct_set.specs.Groups.{group_of, groups_of, AreWritten}
 use Rattle.sct_set.specs.LineOrder.{line_order_total}
-use Rattle.sct_set.proofs.TextLemmas.{line_order_same}
-
--- the messages of an identity in the order of the text, among those of a list
-abbrev pub group_of : List Draft → Identity → List Draft
-group_of ds i = ascending line_order (drafts_of i ds)
+use Rattle.sct_set.specs.Pieces.{joined}
+use Rattle.sct_set.proofs.TextLemmas.{archive_text-contents_of, line_order_same, read_again-contents_of}
 
 -- ---- what holds of each member
 
@@ -192,26 +191,51 @@ more_groups ds is n i below at =
     ∙ ap (λ (xs : List Draft). flat_map (group_of ds) (take n is) ++ xs) (append-nil (group_of ds i))
 
 -- a group more in the text, and all of it is read again
-pub text_more : (text old : List ℕ) (ds : List Draft) (is : List Identity) (n : ℕ) (i : Identity) (ms : List Draft) → n < length is → i ≡ get_or is n i → ms ≡ drafts_of i ds
-    → old ≡ flat_map line_of (flat_map (group_of ds) (take n is)) → text ≡ old ++ flat_map line_of (ascending line_order ms)
-    → text ≡ flat_map line_of (flat_map (group_of ds) (take (n + 1) is))
-text_more text old ds is n i ms below at group before now =
-    now
-    ∙ ap (λ (xs : List ℕ). xs ++ flat_map line_of (ascending line_order ms)) before
-    ∙ ap (λ (xs : List Draft). flat_map line_of (flat_map (group_of ds) (take n is)) ++ flat_map line_of (ascending line_order xs)) group
-    ∙ sym (flat_map-append line_of (flat_map (group_of ds) (take n is)) (group_of ds i))
-    ∙ ap (flat_map line_of) (sym (more_groups ds is n i below at))
+pub group_more : (text old : List ℕ) (ds : List Draft) (is : List Identity) (n : ℕ) (i : Identity) (ms : List Draft) → n < length is → i ≡ get_or is n i → ms ≡ drafts_of i ds
+    → AreWritten ds (take n is) old → text ≡ old ++ flat_map line_of (ascending line_order ms) → All IsReadAgain (ascending line_order ms)
+    → AreWritten ds (take (n + 1) is) text
+group_more text old ds is n i ms below at group before now again =
+    let more = more_groups ds is n i below at in
+    record {
+      text =
+          now
+          ∙ ap (λ (xs : List ℕ). xs ++ flat_map line_of (ascending line_order ms)) before.text
+          ∙ ap (λ (xs : List Draft). flat_map line_of (groups_of ds (take n is)) ++ flat_map line_of (ascending line_order xs)) group
+          ∙ sym (flat_map-append line_of (groups_of ds (take n is)) (group_of ds i))
+          ∙ ap (flat_map line_of) (sym more);
+      again =
+          subst (λ (xs : List Draft). All IsReadAgain xs) (sym more)
+          (All-append IsReadAgain (groups_of ds (take n is)) (group_of ds i) before.again (subst (λ (xs : List Draft). All IsReadAgain (ascending line_order xs)) group again));
+    }
 
-pub again_more : (ds : List Draft) (is : List Identity) (n : ℕ) (i : Identity) (ms : List Draft) → n < length is → i ≡ get_or is n i → ms ≡ drafts_of i ds
-    → All IsReadAgain (flat_map (group_of ds) (take n is)) → All IsReadAgain (ascending line_order ms)
-    → All IsReadAgain (flat_map (group_of ds) (take (n + 1) is))
-again_more ds is n i ms below at group before now =
-    subst (λ (xs : List Draft). All IsReadAgain xs) (sym (more_groups ds is n i below at))
-    (All-append IsReadAgain (flat_map (group_of ds) (take n is)) (group_of ds i) before (subst (λ (xs : List Draft). All IsReadAgain (ascending line_order xs)) group now))
+-- ---- what is told apart of a list of which all was lent and put back
 
--- ---- the end
+pub put_back : (same : Identity → Identity → Bool) (n : ℕ) (sorted old told : List Identity) → length sorted ≡ n
+    → told ≡ dedup same (take n (sorted ++ drop (length sorted) old)) → told ≡ dedup same sorted
+put_back same n sorted old told long apart =
+    apart ∙ ap (λ (m : ℕ). dedup same (take m (sorted ++ drop (length sorted) old))) (sym long)
+    ∙ ap (dedup same) (take-append_seam sorted (drop (length sorted) old))
 
-pub all_groups : (ds : List Draft) (is : List Identity) (n : ℕ) → is ≡ ascending identity_order (map identity_of ds) → length is ≤ n
-    → flat_map (group_of ds) (take n is) ≡ ascending line_order ds
-all_groups ds is n which past =
-    ap (flat_map (group_of ds)) (take_all n is past ∙ which) ∙ grouped ds
+-- ---- the pieces of two parts
+
+pub written_in_two : (ds : List Draft) (is front back : List Identity) (first second both : List (Vec ℕ)) → is ≡ front ++ back
+    → AreWritten ds front (joined first) → AreWritten ds back (joined second) → both ≡ first ++ second → AreWritten ds is (joined both)
+written_in_two ds is front back first second both parts one two put =
+    let whole : groups_of ds is ≡ groups_of ds front ++ groups_of ds back = ap (groups_of ds) parts ∙ flat_map-append (group_of ds) front back in
+    record {
+      text =
+          ap joined put ∙ flat_map-append (λ (piece : Vec ℕ). piece.items) first second
+          ∙ rw (one.text, two.text) (sym (flat_map-append line_of (groups_of ds front) (groups_of ds back)))
+          ∙ ap (flat_map line_of) (sym whole);
+      again = subst (λ (xs : List Draft). All IsReadAgain xs) (sym whole) (All-append IsReadAgain (groups_of ds front) (groups_of ds back) one.again two.again);
+    }
+
+-- ---- all identities
+
+pub all_text : (text : List ℕ) (ds : List Draft) (is : List Identity) → is ≡ ascending identity_order (map identity_of ds) → AreWritten ds is text → text ≡ archive_text_of (contents_of ds)
+all_text text ds is which written =
+    written.text ∙ ap (flat_map line_of) (ap (groups_of ds) which ∙ grouped ds) ∙ sym (archive_text-contents_of ds)
+
+pub all_read_again : (text : List ℕ) (ds : List Draft) (is : List Identity) → is ≡ ascending identity_order (map identity_of ds) → AreWritten ds is text → AreReadAgain (contents_of ds)
+all_read_again text ds is which written =
+    read_again-contents_of ds (subst (λ (xs : List Draft). All IsReadAgain xs) (ap (groups_of ds) which ∙ grouped ds) written.again)

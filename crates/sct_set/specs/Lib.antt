@@ -5,5 +5,7 @@ pub mod Contents
 pub mod Contradictions
 pub mod Digest
 pub mod Drafts
+pub mod Groups
 pub mod Laws
 pub mod LineOrder
+pub mod Pieces

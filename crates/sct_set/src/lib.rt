@@ -10,6 +10,7 @@ mod fault;
 mod held;
 pub mod laws;
 mod line;
+mod pieces;
 mod push;
 mod table;
 mod text;

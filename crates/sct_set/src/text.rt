@@ -9,6 +9,7 @@ ghost use Rattle.sct_message.specs.Order.{identity_order};
 ghost use Rattle.sct_set.specs.Archive.{archive_text_of, line_of, line_order, AreReadAgain, IsReadAgain};
 ghost use Rattle.sct_set.specs.Contents.{contents_of};
 ghost use Rattle.sct_set.specs.Drafts.{drafts_in, drafts_of};
+ghost use Rattle.sct_set.specs.Groups.{AreWritten};
 
 use crate::fault::SetFault;
 use crate::line::Line;
@@ -19,7 +20,7 @@ use std::alloc::{AllocError, Global};
 use std::sync::Arc;
 
 // The identity of each message of a table.
-fn identities_of(table: &Table) -> Result<Vec<Identity>, AllocError>
+pub(crate) fn identities_of(table: &Table) -> Result<Vec<Identity>, AllocError>
     ensures { IfOk result (λ found. found.items ≡ map identity_of table.now) }
 {
     let mut found = Vec::new(table.allocator());
@@ -114,15 +115,23 @@ fn push_messages(
     Ok(())
 }
 
+// The lines of the messages of some identities, one identity after another.
+pub(crate) fn lines_by(table: &Table, identities: &[Identity]) -> Result<Vec<u8>, SetFault>
+    ensures { IfOk result (λ text. AreWritten table.now identities.now text.items) }
+{
+    let mut text = Vec::new(table.allocator());
+    for identity in identities {
+        push_messages(table.allocator(), &mut text, table.of(identity))?;
+    }
+    Ok(text)
+}
+
 /// The written text of each message of a table, by identity and then by text, with a line feed after each.
 pub fn archive_text(table: &Table) -> Result<Vec<u8>, SetFault>
     ensures text { IfOk result (λ text. text.items ≡ archive_text_of (contents_of table.now)) }
     ensures again { IfOk result (λ text. AreReadAgain (contents_of table.now)) }
 {
     let identities = identities(table)?;
-    let mut text = Vec::new(table.allocator());
-    for identity in &identities {
-        push_messages(table.allocator(), &mut text, table.of(identity))?;
-    }
+    let text = lines_by(table, &identities)?;
     Ok(text)
 }

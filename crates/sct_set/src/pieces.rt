@@ -1,0 +1,97 @@
+//! The archive text in pieces, each made in a thread of its own where one can be made.
+
+ghost use Rattle.std.specs.Prelude.{◌≡◌, ◌<◌, map, IfOk};
+ghost use Rattle.std.specs.Thread.{IsSync};
+ghost use Rattle.sct_message.specs.Ascending.{ascending};
+ghost use Rattle.sct_message.specs.Keys.{identity_of};
+ghost use Rattle.sct_message.specs.Order.{identity_order};
+ghost use Rattle.sct_set.specs.Archive.{archive_text_of, AreReadAgain};
+ghost use Rattle.sct_set.specs.Contents.{contents_of};
+ghost use Rattle.sct_set.specs.Groups.{AreWritten};
+ghost use Rattle.sct_set.specs.Pieces.{joined};
+
+use crate::fault::SetFault;
+use crate::table::Table;
+use crate::text::{identities_of, lines_by};
+use rayon::prelude::*;
+use sct_message::{Identity, keys_are_ordered};
+use std::alloc::AllocError;
+use std::thread::{Threads, available_parallelism, join};
+
+// The lines of fewer identities are made in one piece.
+const WORTH_A_THREAD: usize = 256;
+
+// The identities of the messages of a table, ascending, each once, sorted in several threads.
+fn identities_in_order<R: Threads + Sync>(
+    rt: &R,
+    table: &Table,
+) -> Result<Vec<Identity>, AllocError>
+    ensures { IfOk result (λ found. found.items ≡ ascending identity_order (map identity_of table.now)) }
+{
+    keys_are_ordered();
+    let mut found = identities_of(table)?;
+    par_sort(rt, table.allocator(), &mut found)?;
+    found.dedup();
+    Ok(found)
+}
+
+// The lines of the messages of some identities, as one piece.
+fn one_piece(table: &Table, identities: &[Identity]) -> Result<Vec<Vec<u8>>, SetFault>
+    ensures { IfOk result (λ pieces. AreWritten table.now identities.now (joined pieces.items)) }
+{
+    let mut pieces = Vec::new(table.allocator());
+    pieces.push(lines_by(table, identities)?)?;
+    Ok(pieces)
+}
+
+// The lines of the messages of some identities, by halves of halves.
+#[cycle(halves)]
+pub(crate) fn pieces_by_halves<R: Threads + Sync>(
+    rt: &R,
+    table: &Table,
+    identities: &[Identity],
+    halvings: u32,
+) -> Result<Vec<Vec<u8>>, SetFault>
+    ensures { IfOk result (λ pieces. AreWritten table.now identities.now (joined pieces.items)) }
+{
+    if halvings == 0 {
+        return one_piece(table, identities);
+    }
+    let (front, back) = identities.split_at(identities.len() / 2);
+    let (first, second) = join(
+        rt,
+        || -> Result<Vec<Vec<u8>>, SetFault>
+            requires { IsSync R.row × (0 < halvings) }
+            ensures { IfOk result (λ pieces. AreWritten table.entry.now front.entry.now (joined pieces.items)) }
+        { pieces_by_halves(rt, table, front, halvings - 1) },
+        || -> Result<Vec<Vec<u8>>, SetFault>
+            requires { IsSync R.row × (0 < halvings) }
+            ensures { IfOk result (λ pieces. AreWritten table.entry.now back.entry.now (joined pieces.items)) }
+        { pieces_by_halves(rt, table, back, halvings - 1) },
+    );
+    let mut pieces = first?;
+    let mut more = second?;
+    pieces.append(&mut more)?;
+    Ok(pieces)
+}
+
+// How often a list of identities is cut in halves: for two pieces a processor.
+fn halvings<R: Threads>(rt: &R, identities: &[Identity]) -> u32 {
+    if identities.len() < WORTH_A_THREAD {
+        return 0;
+    }
+    match available_parallelism(rt) {
+        Ok(processors) => processors.get().saturating_mul(2).ilog2(),
+        Err(_) => 0,
+    }
+}
+
+/// The written text of each message of a table, by identity and then by text, with a line feed after each, in pieces.
+pub fn archive_pieces<R: Threads + Sync>(rt: &R, table: &Table) -> Result<Vec<Vec<u8>>, SetFault>
+    ensures text { IfOk result (λ pieces. joined pieces.items ≡ archive_text_of (contents_of table.now)) }
+    ensures again { IfOk result (λ pieces. AreReadAgain (contents_of table.now)) }
+{
+    let identities = identities_in_order(rt, table)?;
+    let pieces = pieces_by_halves(rt, table, &identities, halvings(rt, &identities))?;
+    Ok(pieces)
+}
