@@ -1,0 +1,56 @@
+use Rattle.std.proofs.Common.{◌≡◌, ◌∙◌, refl, ap, sym, subst, List, length, arith}
+use Rattle.std.specs.Arc.{arc_value}
+use mathlib.Core.List.{IsPrefix}
+use Rattle.sct_delta.specs.Entries.{Placed}
+use Rattle.sct_history.proofs.Prefixes.{prefix_length}
+use Rattle.sct_site.specs.Cores.{Core, arrivals_taken}
+use Rattle.sct_desk.specs.Locked.{Fails, Locked, came_by_take}
+use Rattle.sct_desk.proofs.Arrived.{before_is, fails_after, held_more, taken_length, taken_longer, taken_most}
+use Rattle.sct_desk.proofs.held.Held.take.Goals as goal
+
+pub invariant_of-self-2 : goal.invariant_of-self-2
+invariant_of-self-2 g c =
+    let core = c.self.inside.core in
+    let ok : c.take.new.self.arrivals ≡ arrivals_taken core (arc_value c.args.message) = c.in-Ok-take.ensures.ok in
+    held_more _ _ _ core _ _ _ _ _ c.self.invariant c.take.new.self _ c.in-Ok-take.ensures.number c.in-Ok-take.ensures.group
+    (subst (λ (l : List Placed). IsPrefix core.arrivals l) (sym ok) (taken_longer core (arc_value c.args.message)))
+    (omega (arith, ap length ok, taken_most core (arc_value c.args.message), ap length c.arrivals.ensures.arrivals, c.in-Ok.ensures.ok))
+
+pub publish_after-requires-clause-news : goal.publish_after-requires-clause-news
+publish_after-requires-clause-news g c =
+    let core = c.self.inside.core in
+    let ok : c.take.new.self.arrivals ≡ arrivals_taken core (arc_value c.args.message) = c.in-Ok-take.ensures.ok in
+    omega (
+      arith,
+      c.came_by-news.ensures,
+      ap came_by_take c.in-Ok-take.ensures.answer,
+      ap length ok,
+      taken_length core (arc_value c.args.message),
+      prefix_length _ _ c.self.invariant.published,
+    )
+
+pub returns-in-Ok-publish_after-clause-receipt : goal.returns-in-Ok-publish_after-clause-receipt
+returns-in-Ok-publish_after-clause-receipt g c =
+    let core = c.self.inside.core in
+    let ok : c.take.new.self.arrivals ≡ arrivals_taken core (arc_value c.args.message) = c.in-Ok-take.ensures.ok in (
+      c.in-Ok-publish_after.ensures.site,
+      before_is c.in-Ok-publish_after.receipt core.arrivals c.take.new.self.arrivals c.came_by-news.result
+          c.in-Ok-publish_after.ensures.arrivals c.in-Ok-publish_after.ensures.news
+          (omega (arith, c.came_by-news.ensures, ap came_by_take c.in-Ok-take.ensures.answer, ap length ok, taken_length core (arc_value c.args.message)))
+          (subst (λ (l : List Placed). IsPrefix core.arrivals l) (sym ok) (taken_longer core (arc_value c.args.message)))
+          ∙ ap (λ (l : Locked). l.core.arrivals) c.self.view_is,
+      c.in-Ok-publish_after.ensures.arrivals ∙ sym (ap (λ (x : Core). x.arrivals) c.in-Ok-publish_after.ensures.core),
+    )
+
+pub returns-in-Err-clause-failed : goal.returns-in-Err-clause-failed
+returns-in-Err-clause-failed g c =
+    let core = c.self.inside.core in
+    let ok : c.take.new.self.arrivals ≡ arrivals_taken core (arc_value c.args.message) = c.in-Ok-take.ensures.ok in
+    subst (λ (l : Locked). Fails l (arrivals_taken l.core (arc_value c.args.message)) c.publish_after.new.self c.in-Err.refusal) c.self.view_is (
+    fails_after (record { core = core; published = c.self.inside.writer.desk.shown.value.track.log })
+    (record { core = c.take.new.self; published = c.self.inside.writer.desk.shown.value.track.log })
+    c.publish_after.new.self (arrivals_taken core (arc_value c.args.message)) c.in-Err.refusal
+    c.in-Ok-take.ensures.number c.in-Ok-take.ensures.group ok refl c.self.invariant.published
+    (subst (λ (l : List Placed). IsPrefix core.arrivals l) (sym ok) (taken_longer core (arc_value c.args.message)))
+    c.in-Err.ensures.refused c.in-Err.ensures.unchanged
+    )

@@ -1,0 +1,12 @@
+use Rattle.std.proofs.Common.{◌∙◌, sym, subst, List, arith}
+use mathlib.Core.List.{IsPrefix}
+use Rattle.sct_delta.specs.Entries.{Placed}
+use Rattle.sct_desk.proofs.Batches.{next_arrives, prefix_take}
+use Rattle.sct_desk.proofs.publishing.follow.Goals as goal
+
+pub add-requires-clause-next : goal.add-requires-clause-next
+add-requires-clause-next c = next_arrives c.args.arrivals.now c.loop-at.track.log c.loop-at.at c.index-arrivals-at.result c.requires.order c.loop-at.invariant.1 (omega (arith, c.loop-at-test.true)) c.index-arrivals-at.is
+
+pub returns-then-not-add-clause-begins : goal.returns-then-not-add-clause-begins
+returns-then-not-add-clause-begins c =
+    subst (λ (l : List Placed). IsPrefix l c.args.arrivals.now) (sym (c.if-not-add.ensures.added ∙ c.loop-at.invariant.1)) (prefix_take c.loop-at.at c.args.arrivals.now)

@@ -1,0 +1,23 @@
+-- What lies under a desk's lock agrees. Read by an auditor.
+use Rattle.std.specs.Prelude.{◌≡◌, ◌≤◌, ℕ, List, length, take}
+use mathlib.Core.List.{IsPrefix}
+use Rattle.logbook.specs.Pages.{Book}
+use Rattle.sct_history.specs.Sights.{Sight}
+use Rattle.sct_site.specs.Cores.{Core}
+use Rattle.sct_desk.specs.declared.shown.Shown.{Shown}
+use Rattle.sct_desk.specs.declared.shown.Batch.{Batch}
+use Rattle.sct_desk.specs.Rules.{view_of, handed_over}
+
+-- The core is that of the desk's site. What is published is the view of a beginning of the core's arrivals. The history
+-- has a beginning of them, and with the batches that are handed over the view is that of the first `handed` ones. There
+-- is a mark for each arrival.
+pub record IsHeld (book : Book) (number group : ℕ) (core : Core) (track : Sight) (shown : Shown) (batches : List Batch) (handed : ℕ) (marks : List ℕ) : Type 0 where
+  pub number_is : core.number ≡ number
+  pub group_is : core.group ≡ group
+  pub book_is : track.book ≡ book
+  pub tracked : IsPrefix track.log core.arrivals
+  pub bounded : handed ≤ length core.arrivals
+  pub given : handed_over shown batches ≡ view_of book (take handed core.arrivals)
+  pub viewed : shown ≡ view_of book shown.track.log
+  pub published : IsPrefix shown.track.log core.arrivals
+  pub marked : length core.arrivals ≤ length marks

@@ -1,0 +1,37 @@
+-- What receipts show, and what queries have seen. Read by an auditor.
+use Rattle.std.specs.Prelude.{◌≡◌, ◌+◌, ◌-◌, ◌≤◌, ℕ, List, length, take}
+use Rattle.logbook.specs.Pages.{Book}
+use Rattle.sct_delta.specs.Entries.{Placed}
+use Rattle.sct_site.specs.Cores.{Core}
+
+-- A receipt: it tells that the site's arrivals from position `from` on, `count` of them, were published, the first
+-- `carried` of which came by earlier calls; and it shows all arrivals up to these. Positions count from 1.
+pub record Told : Type 0 where
+  pub site : ℕ
+  pub from : ℕ
+  pub count : ℕ
+  pub carried : ℕ
+  pub book : Book
+  pub shown : List Placed
+
+-- A query: the site that it is of, and the arrivals that it has seen.
+pub record Asked : Type 0 where
+  pub site : ℕ
+  pub book : Book
+  pub seen : List Placed
+
+-- the receipt is of this site
+abbrev pub IsOf : Book → ℕ → Told → Type 0
+IsOf book number receipt = (receipt.site ≡ number) × (receipt.book ≡ book)
+
+-- how many of the arrivals that a receipt tells came by the very call that it is of
+abbrev pub came : Told → ℕ
+came receipt = receipt.count - receipt.carried
+
+-- the arrivals before the call that a receipt is of
+abbrev pub before : Told → List Placed
+before receipt = take (length receipt.shown - came receipt) receipt.shown
+
+-- the site of this number and group with these arrivals
+abbrev pub site_with : ℕ → ℕ → List Placed → Core
+site_with number group arrivals = record { number = number; group = group; arrivals = arrivals }

@@ -1,0 +1,86 @@
+//! What a query can be asked.
+
+ghost use Rattle.std.specs.Prelude.{◌≡◌, ◌⊎◌, length, IfOk, IfErr};
+ghost use mathlib.Core.List.{IsPrefix};
+ghost use Rattle.sct_case.specs.Statuses.{told};
+ghost use Rattle.sct_delta.specs.Entries.{messages_of};
+ghost use Rattle.sct_view.specs.Answers.{status_of, found_on, recall_of};
+ghost use Rattle.sct_view.specs.Totals.{totals_of};
+ghost use Rattle.sct_desk.specs.declared.fault.DeskFault.TheVariants as fault;
+
+use crate::fault::DeskFault;
+use crate::query::{Answer, Query};
+use crate::question::{FindingsOf, RecallOf, StatusOf, TotalsOf};
+use core::mem::replace_with;
+use sct_case::{Finding, RecallStatus, Status};
+use sct_element::Bic;
+use sct_message::{RecallKey, TransferKey};
+use sct_view::Totals;
+use std::alloc::Global;
+
+impl Query {
+    /// Where a transfer stands. Refused are 55 (`Closed`) after the desk was closed or dropped, and 50 (`Memory`).
+    pub fn status(
+        &mut self,
+        alloc: Global,
+        transfer: &TransferKey,
+    ) -> Result<Answer<Status>, DeskFault>
+        ensures same { (self.new.site ≡ self.old.site) × (self.new.book ≡ self.old.book) }
+        ensures later { IsPrefix self.old.seen self.new.seen }
+        ensures front { IfOk result (λ answer. answer.front ≡ length self.new.seen) }
+        ensures value { IfOk result (λ answer. told answer.value ≡ status_of (messages_of self.new.seen) transfer.now) }
+        ensures refused { IfErr result (λ refusal. (refusal ≡ fault.Closed) ⊎ (refusal ≡ fault.Memory)) }
+    {
+        replace_with(self, StatusOf { alloc, transfer }, |query, question| {
+            query.asked(&question)
+        })
+    }
+
+    /// What contradicts itself on a transfer. Refused are 55 (`Closed`) after the desk was closed or dropped, and 50
+    /// (`Memory`).
+    pub fn findings(
+        &mut self,
+        alloc: Global,
+        transfer: &TransferKey,
+    ) -> Result<Answer<Vec<Finding>>, DeskFault>
+        ensures same { (self.new.site ≡ self.old.site) × (self.new.book ≡ self.old.book) }
+        ensures later { IsPrefix self.old.seen self.new.seen }
+        ensures front { IfOk result (λ answer. answer.front ≡ length self.new.seen) }
+        ensures value { IfOk result (λ answer. answer.value.items ≡ found_on (messages_of self.new.seen) transfer.now) }
+        ensures refused { IfErr result (λ refusal. (refusal ≡ fault.Closed) ⊎ (refusal ≡ fault.Memory)) }
+    {
+        replace_with(self, FindingsOf { alloc, transfer }, |query, question| {
+            query.asked(&question)
+        })
+    }
+
+    /// Where a recall stands. Refused is 55 (`Closed`) after the desk was closed or dropped.
+    pub fn recall(&mut self, recall: &RecallKey) -> Result<Answer<RecallStatus>, DeskFault>
+        ensures same { (self.new.site ≡ self.old.site) × (self.new.book ≡ self.old.book) }
+        ensures later { IsPrefix self.old.seen self.new.seen }
+        ensures front { IfOk result (λ answer. answer.front ≡ length self.new.seen) }
+        ensures value { IfOk result (λ answer. answer.value ≡ recall_of (messages_of self.new.seen) recall.now) }
+        ensures refused { IfErr result (λ refusal. refusal ≡ fault.Closed) }
+    {
+        replace_with(
+            self,
+            RecallOf { recall },
+            |query, question| query.asked(&question),
+        )
+    }
+
+    /// The totals of a bank. Refused is 55 (`Closed`) after the desk was closed or dropped.
+    pub fn totals(&mut self, bank: &Bic) -> Result<Answer<Totals>, DeskFault>
+        ensures same { (self.new.site ≡ self.old.site) × (self.new.book ≡ self.old.book) }
+        ensures later { IsPrefix self.old.seen self.new.seen }
+        ensures front { IfOk result (λ answer. answer.front ≡ length self.new.seen) }
+        ensures value { IfOk result (λ answer. answer.value ≡ totals_of (messages_of self.new.seen) bank.now) }
+        ensures refused { IfErr result (λ refusal. refusal ≡ fault.Closed) }
+    {
+        replace_with(
+            self,
+            TotalsOf { bank },
+            |query, question| query.asked(&question),
+        )
+    }
+}

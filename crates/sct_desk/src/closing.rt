@@ -1,0 +1,142 @@
+//! Whether the receipts of a desk tile its arrivals.
+
+ghost use Rattle.std.specs.Bool.{OnTrue};
+ghost use Rattle.std.specs.List.{All};
+ghost use Rattle.std.specs.Prelude.{◌≡◌, ◌+◌, ◌<◌, ◌≤◌, ◌⊎◌, ℕ, length, slice_index, MatchOption};
+ghost use mathlib.Core.List.{IsPrefix};
+ghost use Rattle.sct_desk.specs.Tilings.{AllBegin, AreOurs, FailsToClose, IsFirstUnmarked, IsLeastUntold, Tiles, tellings, up_to_two};
+
+use crate::fault::DeskFault;
+use crate::held::Held;
+use crate::receipt::Receipt;
+use crate::site::Site;
+use sct_history::Track;
+use std::sync::Wait;
+
+// What a receipt of this site shows is a beginning of the arrivals.
+fn begins(receipt: &Receipt, number: u16, arrivals: &Track) -> bool
+    requires { receipt.now.site ≡ number → receipt.now.book ≡ arrivals.now.book }
+    ensures { OnTrue result (receipt.now.site ≡ number → IsPrefix receipt.now.shown arrivals.now.log) }
+{
+    if receipt.site == number {
+        receipt.track.begins(arrivals)
+    } else {
+        true
+    }
+}
+
+// What each receipt of this site shows is a beginning of the arrivals.
+fn all_begin(receipts: &[Receipt], number: u16, arrivals: &Track) -> bool
+    requires { AreOurs arrivals.now.book number receipts.now }
+    ensures { OnTrue result (AllBegin number arrivals.now.log receipts.now) }
+{
+    for receipt in receipts {
+        if !begins(receipt, number, arrivals) {
+            return false;
+        }
+    }
+    true
+}
+
+// All marks are 0.
+fn clear(marks: &mut [u8])
+    ensures len { length marks.new ≡ length marks.old }
+    ensures clear { (at : ℕ) → at < length marks.new → slice_index marks.new at ≡ 0 }
+{
+    for at in 0..marks.len() {
+        marks[at] = 0;
+    }
+}
+
+// The marks from `start` to `end` count one more, up to two.
+fn mark(marks: &mut [u8], start: usize, end: usize)
+    requires { (start ≤ end) × (end ≤ length marks.old) }
+    ensures len { length marks.new ≡ length marks.old }
+    ensures inside { (at : ℕ) → start ≤ at → at < end → slice_index marks.new at ≡ up_to_two (slice_index marks.old at + 1) }
+    ensures outside { (at : ℕ) → (at < start) ⊎ (end ≤ at) → slice_index marks.new at ≡ slice_index marks.old at }
+{
+    for at in start..end {
+        marks[at] = if marks[at] == 0 { 1 } else { 2 };
+    }
+}
+
+// Each mark counts, up to two, how many receipts of this site tell its position.
+fn mark_all(marks: &mut [u8], receipts: &[Receipt], number: u16)
+    requires clear { (at : ℕ) → at < length marks.old → slice_index marks.old at ≡ 0 }
+    requires room { All (λ receipt. receipt.site ≡ number → length receipt.shown ≤ length marks.old) receipts.now }
+    ensures len { length marks.new ≡ length marks.old }
+    ensures marks { (at : ℕ) → at < length marks.new → slice_index marks.new at ≡ up_to_two (tellings number (at + 1) receipts.now) }
+{
+    for receipt in receipts {
+        if receipt.site == number {
+            let start = receipt.from() as usize - 1;
+            mark(marks, start, start + receipt.count as usize);
+        }
+    }
+}
+
+// The first position whose mark is not 1.
+fn first_unmarked(marks: &[u8]) -> Option<u64>
+    ensures { MatchOption result ((at : ℕ) → at < length marks.now → slice_index marks.now at ≡ 1)
+        (λ position. IsFirstUnmarked marks.now position) }
+{
+    for at in 0..marks.len() {
+        if marks[at] != 1 {
+            return Some(at as u64 + 1);
+        }
+    }
+    None
+}
+
+// The least position, of as many as there are marks, that is not told exactly once. The time goes by the marks and what
+// the receipts count.
+fn first_untold(marks: &mut [u8], receipts: &[Receipt], number: u16) -> Option<u64>
+    requires { All (λ receipt. receipt.site ≡ number → length receipt.shown ≤ length marks.old) receipts.now }
+    ensures len { length marks.new ≡ length marks.old }
+    ensures first { MatchOption result
+        ((position : ℕ) → 1 ≤ position → position ≤ length marks.old → tellings number position receipts.now ≡ 1)
+        (IsLeastUntold number receipts.now) }
+{
+    clear(marks);
+    mark_all(marks, receipts, number);
+    first_unmarked(marks)
+}
+
+// The least of the first `len` positions that is not told exactly once.
+fn first_untold_of(
+    marks: &mut Vec<u8>,
+    len: usize,
+    receipts: &[Receipt],
+    number: u16,
+) -> Option<u64>
+    requires len { len ≤ length marks.old.items }
+    requires room { All (λ receipt. receipt.site ≡ number → length receipt.shown ≤ len) receipts.now }
+    ensures len { length marks.new.items ≡ length marks.old.items }
+    ensures first { MatchOption result
+        ((position : ℕ) → 1 ≤ position → position ≤ len → tellings number position receipts.now ≡ 1)
+        (IsLeastUntold number receipts.now) }
+{
+    first_untold(&mut marks[..len], receipts, number)
+}
+
+impl<J: Site, R: Wait + Drop> Held<J, R> {
+    // Why the desk can't be closed with these receipts, if it can't.
+    pub(crate) fn untold(&mut self, receipts: &[Receipt]) -> Option<DeskFault>
+        requires { AreOurs J.book J.number receipts.now }
+        ensures same { self.new ≡ self.old }
+        ensures tiles { MatchOption result (Tiles J.number self.old.core.arrivals receipts.now) (FailsToClose J.number receipts.now) }
+    {
+        let len = self.core.arrivals().len();
+        let number = self.core.number();
+        let published = &self.writer.published().track;
+        if published.len() != len as u64 || !all_begin(receipts, number, published) {
+            return Some(DeskFault::Pending {
+                from: published.len() + 1,
+            });
+        }
+        let Some(position) = first_untold_of(&mut self.marks, len, receipts, number) else {
+            return None;
+        };
+        Some(DeskFault::Untold { position })
+    }
+}

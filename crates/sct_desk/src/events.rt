@@ -1,0 +1,166 @@
+//! What happens under a desk's lock: a message is taken, a delta is handed over, a delta is cut, pending arrivals are
+//! published.
+
+ghost use Rattle.std.specs.Arc.{arc_value};
+ghost use Rattle.std.specs.Prelude.{◌≡◌, ◌≢◌, ◌+◌, ◌≤◌, Err, IfOk, IfErr, MatchOption, OnOk, length};
+ghost use Rattle.sct_delta.specs.Entries.{IsArrivals};
+ghost use Rattle.sct_delta.specs.Vectors.{count_in};
+ghost use Rattle.sct_delta.specs.declared.fault.DeltaFault.TheVariants as delta_fault;
+ghost use Rattle.sct_site.specs.Cores.{took_by, arrivals_taken, entries_above};
+ghost use Rattle.sct_desk.specs.Locked.{Fails, IsShown, IsWant, answer_to, arrivals_handed, came_by_delta, came_by_take};
+ghost use Rattle.sct_desk.specs.Passes.{IsOf, before, site_with};
+
+use crate::fault::DeskFault;
+use crate::held::Held;
+use crate::receipt::Receipt;
+use crate::site::Site;
+use sct_delta::{Delta, DeltaFault, Vector};
+use sct_history::History;
+use sct_message::Message;
+use sct_site::{Accepted, Took};
+use std::alloc::{AllocError, Global};
+use std::sync::{Arc, Wait};
+
+// There are at least so many marks.
+fn make_marks(marks: &mut Vec<u8>, least: usize) -> Result<(), AllocError>
+    ensures ok { OnOk result (least ≤ length marks.new.items) }
+    ensures more { length marks.old.items ≤ length marks.new.items }
+{
+    if marks.len() < least {
+        marks.resize(least, 0)?;
+    }
+    Ok(())
+}
+
+// How many arrivals came by a take.
+fn came_by(took: &Took) -> u64
+    ensures { result ≡ came_by_take took.now }
+{
+    match took {
+        Took::Taken { .. } => 1,
+        Took::Repeat => 0,
+    }
+}
+
+// How many arrivals came with a delta. There is no such number where memory was wanting.
+fn came_with(answer: &Result<Accepted, DeltaFault>) -> Option<u64>
+    ensures { MatchOption result (answer.now ≡ Err delta_fault.Memory)
+        (λ news. (news ≡ came_by_delta answer.now) × (answer.now ≢ Err delta_fault.Memory)) }
+{
+    match answer {
+        Ok(accepted) => Some(accepted.fresh),
+        Err(DeltaFault::Memory) => None,
+        Err(_) => Some(0),
+    }
+}
+
+impl<J: Site, R: Wait + Drop> Held<J, R> {
+    // Takes a message and publishes what is pending.
+    pub(crate) fn take(
+        &mut self,
+        alloc: Global,
+        history: &History,
+        message: Arc<Message>,
+    ) -> Result<(Took, Receipt), DeskFault>
+        requires { history.now ≡ J.book }
+        ensures site { self.old.core ≡ site_with J.number J.group self.old.core.arrivals }
+        ensures same { self.new.core ≡ site_with J.number J.group self.new.core.arrivals }
+        ensures took { IfOk result (λ t. t.0 ≡ took_by self.old.core (arc_value message)) }
+        ensures arrivals { OnOk result (self.new.core.arrivals ≡ arrivals_taken self.old.core (arc_value message)) }
+        ensures shown { OnOk result (IsShown self.new) }
+        ensures receipt { IfOk result (λ t. IsOf J.book J.number t.1
+            × (before t.1 ≡ self.old.core.arrivals) × (t.1.shown ≡ self.new.core.arrivals)) }
+        ensures order { IfOk result (λ t. IsArrivals t.1.shown) }
+        ensures count { IfOk result (λ t. t.1.count ≡ t.1.carried + came_by_take t.0) }
+        ensures want { IfErr result IsWant }
+        ensures failed { IfErr result (Fails self.old (arrivals_taken self.old.core (arc_value message)) self.new) }
+    {
+        let least = self.core.arrivals().len() + 1;
+        let Ok(()) = make_marks(&mut self.marks, least) else {
+            return Err(DeskFault::Memory);
+        };
+        let Ok(took) = self.core.take(message) else {
+            return Err(DeskFault::Memory);
+        };
+        let news = came_by(&took);
+        match self.publish_after(alloc, history, news) {
+            Ok(receipt) => Ok((took, receipt)),
+            Err(refusal) => Err(refusal),
+        }
+    }
+
+    // Hands a delta to the core and publishes what is pending. A delta that is refused changes nothing.
+    pub(crate) fn accept(
+        &mut self,
+        alloc: Global,
+        history: &History,
+        delta: &Delta,
+    ) -> Result<(Result<Accepted, DeltaFault>, Receipt), DeskFault>
+        requires { history.now ≡ J.book }
+        ensures site { self.old.core ≡ site_with J.number J.group self.old.core.arrivals }
+        ensures same { self.new.core ≡ site_with J.number J.group self.new.core.arrivals }
+        ensures answer { IfOk result (λ t. t.0 ≡ answer_to self.old.core delta.now) }
+        ensures arrivals { OnOk result (self.new.core.arrivals ≡ arrivals_handed self.old.core delta.now) }
+        ensures shown { OnOk result (IsShown self.new) }
+        ensures receipt { IfOk result (λ t. IsOf J.book J.number t.1
+            × (before t.1 ≡ self.old.core.arrivals) × (t.1.shown ≡ self.new.core.arrivals)) }
+        ensures order { IfOk result (λ t. IsArrivals t.1.shown) }
+        ensures count { IfOk result (λ t. t.1.count ≡ t.1.carried + came_by_delta t.0) }
+        ensures want { IfErr result IsWant }
+        ensures failed { IfErr result (Fails self.old (arrivals_handed self.old.core delta.now) self.new) }
+    {
+        let least = self.core.arrivals().len() + delta.entries().len();
+        let Ok(()) = make_marks(&mut self.marks, least) else {
+            return Err(DeskFault::Memory);
+        };
+        let answer = self.core.accept(delta);
+        let Some(news) = came_with(&answer) else {
+            return Err(DeskFault::Memory);
+        };
+        match self.publish_after(alloc, history, news) {
+            Ok(receipt) => Ok((answer, receipt)),
+            Err(refusal) => Err(refusal),
+        }
+    }
+
+    // Cuts a delta from the core and publishes what is pending.
+    pub(crate) fn cut(
+        &mut self,
+        alloc: Global,
+        history: &History,
+        vector: &Vector,
+    ) -> Result<(Delta, Receipt), DeskFault>
+        requires { history.now ≡ J.book }
+        ensures core { self.new.core ≡ self.old.core }
+        ensures cut { IfOk result (λ t. t.0 ≡ entries_above (count_in vector.now) self.old.core.arrivals) }
+        ensures shown { OnOk result (IsShown self.new) }
+        ensures receipt { IfOk result (λ t. IsOf J.book J.number t.1 × (t.1.shown ≡ self.old.core.arrivals)) }
+        ensures order { IfOk result (λ t. IsArrivals t.1.shown) }
+        ensures count { IfOk result (λ t. t.1.count ≡ t.1.carried) }
+        ensures want { IfErr result IsWant }
+        ensures failed { IfErr result (Fails self.old self.old.core.arrivals self.new) }
+    {
+        let Ok(delta) = self.core.cut(vector) else {
+            return Err(DeskFault::Memory);
+        };
+        match self.publish_after(alloc, history, 0) {
+            Ok(receipt) => Ok((delta, receipt)),
+            Err(refusal) => Err(refusal),
+        }
+    }
+
+    // Publishes what is pending.
+    pub(crate) fn publish(&mut self, alloc: Global, history: &History) -> Result<Receipt, DeskFault>
+        requires { history.now ≡ J.book }
+        ensures core { self.new.core ≡ self.old.core }
+        ensures shown { OnOk result (IsShown self.new) }
+        ensures receipt { IfOk result (λ receipt. IsOf J.book J.number receipt × (receipt.shown ≡ self.old.core.arrivals)) }
+        ensures order { IfOk result (λ receipt. IsArrivals receipt.shown) }
+        ensures count { IfOk result (λ receipt. receipt.count ≡ receipt.carried) }
+        ensures want { IfErr result IsWant }
+        ensures failed { IfErr result (Fails self.old self.old.core.arrivals self.new) }
+    {
+        let _core = &self.core;
+        self.publish_after(alloc, history, 0)
+    }
+}

@@ -1,0 +1,166 @@
+//! How the arrivals that are pending come to be published.
+
+ghost use Rattle.std.specs.FinSet as set;
+ghost use Rattle.std.specs.Prelude.{◌≡◌, ◌+◌, ◌≤◌, List, [], length, map, take, drop, IfOk, IfErr, OnOk, OnErr};
+ghost use Rattle.std.specs.Bool.{OnTrue};
+ghost use mathlib.Core.List.{IsPrefix};
+ghost use Rattle.sct_delta.specs.Entries.{IsArrivals, messages_of};
+ghost use Rattle.sct_message.specs.Sets.{messages_in};
+ghost use Rattle.sct_desk.specs.Locked.{IsShown, unpublished};
+ghost use Rattle.sct_desk.specs.Passes.{IsOf};
+ghost use Rattle.sct_desk.specs.Rules.{GoesOn, handed_over};
+
+use crate::fault::DeskFault;
+use crate::held::Held;
+use crate::receipt::Receipt;
+use crate::rule::{Sees, ShownWriter};
+use crate::shown::Batch;
+use crate::site::Site;
+use core::mem::replace_with;
+use sct_delta::Entry;
+use sct_history::{History, Track};
+use sct_message::Message;
+use std::alloc::{AllocError, Global};
+use std::sync::{Arc, Wait};
+
+// The messages of the entries, in their order, shared.
+fn messages_of(alloc: Global, entries: &[Entry]) -> Result<Vec<Arc<Message>>, AllocError>
+    ensures { IfOk result (λ messages. messages_in messages.items ≡ map (λ entry. entry.message) entries.now) }
+{
+    let mut messages = Vec::new(alloc);
+    for entry in entries {
+        messages.push(entry.message.clone()?)?;
+    }
+    Ok(messages)
+}
+
+// The history gets the arrivals that it lacks. It does not where it has others, which no one adds who has not the lock.
+fn follow(track: &mut Track, history: &History, arrivals: &[Entry]) -> bool
+    requires history { history.now ≡ track.old.book }
+    requires order { IsArrivals arrivals.now }
+    requires begins { IsPrefix track.old.log arrivals.now }
+    ensures book { track.new.book ≡ track.old.book }
+    ensures begins { IsPrefix track.new.log arrivals.now }
+    ensures all { OnTrue result (track.new.log ≡ arrivals.now) }
+{
+    let known = track.len() as usize;
+    for at in known..arrivals.len() {
+        if !track.add(history, &arrivals[at]) {
+            return false;
+        }
+    }
+    true
+}
+
+// The writer gets the arrivals from `handed` on.
+fn hand_over(
+    alloc: Global,
+    writer: &mut ShownWriter,
+    track: &Track,
+    arrivals: &[Entry],
+    handed: usize,
+) -> Result<(), AllocError>
+    requires { handed ≤ length arrivals.now }
+    ensures desk { writer.new.desk ≡ writer.old.desk }
+    ensures ok { OnOk result (handed_over writer.old.desk.shown.value (drop writer.new.behind writer.new.log.items)
+        ≡ record {
+          view = set.union (handed_over writer.old.desk.shown.value (drop writer.old.behind writer.old.log.items)).view (messages_of (drop handed arrivals.now));
+          track = track.now;
+        }) }
+    ensures err { OnErr result (drop writer.new.behind writer.new.log.items ≡ drop writer.old.behind writer.old.log.items) }
+{
+    let messages = messages_of(alloc, &arrivals[handed..])?;
+    let batch = Batch {
+        messages,
+        track: track.again(),
+    };
+    match writer.append(batch) {
+        Ok(()) => Ok(()),
+        Err(_) => Err(AllocError),
+    }
+}
+
+// The writer, once queries see what was handed over.
+fn published<R: Wait>(writer: ShownWriter, rt: &R) -> (ShownWriter, Result<(), AllocError>)
+    requires { GoesOn writer.desk.shown.value (handed_over writer.desk.shown.value (drop writer.behind writer.log.items)) }
+    ensures ok { OnOk result.1 (result.0.desk.shown.value ≡ handed_over writer.desk.shown.value (drop writer.behind writer.log.items)) }
+    ensures none { OnOk result.1 (drop result.0.behind result.0.log.items ≡ []) }
+    ensures err { OnErr result.1 (result.0.desk.shown.value ≡ writer.desk.shown.value) }
+    ensures same { OnErr result.1 (drop result.0.behind result.0.log.items ≡ drop writer.behind writer.log.items) }
+{
+    writer.publish_as::<Sees, R>(rt)
+}
+
+// Queries see from now on what was handed over.
+fn show<R: Wait>(writer: &mut ShownWriter, rt: &R) -> Result<(), AllocError>
+    requires { GoesOn writer.old.desk.shown.value (handed_over writer.old.desk.shown.value (drop writer.old.behind writer.old.log.items)) }
+    ensures ok { OnOk result (writer.new.desk.shown.value ≡ handed_over writer.old.desk.shown.value (drop writer.old.behind writer.old.log.items)) }
+    ensures none { OnOk result (drop writer.new.behind writer.new.log.items ≡ []) }
+    ensures err { OnErr result (writer.new.desk.shown.value ≡ writer.old.desk.shown.value) }
+    ensures same { OnErr result (drop writer.new.behind writer.new.log.items ≡ drop writer.old.behind writer.old.log.items) }
+{
+    replace_with(writer, rt, |writer, rt| published(writer, rt))
+}
+
+impl<J: Site, R: Wait + Drop> Held<J, R> {
+    // Why nothing is published where memory is wanting.
+    fn unpublished(&self) -> DeskFault
+        ensures { result ≡ unpublished self.now }
+    {
+        let published = self.writer.published().track.len();
+        if published == self.core.arrivals().len() as u64 {
+            DeskFault::Memory
+        } else {
+            DeskFault::Unpublished {
+                from: published + 1,
+            }
+        }
+    }
+
+    // Publishes all that is pending, of which the last `news` arrivals came by this very call.
+    pub(crate) fn publish_after(
+        &mut self,
+        alloc: Global,
+        history: &History,
+        news: u64,
+    ) -> Result<Receipt, DeskFault>
+        requires history { history.now ≡ J.book }
+        requires news { news + length self.old.published ≤ length self.old.core.arrivals }
+        ensures core { self.new.core ≡ self.old.core }
+        ensures shown { OnOk result (IsShown self.new) }
+        ensures site { IfOk result (λ receipt. IsOf J.book J.number receipt) }
+        ensures arrivals { IfOk result (λ receipt. receipt.shown ≡ self.old.core.arrivals) }
+        ensures order { IfOk result (λ receipt. IsArrivals receipt.shown) }
+        ensures from { IfOk result (λ receipt. receipt.from ≡ length self.old.published + 1) }
+        ensures news { IfOk result (λ receipt. receipt.count ≡ receipt.carried + news) }
+        ensures refused { IfErr result (λ refusal. refusal ≡ unpublished self.old) }
+        ensures unchanged { OnErr result (self.new ≡ self.old) }
+    {
+        let refusal = self.unpublished();
+        let published = self.writer.published().track.len();
+        if !follow(&mut self.track, history, self.core.arrivals()) {
+            return Err(refusal);
+        }
+        let Ok(()) = hand_over(
+            alloc,
+            &mut self.writer,
+            &self.track,
+            self.core.arrivals(),
+            self.handed,
+        ) else {
+            return Err(refusal);
+        };
+        self.handed = self.core.arrivals().len();
+        let Ok(()) = show(&mut self.writer, &self.rt) else {
+            return Err(refusal);
+        };
+        let count = self.track.len() - published;
+        Ok(Receipt {
+            site: self.core.number(),
+            from: published + 1,
+            count,
+            carried: count - news,
+            track: self.track.again(),
+        })
+    }
+}

@@ -1,0 +1,105 @@
+//! Queries: they read what is published, and wait for nobody.
+
+ghost use Rattle.std.specs.Prelude.{◌≡◌, ◌≢◌, ◌⊎◌, length, IfOk, IfErr};
+ghost use mathlib.Core.List.{IsPrefix};
+ghost use Rattle.sct_delta.specs.Entries.{messages_of};
+ghost use Rattle.sct_history.specs.Sights.{IsLonger};
+ghost use Rattle.sct_desk.specs.declared.fault.DeskFault.TheVariants as fault;
+
+use crate::fault::DeskFault;
+use crate::question::Question;
+use crate::receipt::Receipt;
+use crate::rule::{Sees, ShownReader};
+use sct_history::Track;
+use std::marker::Model;
+
+/// An answer, and how many of the site's arrivals it stands on.
+#[derive(Debug, Drop, PartialEq, Eq)]
+pub struct Answer<T> {
+    pub value: T,
+    pub front: u64,
+}
+
+/// A place at a desk from which the published view is read. Each answer stands on a beginning of the site's arrivals that
+/// has all that the query has seen before, and all that the receipts show that it learned.
+#[derive(Drop)]
+pub struct Query {
+    pub(crate) site: u16,
+    pub(crate) reader: ShownReader,
+    pub(crate) track: Track,
+}
+
+impl Model for Query {
+    ghost use Rattle.std.specs.Prelude.{◌≡◌, Some};
+    ghost use Rattle.left_right.specs.Sides.{view as seat_view};
+    ghost use Rattle.sct_desk.specs.Passes.{Asked};
+    ghost use Rattle.sct_desk.specs.Rules.{book_known};
+
+    ghost Value = { Asked };
+
+    ghost view = { λ q. record { site = q.site; book = q.track.book; seen = q.track.log } };
+
+    ghost invariant = { λ q. book_known (seat_view q.reader.place) ≡ Some q.track.book };
+}
+
+impl Query {
+    /// Sees from now on no less than a receipt of this desk shows. A receipt of another site's desk teaches nothing.
+    pub fn learn(&mut self, receipt: &Receipt)
+        requires { receipt.now.site ≡ self.old.site → receipt.now.book ≡ self.old.book }
+        ensures same { (self.new.site ≡ self.old.site) × (self.new.book ≡ self.old.book) }
+        ensures longer { receipt.now.site ≡ self.old.site → IsLonger self.old.seen receipt.now.shown self.new.seen }
+        ensures other { receipt.now.site ≢ self.old.site → self.new.seen ≡ self.old.seen }
+    {
+        if receipt.site == self.site {
+            self.track = self.track.longer(&receipt.track);
+        }
+    }
+
+    /// Asks what is published. The query comes back, with what it has seen then.
+    pub(crate) fn asked<Q: Question>(
+        self,
+        question: &Q,
+    ) -> (Query, Result<Answer<Q::Value>, DeskFault>)
+        ensures same { (result.0.site ≡ self.site) × (result.0.book ≡ self.book) }
+        ensures later { IsPrefix self.seen result.0.seen }
+        ensures value { IfOk result.1 (λ a. (a.front ≡ length result.0.seen) × Q.is_answer question.now (messages_of result.0.seen) a.value) }
+        ensures refused { IfErr result.1 (λ refusal. (refusal ≡ fault.Closed) ⊎ ((refusal ≡ fault.Memory) × Q.may_want)) }
+    {
+        let Query {
+            site,
+            reader,
+            track,
+        } = self;
+        let reading = match reader.enter_as::<Sees>() {
+            Ok(reading) => reading,
+            Err(reader) => {
+                let query = Query {
+                    site,
+                    reader,
+                    track,
+                };
+                return (query, Err(DeskFault::Closed));
+            }
+        };
+        if !track.begins(&reading.get().track) {
+            let query = Query {
+                site,
+                reader: reading.leave(),
+                track,
+            };
+            return (query, Err(DeskFault::Closed));
+        }
+        let seen = reading.get().track.again();
+        let front = seen.len();
+        let told = question.ask(&reading.get().view);
+        let query = Query {
+            site,
+            reader: reading.leave(),
+            track: seen,
+        };
+        match told {
+            Ok(value) => (query, Ok(Answer { value, front })),
+            Err(_) => (query, Err(DeskFault::Memory)),
+        }
+    }
+}

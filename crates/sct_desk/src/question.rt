@@ -1,0 +1,111 @@
+//! What a query asks of the published view.
+
+ghost use Rattle.std.specs.Prelude.{◌≡◌, IfOk, OnErr};
+
+use crate::copies::{copied_status, findings_of};
+use sct_case::{CaseFault, Finding, RecallStatus, Status};
+use sct_element::Bic;
+use sct_message::{RecallKey, TransferKey};
+use sct_view::{Totals, View};
+use std::alloc::Global;
+
+/// A question, which each set of messages answers.
+pub(crate) trait Question {
+    ghost use Rattle.sct_message.specs.Sets.{MessageSet};
+
+    type Value;
+
+    // What a set of messages answers.
+    ghost is_answer: { Self → MessageSet → Self.Value → Type 0 };
+
+    // What shows that memory may be wanting for the answer.
+    ghost may_want: { Type 0 };
+
+    fn ask(&self, view: &View) -> Result<Self::Value, CaseFault>
+        ensures answer { IfOk result (λ value. is_answer self.now view.now value) }
+        ensures memory { OnErr result may_want };
+}
+
+/// Where does the transfer stand?
+#[derive(Drop)]
+pub(crate) struct StatusOf<'a> {
+    pub(crate) alloc: Global,
+    pub(crate) transfer: &'a TransferKey,
+}
+
+impl Question for StatusOf<'_> {
+    ghost use Rattle.sct_case.specs.Statuses.{told};
+    ghost use Rattle.sct_view.specs.Answers.{status_of};
+
+    type Value = Status;
+
+    ghost is_answer = { λ q held status. told status ≡ status_of held q.transfer.now };
+
+    ghost may_want = { Unit {0} };
+
+    fn ask(&self, view: &View) -> Result<Status, CaseFault> {
+        Ok(copied_status(self.alloc, view.status(self.transfer))?)
+    }
+}
+
+/// What contradicts itself on the transfer?
+#[derive(Drop)]
+pub(crate) struct FindingsOf<'a> {
+    pub(crate) alloc: Global,
+    pub(crate) transfer: &'a TransferKey,
+}
+
+impl Question for FindingsOf<'_> {
+    ghost use Rattle.sct_view.specs.Answers.{found_on};
+
+    type Value = Vec<Finding>;
+
+    ghost is_answer = { λ q held found. found.items ≡ found_on held q.transfer.now };
+
+    ghost may_want = { Unit {0} };
+
+    #[tactic(auto, using(sct_view::proofs::ToldLemmas::found_on_status))]
+    fn ask(&self, view: &View) -> Result<Vec<Finding>, CaseFault> {
+        Ok(findings_of(self.alloc, view.status(self.transfer))?)
+    }
+}
+
+/// Where does the recall stand?
+#[derive(Drop)]
+pub(crate) struct RecallOf<'a> {
+    pub(crate) recall: &'a RecallKey,
+}
+
+impl Question for RecallOf<'_> {
+    ghost use Rattle.sct_view.specs.Answers.{recall_of};
+
+    type Value = RecallStatus;
+
+    ghost is_answer = { λ q held stands. stands ≡ recall_of held q.recall.now };
+
+    ghost may_want = { ⊥ };
+
+    fn ask(&self, view: &View) -> Result<RecallStatus, CaseFault> {
+        Ok(view.recall(self.recall))
+    }
+}
+
+/// What are the totals of the bank?
+#[derive(Drop)]
+pub(crate) struct TotalsOf<'a> {
+    pub(crate) bank: &'a Bic,
+}
+
+impl Question for TotalsOf<'_> {
+    ghost use Rattle.sct_view.specs.Totals.{totals_of};
+
+    type Value = Totals;
+
+    ghost is_answer = { λ q held totals. totals ≡ totals_of held q.bank.now };
+
+    ghost may_want = { ⊥ };
+
+    fn ask(&self, view: &View) -> Result<Totals, CaseFault> {
+        Ok(view.totals(self.bank))
+    }
+}

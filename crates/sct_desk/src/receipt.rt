@@ -1,0 +1,67 @@
+//! What a desk tells of a call.
+
+ghost use Rattle.std.specs.Prelude.{◌≡◌};
+
+use sct_history::Track;
+use std::marker::Model;
+
+/// A desk's receipt of a call: the call published the site's arrivals from some position on, so many of them, of which the
+/// first ones came by earlier calls. Positions count from 1. Where nothing was pending it published none, and stands one
+/// past the last position that was published. It can't be copied. A query that learns it sees no less than it shows.
+#[derive(Drop)]
+pub struct Receipt {
+    pub(crate) site: u16,
+    pub(crate) from: u64,
+    pub(crate) count: u64,
+    pub(crate) carried: u64,
+    pub(crate) track: Track,
+}
+
+impl Model for Receipt {
+    ghost use Rattle.std.specs.Prelude.{◌≡◌, ◌+◌, ◌≤◌, length};
+    ghost use Rattle.sct_desk.specs.Passes.{Told};
+
+    ghost Value = { Told };
+
+    ghost view = { λ r. record { site = r.site; from = r.from; count = r.count; carried = r.carried; book = r.track.book; shown = r.track.log } };
+
+    ghost invariant = { λ r. (r.from + r.count ≡ length r.track.log + 1) × (1 ≤ r.from) × (r.carried ≤ r.count) };
+}
+
+impl Receipt {
+    ghost use Rattle.std.specs.Prelude.{◌+◌, ◌≤◌, length};
+    ghost use Rattle.sct_delta.specs.Entries.{IsArrivals};
+
+    /// The number of the desk's site.
+    pub fn site(&self) -> u16
+        ensures { result ≡ self.now.site }
+    {
+        self.site
+    }
+
+    /// The first position that the call published.
+    pub fn from(&self) -> u64
+        ensures from { result ≡ self.now.from }
+        ensures first { 1 ≤ result }
+        ensures last { result + self.now.count ≡ length self.now.shown + 1 }
+        ensures arrivals { IsArrivals self.now.shown }
+    {
+        let _len = self.track.len();
+        self.from
+    }
+
+    /// How many arrivals it published.
+    pub fn count(&self) -> u64
+        ensures { result ≡ self.now.count }
+    {
+        self.count
+    }
+
+    /// How many of these came by earlier calls.
+    pub fn carried(&self) -> u64
+        ensures carried { result ≡ self.now.carried }
+        ensures most { result ≤ self.now.count }
+    {
+        self.carried
+    }
+}
