@@ -2,5 +2,6 @@
 mod Adapters
 mod AgainLemmas
 mod CommandLineLemmas
+mod PieceLemmas
 mod Prefixes
 mod Values

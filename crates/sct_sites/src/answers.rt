@@ -5,13 +5,14 @@ ghost use Rattle.sct_lines.specs.Lines.{refusals_told, set_read, told_text_of};
 ghost use Rattle.sct_message.specs.Sets.{messages_in};
 ghost use Rattle.sct_reconcile.specs.Reports.{report_of, report_text_of};
 ghost use Rattle.sct_set.specs.Contents.{contents_of};
+ghost use Rattle.sct_set.specs.Pieces.{joined};
 ghost use Rattle.sct_sites.specs.Engine.{asked_text_of};
 ghost use Rattle.sct_sites.specs.declared.fault.ProgramFault.TheVariants as fault;
 ghost use Rattle.sct_view.specs.StatusText.{status_text_of};
 ghost use Rattle.sct_view.specs.TotalsText.{totals_text_of};
 
 use crate::fault::ProgramFault;
-use crate::holding::{archive_of, archive_text};
+use crate::holding::{archive_of, archive_pieces};
 use sct_element::{Bic, Day};
 use sct_lines::{Intake, read_lines};
 use sct_message::Message;
@@ -113,40 +114,52 @@ pub enum Question<'a> {
     },
 }
 
-/// What an input is answered: a text, the lines that tell its refused lines, and how many these are.
+/// What an input is answered: a text in pieces, the lines that tell its refused lines, and how many these are.
 #[derive(Drop)]
 pub struct Answer {
-    pub text: Vec<u8>,
+    pub pieces: Vec<Vec<u8>>,
     pub told: String,
     pub refused: u64,
 }
 
-// The text that answers what is asked of some messages.
-fn asked_text(
+/// A text as one piece. Only want of memory is a fault.
+pub fn one_piece(alloc: Global, text: Vec<u8>) -> Result<Vec<Vec<u8>>, ProgramFault>
+    ensures text { IfOk result (λ pieces. joined pieces.items ≡ text.items) }
+    ensures memory { IfErr result (λ e. e ≡ fault.Memory) }
+{
+    let mut pieces = Vec::new(alloc);
+    pieces.push(text)?;
+    Ok(pieces)
+}
+
+// The text that answers what is asked of some messages, in pieces.
+fn asked_pieces<T: Threads + Sync>(
+    rt: &T,
     alloc: Global,
     question: &Question<'_>,
     messages: Vec<Arc<Message>>,
-) -> Result<Vec<u8>, ProgramFault>
-    ensures text { IfOk result (λ text. text.items ≡ asked_text_of question.now (contents_of (messages_in messages.items))) }
+) -> Result<Vec<Vec<u8>>, ProgramFault>
+    ensures text { IfOk result (λ pieces. joined pieces.items ≡ asked_text_of question.now (contents_of (messages_in messages.items))) }
     ensures memory { IfErr result (λ e. e ≡ fault.Memory) }
 {
-    match question {
-        Question::Status => status_text(alloc, messages),
-        Question::Archive => archive_text(alloc, messages),
-        Question::Totals => totals_text(alloc, messages),
-        Question::Report { bank, day, list } => report_text(alloc, messages, bank, day, list),
-    }
+    let text = match question {
+        Question::Archive => return archive_pieces(rt, alloc, messages),
+        Question::Status => status_text(alloc, messages)?,
+        Question::Totals => totals_text(alloc, messages)?,
+        Question::Report { bank, day, list } => report_text(alloc, messages, bank, day, list)?,
+    };
+    one_piece(alloc, text)
 }
 
-/// What is asked of the messages of an input, whose bytes are read in as many threads as there are processors, and then
-/// dropped. Only want of memory is a fault.
+/// What is asked of the messages of an input, whose bytes are read in as many threads as there are processors, and dropped
+/// before the text is made. Only want of memory is a fault.
 pub fn answer_of_messages<T: Threads + Sync>(
     rt: &T,
     alloc: Global,
     question: Question<'_>,
     input: Vec<u8>,
 ) -> Result<Answer, ProgramFault>
-    ensures text { IfOk result (λ answer. answer.text.items ≡ asked_text_of question.entry (set_read input.items)) }
+    ensures text { IfOk result (λ answer. joined answer.pieces.items ≡ asked_text_of question.entry (set_read input.items)) }
     ensures told { IfOk result (λ answer. string_bytes answer.told ≡ told_text_of (refusals_told input.items)) }
     ensures refused { IfOk result (λ answer. answer.refused ≡ length (refusals_told input.items)) }
     ensures memory { IfErr result (λ e. e ≡ fault.Memory) }
@@ -157,9 +170,9 @@ pub fn answer_of_messages<T: Threads + Sync>(
         refused,
     } = read_lines(rt, alloc, &input)?;
     drop(input);
-    let text = asked_text(alloc, &question, messages)?;
+    let pieces = asked_pieces(rt, alloc, &question, messages)?;
     Ok(Answer {
-        text,
+        pieces,
         told,
         refused,
     })

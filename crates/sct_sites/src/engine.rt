@@ -17,6 +17,7 @@ ghost use Rattle.std.specs.Prelude.{
   IfSome,
   OnOk,
 };
+ghost use Rattle.sct_set.specs.Pieces.{joined};
 ghost use Rattle.sct_sites.specs.declared.fault.ProgramFault.TheVariants as fault;
 ghost use Rattle.sct_sites.specs.Engine.{
   bad_row_of,
@@ -43,7 +44,7 @@ use crate::fault::ProgramFault;
 use crate::replays::answer_of_script;
 use crate::sink::Sink;
 use crate::source::Source;
-use crate::transfer::{MOST_BYTES, read_all, write_all};
+use crate::transfer::{MOST_BYTES, read_all, write_all, write_pieces};
 use sct_element::{Bic, Day};
 use sct_reconcile::List;
 use std::alloc::Global;
@@ -92,7 +93,7 @@ fn answer<T: Threads + Sync>(
     input: Vec<u8>,
 ) -> Result<Answer, ProgramFault>
     requires { IsListOf job.now list }
-    ensures text { IfOk result (λ answer. answer.text.items ≡ job_text_of job.now input.items) }
+    ensures text { IfOk result (λ answer. joined answer.pieces.items ≡ job_text_of job.now input.items) }
     ensures told { IfOk result (λ answer. string_bytes answer.told ≡ told_of job.now input.items) }
     ensures refused { IfOk result (λ answer. answer.refused ≡ refused_of job.now input.items) }
     ensures taken { OnOk result (IsInputOf job.now input.items) }
@@ -165,11 +166,11 @@ pub fn engine<T: Threads + Sync, R: Source, O: Sink, E: Sink>(
     let list = list_for(alloc, job)?;
     let input = read_all(alloc, reader, limit)?;
     let Answer {
-        text,
+        pieces,
         told,
         refused,
     } = answer(rt, alloc, job, list, input)?;
     write_all(err, told.as_bytes())?;
-    write_all(out, &text)?;
+    write_pieces(out, &pieces)?;
     Ok(Done { refused })
 }

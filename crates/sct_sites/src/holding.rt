@@ -3,6 +3,7 @@ ghost use Rattle.std.specs.Prelude.{◌≡◌, IfErr, IfOk};
 ghost use Rattle.sct_message.specs.Sets.{messages_in};
 ghost use Rattle.sct_set.specs.Archive.{archive_text_of};
 ghost use Rattle.sct_set.specs.Contents.{contents_of};
+ghost use Rattle.sct_set.specs.Pieces.{joined};
 ghost use Rattle.sct_sites.specs.Again.{ArchiveGivesBack, GivesBack};
 ghost use Rattle.sct_sites.specs.declared.fault.ProgramFault.TheVariants as fault;
 
@@ -11,6 +12,7 @@ use sct_message::Message;
 use sct_set::Archive;
 use std::alloc::Global;
 use std::sync::Arc;
+use std::thread::Threads;
 
 /// An archive that holds the messages.
 pub fn archive_of(alloc: Global, messages: Vec<Arc<Message>>) -> Result<Archive, ProgramFault>
@@ -29,12 +31,17 @@ fn the_archive_text_gives_the_set_back()
     ensures { ArchiveGivesBack }
 {}
 
-/// Each message once, written on a line of its own, by identity and then by text. Only want of memory is a fault.
-pub fn archive_text(alloc: Global, messages: Vec<Arc<Message>>) -> Result<Vec<u8>, ProgramFault>
-    ensures text { IfOk result (λ text. text.items ≡ archive_text_of (contents_of (messages_in messages.items))) }
-    ensures again { IfOk result (λ text. GivesBack (contents_of (messages_in messages.items)) text.items) }
+/// Each message once, written on a line of its own, by identity and then by text, in pieces that are made in as many threads
+/// as there are processors. Only want of memory is a fault.
+pub fn archive_pieces<T: Threads + Sync>(
+    rt: &T,
+    alloc: Global,
+    messages: Vec<Arc<Message>>,
+) -> Result<Vec<Vec<u8>>, ProgramFault>
+    ensures text { IfOk result (λ pieces. joined pieces.items ≡ archive_text_of (contents_of (messages_in messages.items))) }
+    ensures again { IfOk result (λ pieces. GivesBack (contents_of (messages_in messages.items)) (joined pieces.items)) }
     ensures memory { IfErr result (λ e. e ≡ fault.Memory) }
 {
     the_archive_text_gives_the_set_back();
-    Ok(archive_of(alloc, messages)?.text()?)
+    Ok(archive_of(alloc, messages)?.text_in_pieces(rt)?)
 }

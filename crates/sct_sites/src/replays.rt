@@ -2,11 +2,12 @@
 ghost use Rattle.std.specs.Prelude.{◌≡◌, ◌≢◌, None, Some, true, length, string_bytes, IfErr, IfOk, IsSome, OnOk};
 ghost use Rattle.sct_script.specs.Replays.{replay_of, replay_text};
 ghost use Rattle.sct_script.specs.Scripts.{happenings_told, refusals_told, sites_told, told_text_of};
+ghost use Rattle.sct_set.specs.Pieces.{joined};
 ghost use Rattle.sct_world.specs.Happenings.{happenings_of};
 ghost use Rattle.sct_world.specs.States.{is_size};
 ghost use Rattle.sct_sites.specs.declared.fault.ProgramFault.TheVariants as fault;
 
-use crate::answers::Answer;
+use crate::answers::{Answer, one_piece};
 use crate::fault::ProgramFault;
 use sct_script::{Script, ScriptFault, read_script, replay};
 use std::alloc::Global;
@@ -42,7 +43,7 @@ fn replay_text(alloc: Global, script: &Script) -> Result<Vec<u8>, ProgramFault>
 /// What an input is answered that is a script: how its events end, and what each site then holds, and the lines that are
 /// refused. One that is no script is 64 Usage; else only want of memory is a fault.
 pub fn answer_of_script(alloc: Global, input: &[u8]) -> Result<Answer, ProgramFault>
-    ensures text { IfOk result (λ answer. answer.text.items ≡ replay_of input.now) }
+    ensures text { IfOk result (λ answer. joined answer.pieces.items ≡ replay_of input.now) }
     ensures told { IfOk result (λ answer. string_bytes answer.told ≡ told_text_of (refusals_told input.now)) }
     ensures refused { IfOk result (λ answer. answer.refused ≡ length (refusals_told input.now)) }
     ensures script { OnOk result (IsSome (sites_told input.now)) }
@@ -50,9 +51,10 @@ pub fn answer_of_script(alloc: Global, input: &[u8]) -> Result<Answer, ProgramFa
 {
     let script = script_of(alloc, input)?;
     let text = replay_text(alloc, &script)?;
+    let pieces = one_piece(alloc, text)?;
     let Script { told, refused, .. } = script;
     Ok(Answer {
-        text,
+        pieces,
         told,
         refused,
     })

@@ -1,5 +1,6 @@
 //! Whole inputs from a source, and whole texts to a sink.
 ghost use Rattle.std.specs.Prelude.{◌≡◌, ◌+◌, ◌<◌, ◌≤◌, ◌++◌, [], Some, take, length, vec_len, IsOk, IfOk, IfErr, IfSome, OnOk, OnErr};
+ghost use Rattle.sct_set.specs.Pieces.{joined};
 ghost use Rattle.sct_sites.specs.Fault.{failed_reads, failed_writes};
 ghost use Rattle.sct_sites.specs.Stream.{AppendsIfTold, AppendsPrefixIfTold, EndsReading, EndsWriting, Gives, HasReadIfTold, HasTakenIfTold};
 
@@ -72,6 +73,21 @@ pub fn write_all<K: Sink>(sink: &mut K, bytes: &[u8]) -> Result<(), ProgramFault
             return Err(ProgramFault::Write);
         };
         done += n;
+    }
+    Ok(())
+}
+
+/// Writes all of the bytes of some pieces, one piece after another, or as many as are taken before a write fails.
+pub fn write_pieces<K: Sink>(sink: &mut K, pieces: &[Vec<u8>]) -> Result<(), ProgramFault>
+    ensures all { OnOk result (AppendsIfTold (K.held sink.old) (K.held sink.new) (joined pieces.now)) }
+    ensures prefix { OnErr result (AppendsPrefixIfTold (K.held sink.old) (K.held sink.new) (joined pieces.now)) }
+    ensures faults { IfErr result EndsWriting }
+    ensures quiet { OnOk result (K.failures sink.new ≡ K.failures sink.old) }
+    ensures counted { IfErr result (λ e. K.failures sink.new ≡ K.failures sink.old + failed_writes e) }
+    ensures empty { joined pieces.now ≡ [] → IsOk result × (sink.new ≡ sink.old) }
+{
+    for piece in pieces {
+        write_all(sink, piece)?;
     }
     Ok(())
 }
