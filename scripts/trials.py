@@ -7,7 +7,8 @@ run as it has room and time for.
 import collections, pathlib, re, subprocess, sys, tempfile
 
 PROGRAM = pathlib.Path(__file__).resolve().parent.parent / "crates" / "sct_trials"
-MOST_BYTES, MOST_TRIES = 900000, 100  # `rt try` shows no output past 1 MiB, and ends a run after a minute
+MOST_BYTES, MOST_TRIES = 900000, 100  # `rt try` shows no output past 1 MiB
+SECONDS = "600"  # a run takes a few seconds of a processor, and the machine may have other work
 
 Try = collections.namedtuple("Try", "name asked wanted")  # a text, the bytes of the input, and the text that must be printed
 
@@ -30,7 +31,7 @@ def printed(asked):
         for number, (word, data) in enumerate(asked):
             pathlib.Path(folder, f"run{number:03d}").write_bytes(data)
             pathlib.Path(folder, f"run{number:03d}.args").write_text(word + "\n")
-        done = subprocess.run(["rt", "try", "--cases", folder], cwd=PROGRAM, capture_output=True)
+        done = subprocess.run(["rt", "try", "--seconds", SECONDS, "--cases", folder], cwd=PROGRAM, capture_output=True)
     out, err = done.stdout.decode(), done.stderr.decode()
     texts = re.findall(r"^== run\d+\n(.*?)(?=^== run|\Z)", out, re.M | re.S)
     if len(re.findall(r"^case=run\d+ run=ended status=0 ", err, re.M)) != len(asked) or len(texts) != len(asked):
