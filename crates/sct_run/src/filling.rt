@@ -4,7 +4,7 @@ ghost use Rattle.sct_delta.specs.Entries.{messages_of};
 ghost use Rattle.sct_lines.specs.Lines.{refusals_told, set_read};
 ghost use Rattle.sct_message.specs.Sets.{messages_in};
 ghost use Rattle.sct_run.specs.Filled.{IsOwn};
-ghost use Rattle.sct_run.specs.Runs.{told_of_file};
+ghost use Rattle.sct_run.specs.Runs.{file_front, told_of_file};
 ghost use Rattle.sct_run.specs.declared.fault.RunFault.TheVariants as fault;
 ghost use Rattle.sct_set.specs.Contents.{contents_of};
 ghost use Rattle.sct_site.specs.Cores.{is_open};
@@ -13,7 +13,7 @@ use crate::fault::RunFault;
 use sct_lines::{Intake, read_lines_after};
 use sct_message::Message;
 use sct_site::SiteCore;
-use std::alloc::Global;
+use std::alloc::{AllocError, Global};
 use std::sync::Arc;
 
 /// A site that was filled from an input, and what tells the input's refused lines.
@@ -58,6 +58,13 @@ fn site_of(
     Ok(core)
 }
 
+// What stands in front of each line that tells a refused line of the input of this number.
+fn front_of(alloc: Global, number: u16) -> Result<String, AllocError>
+    ensures { IfOk result (λ front. string_bytes front ≡ file_front number) }
+{
+    format!(in alloc; "file {number} ")
+}
+
 /// Fills the site of this number in the group from its input.
 pub fn fill(alloc: Global, number: u16, group: u16, input: &[u8]) -> Result<Filled, RunFault>
     requires { is_open number group ≡ true }
@@ -67,7 +74,7 @@ pub fn fill(alloc: Global, number: u16, group: u16, input: &[u8]) -> Result<Fill
     ensures refused { IfOk result (λ site. site.refused ≡ length (refusals_told input.now)) }
     ensures memory { IfErr result (λ e. e ≡ fault.Memory) }
 {
-    let front = format!(in alloc; "file {number} ")?;
+    let front = front_of(alloc, number)?;
     let Intake {
         messages,
         told,
