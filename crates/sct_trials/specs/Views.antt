@@ -1,5 +1,5 @@
 -- What a line of a try does, and what is printed of it. Read by an auditor.
-use Rattle.std.specs.Prelude.{ℕ, Bool, List, [], ◌++◌, if◌then◌else◌, codes, decimal, length}
+use Rattle.std.specs.Prelude.{ℕ, Bool, List, [], ◌≡◌, ◌++◌, ◌⊎◌, if◌then◌else◌, codes, decimal, length}
 use Rattle.std.specs.FinSet as set
 use Rattle.std.specs.Option.{option_to_list}
 use Rattle.std.specs.Result.{result_ok}
@@ -35,10 +35,13 @@ view_after line held batch =
     else (if is_word line (codes "new") then set.empty
     else held)
 
+-- the text of two numbers
+abbrev pub told_of : ℕ → ℕ → List ℕ
+told_of fresh touched = decimal fresh ++ (codes " " ++ (decimal touched ++ codes "\n"))
+
 -- what a batch brought: how many of its messages were not held, and how many transfers it touched
 abbrev pub brought : MessageSet → MessageSet → List ℕ
-brought held batch =
-    decimal (set.len (fresh_of held batch)) ++ (codes " " ++ (decimal (length (touched_in held batch)) ++ codes "\n"))
+brought held batch = told_of (set.len (fresh_of held batch)) (length (touched_in held batch))
 
 -- both texts of the messages held
 abbrev pub texts_of : MessageSet → List ℕ
@@ -51,3 +54,22 @@ told_by line held batch =
     else (if is_word line (codes "new") then codes "new\n"
     else (if is_word line (codes "tell") then texts_of held
     else []))
+
+-- A batch was applied, and what it brought is printed.
+abbrev pub IsApplied : MessageSet → List Draft → MessageSet → List Draft → List ℕ → Type 0
+IsApplied held batch held_after batch_after told =
+    (held_after ≡ set.union held (contents_of batch)) × (batch_after ≡ []) × (told ≡ brought held (contents_of batch))
+
+-- the number of the one fault
+abbrev pub told_fault : List ℕ
+told_fault = decimal 39 ++ codes "\n"
+
+-- A batch was refused for want of memory: nothing has changed, and the number of the fault is printed.
+abbrev pub IsRefused : MessageSet → List Draft → MessageSet → List Draft → List ℕ → Type 0
+IsRefused held batch held_after batch_after told =
+    (held_after ≡ held) × (batch_after ≡ batch) × (told ≡ told_fault)
+
+-- The one or the other.
+abbrev pub IsAttempt : MessageSet → List Draft → MessageSet → List Draft → List ℕ → Type 0
+IsAttempt held batch held_after batch_after told =
+    IsApplied held batch held_after batch_after told ⊎ IsRefused held batch held_after batch_after told

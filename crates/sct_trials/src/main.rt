@@ -1,8 +1,9 @@
 //! A program for tries: it does what standard input says, and prints what is answered. Its one word says what is tried.
 //!
 //! `views`: lines. A message, in its JSON form, goes into the batch. An empty line applies the batch to the view, and prints
-//! how many of its messages were fresh and how many transfers it touched. `tell` prints the status text and the totals text
-//! of the view. `new` begins with a view of no message and an empty batch, and prints `new`.
+//! how many of its messages were fresh and how many transfers it touched. `try` does the same, but where memory is wanting
+//! for the batch it prints the number of the fault, and the batch stays. `tell` prints the status text and the totals text of
+//! the view. `new` begins with a view of no message and an empty batch, and prints `new`.
 //!
 //! `worlds`: scripts, which a record separator (the byte 30) parts. Of each it prints the lines that tell the refused ones,
 //! or `fault 64` where it is no script, and then its replay, with a line of a record separator behind each of the two.
@@ -26,11 +27,19 @@ use std::io::{BufRead, BufReader, BufWriter, Write};
 use views::ViewTrial;
 use worlds::answer_input;
 
+// What is to be printed of a line on a view.
+fn answer_line(trial: &mut ViewTrial, line: &str) -> Result<Vec<u8>> {
+    match line {
+        "try" => trial.attempt(),
+        _ => trial.answer(line),
+    }
+}
+
 // Prints what is answered of each line on a view.
 fn try_views<R: BufRead + Drop, W: Write>(alloc: Global, reader: R, out: &mut W) -> Result<()> {
     let mut trial = ViewTrial::new(alloc);
     for line in reader.lines(alloc) {
-        let answer = trial.answer(&line?)?;
+        let answer = answer_line(&mut trial, &line?)?;
         out.write_all(&answer)?;
     }
     Ok(())

@@ -1,17 +1,35 @@
 //! A view that is tried, line by line.
 
-ghost use Rattle.std.specs.Prelude.{◌≡◌, ◌++◌, [], codes, IfOk, OnOk};
+ghost use Rattle.std.specs.Prelude.{◌≡◌, ◌++◌, [], codes, length, IfOk, OnErr, OnOk};
 ghost use Rattle.std.specs.FinSet as set;
 ghost use Rattle.sct_message.specs.Sets.{messages_in};
 ghost use Rattle.sct_set.specs.Contents.{contents_of};
-ghost use Rattle.sct_trials.specs.Views.{batch_after, brought, read_from, told_by, texts_of, view_after};
+ghost use Rattle.sct_trials.specs.Views.{batch_after, brought, read_from, told_by, texts_of, told_fault, told_of, view_after, IsAttempt};
+ghost use Rattle.sct_view.specs.Touched.{fresh_of, touched_in};
 
 use anyhow::Result;
+use sct_case::CaseFault;
 use sct_json::read_message;
 use sct_message::Message;
-use sct_view::View;
+use sct_view::{Applied, View};
 use std::alloc::Global;
 use std::sync::Arc;
+
+// Tells what a batch brought.
+fn tell_applied(alloc: Global, applied: &Applied) -> Result<Vec<u8>>
+    ensures { IfOk result (λ told. told.items ≡ told_of applied.now.fresh applied.now.touched) }
+{
+    let told = format!(in alloc; "{} {}\n", applied.fresh, applied.touched)?;
+    Ok(told.into_bytes())
+}
+
+// Tells the number of a fault.
+fn tell_fault(alloc: Global, fault: &CaseFault) -> Result<Vec<u8>>
+    ensures { IfOk result (λ told. told.items ≡ told_fault) }
+{
+    let told = format!(in alloc; "{}\n", fault.number())?;
+    Ok(told.into_bytes())
+}
 
 /// A view, and the messages of the batch that is being read.
 #[derive(Drop)]
@@ -44,16 +62,41 @@ impl ViewTrial {
         Ok(format!(in self.alloc; "new\n")?.into_bytes())
     }
 
+    // Applies the batch. Where memory is wanting, the view and the batch are what they were.
+    fn apply_batch(&mut self) -> Result<Applied, CaseFault>
+        ensures view { OnOk result (self.new.view ≡ set.union self.old.view (contents_of (messages_in self.old.batch.items))) }
+        ensures batch { OnOk result (messages_in self.new.batch.items ≡ []) }
+        ensures fresh { IfOk result (λ applied. applied.fresh
+            ≡ set.len (fresh_of self.old.view (contents_of (messages_in self.old.batch.items)))) }
+        ensures touched { IfOk result (λ applied. applied.touched
+            ≡ length (touched_in self.old.view (contents_of (messages_in self.old.batch.items)))) }
+        ensures view_stays { OnErr result (self.new.view ≡ self.old.view) }
+        ensures batch_stays { OnErr result (messages_in self.new.batch.items ≡ messages_in self.old.batch.items) }
+    {
+        let applied = self.view.apply(&self.batch)?;
+        self.batch = Vec::new(self.alloc);
+        Ok(applied)
+    }
+
     // Applies the batch, and tells what it brought.
     fn apply(&mut self) -> Result<Vec<u8>>
         ensures view { OnOk result (self.new.view ≡ set.union self.old.view (contents_of (messages_in self.old.batch.items))) }
         ensures batch { OnOk result (messages_in self.new.batch.items ≡ []) }
         ensures told { IfOk result (λ told. told.items ≡ brought self.old.view (contents_of (messages_in self.old.batch.items))) }
     {
-        let applied = self.view.apply(&self.batch)?;
-        self.batch = Vec::new(self.alloc);
-        let told = format!(in self.alloc; "{} {}\n", applied.fresh, applied.touched)?;
-        Ok(told.into_bytes())
+        let applied = self.apply_batch()?;
+        tell_applied(self.alloc, &applied)
+    }
+
+    /// Applies the batch, and tells what it brought, or the number of the fault where memory is wanting for it.
+    pub fn attempt(&mut self) -> Result<Vec<u8>>
+        ensures { IfOk result (λ told. IsAttempt self.old.view (messages_in self.old.batch.items)
+            self.new.view (messages_in self.new.batch.items) told.items) }
+    {
+        match self.apply_batch() {
+            Ok(applied) => tell_applied(self.alloc, &applied),
+            Err(fault) => tell_fault(self.alloc, &fault),
+        }
     }
 
     // Tells both texts of the view.
