@@ -1,8 +1,8 @@
 -- What a batch adds to a set, and that what it changes is about keys of the set. Proof plumbing.
-use Rattle.std.proofs.Common.{◌≡◌, ℕ, ◌+◌, Bool, true, false, cond, ◌&&◌, ◌||◌, List, [], ◌∷◌, length, map, refl, sym, ap, ◌∙◌, arith}
+use Rattle.std.proofs.Common.{◌≡◌, ◌+◌, Bool, true, false, cond, ◌&&◌, ◌||◌, List, [], ◌∷◌, length, map, refl, sym, ap, ◌∙◌, arith}
 use Rattle.std.specs.FinSet as set
 use Rattle.std.specs.FinSet.{contains-from_list, contains-insert, contains-union, len-insert}
-use Rattle.std.specs.List.{list_all, list_any}
+use Rattle.std.specs.List.{list_any}
 use Rattle.sct_message.specs.Order.{same_message, same_transfer}
 use Rattle.sct_message.specs.OrderLaws.{message_total}
 use Rattle.sct_message.specs.Sets.{MessageSet, in_order}

@@ -16,7 +16,7 @@ use crate::case::Case;
 use crate::commit::commit_all;
 use crate::listed::{all_findings, keys, recalls_of, transfers_of};
 use crate::rebuild::tables_of;
-use crate::replanning::replan;
+use crate::replanning::{Replanned, replan};
 use crate::room::make_room;
 use crate::status_text::status_text;
 use crate::totals::Totals;
@@ -37,6 +37,17 @@ pub struct Applied {
     pub fresh: u64,
     /// How many transfers it touched: those of its fresh messages, and those of messages that these contradict.
     pub touched: u64,
+}
+
+/// What a batch brings, by what is planned for it.
+fn brought_by(plan: &Replanned) -> Applied
+    ensures fresh { result.fresh ≡ set.len plan.now.fresh }
+    ensures touched { result.touched ≡ plan.now.evaluations }
+{
+    Applied {
+        fresh: plan.fresh.len() as u64,
+        touched: plan.evaluations,
+    }
 }
 
 /// Messages, each held once, with what is kept of each transfer and of each bank.
@@ -103,8 +114,7 @@ impl View {
         ensures err { OnErr result (self.new ≡ self.old) }
     {
         let plan = replan(self.alloc, &self.archive, &self.cases, messages)?;
-        let fresh = plan.fresh.len() as u64;
-        let touched = plan.evaluations;
+        let brought = brought_by(&plan);
         make_room(
             self.alloc,
             &mut self.archive,
@@ -119,7 +129,7 @@ impl View {
             &mut self.totals,
             plan.planned,
         );
-        Ok(Applied { fresh, touched })
+        Ok(brought)
     }
 
     /// Where a transfer stands: `Unknown` where no message is on it.

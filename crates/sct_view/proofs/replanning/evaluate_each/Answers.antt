@@ -1,10 +1,5 @@
 -- What is kept of a touched transfer and what is fresh of it are all messages on it.
-use Rattle.std.proofs.Common.{◌∙◌, ◌++◌, ap, filter}
-use Rattle.sct_message.specs.Ascending.{ascending}
-use Rattle.sct_message.specs.Order.{message_order}
-use Rattle.sct_message.specs.Sets.{MessageSet, in_order, messages_in}
-use Rattle.sct_message.specs.Transfers.{is_on}
-use Rattle.std.specs.FinSet as set
+use Rattle.sct_message.specs.Sets.{messages_in}
 use Rattle.sct_view.proofs.RebuildLemmas.{gathered_kept}
 use Rattle.sct_view.proofs.replanning.evaluate_each.Goals as goal
 

@@ -39,4 +39,4 @@ returns-clause-fresh c =
     ap (λ (v : MessageSet). set.len v)
     (c.in_ok-make_room.ensures.joined ∙ ap (λ (v : MessageSet). set.union c.self.inside.archive v) c.in_ok-plan.ensures.fresh)
     ∙ len_joined c.self.inside.archive (contents_of (messages_in c.args.messages.now))
-    ∙ (λ n. set.len (c.self.view_is n) + sym (c.len-fresh.ensures ∙ ap (λ (v : MessageSet). set.len v) c.in_ok-plan.ensures.fresh) n)
+    ∙ (λ n. set.len (c.self.view_is n) + sym (c.brought_by-brought.ensures.fresh ∙ ap (λ (v : MessageSet). set.len v) c.in_ok-plan.ensures.fresh) n)
