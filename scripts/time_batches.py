@@ -23,7 +23,7 @@ class Trial:
     def __init__(self):
         end, self.pipe = os.pipe()
         fcntl.fcntl(self.pipe, SET_PIPE_SIZE, 1 << 20)
-        self.process = subprocess.Popen([PROGRAM], stdin=end, stdout=subprocess.DEVNULL)
+        self.process = subprocess.Popen([PROGRAM, "views"], stdin=end, stdout=subprocess.DEVNULL)
         os.close(end)
 
     def spent(self):
