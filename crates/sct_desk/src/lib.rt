@@ -23,3 +23,6 @@ pub use fault::DeskFault;
 pub use query::{Answer, Query};
 pub use receipt::Receipt;
 pub use site::Site;
+
+#[cfg(test)]
+mod tests;

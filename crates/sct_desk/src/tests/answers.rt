@@ -1,0 +1,165 @@
+//! What queries answer, of one site and of another.
+
+ghost use Rattle.std.specs.Prelude.{◌≡◌, []};
+
+use super::scenes::{Row, delta_of, first_transfer, message_of, open_one};
+use crate::*;
+use sct_case::{RecallStatus, Status};
+use sct_delta::{Entry, Vector};
+use sct_element::Id35;
+use sct_history::{History, Track};
+use sct_message::RecallKey;
+use std::alloc::Global;
+use std::marker::Brand;
+use std::process::Abort;
+use std::sync::Wait;
+
+// The credit transfer T1 is taken.
+fn expect_taken<J: Site, H: Wait + Drop, W: Wait + Abort>(
+    rt: &W,
+    alloc: Global,
+    desk: &Desk<J, H>,
+) -> Receipt
+    ensures { (result.site ≡ J.number) × (result.book ≡ J.book) }
+{
+    let message = message_of(alloc, Row::CreditTransfer(1, "1.00")).expect(rt, "a message");
+    desk.take(rt, alloc, message).expect(rt, "memory").1
+}
+
+// An entry of site 2 comes to the desk, as its arrival of this position.
+fn expect_accepted<J: Site, H: Wait + Drop, W: Wait + Abort>(
+    rt: &W,
+    alloc: Global,
+    desk: &Desk<J, H>,
+    n: u64,
+    row: Row,
+    position: u64,
+) -> Receipt
+    ensures { (result.site ≡ J.number) × (result.book ≡ J.book) }
+{
+    let delta = delta_of(alloc, n, row).expect(rt, "a delta");
+    let (answer, receipt) = desk.accept(rt, alloc, &delta).expect(rt, "memory");
+    let accepted = answer.ok().expect(rt, "an accepted delta");
+    assert_eq!(rt; accepted.fresh, 1);
+    assert_eq!(rt; receipt.from(), position);
+    assert_eq!(rt; receipt.count(), 1);
+    assert_eq!(rt; receipt.carried(), 0);
+    receipt
+}
+
+// Where an entry stands.
+fn place_of(entry: &Entry) -> (u16, u64) {
+    (entry.origin, entry.n)
+}
+
+// All is cut that the desk holds: the first entries of the sites 1 and 2.
+fn expect_cut<J: Site, H: Wait + Drop, W: Wait + Abort>(rt: &W, alloc: Global, desk: &Desk<J, H>) {
+    let vector = Vector::of(alloc, &[]).ok().expect(rt, "a vector");
+    let (delta, receipt) = desk.cut(rt, alloc, &vector).expect(rt, "memory");
+    assert_eq!(rt; receipt.count(), 0);
+    let entries = delta.entries();
+    assert_eq!(rt; entries.len(), 2);
+    assert_eq!(rt; place_of(&entries[0]), (1, 1));
+    assert_eq!(rt; place_of(&entries[1]), (2, 1));
+}
+
+// The transfer T1 stands so, on so many arrivals.
+fn expect_status(rt: &impl Abort, alloc: Global, query: &mut Query, wanted: Status, front: u64) {
+    let answer = query
+        .status(alloc, &first_transfer(rt))
+        .expect(rt, "an answer");
+    assert_eq!(rt;
+        answer,
+        Answer {
+            value: wanted,
+            front
+        }
+    );
+}
+
+// Nothing contradicts itself, and nothing is recalled.
+fn expect_no_more(rt: &impl Abort, alloc: Global, query: &mut Query) {
+    let found = query
+        .findings(alloc, &first_transfer(rt))
+        .expect(rt, "an answer");
+    assert_eq!(rt; (found.value.len(), found.front), (0, 2));
+    let recall = RecallKey {
+        transfer: first_transfer(rt),
+        cxl: Id35::read("R1").ok().expect(rt, "an identification"),
+    };
+    let stands = query.recall(&recall).expect(rt, "an answer");
+    assert_eq!(rt;
+        stands,
+        Answer {
+            value: RecallStatus::Unknown,
+            front: 2
+        }
+    );
+}
+
+// The originator bank has sent one transfer of 100 cents.
+fn expect_totals(rt: &impl Abort, query: &mut Query) {
+    let totals = query
+        .totals(&first_transfer(rt).debtor_agent)
+        .expect(rt, "an answer");
+    assert_eq!(rt; (totals.value.sent, totals.value.sent_cents), (1, 100));
+    assert_eq!(rt; totals.front, 2);
+}
+
+fn expect_answers<J: Site, R: Wait + Abort>(rt: &R, alloc: Global, history: History, track: Track)
+    requires history { history ≡ J.book }
+    requires track { (track.book ≡ J.book) × (track.log ≡ []) }
+    requires site { (1 ≡ J.number) × (2 ≡ J.group) }
+{
+    let (desk, mut query) = open_one::<J, R>(rt, alloc, history, track, 2);
+    let _taken = expect_taken(rt, alloc, &desk);
+    let accepted = expect_accepted(rt, alloc, &desk, 1, Row::StatusReport, 2);
+    expect_cut(rt, alloc, &desk);
+    query.learn(&accepted);
+    expect_status(rt, alloc, &mut query, Status::Accepted, 2);
+    expect_no_more(rt, alloc, &mut query);
+    expect_totals(rt, &mut query);
+    let _later = expect_accepted(rt, alloc, &desk, 2, Row::CreditTransfer(2, "2.00"), 3);
+}
+
+#[test]
+fn desk_answers(rt: HostRuntime) {
+    let (history, track) = History::open();
+    expect_answers::<Brand, HostRuntime>(&rt, rt.alloc(), history, track);
+}
+
+// A receipt of a desk of site 2 teaches a query of site 1 nothing.
+fn expect_unmoved<K: Site, R: Wait + Abort>(
+    rt: &R,
+    alloc: Global,
+    history: History,
+    track: Track,
+    query: &mut Query,
+)
+    requires history { history ≡ K.book }
+    requires track { (track.book ≡ K.book) × (track.log ≡ []) }
+    requires site { (2 ≡ K.number) × (2 ≡ K.group) }
+    requires other { query.old.site ≡ 1 }
+{
+    let opened = Desk::<K, &R>::open(rt, alloc, history, track, 2, 2, 1);
+    let (desk, _queries) = opened.ok().expect(rt, "a desk");
+    let taken = expect_taken(rt, alloc, &desk);
+    query.learn(&taken);
+    expect_status(rt, alloc, query, Status::Unknown, 0);
+}
+
+fn expect_apart<J: Site, R: Wait + Abort>(rt: &R, alloc: Global, history: History, track: Track)
+    requires history { history ≡ J.book }
+    requires track { (track.book ≡ J.book) × (track.log ≡ []) }
+    requires site { (1 ≡ J.number) × (2 ≡ J.group) }
+{
+    let (_desk, mut query) = open_one::<J, R>(rt, alloc, history, track, 2);
+    let (other, first) = History::open();
+    expect_unmoved::<Brand, R>(rt, alloc, other, first, &mut query);
+}
+
+#[test]
+fn desks_apart(rt: HostRuntime) {
+    let (history, track) = History::open();
+    expect_apart::<Brand, HostRuntime>(&rt, rt.alloc(), history, track);
+}

@@ -1,0 +1,87 @@
+//! Messages, deltas and desks to try calls on.
+
+ghost use Rattle.std.specs.List.{All};
+ghost use Rattle.std.specs.Prelude.{◌≡◌, [], IfSome};
+ghost use Rattle.sct_desk.specs.Openings.{IsNewQuery};
+
+use crate::*;
+use sct_delta::{Delta, Entry};
+use sct_element::{Bic, Id35};
+use sct_history::{History, Track};
+use sct_json::read_message;
+use sct_message::{Message, TransferKey};
+use std::alloc::Global;
+use std::process::Abort;
+use std::sync::{Arc, Wait};
+
+/// A message, by what its text varies in.
+#[derive(Clone, Copy)]
+pub(crate) enum Row {
+    /// A credit transfer: the number of its identification and of its transfer, and its amount.
+    CreditTransfer(u64, &'static str),
+    /// The positive confirmation C1 of the transfer T1.
+    StatusReport,
+}
+
+/// The message of a row. There is none only where memory is wanting.
+pub(crate) fn message_of(alloc: Global, row: Row) -> Option<Arc<Message>> {
+    let text = match row {
+        Row::CreditTransfer(at, amount) => format!(in alloc;
+            r#"{{"MsgNmId":"pacs.008","MsgId":"M{at}","CreDtTm":"2024-05-02T10:00:00Z","InstgAgt":"BANKDEFF","IntrBkSttlmDt":"2024-05-02","SvcLvl":"SEPA","LclInstrm":"INST","EndToEndId":"E1","TxId":"T{at}","IntrBkSttlmAmt":"{amount}","Ccy":"EUR","ChrgBr":"SLEV","Dbtr":"Anna Weber","DbtrAcct":"DE89370400440532013000","DbtrAgt":"BANKDEFF","CdtrAgt":"BANQFRPP","Cdtr":"Bo Maes","CdtrAcct":"BE68539007547034"}}"#
+        ),
+        Row::StatusReport => format!(in alloc;
+            r#"{{"MsgNmId":"pacs.002","MsgId":"C1","CreDtTm":"2024-05-02T10:00:02Z","InstgAgt":"BANQFRPP","OrgnlMsgId":"M1","OrgnlMsgNmId":"pacs.008","OrgnlTxId":"T1","TxSts":"ACCP","DbtrAgt":"BANKDEFF"}}"#
+        ),
+    };
+    let message = read_message(alloc, text.ok()?.as_bytes()).ok()?;
+    Arc::new(alloc, message).ok()
+}
+
+/// The message of a row as an entry of site 2, with this number.
+pub(crate) fn delta_of(alloc: Global, n: u64, row: Row) -> Option<Delta> {
+    let mut entries = Vec::new(alloc);
+    let entry = Entry {
+        origin: 2,
+        n,
+        message: message_of(alloc, row)?,
+    };
+    entries.push(entry).ok()?;
+    Delta::of(entries).ok()
+}
+
+/// The transfer T1.
+pub(crate) fn first_transfer(rt: &impl Abort) -> TransferKey {
+    TransferKey {
+        debtor_agent: Bic::read("BANKDEFF").ok().expect(rt, "a bank"),
+        tx: Id35::read("T1").ok().expect(rt, "an identification"),
+    }
+}
+
+// One of the queries of a desk, which has seen nothing.
+fn one_of<J: Site>(mut queries: Vec<Query>) -> Option<Query>
+    requires { All (IsNewQuery J.book J.number) queries.items }
+    ensures { IfSome result (IsNewQuery J.book J.number) }
+{
+    queries.pop()
+}
+
+/// A desk of site 1, and its one query.
+pub(crate) fn open_one<'a, J: Site, R: Wait + Abort>(
+    rt: &'a R,
+    alloc: Global,
+    history: History,
+    track: Track,
+    group: u16,
+) -> (Desk<J, &'a R>, Query)
+    requires history { history ≡ J.book }
+    requires track { (track.book ≡ J.book) × (track.log ≡ []) }
+    requires site { (1 ≡ J.number) × (group ≡ J.group) }
+    ensures { IsNewQuery J.book J.number result.1 }
+{
+    let Ok(opened) = Desk::<J, &'a R>::open(rt, alloc, history, track, 1, group, 1) else {
+        panic!(rt; "no desk");
+    };
+    let (desk, queries) = opened;
+    let query = one_of::<J>(queries).expect(rt, "a query");
+    (desk, query)
+}

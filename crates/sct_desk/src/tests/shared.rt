@@ -1,0 +1,160 @@
+//! A desk that three threads share.
+
+ghost use Rattle.std.specs.List.{All};
+ghost use Rattle.std.specs.Prelude.{◌≡◌, ◌≤◌, [], IfSome};
+
+use super::scenes::{Row, first_transfer, message_of, open_one};
+use crate::*;
+use sct_case::Status;
+use sct_history::{History, Track};
+use sct_message::{Message, TransferKey};
+use sct_site::SiteCore;
+use sct_view::View;
+use std::alloc::Global;
+use std::marker::Brand;
+use std::process::Abort;
+use std::sync::{Arc, Wait};
+use std::thread;
+use std::thread::Threads;
+
+/// A taker takes so many messages, every other one.
+const TAKEN: u64 = 50;
+
+// Takes the messages from `first` on, every other one.
+fn take_some<J: Site, H: Wait + Drop, W: Wait>(
+    rt: &W,
+    alloc: Global,
+    desk: &Desk<J, H>,
+    first: u64,
+) -> Option<Vec<Receipt>>
+    requires { first ≤ 2 }
+    ensures { IfSome result (λ kept. All (λ receipt. receipt.book ≡ desk.now.history) kept.items) }
+{
+    let mut kept = Vec::new(alloc);
+    for at in 0..TAKEN {
+        let message = message_of(alloc, Row::CreditTransfer(first + 2 * at, "1.00"))?;
+        let (_, receipt) = desk.take(rt, alloc, message).ok()?;
+        kept.push(receipt).ok()?;
+    }
+    Some(kept)
+}
+
+// All receipts of the two.
+fn joined(
+    one: Option<Vec<Receipt>>,
+    other: Option<Vec<Receipt>>,
+    history: &History,
+) -> Option<Vec<Receipt>>
+    requires one { IfSome one (λ kept. All (λ receipt. receipt.book ≡ history.now) kept.items) }
+    requires other { IfSome other (λ kept. All (λ receipt. receipt.book ≡ history.now) kept.items) }
+    ensures { IfSome result (λ kept. All (λ receipt. receipt.book ≡ history.now) kept.items) }
+{
+    let mut kept = one?;
+    let mut rest = other?;
+    kept.append(&mut rest).ok()?;
+    Some(kept)
+}
+
+fn two_takers<J: Site + Send + Sync, H: Wait + Drop + Send + Sync, R: Threads + Wait + Sync>(
+    rt: &R,
+    alloc: Global,
+    desk: &Desk<J, H>,
+) -> Option<Vec<Receipt>>
+    ensures { IfSome result (λ kept. All (λ receipt. receipt.book ≡ desk.now.history) kept.items) }
+{
+    let (odd, even) = thread::join(
+        rt,
+        || -> Option<Vec<Receipt>>
+            ensures { IfSome result (λ kept. All (λ receipt. receipt.book ≡ desk.entry.now.history) kept.items) }
+        { take_some(rt, alloc, desk, 1) },
+        || -> Option<Vec<Receipt>>
+            ensures { IfSome result (λ kept. All (λ receipt. receipt.book ≡ desk.entry.now.history) kept.items) }
+        { take_some(rt, alloc, desk, 2) },
+    );
+    joined(odd, even, desk.history())
+}
+
+// Asks for the transfer until it is known, and tells whether no answer stood on less than the one before.
+fn look(mut query: Query, alloc: Global, transfer: &TransferKey) -> bool {
+    let mut front = 0;
+    for _ in 0..20_000_000 {
+        let Ok(answer) = query.status(alloc, transfer) else {
+            return false;
+        };
+        if answer.front < front {
+            return false;
+        }
+        if answer.value != Status::Unknown {
+            return answer.value == Status::Pending;
+        }
+        front = answer.front;
+        thread::yield_now();
+    }
+    false
+}
+
+// The query looks on while two threads take messages.
+fn three_threads<J: Site + Send + Sync, H: Wait + Drop + Send + Sync, R: Threads + Wait + Sync>(
+    rt: &R,
+    alloc: Global,
+    desk: &Desk<J, H>,
+    query: Query,
+    transfer: TransferKey,
+) -> (bool, Option<Vec<Receipt>>)
+    ensures { IfSome result.1 (λ kept. All (λ receipt. receipt.book ≡ desk.now.history) kept.items) }
+{
+    thread::join(
+        rt,
+        move || look(query, alloc, &transfer),
+        || -> Option<Vec<Receipt>>
+            ensures { IfSome result (λ kept. All (λ receipt. receipt.book ≡ desk.entry.now.history) kept.items) }
+        { two_takers(rt, alloc, desk) },
+    )
+}
+
+// The messages of a site.
+fn messages_held(alloc: Global, core: &SiteCore) -> Option<Vec<Arc<Message>>> {
+    let mut messages = Vec::new(alloc);
+    for entry in core.arrivals() {
+        messages.push(entry.message.clone().ok()?).ok()?;
+    }
+    Some(messages)
+}
+
+// A site has 100 arrivals, each of a transfer of its own, and all of them are pending.
+fn expect_all(rt: &impl Abort, alloc: Global, core: &SiteCore) {
+    assert_eq!(rt; core.arrivals().len(), 100);
+    let messages = messages_held(alloc, core).expect(rt, "memory");
+    let mut view = View::new(alloc);
+    let applied = view.apply(&messages).ok().expect(rt, "memory");
+    assert_eq!(rt; applied.fresh, 100);
+    let keys = view.keys().ok().expect(rt, "memory");
+    assert_eq!(rt; keys.len(), 100);
+    for key in &keys {
+        assert_eq!(rt; view.status(key), &Status::Pending);
+    }
+}
+
+fn expect_shared<J: Site + Send + Sync, R: Threads + Wait + Abort + Sync>(
+    rt: &R,
+    alloc: Global,
+    history: History,
+    track: Track,
+)
+    requires history { history ≡ J.book }
+    requires track { (track.book ≡ J.book) × (track.log ≡ []) }
+    requires site { (1 ≡ J.number) × (1 ≡ J.group) }
+{
+    let (desk, query) = open_one::<J, R>(rt, alloc, history, track, 1);
+    let (rose, kept) = three_threads(rt, alloc, &desk, query, first_transfer(rt));
+    assert!(rt; rose, "a front fell, or T1 was not seen");
+    let receipts = kept.expect(rt, "receipts of all calls");
+    let core = desk.close(receipts).ok().expect(rt, "a core");
+    expect_all(rt, alloc, &core);
+}
+
+#[test]
+fn desk_shared(rt: HostRuntime) {
+    let (history, track) = History::open();
+    expect_shared::<Brand, HostRuntime>(&rt, rt.alloc(), history, track);
+}
