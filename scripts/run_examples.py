@@ -1,59 +1,111 @@
-"""run_examples.py: runs the program on each example of examples/, and fails where an output differs.
+"""run_examples.py: runs the program on each example of examples/, on a list of 5,000 rows, and on a longer input on 1, 2, 4 and 8
+processors, and fails where an output differs.
 
 An example NAME.jsonl is a list of messages, and NAME.script a script. NAME.COMMAND is what that command must write to
 standard output, and NAME.refused what it must write to standard error. NAME.site1, NAME.site2 and so on are lists of messages
 at several sites, NAME.run is what `run` must answer for them, and NAME.run-refused what it must write to standard error.
 NAME.list is the list of a bank for a settlement day, which REPORTS names, and NAME.report the report on it over NAME.jsonl. The
-exit status must be 1 where a line is refused, and else 0. The program is built once by `rt try`, which proves nothing (that
-is the gate's work) and prints the outputs of each case.
+exit status must be 1 where a line is refused, and else 0.
+
+The list of 5,000 rows has a row for each of as many instructions, and every row is MATCHED. The longer input is of made-up
+messages, blank lines and refused ones, and is read and written in threads; what must be answered is told by
+scripts/reference_status.py, from the definitions alone, and is the same on any number of processors (where there are fewer, on
+as many as there are).
+
+Usage: run_examples.py [PROGRAM]   (else the program that `rt run` and the gate leave in crates/sct_sites/out)
 """
-import pathlib, re, subprocess, sys, tempfile
+import collections, os, pathlib, subprocess, sys, tempfile
+import reference_status
 
 TOP = pathlib.Path(__file__).resolve().parent.parent
+EXAMPLES = TOP / "examples"
 COMMANDS = {".jsonl": ["status", "archive", "totals"], ".script": ["replay"]}
 REPORTS = {"bank-day": ["LUTEFRPP", "2025-03-10"]}  # the bank of each list, and the day
+PROCESSORS = [1, 2, 4, 8]
+LONG = 2000  # messages: about a megabyte, which is read in several parts
+ROWS = 5000
+
+# what is run, and what the program must write and end with
+Case = collections.namedtuple("Case", "name words input text refused status")
 
 
-def cases():
-    """Each example with each command: its name, the words, the input, and what the program must write and end with."""
-    for example in sorted((TOP / "examples").iterdir()):
+def case(name, words, data, text, refused):
+    return Case(name, words, data, text, refused, 1 if refused else 0)
+
+
+def examples():
+    """Each example with each command."""
+    for example in sorted(EXAMPLES.iterdir()):
+        read = lambda suffix: example.with_suffix(suffix).read_bytes()
         for command in COMMANDS.get(example.suffix, []):
-            refused = example.with_suffix(".refused").read_text()
-            text = example.with_suffix("." + command).read_text()
-            yield f"{example.stem}-{command}", [command], example.read_text(), text, refused, 1 if refused else 0
+            yield case(f"{example.stem} {command}", [command], example.read_bytes(), read("." + command), read(".refused"))
         if example.suffix == ".run":
-            sites = sorted(str(site) for site in example.parent.glob(example.stem + ".site*"))
-            refused = example.with_suffix(".run-refused").read_text()
-            yield f"{example.stem}-run", ["run", *sites], "", example.read_text(), refused, 1 if refused else 0
+            sites = sorted(site.name for site in EXAMPLES.glob(example.stem + ".site*"))
+            yield case(f"{example.stem} run", ["run", *sites], b"", example.read_bytes(), read(".run-refused"))
         if example.suffix == ".list":
             words = ["report", *REPORTS[example.stem], example.name]
-            messages, refused = (example.with_suffix(suffix).read_text() for suffix in (".jsonl", ".refused"))
-            yield f"{example.stem}-report", words, messages, example.with_suffix(".report").read_text(), refused, 1 if refused else 0
+            yield case(f"{example.stem} report", words, read(".jsonl"), read(".report"), read(".refused"))
 
 
-def lists():
-    """What gives `rt try` the file of each list under its name."""
-    for example in sorted((TOP / "examples").glob("*.list")):
-        yield from ["--data", f"{example.name}={example}"]
+def instruction(number):
+    return (f'{{"MsgNmId":"pacs.008","MsgId":"M{number}","CreDtTm":"2024-05-02T10:00:00Z","InstgAgt":"BANKDEFF",'
+            f'"IntrBkSttlmDt":"2024-05-02","SvcLvl":"SEPA","LclInstrm":"INST","EndToEndId":"E1","TxId":"T{number}",'
+            '"IntrBkSttlmAmt":"1.00","Ccy":"EUR","ChrgBr":"SLEV","Dbtr":"Anna Weber","DbtrAcct":"DE89370400440532013000",'
+            '"DbtrAgt":"BANKDEFF","CdtrAgt":"BANQFRPP","Cdtr":"Bo Maes","CdtrAcct":"BE68539007547034"}\n')
+
+
+def long_list(folder):
+    """A report on a list of many rows. A report has its rows by transfer, and the identifications go by bytes."""
+    transfers = [f"T{number}" for number in range(1, ROWS + 1)]
+    rows = [f"BANKDEFF,{transfer},1.00,PENDING\n" for transfer in transfers]
+    told = [f"BANKDEFFXXX,{transfer},MATCHED,1.00,PENDING,1.00,PENDING\n" for transfer in sorted(transfers)]
+    path = pathlib.Path(folder, "list")
+    path.write_text("DbtrAgt,TxId,Amt,Sts\n" + "".join(rows))
+    text = "DbtrAgt,TxId,Result,ListAmt,ListSts,Amt,Sts\n" + "".join(told)
+    data = "".join(instruction(number) for number in range(1, ROWS + 1))
+    return case(f"report on {ROWS} rows", ["report", "BANKDEFF", "2024-05-02", str(path)], data.encode(), text.encode(), b"")
+
+
+def long_input():
+    """Made-up messages, with blank lines and refused ones between them."""
+    words = [sys.executable, TOP / "scripts" / "generate_messages.py", str(LONG)]
+    lines = subprocess.run(words, capture_output=True, text=True, check=True).stdout.splitlines()
+    for place in range(0, len(lines), 37):
+        lines[place] += ["\nfoo", "\r\n", "\n \t\r\n{}"][place % 3]
+    return "\n".join(lines).encode()
+
+
+def long_cases():
+    """The longer input with each command."""
+    data = long_input()
+    for command in COMMANDS[".jsonl"]:
+        text, refused, _ = reference_status.answer(command, data)
+        yield case(f"{LONG} messages {command}", [command], data, text.encode(), refused.encode())
+
+
+def on(processors):
+    """Lets what is started run on so many processors, or on all where there are fewer."""
+    return lambda: os.sched_setaffinity(0, sorted(os.sched_getaffinity(0))[:processors])
+
+
+def fits(program, one, processors):
+    """Whether the program answers a case as it must."""
+    done = subprocess.run([program, *one.words], input=one.input, capture_output=True, cwd=EXAMPLES, preexec_fn=on(processors))
+    right = (done.stdout, done.stderr, done.returncode) == (one.text, one.refused, one.status)
+    print(f"{one.name}, on {processors} processors: {'ok' if right else 'DIFFERS'}", flush=True)
+    return right
 
 
 def main():
-    passed = failed = 0
+    program = os.path.abspath(sys.argv[1] if len(sys.argv) > 1 else TOP / "crates" / "sct_sites" / "out" / "sct_sites")
+    if not os.path.isfile(program):
+        sys.exit(f"run_examples: there is no program {program}; `rt run` in crates/sct_sites makes it")
     with tempfile.TemporaryDirectory() as folder:
-        for name, words, text, _, _, _ in cases():
-            pathlib.Path(f"{folder}/{name}").write_text(text)
-            pathlib.Path(f"{folder}/{name}.args").write_text("\n".join(words) + "\n")
-        done = subprocess.run(["rt", "try", *lists(), "--cases", folder], cwd=TOP / "crates" / "sct_sites", capture_output=True, text=True)
-    for name, _, _, text, refused, status in cases():
-        out = re.search(rf"^== {name}\n(.*?)(?=^== |\Z)", done.stdout, re.M | re.S)
-        err = re.search(rf"((?:^(?:file [0-9]+ line|line|fault) [0-9].*\n)*)^case={name} run=ended status=(\d+) ", done.stderr, re.M)
-        fits = (out and out.group(1), err and err.group(1), err and err.group(2)) == (text, refused, str(status))
-        print(f"example {name}: {'ok' if fits else 'DIFFERS'}", flush=True)
-        passed, failed = passed + fits, failed + (not fits)
-    if not passed:
-        print(done.stdout[-2000:], done.stderr[-2000:])
-    print(f"examples: {passed} passed, {failed} failed")
-    sys.exit(1 if failed or not passed else 0)
+        right = [fits(program, one, PROCESSORS[-1]) for one in [*examples(), long_list(folder)]]
+    long = list(long_cases())
+    right += [fits(program, one, processors) for processors in PROCESSORS for one in long]
+    print(f"examples: {sum(right)} passed, {len(right) - sum(right)} failed")
+    sys.exit(0 if all(right) else 1)
 
 
 if __name__ == "__main__":
