@@ -1,5 +1,6 @@
 //! Histories of worlds, with ample memory.
 
+mod reporting;
 mod scenes;
 mod settling;
 

@@ -5,7 +5,7 @@ use sct_delta::{Delta, DeltaFault, Entry, Vector};
 use sct_json::read_message;
 use sct_message::Message;
 use sct_site::SiteCore;
-use std::alloc::Global;
+use std::alloc::{AllocError, Global};
 use std::process::Abort;
 use std::sync::Arc;
 
@@ -20,6 +20,10 @@ pub(crate) enum Line {
     Cut(u16, u64),
     /// The delta comes to the site.
     Hand(u64, u16),
+    /// The site takes a credit transfer: its identification, its transfer, its amount and its settlement day.
+    Instructed(u16, &'static str, &'static str, &'static str, &'static str),
+    /// The site takes a status report: its identification, its transfer, and its status as JSON members.
+    Reported(u16, &'static str, &'static str, &'static str),
 }
 
 static TRANSFER: &str =
@@ -37,6 +41,24 @@ fn take_of(alloc: Global, site: u16, text: &str) -> Option<Event> {
     })
 }
 
+fn instruction(
+    alloc: Global,
+    id: &str,
+    tx: &str,
+    amount: &str,
+    day: &str,
+) -> Result<String, AllocError> {
+    format!(in alloc;
+        r#"{{"MsgNmId":"pacs.008","MsgId":"{id}","CreDtTm":"2024-05-02T10:00:00Z","InstgAgt":"BANKDEFF","IntrBkSttlmDt":"{day}","SvcLvl":"SEPA","LclInstrm":"INST","EndToEndId":"E1","TxId":"{tx}","IntrBkSttlmAmt":"{amount}","Ccy":"EUR","ChrgBr":"SLEV","Dbtr":"Anna Weber","DbtrAcct":"DE89370400440532013000","DbtrAgt":"BANKDEFF","CdtrAgt":"BANQFRPP","Cdtr":"Bo Maes","CdtrAcct":"BE68539007547034"}}"#
+    )
+}
+
+fn status_report(alloc: Global, id: &str, tx: &str, status: &str) -> Result<String, AllocError> {
+    format!(in alloc;
+        r#"{{"MsgNmId":"pacs.002","MsgId":"{id}","CreDtTm":"2024-05-02T10:00:02Z","InstgAgt":"BANQFRPP","OrgnlMsgId":"M1","OrgnlMsgNmId":"pacs.008","OrgnlTxId":"{tx}",{status},"DbtrAgt":"BANKDEFF"}}"#
+    )
+}
+
 fn event_of(alloc: Global, line: Line) -> Option<Event> {
     match line {
         Line::Transfer(site) => take_of(alloc, site, TRANSFER),
@@ -46,6 +68,12 @@ fn event_of(alloc: Global, line: Line) -> Option<Event> {
             vector: Vector::of(alloc, &[(1, count)]).ok()?,
         }),
         Line::Hand(delta, site) => Some(Event::Hand { delta, site }),
+        Line::Instructed(site, id, tx, amount, day) => {
+            take_of(alloc, site, &instruction(alloc, id, tx, amount, day).ok()?)
+        }
+        Line::Reported(site, id, tx, status) => {
+            take_of(alloc, site, &status_report(alloc, id, tx, status).ok()?)
+        }
     }
 }
 
