@@ -1,5 +1,5 @@
-"""run_examples.py: runs the program on each example of examples/, on a list of 5,000 rows, and on a longer input on 1, 2, 4 and 8
-processors, and fails where an output differs.
+"""run_examples.py: runs the program on each example of examples/, on bad lists, on a list of 5,000 rows, and on a longer input on
+1, 2, 4 and 8 processors, and fails where an output differs.
 
 An example NAME.jsonl is a list of messages, and NAME.script a script. NAME.COMMAND is what that command must write to
 standard output, and NAME.refused what it must write to standard error. NAME.site1, NAME.site2 and so on are lists of messages
@@ -20,10 +20,14 @@ import reference_status
 TOP = pathlib.Path(__file__).resolve().parent.parent
 EXAMPLES = TOP / "examples"
 COMMANDS = {".jsonl": ["status", "archive", "totals"], ".script": ["replay"]}
-REPORTS = {"bank-day": ["LUTEFRPP", "2025-03-10"]}  # the bank of each list, and the day
+REPORTS = {"bank-day": ["LUTEFRPP", "2025-03-10"], "settlement-day": ["BANKDEFF", "2024-05-02"]}  # the bank of each list, and the day
 PROCESSORS = [1, 2, 4, 8]
 LONG = 2000  # messages: about a megabyte, which is read in several parts
 ROWS = 5000
+
+# what stands behind the header of lists that are none, and the number of the first bad record
+BAD_LISTS = [('BANKDEFF,"T""1",10,ACCEPTED\n', 2), ('BANKDEFF,T1,10,PENDING\nBANKDEFF,"T\n1",10,ACCEPTED\n', 3),
+             ("BANKDEFF,T1, 10,ACCEPTED\n", 2), ("BANKDEFF,T1,10,accepted\n", 2), ("BANKDEFF,T1,10,PENDING,\n", 2)]
 
 # what is run, and what the program must write and end with
 Case = collections.namedtuple("Case", "name words input text refused status")
@@ -52,6 +56,15 @@ def instruction(number):
             f'"IntrBkSttlmDt":"2024-05-02","SvcLvl":"SEPA","LclInstrm":"INST","EndToEndId":"E1","TxId":"T{number}",'
             '"IntrBkSttlmAmt":"1.00","Ccy":"EUR","ChrgBr":"SLEV","Dbtr":"Anna Weber","DbtrAcct":"DE89370400440532013000",'
             '"DbtrAgt":"BANKDEFF","CdtrAgt":"BANQFRPP","Cdtr":"Bo Maes","CdtrAcct":"BE68539007547034"}\n')
+
+
+def bad_lists(folder):
+    """Lists that are refused: nothing is written but the number of the first bad record, counted from 1 with the header."""
+    for place, (rows, record) in enumerate(BAD_LISTS):
+        path = pathlib.Path(folder, f"bad{place}")
+        path.write_text("DbtrAgt,TxId,Amt,Sts\n" + rows)
+        words = ["report", "BANKDEFF", "2024-05-02", str(path)]
+        yield Case(f"report on {rows!r}", words, b"", b"", f"fault 48 {record}\n".encode(), 2)
 
 
 def long_list(folder):
@@ -101,7 +114,7 @@ def main():
     if not os.path.isfile(program):
         sys.exit(f"run_examples: there is no program {program}; `rt run` in crates/sct_sites makes it")
     with tempfile.TemporaryDirectory() as folder:
-        right = [fits(program, one, PROCESSORS[-1]) for one in [*examples(), long_list(folder)]]
+        right = [fits(program, one, PROCESSORS[-1]) for one in [*examples(), *bad_lists(folder), long_list(folder)]]
     long = list(long_cases())
     right += [fits(program, one, processors) for processors in PROCESSORS for one in long]
     print(f"examples: {sum(right)} passed, {len(right) - sum(right)} failed")
