@@ -1,11 +1,11 @@
 -- What holds of worlds, whatever their histories. Read by an auditor.
-use Rattle.std.specs.Prelude.{◌≡◌, ℕ, true, false, List, Ok}
+use Rattle.std.specs.Prelude.{◌≡◌, ◌⊎◌, ℕ, true, false, List, Ok}
 use Rattle.sct_message.specs.Sets.{MessageSet}
 use Rattle.sct_delta.specs.Entries.{Placed, held_from, holds, messages_of}
 use Rattle.sct_reconcile.specs.Reports.{report_of, report_text_of}
 use Rattle.sct_reconcile.specs.declared.rows.ListedRow.{ListedRow}
 use Rattle.sct_world.specs.Answers.{texts_of}
-use Rattle.sct_world.specs.States.{State, opened, is_no_site, held_at}
+use Rattle.sct_world.specs.States.{State, opened, is_no_site, held_at, is_size}
 use Rattle.sct_world.specs.Happenings.{happenings_of}
 use Rattle.sct_world.specs.Histories.{step_of, world_after, world_after_all, outcomes_of, world_by, outcomes_by}
 use Rattle.sct_world.specs.Taken.{taken_at}
@@ -20,6 +20,10 @@ history sites events = world_after_all (opened sites) events
 -- the messages that a site took or accepted in a history
 abbrev pub taken_in : ℕ → List Event → ℕ → MessageSet
 taken_in sites events site = taken_at site (history sites events).deltas events (outcomes_of (opened sites) events)
+
+-- so many sites make no world, or there is no such site in it
+abbrev pub IsNoPlace : ℕ → List Event → ℕ → Type 0
+IsNoPlace sites events site = (is_size sites ≡ false) ⊎ (is_no_site (history sites events) site ≡ true)
 
 -- Sites, of one world or of two, that took or accepted the same messages hold the same.
 abbrev pub EqualSetsHoldAlike : Type 0

@@ -9,7 +9,7 @@ ghost use Rattle.sct_view.specs.StatusText.{status_text_of};
 ghost use Rattle.sct_view.specs.TotalsText.{totals_text_of};
 ghost use Rattle.sct_world.specs.Faults.{IsNoForkOutcome};
 ghost use Rattle.sct_world.specs.Histories.{outcome_of, outcomes_of, world_after, world_after_all};
-ghost use Rattle.sct_world.specs.Laws.{history, taken_in};
+ghost use Rattle.sct_world.specs.Laws.{history, taken_in, IsNoPlace};
 ghost use Rattle.sct_world.specs.States.{opened, is_size, is_no_site, held_at};
 ghost use Rattle.sct_world.specs.Taken.{taken_at};
 ghost use Rattle.sct_world.specs.declared.fault.WorldFault.TheVariants as fault;
@@ -83,7 +83,8 @@ pub fn answers_after(
     ensures statuses { IfOk result (λ answers. answers.statuses.items ≡ status_text_of (taken_in sites events.now site)) }
     ensures totals { IfOk result (λ answers. answers.totals.items ≡ totals_text_of (taken_in sites events.now site)) }
     ensures there { OnOk result (is_no_site (history sites events.now) site ≡ false) }
-    ensures err { IfErr result (λ refusal. refusal ≢ fault.Delta delta.Memory → refusal ≡ fault.BadSite) }
+    ensures err { IfErr result (λ refusal. refusal ≢ fault.Delta delta.Memory
+        → (refusal ≡ fault.BadSite) × IsNoPlace sites events.now site) }
 {
     let ran = run(alloc, sites, events)?;
     ran.world.answers(site)
@@ -103,7 +104,8 @@ pub fn report_after(
     ensures report { IfOk result (λ report. report
         ≡ report_of (taken_in sites events.now site) bank.now day.now list.now) }
     ensures there { OnOk result (is_no_site (history sites events.now) site ≡ false) }
-    ensures err { IfErr result (λ refusal. refusal ≢ fault.Delta delta.Memory → refusal ≡ fault.BadSite) }
+    ensures err { IfErr result (λ refusal. refusal ≢ fault.Delta delta.Memory
+        → (refusal ≡ fault.BadSite) × IsNoPlace sites events.now site) }
 {
     let ran = run(alloc, sites, events)?;
     ran.world.report(site, bank, day, list)
