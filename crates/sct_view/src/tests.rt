@@ -319,12 +319,6 @@ fn lists_nothing_of_nothing(rt: HostRuntime) -> Result<(), Fail> {
     assert_nothing_listed(&rt, &view)
 }
 
-#[test]
-fn lists_messages_of_all_kinds(rt: HostRuntime) -> Result<(), Fail> {
-    let view = view_of(rt.alloc(), ALL_KINDS.rows)?;
-    assert_listed(&rt, &view, &ALL_KINDS_LISTED)
-}
-
 // Whether so many messages of the rows are fresh.
 fn assert_fresh(
     rt: &impl Abort,
@@ -421,34 +415,20 @@ fn assert_applied(
     Ok(())
 }
 
-fn assert_all_applied(
-    rt: &impl Abort,
-    alloc: Global,
-    view: &mut View,
-    batches: &[Batch],
-) -> Result<(), Fail> {
+// Whether each batch brings what it should, from a view of no message on.
+fn assert_all_applied(rt: &impl Abort, alloc: Global, batches: &[Batch]) -> Result<(), Fail> {
+    let mut view = View::new(alloc);
     for batch in batches {
-        assert_applied(rt, alloc, view, batch)?;
+        assert_applied(rt, alloc, &mut view, batch)?;
     }
     Ok(())
 }
 
 #[test]
-fn touches_transfers_of_messages_contradicted(rt: HostRuntime) -> Result<(), Fail> {
-    let mut view = View::new(rt.alloc());
-    assert_all_applied(&rt, rt.alloc(), &mut view, &AGAINST_TWO)
-}
-
-#[test]
 fn touches_each_transfer_of_a_batch_once(rt: HostRuntime) -> Result<(), Fail> {
-    let mut view = View::new(rt.alloc());
-    assert_all_applied(&rt, rt.alloc(), &mut view, &AGAINST_ITSELF)
-}
-
-#[test]
-fn takes_a_message_twice_in_one_batch(rt: HostRuntime) -> Result<(), Fail> {
-    let mut view = View::new(rt.alloc());
-    assert_all_applied(&rt, rt.alloc(), &mut view, &TWICE)
+    assert_all_applied(&rt, rt.alloc(), &AGAINST_TWO)?;
+    assert_all_applied(&rt, rt.alloc(), &AGAINST_ITSELF)?;
+    assert_all_applied(&rt, rt.alloc(), &TWICE)
 }
 
 // The word of a status that the scenes have without an argument.
@@ -479,12 +459,6 @@ fn assert_standing(rt: &impl Abort, view: &View) -> Result<(), Fail> {
         assert_status(rt, view, wanted)?;
     }
     Ok(())
-}
-
-#[test]
-fn tells_where_transfers_stand(rt: HostRuntime) -> Result<(), Fail> {
-    let view = view_of(rt.alloc(), ALL_KINDS.rows)?;
-    assert_standing(&rt, &view)
 }
 
 // The word of a recall's status that the scenes have without an argument.
@@ -523,12 +497,6 @@ fn assert_recalled(rt: &impl Abort, view: &View) -> Result<(), Fail> {
     Ok(())
 }
 
-#[test]
-fn tells_where_recalls_stand(rt: HostRuntime) -> Result<(), Fail> {
-    let view = view_of(rt.alloc(), ALL_KINDS.rows)?;
-    assert_recalled(&rt, &view)
-}
-
 // Whether Anna Weber's bank has what messages of all six kinds give it, and a bank that none of them names nothing.
 fn assert_totals(rt: &impl Abort, view: &View) -> Result<(), Fail> {
     let wanted = Totals {
@@ -546,8 +514,16 @@ fn assert_totals(rt: &impl Abort, view: &View) -> Result<(), Fail> {
     Ok(())
 }
 
+// Whether all is answered that messages of all six kinds say.
+fn assert_answers(rt: &impl Abort, view: &View) -> Result<(), Fail> {
+    assert_listed(rt, view, &ALL_KINDS_LISTED)?;
+    assert_standing(rt, view)?;
+    assert_recalled(rt, view)?;
+    assert_totals(rt, view)
+}
+
 #[test]
-fn sums_what_banks_sent(rt: HostRuntime) -> Result<(), Fail> {
+fn answers_on_messages_of_all_kinds(rt: HostRuntime) -> Result<(), Fail> {
     let view = view_of(rt.alloc(), ALL_KINDS.rows)?;
-    assert_totals(&rt, &view)
+    assert_answers(&rt, &view)
 }
