@@ -12,11 +12,13 @@ use crate::keys::keys_reported;
 use crate::lists::List;
 use crate::rows::ReportRow;
 use crate::writing::written;
+use rayon::prelude::*;
 use sct_element::{Bic, Day};
 use sct_message::TransferKey;
 use sct_view::View;
 use std::alloc::{AllocError, Global};
 use std::marker::Model;
+use std::thread::Threads;
 
 /// What the comparison of a list with the messages held gives, a row for each transfer, ascending.
 #[derive(Debug, Drop)]
@@ -52,8 +54,9 @@ impl Report {
     }
 }
 
-// The row of each transfer in turn.
-fn rows_on(
+// The row of each transfer, found in as many threads as there are processors.
+fn rows_on<R: Threads + Sync>(
+    rt: &R,
     alloc: Global,
     view: &View,
     index: &Index,
@@ -62,18 +65,22 @@ fn rows_on(
     ensures { IfOk result (λ found. (rows : Rows Row) → IsFiled index.now rows
         → found.items ≡ map (row_on view.now rows) keys.now) }
 {
-    let mut found = Vec::new(alloc);
-    for key in keys {
-        found.push(row_on(view, listed_on(index, key), key))?;
-    }
-    Ok(found)
+    keys.par_iter()
+        .map(
+            |key: &TransferKey| -> ReportRow
+                ensures { (rows : Rows Row) → IsFiled index.entry.now rows
+                    → result ≡ row_on view.entry.now rows key.now }
+            { row_on(view, listed_on(index, key), key) },
+        )
+        .collect(rt, alloc)
 }
 
 /// Compares a bank's list for a settlement day with the messages held: a row for each transfer that the list
-/// names, and for each transfer of the bank whose instruction has no other settlement day. Want of memory is
-/// 49 (Memory).
+/// names, and for each transfer of the bank whose instruction has no other settlement day. The rows are found in as many
+/// threads as there are processors; where no thread can be made, one does the work of several. Want of memory is 49 (Memory).
 #[tactic(auto, unfolding(crate::specs::Reports::report_of))]
-pub fn reconcile(
+pub fn reconcile<R: Threads + Sync>(
+    rt: &R,
     alloc: Global,
     view: &View,
     bank: &Bic,
@@ -85,6 +92,6 @@ pub fn reconcile(
 {
     let index = by_transfer(alloc, list.rows())?;
     let keys = keys_reported(alloc, view, bank, day, list.rows())?;
-    let rows = rows_on(alloc, view, &index, &keys)?;
+    let rows = rows_on(rt, alloc, view, &index, &keys)?;
     Ok(Report { alloc, rows })
 }

@@ -9,6 +9,7 @@ use sct_view::View;
 use std::alloc::Global;
 use std::process::Abort;
 use std::test::Fail;
+use std::thread::Threads;
 
 // ---- lists
 
@@ -106,15 +107,24 @@ static WORKED: Scene = Scene {
 };
 
 // Whether a view and a list give this report.
-fn assert_report(rt: &impl Abort, alloc: Global, view: &View, scene: &Scene) -> Result<(), Fail> {
+fn assert_report<R: Abort + Threads + Sync>(
+    rt: &R,
+    alloc: Global,
+    view: &View,
+    scene: &Scene,
+) -> Result<(), Fail> {
     let list = List::read(alloc, scene.list.as_bytes())?;
     let day = Day::read("2024-05-02")?;
-    let report = reconcile(alloc, view, &Bic::read(scene.bank)?, &day, &list)?;
+    let report = reconcile(rt, alloc, view, &Bic::read(scene.bank)?, &day, &list)?;
     assert_eq!(rt; report.write()?.as_slice(), scene.report.as_bytes());
     Ok(())
 }
 
-fn assert_scene(rt: &impl Abort, alloc: Global, scene: &Scene) -> Result<(), Fail> {
+fn assert_scene<R: Abort + Threads + Sync>(
+    rt: &R,
+    alloc: Global,
+    scene: &Scene,
+) -> Result<(), Fail> {
     let view = view_of(alloc, scene.said)?;
     assert_report(rt, alloc, &view, scene)
 }

@@ -48,7 +48,8 @@ fn totals_text_of(view: &View) -> Result<Vec<u8>, ProgramFault>
 }
 
 // The report of a view on a list.
-fn report_text_of(
+fn report_text_of<T: Threads + Sync>(
+    rt: &T,
     alloc: Global,
     view: &View,
     bank: &Bic,
@@ -58,7 +59,7 @@ fn report_text_of(
     ensures text { IfOk result (λ text. text.items ≡ report_text_of (report_of view.now bank.now day.now list.now)) }
     ensures memory { IfErr result (λ e. e ≡ fault.Memory) }
 {
-    let report = reconcile(alloc, view, bank, day, list)?;
+    let report = reconcile(rt, alloc, view, bank, day, list)?;
     Ok(report.write()?)
 }
 
@@ -82,7 +83,8 @@ fn totals_text(alloc: Global, messages: Vec<Arc<Message>>) -> Result<Vec<u8>, Pr
 }
 
 // The report of the same set on a bank's list for a settlement day. Only want of memory is a fault.
-fn report_text(
+fn report_text<T: Threads + Sync>(
+    rt: &T,
     alloc: Global,
     messages: Vec<Arc<Message>>,
     bank: &Bic,
@@ -94,7 +96,7 @@ fn report_text(
     ensures memory { IfErr result (λ e. e ≡ fault.Memory) }
 {
     let view = view_of(alloc, messages)?;
-    report_text_of(alloc, &view, bank, day, list)
+    report_text_of(rt, alloc, &view, bank, day, list)
 }
 
 /// What is asked of messages.
@@ -146,7 +148,9 @@ fn asked_pieces<T: Threads + Sync>(
         Question::Archive => return archive_pieces(rt, alloc, messages),
         Question::Status => status_text(alloc, messages)?,
         Question::Totals => totals_text(alloc, messages)?,
-        Question::Report { bank, day, list } => report_text(alloc, messages, bank, day, list)?,
+        Question::Report { bank, day, list } => {
+            report_text(rt, alloc, messages, bank, day, list)?
+        },
     };
     one_piece(alloc, text)
 }

@@ -15,6 +15,7 @@ use sct_reconcile::{List, Report, reconcile};
 use sct_set::Archive;
 use sct_view::View;
 use std::alloc::Global;
+use std::thread::Threads;
 
 /// What a site answers: three texts of the messages that it holds.
 #[derive(Drop)]
@@ -63,7 +64,8 @@ pub(crate) fn answers_of(alloc: Global, archive: &Archive) -> Result<Answers, Wo
 }
 
 // The report on a list over the messages of a view.
-fn reconciled(
+fn reconciled<R: Threads + Sync>(
+    rt: &R,
     alloc: Global,
     view: &View,
     bank: &Bic,
@@ -73,7 +75,7 @@ fn reconciled(
     ensures report { IfOk result (λ report. report ≡ report_of view.now bank.now day.now list.now) }
     ensures err { IfErr result (λ refusal. refusal ≡ fault.Delta delta.Memory) }
 {
-    match reconcile(alloc, view, bank, day, list) {
+    match reconcile(rt, alloc, view, bank, day, list) {
         Ok(report) => Ok(report),
         Err(_) => Err(WorldFault::Delta(DeltaFault::Memory)),
     }
@@ -81,7 +83,8 @@ fn reconciled(
 
 /// The report on a bank's list for a settlement day, over the messages of an archive. Nothing but want of memory (40)
 /// refuses it.
-pub(crate) fn report_on(
+pub(crate) fn report_on<R: Threads + Sync>(
+    rt: &R,
     alloc: Global,
     archive: &Archive,
     bank: &Bic,
@@ -92,5 +95,5 @@ pub(crate) fn report_on(
     ensures err { IfErr result (λ refusal. refusal ≡ fault.Delta delta.Memory) }
 {
     let view = view_of(alloc, archive)?;
-    reconciled(alloc, &view, bank, day, list)
+    reconciled(rt, alloc, &view, bank, day, list)
 }

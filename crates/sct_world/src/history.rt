@@ -21,6 +21,7 @@ use crate::world::World;
 use sct_element::{Bic, Day};
 use sct_reconcile::{List, Report};
 use std::alloc::Global;
+use std::thread::Threads;
 
 /// A world after a list of events, and how each of the events ended.
 #[derive(Drop)]
@@ -92,7 +93,8 @@ pub fn answers_after(
 
 /// The report on a bank's list for a settlement day that a site gives after events in a new world of so many sites: that
 /// of exactly the messages that the site took or accepted. Refused as `answers_after` is.
-pub fn report_after(
+pub fn report_after<R: Threads + Sync>(
+    rt: &R,
     alloc: Global,
     sites: u16,
     events: &[Event],
@@ -108,5 +110,5 @@ pub fn report_after(
         → (refusal ≡ fault.BadSite) × IsNoPlace sites events.now site) }
 {
     let ran = run(alloc, sites, events)?;
-    ran.world.report(site, bank, day, list)
+    ran.world.report(rt, site, bank, day, list)
 }

@@ -26,6 +26,7 @@ use sct_site::{SiteCore, Took};
 use std::alloc::Global;
 use std::marker::Model;
 use std::sync::Arc;
+use std::thread::Threads;
 
 /// The sites 1 to n of one group, and every delta that was cut.
 #[derive(Drop)]
@@ -144,8 +145,9 @@ impl World {
 
     /// The report on a bank's list for a settlement day, over the messages that a site holds. 44 `BadSite` where there is
     /// no such site, and else nothing but want of memory (40) refuses it.
-    pub fn report(
+    pub fn report<R: Threads + Sync>(
         &self,
+        rt: &R,
         site: u16,
         bank: &Bic,
         day: &Day,
@@ -160,7 +162,7 @@ impl World {
         let Ok(archive) = self.archive(site) else {
             return Err(WorldFault::BadSite);
         };
-        report_on(self.alloc, archive, bank, day, list)
+        report_on(rt, self.alloc, archive, bank, day, list)
     }
 
     // There is no such site.

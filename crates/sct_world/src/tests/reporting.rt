@@ -6,6 +6,7 @@ use sct_element::{Bic, Day};
 use sct_reconcile::List;
 use std::alloc::Global;
 use std::process::Abort;
+use std::thread::Threads;
 
 const ACCEPTED: &str = r#""TxSts":"ACCP""#;
 
@@ -55,15 +56,26 @@ fn ask(alloc: Global) -> Option<Asked> {
 }
 
 // The text of a site's report, or the number of the fault that refuses it.
-fn text_at(world: &World, site: u16, asked: &Asked) -> Result<Vec<u8>, u8> {
-    match world.report(site, &asked.bank, &asked.day, &asked.list) {
+fn text_at<R: Threads + Sync>(
+    rt: &R,
+    world: &World,
+    site: u16,
+    asked: &Asked,
+) -> Result<Vec<u8>, u8> {
+    match world.report(rt, site, &asked.bank, &asked.day, &asked.list) {
         Ok(report) => report.write().map_err(|fault| fault.number()),
         Err(fault) => Err(fault.number()),
     }
 }
 
-fn expect_report(rt: &impl Abort, world: &World, site: u16, asked: &Asked, wanted: &str) {
-    let text = text_at(world, site, asked).expect(rt, "a report");
+fn expect_report<R: Abort + Threads + Sync>(
+    rt: &R,
+    world: &World,
+    site: u16,
+    asked: &Asked,
+    wanted: &str,
+) {
+    let text = text_at(rt, world, site, asked).expect(rt, "a report");
     assert_eq!(rt; text.as_slice(), wanted.as_bytes());
 }
 
@@ -75,18 +87,18 @@ fn sites_of_equal_sets_report_alike(rt: HostRuntime) {
     expect_report(&rt, &ran.world, 1, &asked, REPORT);
     expect_report(&rt, &ran.world, 2, &asked, REPORT);
     expect_report(&rt, &ran.world, 3, &asked, NOTHING_HELD);
-    assert_eq!(rt; text_at(&ran.world, 0, &asked).err(), Some(44));
-    assert_eq!(rt; text_at(&ran.world, 4, &asked).err(), Some(44));
+    assert_eq!(rt; text_at(&rt, &ran.world, 0, &asked).err(), Some(44));
+    assert_eq!(rt; text_at(&rt, &ran.world, 4, &asked).err(), Some(44));
 }
 
 #[test]
 fn a_site_reports_after_a_day(rt: HostRuntime) {
     let events = events_of(rt.alloc(), &DAY).expect(&rt, "events");
     let Asked { bank, day, list } = ask(rt.alloc()).expect(&rt, "a list");
-    let report = report_after(rt.alloc(), 3, &events, 2, &bank, &day, &list).expect(
+    let report = report_after(&rt, rt.alloc(), 3, &events, 2, &bank, &day, &list).expect(
         &rt, "a report",
     );
     let text = report.write().expect(&rt, "a text");
     assert_eq!(rt; text.as_slice(), REPORT.as_bytes());
-    assert!(rt; report_after(rt.alloc(), 3, &events, 4, &bank, &day, &list).is_err());
+    assert!(rt; report_after(&rt, rt.alloc(), 3, &events, 4, &bank, &day, &list).is_err());
 }

@@ -1,16 +1,18 @@
--- A row more.
-use Rattle.std.proofs.Common.{◌∙◌, ◌++◌, ◌∷◌, [], ap, sym, map, take}
-use Rattle.std.proofs.lemmas.List.{map-append}
-use Rattle.sct_reconcile.specs.Reports.{row_beside, row_on}
-use Rattle.sct_reconcile.proofs.FiledLemmas.{take_more}
+-- The rows, whichever threads found them.
+use Rattle.std.proofs.Common.{◌∙◌, ap, subst, sym}
+use Rattle.rayon.proofs.ListFacts.{AllZip-weaken, IfOk-then}
+use Rattle.rayon.proofs.ToStd.{slice-map}
+use Rattle.sct_reconcile.specs.Filed.{IsFiled}
+use Rattle.sct_reconcile.specs.Reports.{row_on}
 use Rattle.sct_reconcile.proofs.reports.rows_on.Goals as goal
 
-pub loop-key-preserved : goal.loop-key-preserved
-loop-key-preserved c = λ rows filed.
-    c.in_ok-push.ensures.items
-    ∙ ap (λ found. found ++ c.row_on.result ∷ []) (c.loop-key.invariant rows filed)
-    ∙ ap (λ row. map (row_on c.args.view.now rows) (take c.loop-key.key-index c.args.keys.now) ++ row ∷ [])
-    (c.row_on.ensures
-    ∙ ap (λ listed. row_beside c.args.view.now listed c.key-item.result) (c.listed_on.ensures rows filed))
-    ∙ sym (map-append (row_on c.args.view.now rows) (take c.loop-key.key-index c.args.keys.now) (c.key-item.result ∷ []))
-    ∙ ap (map (row_on c.args.view.now rows)) (take_more c.args.keys.now c.loop-key.key-index c.key-item.result c.loop-key-test.true c.key-item.is)
+pub returns : goal.returns
+returns g c =
+    let slice = ap (λ it. it.slice.now) c.map.ensures.base ∙ c.par_iter.ensures in
+    IfOk-then c.collect.result _ _ c.collect.ensures (λ v h. λ rows filed.
+    let chain = h.1 in
+    let view = ap (λ f. f.0) c.map.ensures.f in
+    let index = ap (λ f. f.1) c.map.ensures.f in
+    let filed_there = subst (λ i. IsFiled i.now rows) (sym index) filed in
+    h.2 ∙ slice-map chain.0 c.args.keys.now (chain.1 ∙ slice) (row_on c.args.view.now rows) h.0
+    (AllZip-weaken _ _ (λ z y p. p rows filed_there ∙ ap (λ v. row_on v.now rows z.now) view) chain.0 h.0 chain.2))
