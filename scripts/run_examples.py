@@ -1,5 +1,5 @@
-"""run_examples.py: runs the program on each example of examples/, on bad lists, on a list of 5,000 rows, and on a longer input on
-1, 2, 4 and 8 processors, and fails where an output differs.
+"""run_examples.py: runs the program on each example of examples/, on bad lists, on a list of 5,000 rows, on a longer input on 1,
+2, 4 and 8 processors, on sixteen files of it, and on two small files 200 times, and fails where an output differs.
 
 An example NAME.jsonl is a list of messages, and NAME.script a script. NAME.COMMAND is what that command must write to
 standard output, and NAME.refused what it must write to standard error. NAME.site1, NAME.site2 and so on are lists of messages
@@ -7,10 +7,11 @@ at several sites, NAME.run is what `run` must answer for them, and NAME.run-refu
 NAME.list is the list of a bank for a settlement day, which REPORTS names, and NAME.report the report on it over NAME.jsonl. The
 exit status must be 1 where a line is refused, and else 0.
 
-The list of 5,000 rows has a row for each of as many instructions, and every row is MATCHED. The longer input is of made-up
+The list of 5,000 rows has a row for each of as many instructions, which is MATCHED, and one that is ONLY_IN_LIST. The longer input is of made-up
 messages, blank lines and refused ones, and is read and written in threads; what must be answered is told by
 scripts/reference_status.py, from the definitions alone, and is the same on any number of processors (where there are fewer, on
-as many as there are).
+as many as there are). Its lines in turn are sixteen files, of which `run` must answer the same status text, again on any number of
+processors. The two small files are taken at two sites side by side: the answer must be one, however these are scheduled.
 
 Usage: run_examples.py [PROGRAM]   (else the program that `rt run` and the gate leave in crates/sct_sites/out)
 """
@@ -24,6 +25,8 @@ REPORTS = {"bank-day": ["LUTEFRPP", "2025-03-10"], "settlement-day": ["BANKDEFF"
 PROCESSORS = [1, 2, 4, 8]
 LONG = 2000  # messages: about a megabyte, which is read in several parts
 ROWS = 5000
+FILES = 16
+TIMES = 200
 
 # what stands behind the header of lists that are none, and the number of the first bad record
 BAD_LISTS = [('BANKDEFF,"T""1",10,ACCEPTED\n', 2), ('BANKDEFF,T1,10,PENDING\nBANKDEFF,"T\n1",10,ACCEPTED\n', 3),
@@ -58,6 +61,11 @@ def instruction(number):
             '"DbtrAgt":"BANKDEFF","CdtrAgt":"BANQFRPP","Cdtr":"Bo Maes","CdtrAcct":"BE68539007547034"}\n')
 
 
+def confirmation(number):
+    return (f'{{"MsgNmId":"pacs.002","MsgId":"C{number}","CreDtTm":"2024-05-02T10:00:02Z","InstgAgt":"BANQFRPP","OrgnlMsgId":"M{number}",'
+            f'"OrgnlMsgNmId":"pacs.008","OrgnlTxId":"T{number}","TxSts":"ACCP","DbtrAgt":"BANKDEFF"}}\n')
+
+
 def bad_lists(folder):
     """Lists that are refused: nothing is written but the number of the first bad record, counted from 1 with the header."""
     for place, (rows, record) in enumerate(BAD_LISTS):
@@ -68,14 +76,16 @@ def bad_lists(folder):
 
 
 def long_list(folder):
-    """A report on a list of many rows. A report has its rows by transfer, and the identifications go by bytes."""
+    """A report on a list of many rows, the last of which no message is on. A report has its rows by transfer, and the
+    identifications go by bytes."""
     transfers = [f"T{number}" for number in range(1, ROWS + 1)]
     rows = [f"BANKDEFF,{transfer},1.00,PENDING\n" for transfer in transfers]
-    told = [f"BANKDEFFXXX,{transfer},MATCHED,1.00,PENDING,1.00,PENDING\n" for transfer in sorted(transfers)]
+    told = {transfer: f"BANKDEFFXXX,{transfer},MATCHED,1.00,PENDING,1.00,PENDING\n" for transfer in transfers}
+    told[transfers[-1]] = f"BANKDEFFXXX,{transfers[-1]},ONLY_IN_LIST,1.00,PENDING,,UNKNOWN\n"
     path = pathlib.Path(folder, "list")
     path.write_text("DbtrAgt,TxId,Amt,Sts\n" + "".join(rows))
-    text = "DbtrAgt,TxId,Result,ListAmt,ListSts,Amt,Sts\n" + "".join(told)
-    data = "".join(instruction(number) for number in range(1, ROWS + 1))
+    text = "DbtrAgt,TxId,Result,ListAmt,ListSts,Amt,Sts\n" + "".join(told[transfer] for transfer in sorted(transfers))
+    data = "".join(instruction(number) for number in range(1, ROWS))
     return case(f"report on {ROWS} rows", ["report", "BANKDEFF", "2024-05-02", str(path)], data.encode(), text.encode(), b"")
 
 
@@ -96,16 +106,50 @@ def long_cases():
         yield case(f"{LONG} messages {command}", [command], data, text.encode(), refused.encode())
 
 
+def files_of(folder, name, texts):
+    """The paths of new files with these texts."""
+    paths = [pathlib.Path(folder, f"{name}{place}") for place in range(1, len(texts) + 1)]
+    for path, text in zip(paths, texts):
+        path.write_bytes(text)
+    return [str(path) for path in paths]
+
+
+def sixteen_files(folder):
+    """The lines of the longer input in turn to as many files as a run can have: each tells its own refused lines."""
+    data = long_input()
+    lines = data.splitlines(keepends=True)
+    texts = [b"".join(lines[place::FILES]) for place in range(FILES)]
+    text, _, _ = reference_status.answer("status", data)
+    told = ""
+    for file, part in enumerate(texts, start=1):
+        _, refused, _ = reference_status.answer("status", part)
+        told += "".join(f"file {file} {line}" for line in refused.splitlines(keepends=True))
+    return case(f"run of {FILES} files", ["run", *files_of(folder, "part", texts)], b"", text.encode(), told.encode())
+
+
+def two_files(folder):
+    """A transfer and its confirmation in one file, another transfer in the other."""
+    texts = [(instruction(1) + confirmation(1)).encode(), instruction(2).encode()]
+    text = b"T|BANKDEFFXXX|T1|ACCEPTED\nT|BANKDEFFXXX|T2|PENDING\n"
+    return case("run of two files", ["run", *files_of(folder, "small", texts)], b"", text, b"")
+
+
 def on(processors):
     """Lets what is started run on so many processors, or on all where there are fewer."""
     return lambda: os.sched_setaffinity(0, sorted(os.sched_getaffinity(0))[:processors])
 
 
-def fits(program, one, processors):
+def answers(program, one, processors):
     """Whether the program answers a case as it must."""
     done = subprocess.run([program, *one.words], input=one.input, capture_output=True, cwd=EXAMPLES, preexec_fn=on(processors))
-    right = (done.stdout, done.stderr, done.returncode) == (one.text, one.refused, one.status)
-    print(f"{one.name}, on {processors} processors: {'ok' if right else 'DIFFERS'}", flush=True)
+    return (done.stdout, done.stderr, done.returncode) == (one.text, one.refused, one.status)
+
+
+def fits(program, one, processors, times=1):
+    """Whether the program answers a case as it must, so many times in a row."""
+    right = all(answers(program, one, processors) for _ in range(times))
+    again = f", {times} times" if times > 1 else ""
+    print(f"{one.name}, on {processors} processors{again}: {'ok' if right else 'DIFFERS'}", flush=True)
     return right
 
 
@@ -115,8 +159,9 @@ def main():
         sys.exit(f"run_examples: there is no program {program}; `rt run` in crates/sct_sites makes it")
     with tempfile.TemporaryDirectory() as folder:
         right = [fits(program, one, PROCESSORS[-1]) for one in [*examples(), *bad_lists(folder), long_list(folder)]]
-    long = list(long_cases())
-    right += [fits(program, one, processors) for processors in PROCESSORS for one in long]
+        right.append(fits(program, two_files(folder), PROCESSORS[-1], TIMES))
+        long = [*long_cases(), sixteen_files(folder)]
+        right += [fits(program, one, processors) for processors in PROCESSORS for one in long]
     print(f"examples: {sum(right)} passed, {len(right) - sum(right)} failed")
     sys.exit(0 if all(right) else 1)
 
