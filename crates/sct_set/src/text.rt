@@ -19,11 +19,14 @@ use sct_message::{Identity, Message, keys_are_ordered};
 use std::alloc::{AllocError, Global};
 use std::sync::Arc;
 
+// Few lines are longer.
+const BYTES_OF_A_LINE: usize = 640;
+
 // The identity of each message of a table.
 pub(crate) fn identities_of(table: &Table) -> Result<Vec<Identity>, AllocError>
     ensures { IfOk result (λ found. found.items ≡ map identity_of table.now) }
 {
-    let mut found = Vec::new(table.allocator());
+    let mut found = Vec::with_capacity(table.allocator(), table.len())?;
     for message in table.messages() {
         found.push(message.identity())?;
     }
@@ -115,11 +118,17 @@ fn push_messages(
     Ok(())
 }
 
+// Room for the lines of so many identities, most of which take fewer bytes: a text that grows would leave behind what it
+// outgrew.
+fn room_for(identities: &[Identity]) -> usize {
+    identities.len().saturating_mul(BYTES_OF_A_LINE)
+}
+
 // The lines of the messages of some identities, one identity after another.
 pub(crate) fn lines_by(table: &Table, identities: &[Identity]) -> Result<Vec<u8>, SetFault>
     ensures { IfOk result (λ text. AreWritten table.now identities.now text.items) }
 {
-    let mut text = Vec::new(table.allocator());
+    let mut text = Vec::with_capacity(table.allocator(), room_for(identities))?;
     for identity in identities {
         push_messages(table.allocator(), &mut text, table.of(identity))?;
     }
