@@ -1,0 +1,3 @@
+-- The lemmas of kept receipts.
+pub mod KeepLemmas
+pub mod StandLemmas

@@ -1,0 +1,32 @@
+-- The faults of workers: their numbers, and what a desk and a delta may end a worker with. Read by an auditor.
+use Rattle.std.specs.Prelude.{◌≡◌, ◌⊎◌, ℕ}
+use Rattle.sct_delta.specs.Faults.{delta_fault_number}
+use Rattle.sct_delta.specs.declared.fault.DeltaFault.{DeltaFault}
+use Rattle.sct_delta.specs.declared.fault.DeltaFault.TheVariants as delta
+use Rattle.sct_desk.specs.Faults.{desk_fault_number}
+use Rattle.sct_desk.specs.declared.fault.DeskFault.{DeskFault}
+use Rattle.sct_desk.specs.declared.fault.DeskFault.TheVariants as desk
+use Rattle.sct_receipts.specs.declared.fault.WorkFault.{WorkFault}
+use Rattle.sct_receipts.specs.declared.fault.WorkFault.TheVariants as fault
+
+-- the number by which a fault is told
+abbrev pub work_fault_number : WorkFault → ℕ
+work_fault_number fault.Held = 61
+work_fault_number fault.Memory = 65
+work_fault_number (fault.Refused number) = 66
+work_fault_number fault.NoWorker = 67
+
+-- what ends a worker whose desk refuses a call: want of memory (50, 51), and any other refusal with its number
+abbrev pub fault_of_desk : DeskFault → WorkFault
+fault_of_desk desk.Memory = fault.Memory
+fault_of_desk (desk.Unpublished from) = fault.Memory
+fault_of_desk refusal = fault.Refused (desk_fault_number refusal)
+
+-- what ends a worker where sites, entries or deltas are refused: want of memory (40), and any other refusal with its number
+abbrev pub fault_of_delta : DeltaFault → WorkFault
+fault_of_delta delta.Memory = fault.Memory
+fault_of_delta refusal = fault.Refused (delta_fault_number refusal)
+
+-- a refusal of a desk that was to be closed: 53 or 54
+abbrev pub IsNotClosed : WorkFault → Type 0
+IsNotClosed refusal = (refusal ≡ fault.Refused 53) ⊎ (refusal ≡ fault.Refused 54)

@@ -1,0 +1,35 @@
+//! A desk that is closed with the receipts that were kept.
+
+ghost use Rattle.std.specs.Prelude.{◌≡◌, IfErr, IfOk};
+ghost use Rattle.sct_message.specs.Sets.{messages_in};
+ghost use Rattle.sct_set.specs.Contents.{contents_of};
+ghost use Rattle.sct_receipts.specs.Faults.{IsNotClosed};
+ghost use Rattle.sct_receipts.specs.Kept.{AllKeep, AllShown};
+ghost use Rattle.sct_receipts.specs.Stands.{Stands};
+
+use crate::fault::WorkFault;
+use sct_desk::{Desk, Receipt, Site};
+use sct_message::Message;
+use sct_site::SiteCore;
+use std::sync::{Arc, Wait};
+
+/// Closes the desk of a site with all receipts that its workers kept, where all that is taken are these messages and some
+/// receipt shows each of them. 66 `Refused` with 53 or 54 where a receipt is missing, or arrivals are pending.
+pub fn closed<J: Site, H: Wait + Drop>(
+    desk: Desk<J, H>,
+    messages: &[Arc<Message>],
+    receipts: Vec<Receipt>,
+) -> Result<SiteCore, WorkFault>
+    requires kept { AllKeep J.book J.number J.group (contents_of (messages_in messages.now)) receipts.items }
+    requires shown { AllShown (contents_of (messages_in messages.now)) receipts.items }
+    ensures core { IfOk result (Stands J.number J.group (contents_of (messages_in messages.now))) }
+    ensures refused { IfErr result IsNotClosed }
+{
+    match desk.close(receipts) {
+        Ok(core) => {
+            core.arrivals();
+            Ok(core)
+        }
+        Err(refusal) => Err(WorkFault::from(refusal.fault)),
+    }
+}
