@@ -1,4 +1,3 @@
 -- The lemmas of runs.
 pub mod RunLemmas
-pub mod SettleLemmas
 pub mod UnionLemmas

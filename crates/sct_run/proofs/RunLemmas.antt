@@ -1,20 +1,32 @@
--- One input more, and one message more. Proof plumbing.
-use Rattle.std.proofs.Common.{◌≡◌, ◌∙◌, refl, sym, ap, subst, ℕ, ◌+◌, ◌≤◌, Bool, true, false, cond, ◌&&◌, List, [], ◌∷◌, ◌++◌, length, map, arith, append_assoc, append-nil, length-append, codes}
+-- One input more, and one receipt more. Proof plumbing.
+use Rattle.std.proofs.Common.{◌≡◌, ◌≢◌, ◌∙◌, refl, sym, ap, subst, ℕ, zero, suc, ◌+◌, ◌<◌, ◌≤◌, Bool, true, false, ◌||◌, List, [], ◌∷◌, ◌++◌, length, nat_lt, arith, append_assoc, append-nil, length-append, codes, inl, inr}
 use Rattle.std.specs.FinSet as set
-use Rattle.std.specs.List.{flat_map, list_all}
-use Rattle.sct_message.specs.declared.draft.Draft.{Draft}
-use Rattle.sct_json.specs.declared.faults.JsonFault.{JsonFault}
-use Rattle.sct_set.specs.Contents.{Contents, contents_of}
-use Rattle.sct_set.proofs.ContentsLemmas.{contents-push, insert-held}
-use Rattle.sct_delta.specs.Entries.{Placed, IsArrivals, is_from, messages_of}
-use Rattle.sct_delta.proofs.EntryLemmas.{same_number}
-use Rattle.sct_site.specs.Cores.{Core, is_repeat, own_entry, arrivals_taken}
-use Rattle.sct_site.proofs.ArrivalLemmas.{arrivals-push}
-use Rattle.sct_site.proofs.TakeLemmas.{messages-push}
-use Rattle.sct_lines.specs.Lines.{json_fault_text, refusal_line, refusals_told, set_read, told_after}
+use Rattle.std.specs.Prelude.{Some}
+use Rattle.std.specs.List.{flat_map, list_any, slice_get}
 use Rattle.std.specs.Fmt.{decimal}
-use Rattle.sct_run.specs.Filled.{AreOwn, HaveRead, IsOwn}
-use Rattle.sct_run.specs.Runs.{file_front, refused_in, told_from, told_of_file}
+use Rattle.std.proofs.lemmas.Bool.{false≢true}
+use Rattle.std.proofs.lemmas.Bool.Decides.{nat_tests}
+use Rattle.std.proofs.lemmas.List.Folds.{list_any-append}
+use Rattle.std.proofs.lemmas.Map.Keys.{any_passes_from_place}
+use Rattle.std.proofs.lemmas.Option.{slice_get_within}
+use Rattle.sct_message.specs.declared.draft.Draft.{Draft}
+use Rattle.sct_message.specs.Order.{same_message}
+use Rattle.sct_json.specs.declared.faults.JsonFault.{JsonFault}
+use Rattle.sct_set.specs.Contents.{contents_of}
+use Rattle.sct_set.proofs.ContentsLemmas.{contains-contents_of, same_is}
+use Rattle.sct_site.specs.Cores.{Core}
+use Rattle.sct_desk.specs.Passes.{Told}
+use Rattle.sct_receipts.specs.Kept.{AllShown, is_shown, shows}
+use Rattle.sct_receipts.specs.Stands.{Stands}
+use Rattle.sct_receipts.specs.declared.fault.WorkFault.{WorkFault}
+use Rattle.sct_receipts.specs.declared.fault.WorkFault.TheVariants as work
+use Rattle.sct_world.proofs.HeldLemmas.{either, or_true}
+use Rattle.sct_lines.specs.Lines.{json_fault_text, refusal_line, refusals_told, set_read, told_after}
+use Rattle.sct_run.specs.Faults.{fault_of_work}
+use Rattle.sct_run.specs.Filled.{AllStand, ShownTo}
+use Rattle.sct_run.specs.Runs.{are_sites, file_front, refused_in, told_from, told_of_file}
+use Rattle.sct_run.specs.declared.fault.RunFault.{RunFault}
+use Rattle.sct_run.specs.declared.fault.RunFault.TheVariants as fault
 
 -- ---- one input more
 
@@ -33,26 +45,21 @@ pub refused_push : (inputs : List (List ℕ)) (input : List ℕ) → refused_in 
 refused_push [] input = omega arith
 refused_push (first ∷ inputs) input = let rest = refused_push inputs input in omega (arith, rest)
 
-pub own_more : (number group : ℕ) (cores : List Core) (core : Core) → AreOwn number group cores → IsOwn core (number + length cores) group
-    → AreOwn number group (cores ++ core ∷ [])
-own_more number group [] core all one =
-    let here : number + 0 ≡ number = omega arith in (subst (λ (n : ℕ). IsOwn core n group) here one, tt)
-own_more number group (first ∷ cores) core all one =
-    let next : number + length (first ∷ cores) ≡ (number + 1) + length cores = omega arith in
-    (all.0, own_more (number + 1) group cores core all.1 (subst (λ (n : ℕ). IsOwn core n group) next one))
+pub stand_more : (number size : ℕ) (cores : List Core) (inputs : List (List ℕ)) (core : Core) (input : List ℕ) → AllStand number size cores inputs
+    → Stands (number + length cores) size (set_read input) core → AllStand number size (cores ++ core ∷ []) (inputs ++ input ∷ [])
+stand_more number size [] [] core input all one =
+    let here : number + 0 ≡ number = omega arith in (subst (λ (n : ℕ). Stands n size (set_read input) core) here one, tt)
+stand_more number size (c ∷ cores) (i ∷ inputs) core input all one =
+    let next : number + length (c ∷ cores) ≡ (number + 1) + length cores = omega arith in
+    (all.0, stand_more (number + 1) size cores inputs core input all.1 (subst (λ (n : ℕ). Stands n size (set_read input) core) next one))
+stand_more number size [] (i ∷ inputs) core input all one = absurd all
+stand_more number size (c ∷ cores) [] core input all one = absurd all
 
-pub read_more : (cores : List Core) (inputs : List (List ℕ)) (core : Core) (input : List ℕ) → HaveRead cores inputs
-    → messages_of core.arrivals ≡ set_read input → HaveRead (cores ++ core ∷ []) (inputs ++ input ∷ [])
-read_more [] [] core input all one = (one, tt)
-read_more (c ∷ cores) (i ∷ inputs) core input all one = (all.0, read_more cores inputs core input all.1 one)
-read_more [] (i ∷ inputs) core input all one = absurd all
-read_more (c ∷ cores) [] core input all one = absurd all
-
-pub as_many : (cores : List Core) (inputs : List (List ℕ)) → HaveRead cores inputs → length cores ≡ length inputs
-as_many [] [] all = refl
-as_many (c ∷ cores) (i ∷ inputs) all = let rest = as_many cores inputs all.1 in omega (arith, rest)
-as_many [] (i ∷ inputs) all = absurd all
-as_many (c ∷ cores) [] all = absurd all
+pub as_many : (number size : ℕ) (cores : List Core) (inputs : List (List ℕ)) → AllStand number size cores inputs → length cores ≡ length inputs
+as_many number size [] [] all = refl
+as_many number size (c ∷ cores) (i ∷ inputs) all = let rest = as_many (number + 1) size cores inputs all.1 in omega (arith, rest)
+as_many number size [] (i ∷ inputs) all = absurd all
+as_many number size (c ∷ cores) [] all = absurd all
 
 -- a line tells each refusal, so there are no more of them than bytes that tell them
 told_at_length : (front : List ℕ) (refusals : List (ℕ × JsonFault)) → length refusals ≤ length (told_after front refusals)
@@ -70,16 +77,16 @@ few_refused file input = told_at_length (file_front file) (refusals_told input)
 
 -- ---- one site more
 
-pub own_step : (number group : ℕ) (cores now : List Core) (core : Core) → AreOwn 1 group cores → number ≡ length cores → IsOwn core (number + 1) group
-    → now ≡ cores ++ core ∷ [] → AreOwn 1 group now
-own_step number group cores now core all count one is =
+pub stand_step : (number size : ℕ) (cores now : List Core) (inputs inputs_now : List (List ℕ)) (core : Core) (input : List ℕ) → AllStand 1 size cores inputs
+    → number ≡ length cores → Stands (number + 1) size (set_read input) core → now ≡ cores ++ core ∷ [] → inputs_now ≡ inputs ++ input ∷ []
+    → AllStand 1 size now inputs_now
+stand_step number size cores now inputs inputs_now core input all count one is more =
     let at : number + 1 ≡ 1 + length cores = omega (arith, count) in
-    subst (AreOwn 1 group) (sym is) (own_more 1 group cores core all (subst (λ (n : ℕ). IsOwn core n group) at one))
-
-pub read_step : (inputs inputs_now : List (List ℕ)) (cores now : List Core) (core : Core) (input : List ℕ) → HaveRead cores inputs
-    → messages_of core.arrivals ≡ set_read input → now ≡ cores ++ core ∷ [] → inputs_now ≡ inputs ++ input ∷ [] → HaveRead now inputs_now
-read_step inputs inputs_now cores now core input all one is more =
-    subst (λ cs. HaveRead cs inputs_now) (sym is) (subst (HaveRead (cores ++ core ∷ [])) (sym more) (read_more cores inputs core input all one))
+    subst (λ cs. AllStand 1 size cs inputs_now) (sym is) (
+    subst (AllStand 1 size (cores ++ core ∷ [])) (sym more) (
+    stand_more 1 size cores inputs core input all (subst (λ (n : ℕ). Stands n size (set_read input) core) at one)
+    )
+    )
 
 pub told_step : (number : ℕ) (inputs inputs_now : List (List ℕ)) (before one now : List ℕ) (input : List ℕ) → before ≡ told_from 1 inputs → number ≡ length inputs
     → one ≡ told_of_file (number + 1) input → now ≡ before ++ one → inputs_now ≡ inputs ++ input ∷ [] → now ≡ told_from 1 inputs_now
@@ -99,62 +106,66 @@ few_step before one now told told_one told_now few few_one is more =
     let all : length told_now ≡ length (told ++ told_one) = ap length more in
     omega (arith, few, few_one, is, both, all)
 
--- ---- one message more
+-- ---- one receipt more
 
-own_push : (number : ℕ) (entries : List Placed) (entry : Placed) → list_all (is_from number) entries ≡ true → is_from number entry ≡ true
-    → list_all (is_from number) (entries ++ entry ∷ []) ≡ true
-own_push number [] entry all one = ap (λ (b : Bool). b && true) one
-own_push number (first ∷ entries) entry all one =
-    elim (is_from number first) as (λ b. (b && list_all (is_from number) entries) ≡ true → (b && list_all (is_from number) (entries ++ entry ∷ [])) ≡ true) [
-      | true ↦ λ rest. own_push number entries entry rest one
-      | false ↦ λ none. none
-    ] all
+inside_some : (x y : Draft) → Some x ≡ Some y → x ≡ y
+inside_some x y e = cc
 
-own_taken : (core : Core) (m : Draft) → list_all (is_from core.number) core.arrivals ≡ true → list_all (is_from core.number) (arrivals_taken core m) ≡ true
-unfolding arrivals_taken
-own_taken core m all =
-    elim (is_repeat core m) as (λ b. list_all (is_from core.number) (cond b core.arrivals (core.arrivals ++ own_entry core m ∷ [])) ≡ true) [
-      | true ↦ all
-      | false ↦ own_push core.number core.arrivals (own_entry core m) all (same_number core.number)
+-- each message of a list of one is a message of the list that has it at some place
+pub one_of_all : (messages : List Draft) (i : ℕ) (m d : Draft) → slice_get messages i ≡ Some m
+    → set.contains (contents_of (m ∷ [])) d ≡ true → set.contains (contents_of messages) d ≡ true
+one_of_all messages i m d there one =
+    let same : (same_message m d || false) ≡ true = sym (contains-contents_of (m ∷ []) d) ∙ one in
+    contains-contents_of messages d
+    ∙ any_passes_from_place (λ x. same_message x d) messages i m there (elim (same_message m d) as (λ b. (b || false) ≡ true → b ≡ true) [ true ↦ λ e. refl | false ↦ λ e. e ] same)
+
+shown_more : (rs : List Told) (r : Told) (m : Draft) → is_shown rs m ≡ true → is_shown (rs ++ r ∷ []) m ≡ true
+shown_more rs r m shown =
+    list_any-append (shows m) rs (r ∷ []) ∙ ap (λ (b : Bool). b || (shows m r || false)) shown
+
+shown_last : (rs : List Told) (r : Told) (m : Draft) → shows m r ≡ true → is_shown (rs ++ r ∷ []) m ≡ true
+shown_last rs r m last =
+    list_any-append (shows m) rs (r ∷ []) ∙ ap (λ (b : Bool). is_shown rs m || (b || false)) last ∙ or_true (is_shown rs m)
+
+shown_cases : (messages : List Draft) (rs : List Told) (r : Told) (i : ℕ) (m : Draft) → ShownTo i messages rs → slice_get messages i ≡ Some m → shows m r ≡ true
+    → (at : ℕ) (d : Draft) → at < i + 1 → slice_get messages at ≡ Some d → (b : Bool) → nat_lt at i ≡ b → is_shown (rs ++ r ∷ []) d ≡ true
+shown_cases messages rs r i m so_far there last at d below is true before =
+    shown_more rs r d (so_far at d (grind (arith, nat_tests, before)) is)
+shown_cases messages rs r i m so_far there last at d below is false not_before =
+    let here : at ≡ i = grind (arith, nat_tests, not_before, below) in
+    let same : m ≡ d = inside_some m d (sym there ∙ ap (slice_get messages) (sym here) ∙ is) in
+    shown_last rs r d (ap (λ (x : Draft). shows x r) (sym same) ∙ last)
+
+pub shown_step : (messages : List Draft) (rs now : List Told) (r : Told) (i : ℕ) (m : Draft) → ShownTo i messages rs → slice_get messages i ≡ Some m
+    → shows m r ≡ true → now ≡ rs ++ r ∷ [] → ShownTo (i + 1) messages now
+shown_step messages rs now r i m so_far there last more at d below is =
+    ap (λ (l : List Told). is_shown l d) more ∙ shown_cases messages rs r i m so_far there last at d below is (nat_lt at i) refl
+
+-- a message that a list has stands at some place
+message_place : (messages : List Draft) (d : Draft) → list_any (λ x. same_message x d) messages ≡ true → (at : ℕ) × (slice_get messages at ≡ Some d)
+message_place [] d has = absurd (false≢true has)
+message_place (x ∷ messages) d has =
+    elim (either (same_message x d) (list_any (λ y. same_message y d) messages) has) as (λ c. (at : ℕ) × (slice_get (x ∷ messages) at ≡ Some d)) [
+      | inl here ↦ (zero, ap (λ (y : Draft). Some y) (same_is x d here))
+      | inr later ↦ let rest = message_place messages d later in (suc rest.0, rest.1)
     ]
 
-messages_taken : (core : Core) (m : Draft) → messages_of (arrivals_taken core m) ≡ set.insert (messages_of core.arrivals) m
-unfolding arrivals_taken
-messages_taken core m =
-    elim (is_repeat core m) as (λ b. is_repeat core m ≡ b → messages_of (cond b core.arrivals (core.arrivals ++ own_entry core m ∷ [])) ≡ set.insert (messages_of core.arrivals) m) [
-      | true ↦ λ held. sym (insert-held (messages_of core.arrivals) m held)
-      | false ↦ λ new. sym (messages-push core.arrivals (own_entry core m))
-    ] refl
+pub all_shown : (messages : List Draft) (rs : List Told) (i : ℕ) → length messages ≤ i → ShownTo i messages rs → AllShown (contents_of messages) rs
+all_shown messages rs i past so_far d has =
+    let place = message_place messages d (sym (contains-contents_of messages d) ∙ has) in
+    let within = slice_get_within messages place.0 d place.1 in
+    so_far place.0 d (omega (arith, within, past)) place.1
 
-order_taken : (core : Core) (m : Draft) → IsArrivals core.arrivals → IsArrivals (arrivals_taken core m)
-unfolding arrivals_taken
-order_taken core m order =
-    elim (is_repeat core m) as (λ b. IsArrivals (cond b core.arrivals (core.arrivals ++ own_entry core m ∷ []))) [
-      | true ↦ order
-      | false ↦ arrivals-push core.arrivals (own_entry core m) order refl
-    ]
+-- ---- faults
 
--- a site with no entry
-pub own_none : (core : Core) → core.arrivals ≡ [] → IsOwn core core.number core.group
-own_none core none = record {
-  number = refl;
-  group = refl;
-  own = ap (λ (es : List Placed). list_all (is_from core.number) es) none;
-  order = subst IsArrivals (sym none) (λ o. refl);
-}
+-- nothing that ends the work at a site is the number of inputs
+pub no_usage : (w : WorkFault) (f : RunFault) → f ≡ fault_of_work w → f ≢ fault.Usage
+no_usage work.Held f is usage = cc
+no_usage work.Memory f is usage = cc
+no_usage (work.Refused number) f is usage = cc
+no_usage work.NoWorker f is usage = cc
 
-pub own_after : (old new : Core) (number group : ℕ) (m : Draft) → IsOwn old number group
-    → new.number ≡ old.number → new.group ≡ old.group → new.arrivals ≡ arrivals_taken old m → IsOwn new number group
-own_after old new number group m before same_number same_group taken = record {
-  number = same_number ∙ before.number;
-  group = same_group ∙ before.group;
-  own =
-      let own : list_all (is_from old.number) old.arrivals ≡ true = ap (λ (n : ℕ). list_all (is_from n) old.arrivals) before.number ∙ before.own in
-      ap (λ (es : List Placed). list_all (is_from number) es) taken ∙ ap (λ (n : ℕ). list_all (is_from n) (arrivals_taken old m)) (sym before.number) ∙ own_taken old m own;
-  order = subst IsArrivals (sym taken) (order_taken old m before.order);
-}
+-- ---- some sites
 
-pub held_after : (old new : Core) (messages : List Draft) (m : Draft) → messages_of old.arrivals ≡ contents_of messages
-    → new.arrivals ≡ arrivals_taken old m → messages_of new.arrivals ≡ contents_of (messages ++ m ∷ [])
-held_after old new messages m before taken =
-    ap messages_of taken ∙ messages_taken old m ∙ ap (λ (s : Contents). set.insert s m) before ∙ sym (contents-push messages m)
+pub some_there : (count : ℕ) → are_sites count ≡ true → 0 < count
+some_there count e = grind (arith, nat_tests)

@@ -1,21 +1,26 @@
--- What sites hold that were filled from inputs is what is read of the inputs. Proof plumbing.
-use Rattle.std.proofs.Common.{◌≡◌, ◌∙◌, ◌⊎◌, refl, sym, ap, inl, inr, ℕ, zero, suc, ◌+◌, ◌<◌, Bool, true, false, ◌||◌, List, [], ◌∷◌, map, length, arith}
+-- What settled sites hold that stand with what is read of their inputs is what is read of all inputs. Proof plumbing.
+use Rattle.std.proofs.Common.{◌≡◌, ◌∙◌, refl, sym, ap, subst, inl, inr, ℕ, zero, suc, ◌+◌, ◌-◌, ◌<◌, ◌≤◌, Bool, true, false, ◌||◌, List, [], ◌∷◌, map, length, arith}
 use Rattle.std.specs.FinSet as set
 use Rattle.std.specs.FinSet.{contains-empty, contains-union}
 use Rattle.std.specs.List.{list_any, slice_index_or, Contains}
 use Rattle.std.proofs.lemmas.Bool.{false≢true}
+use Rattle.std.proofs.lemmas.Bool.Decides.{nat_tests}
 use Rattle.sct_message.specs.declared.draft.Draft.{Draft}
 use Rattle.sct_message.specs.Order.{message_order, same_message}
 use Rattle.sct_message.specs.OrderLaws.{message_total}
-use Rattle.sct_set.specs.Contents.{Contents}
 use Rattle.sct_set.proofs.ContentsLemmas.{contains-contents_of, same_contents, same_is, same_itself}
-use Rattle.sct_delta.specs.Entries.{Placed, holds, messages_of, same_entry}
+use Rattle.sct_delta.specs.Entries.{Placed, entries_from, holds, messages_of, same_entry}
+use Rattle.sct_delta.specs.Refusals.{has_site}
+use Rattle.sct_delta.proofs.HeldLemmas.{holds_from}
 use Rattle.sct_site.specs.Cores.{Core}
 use Rattle.sct_world.proofs.HeldLemmas.{either, entry_itself, or_true, same_entry_is}
+use Rattle.sct_world.proofs.KeptLemmas.{HolderOf, some_place}
 use Rattle.sct_lines.specs.Lines.{set_read}
-use Rattle.sct_world.specs.Settling.{held_by_some}
-use Rattle.sct_run.specs.Filled.{HaveRead}
+use Rattle.sct_world.specs.Settling.{AreSettled, core_in, held_by_some}
+use Rattle.sct_receipts.specs.Stands.{Stands}
+use Rattle.sct_run.specs.Filled.{AllStand}
 use Rattle.sct_run.specs.Runs.{set_of_all, NoOrderMatters}
+use Rattle.sct_run.proofs.RunLemmas.{as_many}
 
 -- ---- entries and their messages
 
@@ -67,20 +72,62 @@ has_all : (input : List ℕ) (inputs : List (List ℕ)) (m : Draft)
     → set.contains (set_of_all (input ∷ inputs)) m ≡ (set.contains (set_read input) m || set.contains (set_of_all inputs) m)
 has_all input inputs m = contains-union message_total (set_read input) (set_of_all inputs) m
 
-pub held_is_read : (cores : List Core) (inputs : List (List ℕ)) → HaveRead cores inputs → (e : Placed)
-    → held_by_some cores e ≡ true → set.contains (set_of_all inputs) e.message ≡ true
-held_is_read [] inputs all e held = absurd (false≢true held)
-held_is_read (core ∷ cores) [] all e held = absurd all
-held_is_read (core ∷ cores) (input ∷ inputs) all e held =
-    has_all input inputs e.message
-    ∙ elim (either (holds core.arrivals e) (held_by_some cores e) held) as (λ c. (set.contains (set_read input) e.message || set.contains (set_of_all inputs) e.message) ≡ true) [
-      | inl here ↦
-          ap (λ (b : Bool). b || set.contains (set_of_all inputs) e.message)
-          (ap (λ (s : Contents). set.contains s e.message) (sym all.0) ∙ held_message core.arrivals e here)
-      | inr later ↦
-          ap (λ (b : Bool). set.contains (set_read input) e.message || b) (held_is_read cores inputs all.1 e later)
-          ∙ or_true (set.contains (set_read input) e.message)
-    ]
+-- the input at a place
+abbrev input_in : List (List ℕ) → ℕ → List ℕ
+input_in inputs place = slice_index_or inputs place []
+
+stand_at : (number size : ℕ) (cores : List Core) (inputs : List (List ℕ)) → AllStand number size cores inputs → (place : ℕ) → place < length cores
+    → Stands (number + place) size (set_read (input_in inputs place)) (core_in cores place)
+stand_at number size [] inputs all place there = absurd (omega (arith, there))
+stand_at number size (core ∷ cores) [] all place there = absurd all
+stand_at number size (core ∷ cores) (input ∷ inputs) all zero there =
+    let here : number ≡ number + 0 = omega arith in subst (λ (n : ℕ). Stands n size (set_read input) core) here all.0
+stand_at number size (core ∷ cores) (input ∷ inputs) all (suc place) there =
+    let next : (number + 1) + place ≡ number + suc place = omega arith in
+    subst (λ (n : ℕ). Stands n size (set_read (input_in inputs place)) (core_in cores place)) next
+    (stand_at (number + 1) size cores inputs all.1 place (omega (arith, there)))
+
+read_at : (inputs : List (List ℕ)) (place : ℕ) (m : Draft) → place < length inputs → set.contains (set_read (input_in inputs place)) m ≡ true
+    → set.contains (set_of_all inputs) m ≡ true
+read_at [] place m there read = absurd (omega (arith, there))
+read_at (input ∷ inputs) zero m there read = has_all input inputs m ∙ ap (λ (b : Bool). b || set.contains (set_of_all inputs) m) read
+read_at (input ∷ inputs) (suc place) m there read =
+    has_all input inputs m
+    ∙ ap (λ (b : Bool). set.contains (set_read input) m || b) (read_at inputs place m (omega (arith, there)) read)
+    ∙ or_true (set.contains (set_read input) m)
+
+-- the number of a site of a group
+record IsNumber (size number : ℕ) : Type 0 where
+  pub first : 1 ≤ number
+  pub last : number ≤ size
+
+number_of : (size number : ℕ) → has_site size number ≡ true → IsNumber size number
+number_of size number inside = record { first = grind (arith, nat_tests, inside); last = grind (arith, nat_tests, inside) }
+
+-- What some site holds stands at its origin, as an own entry, which settling does not add; so it is read of that input.
+held_is_read : (before after : List Core) (inputs : List (List ℕ)) → AllStand 1 (length inputs) before inputs → AreSettled before after → (e : Placed)
+    → held_by_some before e ≡ true → set.contains (set_of_all inputs) e.message ≡ true
+held_is_read before after inputs all settled e held =
+    let many : length before ≡ length inputs = as_many 1 (length inputs) before inputs all in
+    let holder : HolderOf before e = some_place before e held in
+    let origin : IsNumber (length inputs) e.origin
+    = number_of (length inputs) e.origin ((stand_at 1 (length inputs) before inputs all holder.place holder.there).inside e holder.held) in
+    let first = origin.first in
+    let last = origin.last in
+    let own : ℕ = e.origin - 1 in
+    let there : own < length before = omega (arith, first, last, many) in
+    let mine : Stands (1 + own) (length inputs) (set_read (input_in inputs own)) (core_in before own) = stand_at 1 (length inputs) before inputs all own there in
+    let same : e.origin ≡ 1 + own = omega (arith, first) in
+    let number : (core_in before own).number ≡ e.origin = mine.number_is ∙ sym same in
+    let then : holds (core_in before own).arrivals e ≡ true =
+    holds_from e (core_in before own).arrivals
+    ∙ ap (λ (o : ℕ). holds (entries_from o (core_in before own).arrivals) e) (sym number)
+    ∙ ap (λ (es : List Placed). holds es e) (sym (settled.kept.each own).own)
+    ∙ ap (λ (o : ℕ). holds (entries_from o (core_in after own).arrivals) e) number
+    ∙ sym (holds_from e (core_in after own).arrivals)
+    ∙ settled.joined own there e
+    ∙ held in
+    read_at inputs own e.message (omega (arith, there, many)) (mine.own_are e then same)
 
 -- some site holds the message
 pub record IsHeldBySome (cores : List Core) (message : Draft) : Type 0 where
@@ -88,21 +135,21 @@ pub record IsHeldBySome (cores : List Core) (message : Draft) : Type 0 where
   pub held : held_by_some cores entry ≡ true
   pub is : entry.message ≡ message
 
-pub read_is_held : (cores : List Core) (inputs : List (List ℕ)) → HaveRead cores inputs → (m : Draft)
+read_is_held : (number size : ℕ) (cores : List Core) (inputs : List (List ℕ)) → AllStand number size cores inputs → (m : Draft)
     → set.contains (set_of_all inputs) m ≡ true → IsHeldBySome cores m
-read_is_held cores [] all m read = absurd (false≢true (sym (contains-empty message_order m) ∙ read))
-read_is_held [] (input ∷ inputs) all m read = absurd all
-read_is_held (core ∷ cores) (input ∷ inputs) all m read =
+read_is_held number size cores [] all m read = absurd (false≢true (sym (contains-empty message_order m) ∙ read))
+read_is_held number size [] (input ∷ inputs) all m read = absurd all
+read_is_held number size (core ∷ cores) (input ∷ inputs) all m read =
     elim (either (set.contains (set_read input) m) (set.contains (set_of_all inputs) m) (sym (has_all input inputs m) ∙ read)) as (λ c. IsHeldBySome (core ∷ cores) m) [
       | inl here ↦
-          let one : IsMessageOf core.arrivals m = message_held core.arrivals m (ap (λ (s : Contents). set.contains s m) all.0 ∙ here) in
+          let one : IsMessageOf core.arrivals m = message_held core.arrivals m (all.0.holds_all m here) in
           record {
             entry = one.entry;
             held = ap (λ (b : Bool). b || held_by_some cores one.entry) one.held;
             is = one.is;
           }
       | inr later ↦
-          let rest : IsHeldBySome cores m = read_is_held cores inputs all.1 m later in
+          let rest : IsHeldBySome cores m = read_is_held (number + 1) size cores inputs all.1 m later in
           record {
             entry = rest.entry;
             held = ap (λ (b : Bool). holds core.arrivals rest.entry || b) rest.held ∙ or_true (holds core.arrivals rest.entry);
@@ -115,18 +162,19 @@ both_ways true b there back = sym (there refl)
 both_ways false true there back = back refl
 both_ways false false there back = refl
 
--- entries that are those that some site holds have the messages that are read of the inputs
-pub union_is : (cores : List Core) (inputs : List (List ℕ)) (entries : List Placed) → HaveRead cores inputs
-    → ((e : Placed) → holds entries e ≡ held_by_some cores e) → messages_of entries ≡ set_of_all inputs
-union_is cores inputs entries all joined =
-    same_contents (messages_of entries) (set_of_all inputs) (λ m. both_ways _ _
+-- each of the settled sites has the messages that are read of the inputs
+pub union_is : (before after : List Core) (inputs : List (List ℕ)) → AllStand 1 (length inputs) before inputs → AreSettled before after
+    → (place : ℕ) → place < length before → messages_of (core_in after place).arrivals ≡ set_of_all inputs
+union_is before after inputs all settled place there =
+    same_contents (messages_of (core_in after place).arrivals) (set_of_all inputs) (λ m. both_ways _ _
     (λ held.
-    let one : IsMessageOf entries m = message_held entries m held in
+    let one : IsMessageOf (core_in after place).arrivals m = message_held (core_in after place).arrivals m held in
     ap (set.contains (set_of_all inputs)) (sym one.is)
-    ∙ held_is_read cores inputs all one.entry (sym (joined one.entry) ∙ one.held))
+    ∙ held_is_read before after inputs all settled one.entry (sym (settled.joined place there one.entry) ∙ one.held))
     (λ read.
-    let one : IsHeldBySome cores m = read_is_held cores inputs all m read in
-    ap (set.contains (messages_of entries)) (sym one.is) ∙ held_message entries one.entry (joined one.entry ∙ one.held)))
+    let one : IsHeldBySome before m = read_is_held 1 (length inputs) before inputs all m read in
+    ap (set.contains (messages_of (core_in after place).arrivals)) (sym one.is)
+    ∙ held_message (core_in after place).arrivals one.entry (settled.joined place there one.entry ∙ one.held)))
 
 -- ---- the order of the inputs
 

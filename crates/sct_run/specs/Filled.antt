@@ -1,24 +1,21 @@
 -- Sites that were filled from inputs. Serves proofs.
-use Rattle.std.specs.Prelude.{ℕ, ◌≡◌, ◌+◌, true, List, [], ◌∷◌}
-use Rattle.std.specs.List.{list_all}
-use Rattle.sct_delta.specs.Entries.{IsArrivals, is_from, messages_of}
+use Rattle.std.specs.Prelude.{ℕ, ◌≡◌, ◌+◌, ◌<◌, true, List, [], ◌∷◌, Some}
+use Rattle.std.specs.List.{slice_get}
+use Rattle.sct_message.specs.declared.draft.Draft.{Draft}
 use Rattle.sct_lines.specs.Lines.{set_read}
 use Rattle.sct_site.specs.Cores.{Core}
+use Rattle.sct_desk.specs.Passes.{Told}
+use Rattle.sct_receipts.specs.Kept.{is_shown}
+use Rattle.sct_receipts.specs.Stands.{Stands}
 
--- the site of this number in the group holds entries of its own alone
-pub record IsOwn (core : Core) (at size : ℕ) : Type 0 where
-  pub number : core.number ≡ at
-  pub group : core.group ≡ size
-  pub own : list_all (is_from at) core.arrivals ≡ true
-  pub order : IsArrivals core.arrivals
+-- each site, numbered on from the number given, stands with what is read of its input
+abbrev pub AllStand : ℕ → ℕ → List Core → List (List ℕ) → Type 0
+AllStand number size [] [] = Unit {0}
+AllStand number size (core ∷ cores) (input ∷ inputs) =
+    Stands number size (set_read input) core × AllStand (number + 1) size cores inputs
+AllStand _ _ _ _ = ⊥
 
--- the same of several sites, numbered on from the number given
-abbrev pub AreOwn : ℕ → ℕ → List Core → Type 0
-AreOwn number group [] = Unit {0}
-AreOwn number group (core ∷ cores) = IsOwn core number group × AreOwn (number + 1) group cores
-
--- each site holds what is read of its input
-abbrev pub HaveRead : List Core → List (List ℕ) → Type 0
-HaveRead [] [] = Unit {0}
-HaveRead (core ∷ cores) (input ∷ inputs) = (messages_of core.arrivals ≡ set_read input) × HaveRead cores inputs
-HaveRead _ _ = ⊥
+-- each of the first messages is shown
+abbrev pub ShownTo : ℕ → List Draft → List Told → Type 0
+ShownTo count messages receipts =
+    (at : ℕ) (message : Draft) → at < count → slice_get messages at ≡ Some message → is_shown receipts message ≡ true

@@ -1,3 +1,4 @@
 -- The definitions of runs.
+pub mod Faults
 pub mod Filled
 pub mod Runs

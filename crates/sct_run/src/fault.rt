@@ -1,21 +1,33 @@
 //! Why inputs have no answer.
 ghost use Rattle.std.specs.Prelude.{◌≡◌};
+ghost use Rattle.sct_run.specs.Faults.{fault_of_work};
 ghost use Rattle.sct_run.specs.declared.fault.RunFault.TheVariants as fault;
 
 use sct_case::CaseFault;
+use sct_receipts::WorkFault;
 use sct_set::SetFault;
 use std::alloc::{AllocError, AllocFailed};
 use thiserror::Error;
 
-/// Why inputs have no answer. There is nothing else: sites that were filled from inputs of their own can always be settled.
+/// Why inputs have no answer.
 #[derive(Clone, Copy, Debug, PartialEq, Eq, Error)]
 pub enum RunFault {
     /// 64: there are no inputs, or more than 16.
     #[error("a run has 1 to 16 inputs")]
     Usage,
+    /// 61: the work at a site was held back.
+    #[error("the work at a site was held back")]
+    Held,
     /// 65: memory is wanting.
     #[error("memory is wanting")]
     Memory,
+    /// 66: a call at a site was refused, with the number of its own fault: no place for a desk's query (52), arrivals that
+    /// are pending (53) or not told (54) when a desk is closed, or sites that cannot be settled (42 to 44).
+    #[error("a call at a site was refused with {number}")]
+    Refused { number: u8 },
+    /// 67: there is no thread for the work at a site.
+    #[error("no thread for the work at a site")]
+    NoWorker,
 }
 
 impl From<AllocError> for RunFault {
@@ -47,5 +59,18 @@ impl From<SetFault> for RunFault {
 
     fn from(_fault: SetFault) -> RunFault {
         RunFault::Memory
+    }
+}
+
+impl From<WorkFault> for RunFault {
+    ghost from_gives = { λ fault e. e ≡ fault_of_work fault };
+
+    fn from(fault: WorkFault) -> RunFault {
+        match fault {
+            WorkFault::Held => RunFault::Held,
+            WorkFault::Memory => RunFault::Memory,
+            WorkFault::Refused { number } => RunFault::Refused { number },
+            WorkFault::NoWorker => RunFault::NoWorker,
+        }
     }
 }

@@ -1,20 +1,23 @@
-//! One site, filled from its input.
-ghost use Rattle.std.specs.Prelude.{◌≡◌, [], length, IfErr, IfOk, OnOk, string_bytes, true};
-ghost use Rattle.sct_delta.specs.Entries.{messages_of};
+//! One site, filled from its input through a desk.
+ghost use Rattle.std.specs.Prelude.{◌≡◌, ◌≢◌, [], length, IfErr, IfOk, string_bytes};
 ghost use Rattle.sct_lines.specs.Lines.{refusals_told, set_read};
 ghost use Rattle.sct_message.specs.Sets.{messages_in};
-ghost use Rattle.sct_run.specs.Filled.{IsOwn};
+ghost use Rattle.sct_receipts.specs.Kept.{AllKeep, AllShown};
+ghost use Rattle.sct_receipts.specs.Stands.{Stands};
 ghost use Rattle.sct_run.specs.Runs.{file_front, told_of_file};
 ghost use Rattle.sct_run.specs.declared.fault.RunFault.TheVariants as fault;
 ghost use Rattle.sct_set.specs.Contents.{contents_of};
-ghost use Rattle.sct_site.specs.Cores.{is_open};
 
 use crate::fault::RunFault;
+use sct_desk::{Desk, Receipt, Site};
+use sct_history::{History, Track};
 use sct_lines::{Intake, read_lines_after};
 use sct_message::Message;
+use sct_receipts::{WorkFault, closed, keep, taken};
 use sct_site::SiteCore;
 use std::alloc::{AllocError, Global};
-use std::sync::Arc;
+use std::marker::Brand;
+use std::sync::{Arc, Wait};
 
 /// A site that was filled from an input, and what tells the input's refused lines.
 #[derive(Drop)]
@@ -24,38 +27,57 @@ pub struct Filled {
     pub refused: u64,
 }
 
-// The next messages of a site.
-fn take_all(core: &mut SiteCore, messages: Vec<Arc<Message>>) -> Result<(), RunFault>
-    requires { core.old.arrivals ≡ [] }
-    ensures own { OnOk result (IsOwn core.new core.old.number core.old.group) }
-    ensures held { OnOk result (messages_of core.new.arrivals ≡ contents_of (messages_in messages.items)) }
-    ensures memory { IfErr result (λ e. e ≡ fault.Memory) }
+// The receipts of the messages, each of which the desk takes.
+fn take_all<J: Site, H: Wait + Drop, W: Wait>(
+    rt: &W,
+    alloc: Global,
+    desk: &Desk<J, H>,
+    messages: &[Arc<Message>],
+) -> Result<Vec<Receipt>, WorkFault>
+    ensures kept { IfOk result (λ kept.
+        AllKeep J.book J.number J.group (contents_of (messages_in messages.now)) kept.items) }
+    ensures shown { IfOk result (λ kept. AllShown (contents_of (messages_in messages.now)) kept.items) }
 {
+    let mut kept = Vec::new(alloc);
     for message in messages {
-        let Ok(_) = core.take(message) else {
-            return Err(RunFault::Memory);
-        };
+        let (_, receipt) = taken(rt, alloc, desk, message.clone()?)?;
+        keep::<J>(&mut kept, messages, receipt)?;
     }
-    Ok(())
+    Ok(kept)
+}
+
+// The site of a history that was just opened, with the messages.
+fn site_on<J: Site, W: Wait>(
+    rt: &W,
+    alloc: Global,
+    history: History,
+    track: Track,
+    number: u16,
+    group: u16,
+    messages: &[Arc<Message>],
+) -> Result<SiteCore, WorkFault>
+    requires history { history ≡ J.book }
+    requires track { (track.book ≡ J.book) × (track.log ≡ []) }
+    requires site { (number ≡ J.number) × (group ≡ J.group) }
+    ensures { IfOk result (Stands number group (contents_of (messages_in messages.now))) }
+{
+    let (desk, _) = Desk::<J, &W>::open(rt, alloc, history, track, number, group, 1)?;
+    let kept = take_all(rt, alloc, &desk, messages)?;
+    closed(desk, messages, kept)
 }
 
 // The site of this number in the group, with the messages.
-fn site_of(
+fn site_of<W: Wait>(
+    rt: &W,
     alloc: Global,
     number: u16,
     group: u16,
-    messages: Vec<Arc<Message>>,
-) -> Result<SiteCore, RunFault>
-    requires { is_open number group ≡ true }
-    ensures own { IfOk result (λ core. IsOwn core number group) }
-    ensures held { IfOk result (λ core. messages_of core.arrivals ≡ contents_of (messages_in messages.items)) }
-    ensures memory { IfErr result (λ e. e ≡ fault.Memory) }
+    messages: &[Arc<Message>],
+) -> Result<SiteCore, WorkFault>
+    ensures { IfOk result (Stands number group (contents_of (messages_in messages.now))) }
 {
-    let Ok(mut core) = SiteCore::open(alloc, number, group) else {
-        return Err(RunFault::Memory);
-    };
-    take_all(&mut core, messages)?;
-    Ok(core)
+    let (history, track) = History::open();
+    site_on::<Brand, W>(rt, alloc, history, track, number, group, messages)
 }
 
 // What stands in front of each line that tells a refused line of the input of this number.
@@ -66,13 +88,17 @@ fn front_of(alloc: Global, number: u16) -> Result<String, AllocError>
 }
 
 /// Fills the site of this number in the group from its input.
-pub fn fill(alloc: Global, number: u16, group: u16, input: &[u8]) -> Result<Filled, RunFault>
-    requires { is_open number group ≡ true }
-    ensures own { IfOk result (λ site. IsOwn site.core number group) }
-    ensures held { IfOk result (λ site. messages_of site.core.arrivals ≡ set_read input.now) }
+pub fn fill<W: Wait>(
+    rt: &W,
+    alloc: Global,
+    number: u16,
+    group: u16,
+    input: &[u8],
+) -> Result<Filled, RunFault>
+    ensures stands { IfOk result (λ site. Stands number group (set_read input.now) site.core) }
     ensures told { IfOk result (λ site. string_bytes site.told ≡ told_of_file number input.now) }
     ensures refused { IfOk result (λ site. site.refused ≡ length (refusals_told input.now)) }
-    ensures memory { IfErr result (λ e. e ≡ fault.Memory) }
+    ensures faults { IfErr result (λ e. e ≢ fault.Usage) }
 {
     let front = front_of(alloc, number)?;
     let Intake {
@@ -80,7 +106,7 @@ pub fn fill(alloc: Global, number: u16, group: u16, input: &[u8]) -> Result<Fill
         told,
         refused,
     } = read_lines_after(alloc, front.as_str(), input)?;
-    let core = site_of(alloc, number, group, messages)?;
+    let core = site_of(rt, alloc, number, group, &messages)?;
     Ok(Filled {
         core,
         told,

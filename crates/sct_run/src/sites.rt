@@ -1,8 +1,7 @@
 //! A run: one site for each input, and what they come to.
-ghost use Rattle.std.specs.Prelude.{◌≡◌, ◌↔◌, ◌<◌, ◌≤◌, ◌+◌, ◌++◌, ◌∷◌, [], false, true, Err, length, IfErr, IfOk, OnOk, string_bytes};
+ghost use Rattle.std.specs.Prelude.{◌≡◌, ◌≢◌, ◌↔◌, ◌<◌, ◌≤◌, ◌+◌, ◌++◌, ◌∷◌, [], false, true, Err, length, IfErr, IfOk, OnOk, string_bytes};
 ghost use Rattle.sct_delta.specs.Entries.{messages_of};
-ghost use Rattle.sct_delta.specs.declared.fault.DeltaFault.TheVariants as delta;
-ghost use Rattle.sct_run.specs.Filled.{AreOwn, HaveRead};
+ghost use Rattle.sct_run.specs.Filled.{AllStand};
 ghost use Rattle.sct_run.specs.Runs.{are_sites, bytes_of, refused_in, set_of_all, told_from, NoOrderMatters};
 ghost use Rattle.sct_run.specs.declared.fault.RunFault.TheVariants as fault;
 ghost use Rattle.sct_view.specs.StatusText.{status_text_of};
@@ -12,10 +11,11 @@ use crate::answer::RunAnswer;
 use crate::fault::RunFault;
 use crate::filling::{Filled, fill};
 use crate::status::status_text;
-use sct_delta::DeltaFault;
+use sct_receipts::WorkFault;
 use sct_site::SiteCore;
 use sct_world::settle;
 use std::alloc::Global;
+use std::sync::Wait;
 
 const MOST_SITES: usize = 16;
 
@@ -70,31 +70,29 @@ impl Sites {
 }
 
 // The sites of the inputs, numbered from 1.
-fn sites_of(alloc: Global, inputs: Vec<Vec<u8>>) -> Result<Sites, RunFault>
+fn sites_of<W: Wait>(rt: &W, alloc: Global, inputs: Vec<Vec<u8>>) -> Result<Sites, RunFault>
     requires { are_sites (length inputs.items) ≡ true }
-    ensures own { IfOk result (λ sites. AreOwn 1 (length inputs.items) sites.cores.items) }
-    ensures read { IfOk result (λ sites. HaveRead sites.cores.items (bytes_of inputs)) }
+    ensures stand { IfOk result (λ sites. AllStand 1 (length inputs.items) sites.cores.items (bytes_of inputs)) }
     ensures told { IfOk result (λ sites. string_bytes sites.told ≡ told_from 1 (bytes_of inputs)) }
     ensures refused { IfOk result (λ sites. sites.refused ≡ refused_in (bytes_of inputs)) }
-    ensures memory { IfErr result (λ e. e ≡ fault.Memory) }
+    ensures faults { IfErr result (λ e. e ≢ fault.Usage) }
 {
     let group = inputs.len() as u16;
     let mut sites = Sites::none(alloc);
     let mut number = 0;
     for input in inputs {
         number += 1;
-        sites.add(fill(alloc, number, group, &input)?)?;
+        sites.add(fill(rt, alloc, number, group, &input)?)?;
     }
     Ok(sites)
 }
 
-// Settles sites that hold entries of their own alone: nothing but memory can be wanting.
-fn settle_own(alloc: Global, cores: &mut [SiteCore]) -> Result<(), DeltaFault>
-    requires { AreOwn 1 (length cores.old) cores.old }
-    ensures settled { OnOk result (AreSettled cores.old cores.new) }
-    ensures memory { IfErr result (λ refusal. refusal ≡ delta.Memory) }
+// Settles the sites. A refusal is told by its number.
+fn settle_all(alloc: Global, cores: &mut [SiteCore]) -> Result<(), WorkFault>
+    ensures { OnOk result (AreSettled cores.old cores.new) }
 {
-    settle(alloc, cores)
+    settle(alloc, cores)?;
+    Ok(())
 }
 
 // The status text of the first of some sites.
@@ -106,17 +104,14 @@ fn first_status(alloc: Global, cores: &[SiteCore]) -> Result<Vec<u8>, RunFault>
     status_text(alloc, cores[0].archive())
 }
 
-// Settles such sites, and answers the status text of what the first of them then holds.
+// Settles the sites, and answers the status text of what the first of them then holds.
 fn settled_status(alloc: Global, cores: &mut [SiteCore]) -> Result<Vec<u8>, RunFault>
-    requires own { AreOwn 1 (length cores.old) cores.old }
-    requires some { 0 < length cores.old }
+    requires { 0 < length cores.old }
     ensures settled { OnOk result (AreSettled cores.old cores.new) }
     ensures text { IfOk result (λ text. text.items ≡ status_text_of (messages_of (core_in cores.new 0).arrivals)) }
-    ensures memory { IfErr result (λ e. e ≡ fault.Memory) }
+    ensures faults { IfErr result (λ e. e ≢ fault.Usage) }
 {
-    let Ok(()) = settle_own(alloc, cores) else {
-        return Err(RunFault::Memory);
-    };
+    settle_all(alloc, cores)?;
     first_status(alloc, cores)
 }
 
@@ -125,11 +120,15 @@ fn no_order_matters()
     ensures { NoOrderMatters }
 {}
 
-/// Fills one site from each input, numbered from 1, settles the sites, and answers the status text of what they then hold:
-/// of all that is read from any of the inputs, whatever their order. Each line that tells a refused line begins with the
-/// number of its input, as in `file 2 line 1: 31`. 64 Usage exactly where the inputs are not 1 to 16; else only memory (65)
-/// can be wanting.
-pub fn run_sites(alloc: Global, inputs: Vec<Vec<u8>>) -> Result<RunAnswer, RunFault>
+/// Fills one site from each input, numbered from 1, through a desk that is closed when all is taken; settles the sites; and
+/// answers the status text of what they then hold: of all that is read from any of the inputs, whatever their order. Each
+/// line that tells a refused line begins with the number of its input, as in `file 2 line 1: 31`. 64 Usage exactly where the
+/// inputs are not 1 to 16; 65 Memory; 66 Refused where a desk does not open or close, or the sites cannot be settled.
+pub fn run_sites<W: Wait>(
+    rt: &W,
+    alloc: Global,
+    inputs: Vec<Vec<u8>>,
+) -> Result<RunAnswer, RunFault>
     ensures status { IfOk result (λ answer. answer.status.items ≡ status_text_of (set_of_all (bytes_of inputs))) }
     ensures told { IfOk result (λ answer. string_bytes answer.told ≡ told_from 1 (bytes_of inputs)) }
     ensures refused { IfOk result (λ answer. answer.refused ≡ refused_in (bytes_of inputs)) }
@@ -144,7 +143,7 @@ pub fn run_sites(alloc: Global, inputs: Vec<Vec<u8>>) -> Result<RunAnswer, RunFa
         mut cores,
         told,
         refused,
-    } = sites_of(alloc, inputs)?;
+    } = sites_of(rt, alloc, inputs)?;
     let status = settled_status(alloc, &mut cores)?;
     Ok(RunAnswer {
         status,

@@ -4,6 +4,7 @@ mod inputs;
 use crate::*;
 use inputs::{ROWS, Row};
 use std::alloc::{AllocError, Global};
+use std::sync::Wait;
 
 // The inputs, each as bytes of its own.
 fn owned(alloc: Global, inputs: &[&[u8]]) -> Result<Vec<Vec<u8>>, AllocError> {
@@ -15,11 +16,11 @@ fn owned(alloc: Global, inputs: &[&[u8]]) -> Result<Vec<Vec<u8>>, AllocError> {
 }
 
 // A run of the inputs answers what the row says.
-fn fits(alloc: Global, row: &Row) -> bool {
+fn fits(rt: &impl Wait, alloc: Global, row: &Row) -> bool {
     let Ok(inputs) = owned(alloc, row.inputs) else {
         return false;
     };
-    let Ok(answer) = run_sites(alloc, inputs) else {
+    let Ok(answer) = run_sites(rt, alloc, inputs) else {
         return false;
     };
     answer.status.as_slice() == row.status
@@ -30,24 +31,24 @@ fn fits(alloc: Global, row: &Row) -> bool {
 #[test]
 fn brings_inputs_to_one_answer(rt: HostRuntime) {
     for row in &ROWS {
-        assert!(rt; fits(rt.alloc(), row));
+        assert!(rt; fits(&rt, rt.alloc(), row));
     }
 }
 
 // What becomes of so many empty inputs.
-fn fault_of(alloc: Global, count: usize) -> Result<Option<RunFault>, AllocError> {
+fn fault_of(rt: &impl Wait, alloc: Global, count: usize) -> Result<Option<RunFault>, AllocError> {
     let mut inputs = Vec::new(alloc);
     for _ in 0..count {
         inputs.push(Vec::new(alloc))?;
     }
-    Ok(run_sites(alloc, inputs).err())
+    Ok(run_sites(rt, alloc, inputs).err())
 }
 
 #[test]
 fn takes_1_to_16_inputs(rt: HostRuntime) -> Result<(), AllocError> {
-    assert_eq!(rt; fault_of(rt.alloc(), 0)?, Some(RunFault::Usage));
-    assert_eq!(rt; fault_of(rt.alloc(), 1)?, None);
-    assert_eq!(rt; fault_of(rt.alloc(), 16)?, None);
-    assert_eq!(rt; fault_of(rt.alloc(), 17)?, Some(RunFault::Usage));
+    assert_eq!(rt; fault_of(&rt, rt.alloc(), 0)?, Some(RunFault::Usage));
+    assert_eq!(rt; fault_of(&rt, rt.alloc(), 1)?, None);
+    assert_eq!(rt; fault_of(&rt, rt.alloc(), 16)?, None);
+    assert_eq!(rt; fault_of(&rt, rt.alloc(), 17)?, Some(RunFault::Usage));
     Ok(())
 }
