@@ -89,7 +89,7 @@ own_comes own size m mine e origin message among =
     }
 
 taken_cases : (book : Book) (own size : ℕ) (r : Told) (t : Took) (m : Draft) (es : List Placed) → IsOf book own r → 1 ≤ r.from
-    → r.from + r.count ≡ length r.shown + 1 → r.count ≡ r.carried + came_by_take t → r.carried ≤ 0
+    → r.from + r.count ≡ length r.shown + 1 → r.count ≡ r.carried + came_by_take t → r.carried ≡ 0
     → t ≡ took_by (site_with own size es) m → r.shown ≡ arrivals_taken (site_with own size es) m
     → (b : Bool) → is_repeat (site_with own size es) m ≡ b → Keeps book own size (contents_of (m ∷ [])) r
 taken_cases book own size r t m es of first last count carried answer shown true repeat =
@@ -102,7 +102,7 @@ taken_cases book own size r t m es of first last count carried answer shown fals
     (shown ∙ sym (arrivals-new core m new)) (λ e among. own_comes own size m (own_entry core m) e refl refl among)
 
 pub taken_keeps : (book : Book) (own size : ℕ) (r : Told) (t : Took) (m : Draft) (es : List Placed) → IsOf book own r → 1 ≤ r.from
-    → r.from + r.count ≡ length r.shown + 1 → r.count ≡ r.carried + came_by_take t → r.carried ≤ 0
+    → r.from + r.count ≡ length r.shown + 1 → r.count ≡ r.carried + came_by_take t → r.carried ≡ 0
     → t ≡ took_by (site_with own size es) m → r.shown ≡ arrivals_taken (site_with own size es) m
     → Keeps book own size (contents_of (m ∷ [])) r
 taken_keeps book own size r t m es of first last count carried answer shown =
@@ -173,7 +173,7 @@ handed_cases book own size held r es ds shape of first last (Some refusal) some 
     none_keeps book own size held r of first last count
 
 pub handed_keeps : (book : Book) (own size : ℕ) (held : MessageSet) (r : Told) (t : Result Accepted DeltaFault) (es ds : List Placed) → IsDelta ds
-    → IsOf book own r → 1 ≤ r.from → r.from + r.count ≡ length r.shown + 1 → r.count ≡ r.carried + came_by_delta t → r.carried ≤ 0
+    → IsOf book own r → 1 ≤ r.from → r.from + r.count ≡ length r.shown + 1 → r.count ≡ r.carried + came_by_delta t → r.carried ≡ 0
     → t ≡ answer_to (site_with own size es) ds → r.shown ≡ arrivals_handed (site_with own size es) ds
     → Keeps book own size held r
 handed_keeps book own size held r t es ds shape of first last count carried answer shown =

@@ -1,7 +1,7 @@
 //! Calls of a desk whose receipts are kept.
 
 ghost use Rattle.std.specs.Arc.{arc_value};
-ghost use Rattle.std.specs.Prelude.{◌≡◌, ◌++◌, ◌∷◌, [], true, IfErr, IfOk, OnOk};
+ghost use Rattle.std.specs.Prelude.{◌≡◌, ◌≤◌, ◌+◌, ◌++◌, ◌∷◌, [], true, length, IfErr, IfOk, OnOk};
 ghost use Rattle.sct_message.specs.Sets.{messages_in};
 ghost use Rattle.sct_set.specs.Contents.{contents_of};
 ghost use Rattle.sct_site.specs.Cores.{took_by};
@@ -18,6 +18,20 @@ use sct_site::{Accepted, Took};
 use std::alloc::Global;
 use std::sync::{Arc, Wait};
 
+// The receipt tells of its own call alone.
+fn uncarried(receipt: &Receipt) -> Result<(), WorkFault>
+    ensures none { OnOk result (receipt.now.carried ≡ 0) }
+    ensures first { OnOk result (1 ≤ receipt.now.from) }
+    ensures last { OnOk result (receipt.now.from + receipt.now.count ≡ length receipt.now.shown + 1) }
+    ensures memory { IfErr result (λ e. e ≡ fault.Memory) }
+{
+    if receipt.carried() > 0 {
+        return Err(WorkFault::Memory);
+    }
+    receipt.from();
+    Ok(())
+}
+
 /// Takes a message at the desk. 65 `Memory` also where the receipt tells of an arrival of an earlier call, to which memory
 /// was wanting: what is told of such a receipt would not be of this message alone.
 pub fn taken<J: Site, H: Wait + Drop, W: Wait>(
@@ -32,10 +46,7 @@ pub fn taken<J: Site, H: Wait + Drop, W: Wait>(
     ensures memory { IfErr result (λ e. e ≡ fault.Memory) }
 {
     let (took, receipt) = desk.take(rt, alloc, message)?;
-    if receipt.carried() > 0 {
-        return Err(WorkFault::Memory);
-    }
-    receipt.from();
+    uncarried(&receipt)?;
     Ok((took, receipt))
 }
 
@@ -49,10 +60,7 @@ pub fn published<J: Site, H: Wait + Drop, W: Wait>(
     ensures memory { IfErr result (λ e. e ≡ fault.Memory) }
 {
     let receipt = desk.publish(rt, alloc)?;
-    if receipt.carried() > 0 {
-        return Err(WorkFault::Memory);
-    }
-    receipt.from();
+    uncarried(&receipt)?;
     Ok(receipt)
 }
 
@@ -70,10 +78,7 @@ pub fn accepted<J: Site, H: Wait + Drop, W: Wait>(
 {
     delta.entries();
     let (answer, receipt) = desk.accept(rt, alloc, delta)?;
-    if receipt.carried() > 0 {
-        return Err(WorkFault::Memory);
-    }
-    receipt.from();
+    uncarried(&receipt)?;
     Ok((answer, receipt))
 }
 

@@ -1,5 +1,5 @@
 -- What comes with a delta is of other sites of the group.
-use Rattle.std.proofs.Common.{arith, rules, []}
+use Rattle.std.proofs.Common.{rules, []}
 use Rattle.sct_set.specs.Contents.{contents_of}
 use Rattle.sct_delta.specs.Entries.{IsDelta}
 use Rattle.sct_desk.specs.Passes.{before}
@@ -10,4 +10,4 @@ pub returns-clause-keeps : goal.returns-clause-keeps
 returns-clause-keeps g c =
     let shape : IsDelta c.args.delta.now = search rules in
     handed_keeps g.J.Site.book g.J.Site.number g.J.Site.group (contents_of []) c.in_ok-answer.receipt c.in_ok-answer.answer (before c.in_ok-answer.receipt) c.args.delta.now
-    shape c.in_ok-answer.ensures.receipt (omega arith) (omega arith) c.in_ok-answer.ensures.count (omega arith) c.in_ok-answer.ensures.answer c.in_ok-answer.ensures.shown
+    shape c.in_ok-answer.ensures.receipt c.in_ok-uncarried.ensures.first c.in_ok-uncarried.ensures.last c.in_ok-answer.ensures.count c.in_ok-uncarried.ensures.none c.in_ok-answer.ensures.answer c.in_ok-answer.ensures.shown

@@ -1,5 +1,4 @@
 -- What a take publishes is its message, and it shows it.
-use Rattle.std.proofs.Common.{arith}
 use Rattle.std.specs.Arc.{arc_value}
 use Rattle.sct_desk.specs.Passes.{before, site_with}
 use Rattle.sct_receipts.proofs.KeepLemmas.{taken_keeps, taken_shows}
@@ -8,7 +7,7 @@ use Rattle.sct_receipts.proofs.keeping.taken.Goals as goal
 pub returns-clause-keeps : goal.returns-clause-keeps
 returns-clause-keeps g c =
     taken_keeps g.J.Site.book g.J.Site.number g.J.Site.group c.in_ok-took.receipt c.in_ok-took.took (arc_value c.args.message) (before c.in_ok-took.receipt)
-    c.in_ok-took.ensures.receipt (omega arith) (omega arith) c.in_ok-took.ensures.count (omega arith) c.in_ok-took.ensures.took c.in_ok-took.ensures.shown
+    c.in_ok-took.ensures.receipt c.in_ok-uncarried.ensures.first c.in_ok-uncarried.ensures.last c.in_ok-took.ensures.count c.in_ok-uncarried.ensures.none c.in_ok-took.ensures.took c.in_ok-took.ensures.shown
 
 pub returns-clause-shown : goal.returns-clause-shown
 returns-clause-shown g c =
