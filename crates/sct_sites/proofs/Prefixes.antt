@@ -36,6 +36,9 @@ one_failed fault.Read failed now ends counted = absurd ends
 one_failed fault.Usage failed now ends counted = absurd ends
 one_failed fault.Memory failed now ends counted = absurd ends
 one_failed (fault.BadList row) failed now ends counted = absurd ends
+one_failed fault.Held failed now ends counted = absurd ends
+one_failed (fault.Refused number) failed now ends counted = absurd ends
+one_failed fault.NoWorker failed now ends counted = absurd ends
 
 -- a writing that failed has cut its text off
 pub cut_off : {T : Type 0} (result : Result T ProgramFault) (failed now : ℕ) (held held_now : Option (List ℕ)) (text : List ℕ)

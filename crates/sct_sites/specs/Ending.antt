@@ -29,9 +29,10 @@ abbrev pub words_fault : ErrorKind → ProgramFault
 words_fault OutOfMemory = fault.Memory
 words_fault _ = fault.Usage
 
--- what is told of a fault behind its number: of a bad list the row
+-- what is told of a fault behind its number: of a bad list the row, and of a refusal at a site the number of its own fault
 abbrev pub fault_arguments_of : ProgramFault → List ℕ
 fault_arguments_of (fault.BadList row) = codes " " ++ decimal row
+fault_arguments_of (fault.Refused number) = codes " " ++ decimal number
 fault_arguments_of _ = []
 
 -- the line that tells a fault by its number

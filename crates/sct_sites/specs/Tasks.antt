@@ -83,7 +83,10 @@ LeavesInput _ = Unit {0}
 
 -- what may end the settling of inputs
 abbrev pub EndsSettling : ProgramFault → Type 0
+EndsSettling fault.Held = Unit {0}
 EndsSettling fault.Write = Unit {0}
 EndsSettling fault.Usage = Unit {0}
 EndsSettling fault.Memory = Unit {0}
+EndsSettling (fault.Refused number) = Unit {0}
+EndsSettling fault.NoWorker = Unit {0}
 EndsSettling _ = ⊥

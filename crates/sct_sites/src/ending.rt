@@ -29,9 +29,16 @@ fn fault_line(fault: &ProgramFault) -> ArrayString<64>
     let mut line = ArrayString::new();
     line.push_str("fault ");
     line.push_str(digits.format(fault.number()));
-    if let ProgramFault::BadList(row) = fault {
-        line.push_str(" ");
-        line.push_str(digits.format(*row));
+    match fault {
+        ProgramFault::BadList(row) => {
+            line.push_str(" ");
+            line.push_str(digits.format(*row));
+        }
+        ProgramFault::Refused(number) => {
+            line.push_str(" ");
+            line.push_str(digits.format(*number));
+        }
+        _ => {}
     }
     line.push_str("\n");
     line
@@ -75,8 +82,8 @@ fn exit_status(ended: &Result<Ending, ProgramFault>) -> u8
 }
 
 /// Tells on standard error how a run ended, and answers the exit status. What is told of a fault is its number, as
-/// `fault 62`, behind it of a bad list the row, and of a mistake in the command line `fault 64` with clap's text behind it. A writer that fails there
-/// changes no status.
+/// `fault 62`, behind it of a bad list the row and of a refusal at a site the number of that, and of a mistake in the command
+/// line `fault 64` with clap's text behind it. A writer that fails there changes no status.
 pub fn conclude<E: Sink>(ended: &Result<Ending, ProgramFault>, err: &mut E) -> u8
     ensures status { result ≡ exit_status_of ended.now }
     ensures told { IsWrittenOrCutOff (E.failures err.old) (E.failures err.new) (E.held err.old) (E.held err.new)

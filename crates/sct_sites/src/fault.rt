@@ -18,6 +18,8 @@ pub enum ProgramFault {
     BadList(u64),
     /// The input has a byte past the limit.
     TooLong,
+    /// The work at a site was held back.
+    Held,
     /// A read failed.
     Read,
     /// A write failed, or took no byte.
@@ -26,6 +28,10 @@ pub enum ProgramFault {
     Usage,
     /// Memory is wanting.
     Memory,
+    /// A call at a site was refused, with the number of its own fault.
+    Refused(u8),
+    /// There is no thread for the work at a site.
+    NoWorker,
 }
 
 impl ProgramFault {
@@ -35,10 +41,13 @@ impl ProgramFault {
         match self {
             ProgramFault::BadList(_) => 48,
             ProgramFault::TooLong => 60,
+            ProgramFault::Held => 61,
             ProgramFault::Read => 62,
             ProgramFault::Write => 63,
             ProgramFault::Usage => 64,
             ProgramFault::Memory => 65,
+            ProgramFault::Refused(_) => 66,
+            ProgramFault::NoWorker => 67,
         }
     }
 }
@@ -92,7 +101,10 @@ impl From<RunFault> for ProgramFault {
     fn from(fault: RunFault) -> ProgramFault {
         match fault {
             RunFault::Usage => ProgramFault::Usage,
+            RunFault::Held => ProgramFault::Held,
             RunFault::Memory => ProgramFault::Memory,
+            RunFault::Refused { number } => ProgramFault::Refused(number),
+            RunFault::NoWorker => ProgramFault::NoWorker,
         }
     }
 }

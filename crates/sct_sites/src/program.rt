@@ -15,6 +15,7 @@ use crate::transfer::{MOST_BYTES, write_all};
 use std::alloc::Global;
 use std::io;
 use std::rt::Files;
+use std::sync::Wait;
 use std::sync::ledger::{Blank, Ledger};
 use std::thread::Threads;
 
@@ -41,7 +42,7 @@ fn work<T: Threads + Sync, R: Source, O: Sink, E: Sink>(
 }
 
 // Answers a task. A mistake is not told here: that belongs to the end of the run.
-fn perform<T: Threads + Sync, R: Source, O: Sink, E: Sink>(
+fn perform<T: Threads + Wait + Sync, R: Source, O: Sink, E: Sink>(
     rt: &T,
     alloc: Global,
     task: Task,
@@ -58,7 +59,7 @@ fn perform<T: Threads + Sync, R: Source, O: Sink, E: Sink>(
 {
     match task {
         Task::Work(job) => work(rt, alloc, job, reader, out, err),
-        Task::Settle(inputs) => match settle_inputs(alloc, inputs, out, err) {
+        Task::Settle(inputs) => match settle_inputs(rt, alloc, inputs, out, err) {
             Ok(done) => Ok(Ending::Done(done)),
             Err(fault) => Err(fault),
         },
@@ -98,7 +99,7 @@ fn make_ready<F: Files>(
 }
 
 // Answers what is ready, if anything is.
-fn perform_ready<T: Threads + Sync, R: Source, O: Sink, E: Sink>(
+fn perform_ready<T: Threads + Wait + Sync, R: Source, O: Sink, E: Sink>(
     rt: &T,
     alloc: Global,
     ready: Result<Task, ProgramFault>,
@@ -122,7 +123,7 @@ fn perform_ready<T: Threads + Sync, R: Source, O: Sink, E: Sink>(
 /// Runs the program: reads the words of the command line and the files that they name, answers what they ask for, tells the
 /// end of the run on `err`, and answers the exit status: 0 where all lines were taken or help was shown, 1 where some line was
 /// refused, 3 at want of memory (65), and 2 at any other fault.
-pub fn run<T: Threads + Sync, F: Files, R: Source, O: Sink, E: Sink>(
+pub fn run<T: Threads + Wait + Sync, F: Files, R: Source, O: Sink, E: Sink>(
     rt: &T,
     alloc: Global,
     files: &F,
@@ -146,7 +147,7 @@ pub fn run<T: Threads + Sync, F: Files, R: Source, O: Sink, E: Sink>(
 
 /// The same over readers and writers of std, each with a ledger of its own for its failures.
 pub fn run_over_std<
-    T: Threads + Sync,
+    T: Threads + Wait + Sync,
     F: Files,
     R: io::Read + Drop,
     O: io::Write + Drop,

@@ -12,10 +12,13 @@ use crate::sink::Sink;
 use crate::transfer::write_all;
 use sct_run::{RunAnswer, run_sites};
 use std::alloc::Global;
+use std::sync::Wait;
 
 /// Writes the lines that tell the refused lines of the inputs to `err`, each with its input's number, and then to `out` the
-/// status text of all that is read from any of them. 64 Usage where the inputs are not 1 to 16.
-pub fn settle_inputs<O: Sink, E: Sink>(
+/// status text of all that is read from any of them. 64 Usage where the inputs are not 1 to 16; 65 Memory, or 66 Refused where
+/// a call at a site is refused.
+pub fn settle_inputs<W: Wait, O: Sink, E: Sink>(
+    rt: &W,
     alloc: Global,
     inputs: Vec<Vec<u8>>,
     out: &mut O,
@@ -41,7 +44,7 @@ pub fn settle_inputs<O: Sink, E: Sink>(
         status,
         told,
         refused,
-    } = run_sites(alloc, inputs)?;
+    } = run_sites(rt, alloc, inputs)?;
     write_all(err, told.as_bytes())?;
     write_all(out, &status)?;
     Ok(Done { refused })

@@ -14,6 +14,7 @@ use commands::{BOTH, COMMANDS};
 use fakes::{Given, run_engine, run_program};
 use inputs::{CASES, Case, REFUSED_AND_TAKEN};
 use std::alloc::{AllocError, Global};
+use std::sync::Wait;
 use std::thread::Threads;
 use totalled::TOTALLED;
 
@@ -82,7 +83,7 @@ fn does_what_the_words_ask(rt: HostRuntime) {
 
 // The status of a run of `status` over what is given, if it wrote this.
 fn status_where(
-    rt: &(impl Threads + Sync),
+    rt: &(impl Threads + Wait + Sync),
     alloc: Global,
     given: &Given<'_>,
     out: &[u8],
@@ -95,7 +96,7 @@ fn status_where(
 
 // The status of a run whose words could not be had, if it told this alone.
 fn status_unasked(
-    rt: &(impl Threads + Sync),
+    rt: &(impl Threads + Wait + Sync),
     alloc: Global,
     fault: ProgramFault,
     err: &[u8],
@@ -111,7 +112,7 @@ struct Unasked {
     status: u8,
 }
 
-static UNASKED: [Unasked; 3] = [
+static UNASKED: [Unasked; 6] = [
     Unasked {
         fault: ProgramFault::TooLong,
         err: b"fault 60\n",
@@ -126,6 +127,21 @@ static UNASKED: [Unasked; 3] = [
         fault: ProgramFault::Memory,
         err: b"fault 65\n",
         status: 3,
+    },
+    Unasked {
+        fault: ProgramFault::Held,
+        err: b"fault 61\n",
+        status: 2,
+    },
+    Unasked {
+        fault: ProgramFault::Refused(54),
+        err: b"fault 66 54\n",
+        status: 2,
+    },
+    Unasked {
+        fault: ProgramFault::NoWorker,
+        err: b"fault 67\n",
+        status: 2,
     },
 ];
 

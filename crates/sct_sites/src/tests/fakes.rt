@@ -10,6 +10,7 @@ use crate::sink::Sink;
 use crate::source::{Failed, Source};
 use std::alloc::Global;
 use std::marker::Brand;
+use std::sync::Wait;
 use std::sync::ledger::{Blank, Ledger};
 use std::thread::Threads;
 
@@ -158,7 +159,7 @@ pub fn run_engine(
 }
 
 fn run_program_over<A: Ledger, B: Ledger, C: Ledger>(
-    rt: &(impl Threads + Sync),
+    rt: &(impl Threads + Wait + Sync),
     alloc: Global,
     words: Result<Vec<String>, ProgramFault>,
     given: &Given<'_>,
@@ -187,7 +188,7 @@ fn run_program_over<A: Ledger, B: Ledger, C: Ledger>(
 }
 
 pub fn run_program(
-    rt: &(impl Threads + Sync),
+    rt: &(impl Threads + Wait + Sync),
     alloc: Global,
     words: Result<Vec<String>, ProgramFault>,
     given: &Given<'_>,
