@@ -1,0 +1,2 @@
+-- The definitions of the program for tries of desks.
+pub mod Texts
