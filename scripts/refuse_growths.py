@@ -1,4 +1,4 @@
-"""refuse_growths.py: has each growth of two calls refused once, and says what became of it.
+"""refuse_growths.py: has each growth of three calls refused once, and says what became of it.
 
 Of `Archive::add_all`: `rt try --test --fail-alloc N` refuses the Nth allocation of each test. The tests of
 crates/sct_set/src/tests/refusals.rt do the same after 0, 1, .. 15 other allocations, so one run refuses 16 allocations in a
@@ -15,9 +15,17 @@ view as before (which has its keys, statuses, findings and totals), where the sa
 should; any other answer but that of ample memory has failed. The growths are seen to begin behind one that is refused while
 the messages are read, and to end before one that is refused while the answer is told.
 
-The last line is 'N passed, M failed', and the exit status is 0 where growths of both calls have passed and none has failed.
+Of `Desk::take`: the program crates/sct_desk_trials takes a message at a new desk, after 0, 1, 2 and more other allocations, and
+`rt try --cases` refuses the allocation of one number in each case. A refusal of a growth of `take` has passed that was answered
+by 50, where the desk then did all that it does at first; or by 51 with position 1, where a query then saw nothing and the next
+publication told of one arrival, which an earlier call had brought. In a second case that growth is refused again, and then, in
+turn, the desk is closed (53 with position 1 behind a 51), the same message is taken again (a repeat, whose receipt tells of the
+arrival), or another is (whose receipt tells of both). Both answers have to be met with each of these. That the growths were all
+refused is seen as for `apply`.
 
-Usage: refuse_growths.py [add_all|apply]   (both, where none is named)
+The last line is 'N passed, M failed', and the exit status is 0 where growths of all calls have passed and none has failed.
+
+Usage: refuse_growths.py [add_all|apply|take]   (all three, where none is named)
 """
 import json, os, pathlib, re, subprocess, sys, tempfile
 
@@ -122,24 +130,36 @@ def mark_of(text, status):
     return None
 
 
+def runs(crate, number, cases):
+    """What each case prints and ends with where the allocation with this number is refused. A case has a name, lines and words."""
+    with tempfile.TemporaryDirectory() as folder:
+        for name, (lines, words) in cases.items():
+            pathlib.Path(folder, name).write_text("\n".join(lines) + "\n")
+            pathlib.Path(folder, name + ".args").write_text("\n".join(words) + "\n")
+        done = subprocess.run(["rt", "try", "--fail-alloc", str(number), "--cases", folder], cwd=CRATES / crate,
+                              capture_output=True, text=True)
+    told = dict(re.findall(r"^== (\w+)\n(.*?)(?=^== |\Z)", done.stdout, re.M | re.S))
+    ended = dict(re.findall(r"^case=(\w+) run=ended status=(\d+) ", done.stderr, re.M))
+    if not set(cases) == set(told) == set(ended):
+        sys.exit(f"refuse_growths: {len(ended)} cases ended:\n{done.stdout[-2000:]}{done.stderr[-2000:]}")
+    return {name: (told[name], ended[name]) for name in cases}
+
+
 def marks(number, lines):
     """Where the allocation with this number was refused, by how many lines stand first."""
-    with tempfile.TemporaryDirectory() as folder:
-        for many in lines:
-            # a view of no message has empty texts
-            pathlib.Path(folder, f"after{many:03d}").write_text("\n".join(["tell"] * many + TRIAL) + "\n")
-            pathlib.Path(folder, f"after{many:03d}.args").write_text("views\n")
-        done = subprocess.run(["rt", "try", "--fail-alloc", str(number), "--cases", folder], cwd=CRATES / "sct_trials",
-                              capture_output=True, text=True)
-    told = dict(re.findall(r"^== after(\d+)\n(.*?)(?=^== after|\Z)", done.stdout, re.M | re.S))
-    ended = dict(re.findall(r"^case=after(\d+) run=ended status=(\d+) ", done.stderr, re.M))
-    if len(ended) != len(lines) or len(told) != len(lines):
-        sys.exit(f"refuse_growths: {len(ended)} cases ended:\n{done.stdout[-2000:]}{done.stderr[-2000:]}")
-    found = {many: mark_of(told[f"{many:03d}"], ended[f"{many:03d}"]) for many in lines}
-    for many in lines:
+    # a view of no message has empty texts
+    ends = runs("sct_trials", number, {f"after{many:03d}": (["tell"] * many + TRIAL, ["views"]) for many in lines})
+    found = {}
+    for many, (text, status) in zip(lines, ends.values()):
+        found[many] = mark_of(text, status)
         if found[many] is None:
-            print(f"with --fail-alloc {number} and {many} lines first: {told[f'{many:03d}']!r}, status {ended[f'{many:03d}']}")
+            print(f"with --fail-alloc {number} and {many} lines first: {text!r}, status {status}")
     return found
+
+
+def is_whole(refused, most):
+    """Whether the growths are refused one behind the other, and the cases go from behind the last to before the first."""
+    return 0 < refused[0] and refused[-1] < most and len(refused) == refused[-1] - refused[0] + 1
 
 
 def apply():
@@ -151,16 +171,73 @@ def apply():
     print(f"apply, allocations {NUMBER - LINES} to {NUMBER}: {counts}", flush=True)
     if failed or not refused:
         return len(refused), failed
-    first, last = refused[0], refused[-1]
-    if first == 0 or last == LINES or len(refused) != last - first + 1:
+    if not is_whole(refused, LINES):
         sys.exit("refuse_growths: the cases do not go from behind the growths to before them")
+    first, last = refused[0], refused[-1]
     wanted = {first + 1: False, first + 2: True, last + 2: True, last + 3: False}
     if {many: mark == "refused" for many, mark in marks(NUMBER + 2, list(wanted)).items()} != wanted:
         sys.exit("refuse_growths: a line first does not make one allocation")
     return len(refused), 0
 
 
-CALLS = {"add_all": add_all, "apply": apply}
+# ---- Desk::take
+
+ALLOCATIONS = 66  # with so many first, one is refused before the message is taken
+REFUSED_ONE = 127  # with none first, one is refused after it
+
+# What stands behind the take, and what is answered to it: with ample memory, behind a 50, and behind a 51.
+NEXT = {
+    "publish": (["ask", "publish"], "Pending 1\n2 0 0\nclosed 1\n", "Unknown 0\n1 0 0\nclosed 0\n", "Unknown 0\n1 1 1\nclosed 1\n"),
+    "close": ([], "closed 1\n", "closed 0\n", "53 1\n"),
+    "again": (["take"], "repeat 2 0 0\nclosed 1\n", "taken 1 1 1 0\nclosed 1\n", "repeat 1 1 1\nclosed 1\n"),
+    "another": ([acceptance("C1", "T1"), "take"], "read\ntaken 2 2 1 0\nclosed 2\n", "read\ntaken 1 1 1 0\nclosed 1\n",
+                "read\ntaken 2 1 2 1\nclosed 2\n"),
+}
+IN_TURN = ["close", "again", "another"]
+
+
+def desk_mark_of(way, text, status):
+    """What a case met: 50, 51, or that the refused allocation is no growth of the take; None where its answer is wrong."""
+    _, ample, behind_50, behind_51 = NEXT[way]
+    ample = "read\ntaken 1 1 1 0\n" + ample
+    if status == "0":
+        return {ample: "beside", "read\n50\n" + behind_50: "50", "read\n51 1\n" + behind_51: "51"}.get(text)
+    return "beside" if status == "1" and ample.startswith(text) else None
+
+
+def desk_marks():
+    """What each case met, by how many allocations come first and what stands behind the take."""
+    ways = [(many, way) for many in range(ALLOCATIONS + 1) for way in ["publish", IN_TURN[many % len(IN_TURN)]]]
+    cases = {f"{way}{many:03d}": ([instruction("M1", "T1", "1.00"), "take"] + NEXT[way][0], ["calls", str(many)]) for many, way in ways}
+    found = {}
+    for (many, way), (text, status) in zip(ways, runs("sct_desk_trials", REFUSED_ONE, cases).values()):
+        found[many, way] = desk_mark_of(way, text, status)
+        if found[many, way] is None:
+            print(f"with --fail-alloc {REFUSED_ONE}, {many} allocations first and {way}: {text!r}, status {status}")
+    return found
+
+
+def take():
+    """How many refusals of growths of a take were answered as they should be, and how many cases failed."""
+    found = desk_marks()
+    failed = list(found.values()).count(None)
+    right = [case for case, mark in found.items() if mark in ("50", "51")]
+    refused = [many for many, way in right if way == "publish"]
+    counts = ", ".join(f"{list(found.values()).count(mark)} {mark}" for mark in ["beside", "51", "50"])
+    print(f"take, allocations {REFUSED_ONE - ALLOCATIONS} to {REFUSED_ONE}: {counts}", flush=True)
+    if failed or not refused:
+        return len(right), failed
+    if not is_whole(refused, ALLOCATIONS):
+        sys.exit("refuse_growths: the cases do not go from behind the growths to before them")
+    unlike = [many for (many, way), mark in found.items() if mark != found[many, "publish"]]
+    missed = [(way, mark) for way in NEXT for mark in ("50", "51") if mark not in [it for case, it in found.items() if case[1] == way]]
+    for it in missed:
+        print(f"not met: {it}")
+    return len(right), len(unlike) + len(missed)
+
+
+CALLS = {"add_all": (add_all, "each answered by 39 with nothing changed"), "apply": (apply, "each answered by 39 with nothing changed"),
+         "take": (take, "in two cases each, answered by 50 with nothing changed, or by 51 with the arrival pending")}
 
 
 def main():
@@ -170,8 +247,9 @@ def main():
     passed = failed = 0
     missed = []
     for name in names:
-        right, wrong = CALLS[name]()
-        print(f"{right} growths of {name} refused, each answered by 39 with nothing changed", flush=True)
+        call, answer = CALLS[name]
+        right, wrong = call()
+        print(f"{right} refusals of growths of {name}, {answer}", flush=True)
         passed, failed = passed + right, failed + wrong
         missed += [name] * (not right)
     for name in missed:
