@@ -80,7 +80,7 @@ fresh_absent s b m h = fresh_apart s b m h
 -- ---- what is planned is about keys of the set
 
 module _ (u : MessageSet) (keys : List TransferKey) where
-  among_each : (planned : List Planned) (ts : List TransferKey) → map change_in planned ≡ changes_of u ts
+  pub among_each : (planned : List Planned) (ts : List TransferKey) → map change_in planned ≡ changes_of u ts
       → ((t : TransferKey) → list_any (same_transfer t) ts ≡ true → list_any (same_transfer t) keys ≡ true)
       → are_among keys planned ≡ true
   among_each [] ts e each = refl

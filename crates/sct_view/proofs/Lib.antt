@@ -11,6 +11,7 @@ pub mod GatheredLemmas
 pub mod KeyLemmas
 pub mod LawLemmas
 pub mod ListedLemmas
+pub mod PlannedLemmas
 pub mod ReadyLemmas
 pub mod RebuildLemmas
 pub mod SetKeys

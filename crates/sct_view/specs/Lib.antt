@@ -1,6 +1,7 @@
 -- The definitions of the view.
 pub mod Answers
 pub mod Changes
+pub mod Filed
 pub mod Kept
 pub mod Laws
 pub mod Listed

@@ -18,7 +18,7 @@ use sct_set::Archive;
 use std::alloc::Global;
 
 /// Opens the places for each planned case.
-fn open_all(
+pub(crate) fn open_all(
     alloc: Global,
     cases: &mut IndexMap<TransferKey, Case>,
     totals: &mut IndexMap<Bic, Totals>,

@@ -95,8 +95,8 @@ fn push_transfer(
     }
 }
 
-// What is told of each of some transfers.
-fn push_transfers(
+/// What is told of each of some transfers.
+pub(crate) fn push_transfers(
     alloc: Global,
     text: &mut String,
     archive: &Archive,

@@ -8,6 +8,7 @@ ghost use Rattle.sct_case.specs.Statuses.{told};
 ghost use Rattle.sct_message.specs.Sets.{messages_in};
 ghost use Rattle.sct_message.specs.Transfers.{instruction_of};
 ghost use Rattle.sct_set.specs.Contents.{contents_of};
+ghost use Rattle.sct_set.specs.Pieces.{joined};
 ghost use Rattle.sct_view.specs.Answers.{recall_of, status_of};
 ghost use Rattle.sct_view.specs.Totals.{totals_of};
 ghost use Rattle.sct_view.specs.Touched.{touched_in};
@@ -15,9 +16,11 @@ ghost use Rattle.sct_view.specs.Touched.{touched_in};
 use crate::case::Case;
 use crate::commit::commit_all;
 use crate::listed::{all_findings, keys, recalls_of, transfers_of};
+use crate::parts::tables_in_parts;
 use crate::rebuild::tables_of;
 use crate::replanning::{Replanned, replan};
 use crate::room::make_room;
+use crate::status_parts::status_pieces;
 use crate::status_text::status_text;
 use crate::totals::Totals;
 use crate::totals_text::{banks, totals_text};
@@ -29,6 +32,7 @@ use sct_set::Archive;
 use std::alloc::Global;
 use std::marker::Model;
 use std::sync::Arc;
+use std::thread::Threads;
 
 /// What a batch of messages brought.
 #[derive(Clone, Copy, Debug, PartialEq, Eq)]
@@ -96,6 +100,25 @@ impl View {
         ensures { IfOk result (λ view. view ≡ archive) }
     {
         let tables = tables_of(alloc, &archive)?;
+        Ok(View {
+            alloc,
+            archive,
+            cases: tables.cases,
+            totals: tables.totals,
+            unknown: Status::Unknown,
+        })
+    }
+
+    /// The same view, for which transfers are evaluated in as many threads as there are processors. Where no thread can be
+    /// made, one does the work of several.
+    pub fn of_in_parts<R: Threads + Sync>(
+        rt: &R,
+        alloc: Global,
+        archive: Archive,
+    ) -> Result<Self, CaseFault>
+        ensures { IfOk result (λ view. view ≡ archive) }
+    {
+        let tables = tables_in_parts(rt, alloc, &archive)?;
         Ok(View {
             alloc,
             archive,
@@ -218,6 +241,17 @@ impl View {
         ensures { IfOk result (λ text. text.items ≡ status_text_of self.now) }
     {
         status_text(self.alloc, &self.archive, &self.cases)
+    }
+
+    /// The status text in pieces, one after another, made in as many threads as there are processors. Where no thread can be
+    /// made, one does the work of several.
+    pub fn status_text_in_pieces<R: Threads + Sync>(
+        &self,
+        rt: &R,
+    ) -> Result<Vec<Vec<u8>>, CaseFault>
+        ensures { IfOk result (λ pieces. joined pieces.items ≡ status_text_of self.now) }
+    {
+        status_pieces(rt, self.alloc, &self.archive, &self.cases)
     }
 
     /// The totals text: a line for each bank whose totals are not all 0.

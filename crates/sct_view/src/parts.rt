@@ -1,0 +1,192 @@
+//! The tables of a view, built from all messages in as many threads as there are processors.
+
+ghost use Rattle.std.specs.Prelude.{◌≡◌, ◌<◌, map, IfOk};
+ghost use Rattle.std.specs.FinSet as set;
+ghost use Rattle.std.specs.Thread.{IsSync};
+ghost use Rattle.sct_message.specs.Ascending.{ascending};
+ghost use Rattle.sct_message.specs.Keys.{transfer_of};
+ghost use Rattle.sct_message.specs.Order.{same_transfer, transfer_order};
+ghost use Rattle.sct_message.specs.Sets.{messages_in};
+ghost use Rattle.sct_message.specs.Transfers.{keys_of};
+ghost use Rattle.sct_set.specs.Drafts.{IsIndexBy};
+ghost use Rattle.sct_view.specs.Changes.{change_in, changes_of};
+ghost use Rattle.sct_view.specs.Filed.{IsFiled};
+ghost use Rattle.sct_view.specs.Kept.{case_of, IsViewOf};
+
+use crate::case::Planned;
+use crate::commit::commit_all;
+use crate::evaluation::evaluate;
+use crate::filed::{by_transfer, on_transfer, transfers};
+use crate::rebuild::Tables;
+use crate::room::open_all;
+use indexmap::IndexMap;
+use sct_case::CaseFault;
+use sct_message::{Message, TransferKey};
+use sct_set::Archive;
+use std::alloc::{AllocError, Global};
+use std::sync::Arc;
+use std::thread::{Threads, available_parallelism, join};
+
+// Fewer transfers are evaluated in one part.
+const WORTH_A_THREAD: usize = 256;
+
+// The case of a transfer of an archive, from the messages that are filed under it.
+fn planned_on(
+    alloc: Global,
+    archive: &Archive,
+    nothing: &Archive,
+    index: &IndexMap<TransferKey, Vec<Arc<Message>>>,
+    transfer: &TransferKey,
+) -> Result<Planned, CaseFault>
+    requires nothing { nothing.now ≡ set.empty }
+    requires filed { IsFiled archive.now index.now }
+    ensures { IfOk result (λ planned. change_in planned ≡ (transfer.now, case_of archive.now transfer.now)) }
+{
+    let mut evaluations = 0;
+    let messages = on_transfer(index, transfer);
+    let case = evaluate(
+        alloc,
+        archive,
+        nothing,
+        transfer,
+        messages,
+        &mut evaluations,
+    )?;
+    Ok(Planned {
+        transfer: transfer.copy(),
+        case,
+    })
+}
+
+// The case of each of some transfers, in one part.
+fn planned_in_turn(
+    alloc: Global,
+    archive: &Archive,
+    index: &IndexMap<TransferKey, Vec<Arc<Message>>>,
+    transfers: &[TransferKey],
+) -> Result<Vec<Planned>, CaseFault>
+    requires { IsFiled archive.now index.now }
+    ensures { IfOk result (λ planned. map change_in planned.items ≡ changes_of archive.now transfers.now) }
+{
+    let nothing = Archive::new(alloc);
+    let mut planned = Vec::with_capacity(alloc, transfers.len())?;
+    for transfer in transfers {
+        planned.push(planned_on(alloc, archive, &nothing, index, transfer)?)?;
+    }
+    Ok(planned)
+}
+
+// The case of each of some transfers, by halves of halves.
+#[cycle(halves)]
+fn planned_by_halves<R: Threads + Sync>(
+    rt: &R,
+    alloc: Global,
+    archive: &Archive,
+    index: &IndexMap<TransferKey, Vec<Arc<Message>>>,
+    transfers: &[TransferKey],
+    halvings: u32,
+) -> Result<Vec<Planned>, CaseFault>
+    requires { IsFiled archive.now index.now }
+    ensures { IfOk result (λ planned. map change_in planned.items ≡ changes_of archive.now transfers.now) }
+{
+    if halvings == 0 {
+        return planned_in_turn(alloc, archive, index, transfers);
+    }
+    let (front, back) = transfers.split_at(transfers.len() / 2);
+    let (first, second) = join(
+        rt,
+        || -> Result<Vec<Planned>, CaseFault>
+            requires { IsSync R.row × (0 < halvings) × IsFiled archive.now index.now }
+            ensures { IfOk result (λ planned. map change_in planned.items ≡ changes_of archive.entry.now front.entry.now) }
+        { planned_by_halves(rt, alloc, archive, index, front, halvings - 1) },
+        || -> Result<Vec<Planned>, CaseFault>
+            requires { IsSync R.row × (0 < halvings) × IsFiled archive.now index.now }
+            ensures { IfOk result (λ planned. map change_in planned.items ≡ changes_of archive.entry.now back.entry.now) }
+        { planned_by_halves(rt, alloc, archive, index, back, halvings - 1) },
+    );
+    let mut planned = first?;
+    let mut more = second?;
+    planned.append(&mut more)?;
+    Ok(planned)
+}
+
+// How often a list of transfers is cut in halves: for two parts a processor.
+pub(crate) fn halvings<R: Threads>(rt: &R, transfers: &[TransferKey]) -> u32 {
+    if transfers.len() < WORTH_A_THREAD {
+        return 0;
+    }
+    match available_parallelism(rt) {
+        Ok(processors) => processors.get().saturating_mul(2).ilog2(),
+        Err(_) => 0,
+    }
+}
+
+// Messages filed by transfer, and the transfers that they are on, ascending, each once.
+#[derive(Drop)]
+struct Sorted {
+    index: IndexMap<TransferKey, Vec<Arc<Message>>>,
+    transfers: Vec<TransferKey>,
+}
+
+// Both at once, each in a thread of its own.
+fn sort_by_transfer<R: Threads + Sync>(
+    rt: &R,
+    alloc: Global,
+    messages: &[Arc<Message>],
+) -> Result<Sorted, AllocError>
+    ensures index { IfOk result (λ sorted. IsIndexBy transfer_of same_transfer sorted.index (messages_in messages.now)) }
+    ensures transfers { IfOk result (λ sorted.
+        sorted.transfers.items ≡ ascending transfer_order (map transfer_of (messages_in messages.now))) }
+{
+    let (filed, listed) = join(
+        rt,
+        || -> Result<IndexMap<TransferKey, Vec<Arc<Message>>>, AllocError>
+            ensures { IfOk result (λ index. IsIndexBy transfer_of same_transfer index (messages_in messages.entry.now)) }
+        { by_transfer(alloc, messages) },
+        || -> Result<Vec<TransferKey>, AllocError>
+            ensures { IfOk result (λ found.
+                found.items ≡ ascending transfer_order (map transfer_of (messages_in messages.entry.now))) }
+        { transfers(alloc, messages) },
+    );
+    let index = filed?;
+    let transfers = listed?;
+    Ok(Sorted { index, transfers })
+}
+
+// The case of each transfer of an archive.
+fn planned_of<R: Threads + Sync>(
+    rt: &R,
+    alloc: Global,
+    archive: &Archive,
+) -> Result<Vec<Planned>, CaseFault>
+    ensures { IfOk result (λ planned. map change_in planned.items ≡ changes_of archive.now (keys_of archive.now)) }
+{
+    let Sorted { index, transfers } = sort_by_transfer(rt, alloc, archive.messages())?;
+    planned_by_halves(
+        rt,
+        alloc,
+        archive,
+        &index,
+        &transfers,
+        halvings(rt, &transfers),
+    )
+}
+
+/// The tables of an archive's messages, whose transfers are evaluated in as many threads as there are processors. Where no
+/// thread can be made, one does the work of several.
+pub(crate) fn tables_in_parts<R: Threads + Sync>(
+    rt: &R,
+    alloc: Global,
+    archive: &Archive,
+) -> Result<Tables, CaseFault>
+    ensures { IfOk result (λ tables. IsViewOf archive.now tables.cases tables.totals) }
+{
+    let planned = planned_of(rt, alloc, archive)?;
+    let mut tables = Tables {
+        cases: IndexMap::new(alloc),
+        totals: IndexMap::new(alloc),
+    };
+    open_all(alloc, &mut tables.cases, &mut tables.totals, &planned)?;
+    commit_all(archive, &mut tables.cases, &mut tables.totals, planned);
+    Ok(tables)
+}
