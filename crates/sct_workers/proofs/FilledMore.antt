@@ -1,0 +1,129 @@
+-- One input and one site more. Proof plumbing.
+use Rattle.std.proofs.Common.{◌≡◌, ◌∙◌, refl, sym, ap, subst, ℕ, ◌+◌, ◌≤◌, List, [], ◌∷◌, ◌++◌, length, map, arith, append_assoc, append-nil, length-append, codes, string_bytes}
+use Rattle.std.specs.Prelude.{Result, Ok, Err, IfOk}
+use Rattle.std.specs.List.{flat_map}
+use Rattle.std.proofs.lemmas.List.{length-map, map-append}
+use Rattle.std.specs.Fmt.{decimal}
+use Rattle.sct_json.specs.declared.faults.JsonFault.{JsonFault}
+use Rattle.sct_lines.specs.Lines.{json_fault_text, refusal_line, refusals_told, set_read, told_after}
+use Rattle.sct_receipts.specs.Stands.{Stands}
+use Rattle.sct_site.specs.Cores.{Core}
+use Rattle.sct_workers.specs.declared.fault.SiteFault.{SiteFault}
+use Rattle.sct_workers.specs.declared.filled.Filled.{Filled}
+use Rattle.sct_workers.specs.declared.filled.Sites.{Sites}
+use Rattle.sct_workers.specs.Files.{file_front, refused_in, told_from, told_of_file}
+use Rattle.sct_workers.specs.Filling.{AllStand, AreFilled, IsFilled}
+
+-- ---- how files are told
+
+told_push : (file : ℕ) (inputs : List (List ℕ)) (input : List ℕ)
+    → told_from file (inputs ++ input ∷ []) ≡ told_from file inputs ++ told_of_file (file + length inputs) input
+told_push file [] input =
+    let here : file ≡ file + length {A = List ℕ} [] = omega arith in
+    append-nil (told_of_file file input) ∙ ap (λ (f : ℕ). told_of_file f input) here
+told_push file (first ∷ inputs) input =
+    let next : (file + 1) + length inputs ≡ file + length (first ∷ inputs) = omega arith in
+    ap (λ (told : List ℕ). told_of_file file first ++ told) (told_push (file + 1) inputs input)
+    ∙ sym (append_assoc (told_of_file file first) (told_from (file + 1) inputs) (told_of_file ((file + 1) + length inputs) input))
+    ∙ ap (λ (f : ℕ). (told_of_file file first ++ told_from (file + 1) inputs) ++ told_of_file f input) next
+
+refused_push : (inputs : List (List ℕ)) (input : List ℕ) → refused_in (inputs ++ input ∷ []) ≡ refused_in inputs + length (refusals_told input)
+refused_push [] input = omega arith
+refused_push (first ∷ inputs) input = let rest = refused_push inputs input in omega (arith, rest)
+
+-- a line tells each refusal, so there are no more of them than bytes that tell them
+told_at_length : (front : List ℕ) (refusals : List (ℕ × JsonFault)) → length refusals ≤ length (told_after front refusals)
+unfolding told_after refusal_line
+told_at_length front [] = omega arith
+told_at_length front (refusal ∷ refusals) =
+    let rest = told_at_length front refusals in
+    let line : List ℕ = codes "line " ++ decimal refusal.0 ++ codes ": " ++ json_fault_text refusal.1 ++ 10 ∷ [] in
+    let both = length-append (front ++ line) (flat_map (λ r. front ++ (codes "line " ++ decimal r.0 ++ codes ": " ++ json_fault_text r.1 ++ 10 ∷ [])) refusals) in
+    let one = length-append front line in
+    omega (arith, rest, both, one)
+
+few_in : (file : ℕ) (inputs : List (List ℕ)) → refused_in inputs ≤ length (told_from file inputs)
+few_in file [] = omega arith
+few_in file (input ∷ inputs) =
+    let here = told_at_length (file_front file) (refusals_told input) in
+    let rest = few_in (file + 1) inputs in
+    let both = length-append (told_of_file file input) (told_from (file + 1) inputs) in
+    omega (arith, here, rest, both)
+
+pub few_filled : (number size : ℕ) (input : List ℕ) (one : Filled) → IsFilled number size input one → one.refused ≤ length (string_bytes one.told)
+few_filled number size input one filled =
+    let here = told_at_length (file_front number) (refusals_told input) in
+    let told : length (string_bytes one.told) ≡ length (told_of_file number input) = ap length filled.told in
+    let refused = filled.refused in
+    omega (arith, here, told, refused)
+
+pub few_of_all : (size : ℕ) (inputs : List (List ℕ)) (sites : Sites) → AreFilled size inputs sites → sites.refused ≤ length (string_bytes sites.told)
+few_of_all size inputs sites filled =
+    let here = few_in 1 inputs in
+    let told : length (string_bytes sites.told) ≡ length (told_from 1 inputs) = ap length filled.told in
+    let refused = filled.refused in
+    omega (arith, here, told, refused)
+
+-- ---- one site more
+
+stand_push : (number size : ℕ) (inputs : List (List ℕ)) (cores : List Core) (input : List ℕ) (core : Core) → AllStand number size inputs cores
+    → Stands (length inputs + number) size (set_read input) core → AllStand number size (inputs ++ input ∷ []) (cores ++ core ∷ [])
+stand_push number size [] [] input core all one =
+    let here : length {A = List ℕ} [] + number ≡ number = omega arith in (subst (λ (n : ℕ). Stands n size (set_read input) core) here one, tt)
+stand_push number size (i ∷ inputs) (c ∷ cores) input core all one =
+    let next : length (i ∷ inputs) + number ≡ length inputs + (number + 1) = omega arith in
+    (all.0, stand_push (number + 1) size inputs cores input core all.1 (subst (λ (n : ℕ). Stands n size (set_read input) core) next one))
+stand_push number size [] (c ∷ cores) input core all one = absurd all
+stand_push number size (i ∷ inputs) [] input core all one = absurd all
+
+pub none_filled : (size : ℕ) (sites : Sites) → sites.cores.items ≡ [] → string_bytes sites.told ≡ [] → sites.refused ≡ 0 → AreFilled size [] sites
+none_filled size sites cores told refused = record {
+  stand = subst (AllStand 1 size []) (sym cores) tt;
+  told = told;
+  refused = refused;
+}
+
+pub one_more : (size : ℕ) (inputs : List (List ℕ)) (input : List ℕ) (before after : Sites) (one : Filled) → AreFilled size inputs before
+    → IsFilled (length inputs + 1) size input one → after.cores.items ≡ before.cores.items ++ one.core ∷ []
+    → string_bytes after.told ≡ string_bytes before.told ++ string_bytes one.told → after.refused ≡ before.refused + one.refused
+    → AreFilled size (inputs ++ input ∷ []) after
+one_more size inputs input before after one all filled cores told refused =
+    let at : length inputs + 1 ≡ 1 + length inputs = omega arith in
+    record {
+      stand = subst (AllStand 1 size (inputs ++ input ∷ [])) (sym cores) (stand_push 1 size inputs before.cores.items input one.core all.stand filled.stands);
+      told =
+          told ∙ (λ i. all.told i ++ (filled.told ∙ ap (λ (f : ℕ). told_of_file f input) at) i) ∙ sym (told_push 1 inputs input);
+      refused = refused ∙ (λ i. all.refused i + filled.refused i) ∙ sym (refused_push inputs input);
+    }
+
+-- ---- what several sites answered
+
+pub ok_so : {T E : Type 0} (P Q : T → Type 0) (r : Result T E) → ((t : T) → P t → Q t) → IfOk r P → IfOk r Q
+ok_so P Q (Ok t) so is = so t is
+ok_so P Q (Err e) so is = tt
+
+is_ok : {T E : Type 0} (P : T → Type 0) (r : Result T E) (t : T) → r ≡ Ok t → IfOk r P → P t
+is_ok P r t is holds = subst (λ s. IfOk s P) is holds
+
+-- the sites so far were filled, and the next one: so were all of them
+pub all_more : (size : ℕ) (inputs : List (List ℕ)) (input : List ℕ) (so_far : Result Sites SiteFault) (site : Result Filled SiteFault)
+    (before after : Sites) (one : Filled) → so_far ≡ Ok before → site ≡ Ok one → IfOk so_far (AreFilled size inputs)
+    → IfOk site (IsFilled (length inputs + 1) size input) → after.cores.items ≡ before.cores.items ++ one.core ∷ []
+    → string_bytes after.told ≡ string_bytes before.told ++ string_bytes one.told → after.refused ≡ before.refused + one.refused
+    → AreFilled size (inputs ++ input ∷ []) after
+all_more size inputs input so_far site before after one is_before is_one all filled cores told refused =
+    one_more size inputs input before after one (is_ok (AreFilled size inputs) so_far before is_before all)
+    (is_ok (IsFilled (length inputs + 1) size input) site one is_one filled) cores told refused
+
+-- the next site, by the sites before it
+pub next_by_place : {X : Type 0} (f : X → List ℕ) (done : List X) (child : X) (size number group : ℕ) (site : Result Filled SiteFault)
+    → number ≡ length done + 1 → group ≡ size → IfOk site (IsFilled number group (f child))
+    → IfOk site (IsFilled (length (map f done) + 1) size (f child))
+next_by_place f done child size number group site at same filled =
+    let place : number ≡ length (map f done) + 1 = omega (arith, at, length-map done f) in
+    subst (λ (n : ℕ). IfOk site (IsFilled n size (f child))) place (subst (λ (n : ℕ). IfOk site (IsFilled number n (f child))) same filled)
+
+pub all_by_place : {X : Type 0} (f : X → List ℕ) (done : List X) (child : X) (size : ℕ) (sites : Result Sites SiteFault)
+    → IfOk sites (AreFilled size (map f done ++ f child ∷ [])) → IfOk sites (AreFilled size (map f (done ++ child ∷ [])))
+all_by_place f done child size sites filled =
+    subst (λ (inputs : List (List ℕ)). IfOk sites (AreFilled size inputs)) (sym (map-append f done (child ∷ []))) filled

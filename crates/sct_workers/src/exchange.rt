@@ -1,0 +1,71 @@
+//! The worker that accepts what other sites took.
+
+ghost use Rattle.std.specs.Prelude.{◌≡◌, [], IfErr, IfOk, OnOk};
+ghost use Rattle.sct_receipts.specs.Kept.{AllKeep};
+ghost use Rattle.sct_set.specs.Contents.{contents_of};
+ghost use Rattle.sct_workers.specs.Holds.{HeldWhere};
+
+use crate::gate::{Gate, Point, pass};
+use crossbeam_channel::Receiver;
+use sct_delta::{Delta, DeltaFault, Entry};
+use sct_desk::{Desk, Receipt, Site};
+use sct_receipts::{WorkFault, accepted, keep};
+use std::alloc::Global;
+use std::sync::Wait;
+
+// The delta of one entry.
+#[tactic(auto, using(crate::proofs::Holding::delta_no_gate))]
+fn delta_of(alloc: Global, entry: Entry) -> Result<Delta, WorkFault>
+    ensures { IfErr result (HeldWhere (λ point. ⊥)) }
+{
+    let mut entries = Vec::new(alloc);
+    entries.push(entry)?;
+    Ok(Delta::of(entries)?)
+}
+
+// Hands an entry to the desk, keeps the receipt and answers whether the entry was accepted. It is not where an entry before
+// it did not come, which is no fault.
+#[tactic(auto, using(crate::proofs::Holding::delta_no_gate))]
+fn accept_one<J: Site, H: Wait + Drop, R: Wait>(
+    rt: &R,
+    alloc: Global,
+    desk: &Desk<J, H>,
+    entry: Entry,
+    kept: &mut Vec<Receipt>,
+) -> Result<bool, WorkFault>
+    requires kept { AllKeep J.book J.number J.group (contents_of []) kept.old.items }
+    ensures kept { OnOk result (AllKeep J.book J.number J.group (contents_of []) kept.new.items) }
+    ensures held { IfErr result (HeldWhere (λ point. ⊥)) }
+{
+    let delta = delta_of(alloc, entry)?;
+    let (answer, receipt) = accepted(rt, alloc, desk, &delta)?;
+    keep::<J>(kept, &[], receipt)?;
+    match answer {
+        Ok(_) => Ok(true),
+        Err(DeltaFault::Gap { .. }) => Ok(false),
+        Err(refusal) => Err(WorkFault::from(refusal)),
+    }
+}
+
+/// Accepts the entries that come, until no other site's intake worker is left. By the receipts that it kept no own entry
+/// came to the site.
+#[tactic(auto, using(crate::proofs::Holding::no_gate))]
+pub(crate) fn exchange<J: Site, H: Wait + Drop, G: Gate, R: Wait>(
+    rt: &R,
+    alloc: Global,
+    gate: &G,
+    desk: &Desk<J, H>,
+    site: u16,
+    inbox: Receiver<Entry>,
+) -> Result<Vec<Receipt>, WorkFault>
+    ensures kept { IfOk result (λ kept. AllKeep J.book J.number J.group (contents_of []) kept.items) }
+    ensures held { IfErr result (HeldWhere (G.may_hold gate.now)) }
+{
+    let mut kept = Vec::new(alloc);
+    for entry in inbox.iter(rt) {
+        if accept_one(rt, alloc, desk, entry, &mut kept)? {
+            pass(rt, gate, Point::Accepted { site })?;
+        }
+    }
+    Ok(kept)
+}

@@ -1,0 +1,41 @@
+//! What an intake worker sends to the query worker of its site.
+
+ghost use Rattle.std.specs.Prelude.{◌≡◌, []};
+ghost use Rattle.sct_receipts.specs.Kept.{Keeps};
+ghost use Rattle.sct_set.specs.Contents.{contents_of};
+
+use sct_desk::{Receipt, Site};
+use sct_message::TransferKey;
+use std::marker::PhantomData;
+
+/// A receipt of the site's desk by which no own entry came, and a transfer to ask for once it is learned.
+#[derive(Drop)]
+pub(crate) struct Note<J: Site> {
+    pub(crate) receipt: Receipt,
+    pub(crate) transfer: TransferKey,
+    of: PhantomData<J>,
+    ghost keeps: { Keeps J.book J.number J.group (contents_of []) receipt },
+}
+
+impl<J: Site> Note<J> {
+    /// A note of a receipt and a transfer.
+    pub(crate) fn of(receipt: Receipt, transfer: TransferKey) -> Note<J>
+        requires { Keeps J.book J.number J.group (contents_of []) receipt }
+        ensures { result.receipt ≡ receipt }
+    {
+        Note {
+            receipt,
+            transfer,
+            of: PhantomData,
+        }
+    }
+
+    /// The receipt.
+    pub(crate) fn into_receipt(self) -> Receipt
+        ensures same { result ≡ self.receipt }
+        ensures keeps { Keeps J.book J.number J.group (contents_of []) result }
+    {
+        let Note { receipt, .. } = self;
+        receipt
+    }
+}

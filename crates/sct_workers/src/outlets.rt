@@ -1,0 +1,47 @@
+//! Where an intake worker sends what it has taken.
+
+ghost use Rattle.std.specs.Prelude.{◌≡◌, [], IfSome};
+ghost use Rattle.sct_receipts.specs.Kept.{Keeps};
+ghost use Rattle.sct_set.specs.Contents.{contents_of};
+
+use crate::note::Note;
+use crossbeam_channel::Sender;
+use sct_delta::Entry;
+use sct_desk::{Receipt, Site};
+use sct_message::{Message, TransferKey};
+use std::sync::{Arc, Wait};
+
+/// The ends of channels to the query worker of the site and to the exchange workers of the other sites. These end when
+/// they are dropped.
+#[derive(Drop)]
+pub(crate) struct Outlets<J: Site> {
+    pub(crate) asks: Sender<Note<J>>,
+    pub(crate) others: Vec<Sender<Entry>>,
+}
+
+impl<J: Site> Outlets<J> {
+    // Sends a receipt and a transfer to the query worker. The receipt comes back where that fails, which is no fault.
+    pub(crate) fn ask<R: Wait>(
+        &self,
+        rt: &R,
+        receipt: Receipt,
+        transfer: TransferKey,
+    ) -> Option<Receipt>
+        requires { Keeps J.book J.number J.group (contents_of []) receipt }
+        ensures { IfSome result (Keeps J.book J.number J.group (contents_of [])) }
+    {
+        match self.asks.send(rt, Note::of(receipt, transfer)) {
+            Ok(()) => None,
+            Err(refused) => Some(refused.into_inner().into_receipt()),
+        }
+    }
+
+    // Sends a new entry to the other sites. One that can't be sent is left out, which is no fault.
+    pub(crate) fn tell<R: Wait>(&self, rt: &R, origin: u16, n: u64, message: &Arc<Message>) {
+        for other in &self.others {
+            if let Ok(message) = message.clone() {
+                let _ = other.send(rt, Entry { origin, n, message });
+            }
+        }
+    }
+}

@@ -1,0 +1,134 @@
+//! One site, from the bytes of its input to its core.
+
+ghost use Rattle.std.specs.List.{All};
+ghost use Rattle.std.specs.Prelude.{◌≡◌, [], length, IfErr, IfOk, IfSome, string_bytes};
+ghost use Rattle.sct_desk.specs.Openings.{IsNewQuery};
+ghost use Rattle.sct_lines.specs.Lines.{messages_read, refusals_told};
+ghost use Rattle.sct_message.specs.Sets.{messages_in};
+ghost use Rattle.sct_receipts.specs.Stands.{Stands};
+ghost use Rattle.sct_set.specs.Contents.{contents_of};
+ghost use Rattle.sct_workers.specs.Files.{file_front, told_of_file};
+ghost use Rattle.sct_workers.specs.Filling.{IsFilled};
+ghost use Rattle.sct_workers.specs.Holds.{HeldWhere, SiteHeldWhere};
+
+use crate::fault::SiteFault;
+use crate::filled::Filled;
+use crate::gate::Gate;
+use crate::workers::{Post, workers};
+use sct_desk::{Desk, DeskFault, Query, Site};
+use sct_history::{History, Track};
+use sct_lines::{Intake, read_lines_after};
+use sct_message::Message;
+use sct_receipts::{WorkFault, closed};
+use sct_site::SiteCore;
+use std::alloc::{AllocError, Global};
+use std::marker::Brand;
+use std::sync::{Arc, Wait};
+use std::thread::Threads;
+
+// One of the queries of a desk.
+fn one_of<J: Site>(mut queries: Vec<Query>) -> Option<Query>
+    requires { All (IsNewQuery J.book J.number) queries.items }
+    ensures { IfSome result (IsNewQuery J.book J.number) }
+{
+    queries.pop()
+}
+
+// A desk of a site, and its one query.
+#[tactic(auto, using(crate::proofs::Holding::desk_no_gate))]
+fn opened<'a, J: Site, R: Wait>(
+    rt: &'a R,
+    alloc: Global,
+    history: History,
+    track: Track,
+    number: u16,
+    group: u16,
+) -> Result<(Desk<J, &'a R>, Query), WorkFault>
+    requires history { history ≡ J.book }
+    requires track { (track.book ≡ J.book) × (track.log ≡ []) }
+    requires site { (number ≡ J.number) × (group ≡ J.group) }
+    ensures query { IfOk result (λ d. d.1.book ≡ J.book) }
+    ensures held { IfErr result (HeldWhere (λ point. ⊥)) }
+{
+    let (desk, queries) = Desk::<J, &'a R>::open(rt, alloc, history, track, number, group, 1)?;
+    match one_of::<J>(queries) {
+        Some(query) => Ok((desk, query)),
+        None => Err(WorkFault::from(DeskFault::NoPlace)),
+    }
+}
+
+// Has the workers of a site take the messages, and closes its desk.
+#[tactic(auto, using(crate::proofs::Holding::no_gate))]
+fn worked<J: Site + Send + Sync, G: Gate + Sync, R: Threads + Wait + Sync>(
+    rt: &R,
+    alloc: Global,
+    gate: &G,
+    history: History,
+    track: Track,
+    number: u16,
+    group: u16,
+    messages: &[Arc<Message>],
+    post: Post,
+) -> Result<SiteCore, SiteFault>
+    requires history { history ≡ J.book }
+    requires track { (track.book ≡ J.book) × (track.log ≡ []) }
+    requires site { (number ≡ J.number) × (group ≡ J.group) }
+    ensures core { IfOk result (Stands J.number J.group (contents_of (messages_in messages.now))) }
+    ensures held { IfErr result (SiteHeldWhere (G.may_hold gate.now)) }
+{
+    let (desk, query) = opened::<J, R>(rt, alloc, history, track, number, group)?;
+    let receipts = workers(rt, alloc, gate, &desk, query, number, messages, post)?;
+    match closed(desk, messages, receipts) {
+        Ok(core) => Ok(core),
+        Err(fault) => Err(SiteFault::Closing(fault)),
+    }
+}
+
+// What stands in front of each line that tells a refused line of the input of this number.
+fn front_of(alloc: Global, number: u16) -> Result<String, AllocError>
+    ensures { IfOk result (λ front. string_bytes front ≡ file_front number) }
+{
+    format!(in alloc; "file {number} ")
+}
+
+// The messages of an input, and what tells its refused lines.
+fn read(alloc: Global, number: u16, input: &[u8]) -> Result<Intake, AllocError>
+    ensures messages { IfOk result (λ intake. messages_in intake.messages.items ≡ messages_read input.now) }
+    ensures told { IfOk result (λ intake. string_bytes intake.told ≡ told_of_file number input.now) }
+    ensures refused { IfOk result (λ intake. intake.refused ≡ length (refusals_told input.now)) }
+{
+    let front = front_of(alloc, number)?;
+    read_lines_after(alloc, front.as_str(), input)
+}
+
+/// Fills the site of this number in the group from its input.
+pub(crate) fn fill<G: Gate + Sync, R: Threads + Wait + Sync>(
+    rt: &R,
+    alloc: Global,
+    gate: &G,
+    number: u16,
+    group: u16,
+    input: &[u8],
+    post: Post,
+) -> Result<Filled, SiteFault>
+    ensures filled { IfOk result (IsFilled number group input.now) }
+    ensures held { IfErr result (SiteHeldWhere (G.may_hold gate.now)) }
+{
+    let Ok(read) = read(alloc, number, input) else {
+        return Err(SiteFault::Working(WorkFault::Memory));
+    };
+    let Intake {
+        messages,
+        told,
+        refused,
+    } = read;
+    let (history, track) = History::open();
+    let core = worked::<Brand, G, R>(
+        rt, alloc, gate, history, track, number, group, &messages, post,
+    )?;
+    Ok(Filled {
+        core,
+        told,
+        refused,
+    })
+}

@@ -1,0 +1,177 @@
+//! The three workers of a site.
+
+ghost use Rattle.std.specs.Prelude.{◌≡◌, [], IfErr, IfOk};
+ghost use Rattle.sct_message.specs.Sets.{messages_in};
+ghost use Rattle.sct_receipts.specs.Kept.{AllKeep, AllShown};
+ghost use Rattle.sct_receipts.specs.declared.fault.WorkFault.TheVariants as fault;
+ghost use Rattle.sct_set.specs.Contents.{contents_of};
+ghost use Rattle.sct_workers.specs.Holds.{HeldWhere};
+
+use crate::asking::answers;
+use crate::exchange::exchange;
+use crate::fault::told_of_two;
+use crate::gate::Gate;
+use crate::intake::intake;
+use crate::outlets::Outlets;
+use crossbeam_channel::{Receiver, Sender};
+use sct_delta::Entry;
+use sct_desk::{Desk, Query, Receipt, Site};
+use sct_message::Message;
+use sct_receipts::WorkFault;
+use std::alloc::Global;
+use std::marker::PhantomData;
+use std::sync::{Arc, Wait};
+use std::thread;
+use std::thread::{Promise, PromisedHandle, SpawnError, Threads};
+
+/// The ends of channels that lead from a site to the others and back.
+#[derive(Drop)]
+pub(crate) struct Post {
+    pub(crate) inbox: Receiver<Entry>,
+    pub(crate) others: Vec<Sender<Entry>>,
+}
+
+/// What a worker's thread promises: by the receipts that it kept no own entry came, and it is held only where the gate may
+/// hold it.
+#[derive(Drop)]
+struct AddsNothing<'a, J: Site, G: Gate> {
+    gate: &'a G,
+    of: PhantomData<J>,
+}
+
+impl<'a, J: Site, G: Gate> Promise<Result<Vec<Receipt>, WorkFault>> for AddsNothing<'a, J, G> {
+    ghost kept_by = { λ p r.
+        IfOk r (λ kept. AllKeep J.book J.number J.group (contents_of []) kept.items) × IfErr r (HeldWhere (G.may_hold p.gate.now)) };
+}
+
+// What a worker answered that was to be started. 67 `NoWorker` where there was no thread for it.
+fn ended<'a, J: Site, G: Gate, F: Drop, R: Threads>(
+    rt: &R,
+    started: Result<
+        PromisedHandle<Result<Vec<Receipt>, WorkFault>, AddsNothing<'a, J, G>>,
+        SpawnError<F>,
+    >,
+    gate: &G,
+) -> Result<Vec<Receipt>, WorkFault>
+    requires { IfOk started (λ child. child.promise.gate.now ≡ gate.now) }
+    ensures kept { IfOk result (λ kept. AllKeep J.book J.number J.group (contents_of []) kept.items) }
+    ensures held { IfErr result (HeldWhere (G.may_hold gate.now)) }
+{
+    match started {
+        Ok(child) => child.join(rt),
+        Err(_) => Err(WorkFault::NoWorker),
+    }
+}
+
+// The receipts of two workers, the second of which added nothing.
+#[tactic(auto, using(crate::proofs::MoreKept::all_shown_more))]
+fn joined<J: Site>(
+    messages: &[Arc<Message>],
+    kept: Vec<Receipt>,
+    more: Vec<Receipt>,
+) -> Result<Vec<Receipt>, WorkFault>
+    requires kept { AllKeep J.book J.number J.group (contents_of (messages_in messages.now)) kept.items }
+    requires shown { AllShown (contents_of (messages_in messages.now)) kept.items }
+    requires more { AllKeep J.book J.number J.group (contents_of []) more.items }
+    ensures kept { IfOk result (λ all. AllKeep J.book J.number J.group (contents_of (messages_in messages.now)) all.items) }
+    ensures shown { IfOk result (λ all. AllShown (contents_of (messages_in messages.now)) all.items) }
+    ensures memory { IfErr result (λ e. e ≡ fault.Memory) }
+{
+    let mut all = kept;
+    let mut more = more;
+    all.append(&mut more)?;
+    Ok(all)
+}
+
+// What two workers answered, the second of which added nothing.
+fn both<J: Site, G: Gate>(
+    gate: &G,
+    messages: &[Arc<Message>],
+    first: Result<Vec<Receipt>, WorkFault>,
+    second: Result<Vec<Receipt>, WorkFault>,
+) -> Result<Vec<Receipt>, WorkFault>
+    requires kept { IfOk first (λ kept. AllKeep J.book J.number J.group (contents_of (messages_in messages.now)) kept.items) }
+    requires shown { IfOk first (λ kept. AllShown (contents_of (messages_in messages.now)) kept.items) }
+    requires more { IfOk second (λ more. AllKeep J.book J.number J.group (contents_of []) more.items) }
+    requires first_held { IfErr first (HeldWhere (G.may_hold gate.now)) }
+    requires second_held { IfErr second (HeldWhere (G.may_hold gate.now)) }
+    ensures kept { IfOk result (λ kept. AllKeep J.book J.number J.group (contents_of (messages_in messages.now)) kept.items) }
+    ensures shown { IfOk result (λ kept. AllShown (contents_of (messages_in messages.now)) kept.items) }
+    ensures held { IfErr result (HeldWhere (G.may_hold gate.now)) }
+{
+    match (first, second) {
+        (Ok(kept), Ok(more)) => joined::<J>(messages, kept, more),
+        (Ok(_), Err(fault)) => Err(fault),
+        (Err(fault), Ok(_)) => Err(fault),
+        (Err(one), Err(other)) => Err(told_of_two(one, other)),
+    }
+}
+
+/// Has the three workers of a site do their work, on this thread and two more. All receipts come back, and they show all
+/// messages; or the fault that is told first, 67 `NoWorker` where there was no thread.
+pub(crate) fn workers<
+    J: Site + Send + Sync,
+    H: Wait + Drop + Send + Sync,
+    G: Gate + Sync,
+    R: Threads + Wait + Sync,
+>(
+    rt: &R,
+    alloc: Global,
+    gate: &G,
+    desk: &Desk<J, H>,
+    query: Query,
+    site: u16,
+    messages: &[Arc<Message>],
+    post: Post,
+) -> Result<Vec<Receipt>, WorkFault>
+    requires { query.book ≡ J.book }
+    ensures kept { IfOk result (λ kept. AllKeep J.book J.number J.group (contents_of (messages_in messages.now)) kept.items) }
+    ensures shown { IfOk result (λ kept. AllShown (contents_of (messages_in messages.now)) kept.items) }
+    ensures held { IfErr result (HeldWhere (G.may_hold gate.now)) }
+{
+    let (asks, notes) = crossbeam_channel::unbounded(alloc)?;
+    let Post { inbox, others } = post;
+    let outlets = Outlets { asks, others };
+    thread::scope(
+        thread::scope_env(),
+        rt,
+        move |scope| -> Result<Vec<Receipt>, WorkFault>
+            requires { query.book ≡ J.book }
+            ensures { IfOk result (λ kept. AllKeep J.book J.number J.group (contents_of (messages_in messages.entry.now)) kept.items
+                × AllShown (contents_of (messages_in messages.entry.now)) kept.items)
+                × IfErr result (HeldWhere (G.may_hold gate.entry.now)) }
+        {
+            let accepts = scope.spawn_with(
+                AddsNothing {
+                    gate,
+                    of: PhantomData::<J>,
+                },
+                move || -> Result<Vec<Receipt>, WorkFault>
+                    ensures { IfOk result (λ kept. AllKeep J.book J.number J.group (contents_of []) kept.items)
+                        × IfErr result (HeldWhere (G.may_hold gate.entry.now)) }
+                { exchange(rt, alloc, gate, desk, site, inbox) },
+            );
+            let asked = scope.spawn_with(
+                AddsNothing {
+                    gate,
+                    of: PhantomData::<J>,
+                },
+                move || -> Result<Vec<Receipt>, WorkFault>
+                    requires { query.book ≡ J.book }
+                    ensures { IfOk result (λ kept. AllKeep J.book J.number J.group (contents_of []) kept.items)
+                        × IfErr result (HeldWhere (G.may_hold gate.entry.now)) }
+                { answers::<J, G, R>(rt, alloc, gate, query, site, notes) },
+            );
+            let taken = if accepts.is_ok() && asked.is_ok() {
+                intake(rt, alloc, gate, desk, site, messages, outlets)
+            } else {
+                drop(outlets);
+                Err(WorkFault::NoWorker)
+            };
+            let accepted = ended(rt, accepts, gate);
+            let answered = ended(rt, asked, gate);
+            let first = both::<J, G>(gate, messages, taken, accepted);
+            both::<J, G>(gate, messages, first, answered)
+        },
+    )
+}
