@@ -19,3 +19,6 @@ mod workers;
 pub use filled::Sites;
 pub use gate::{FreeGate, Gate, Held, Point};
 pub use gathering::fill_sites;
+
+#[cfg(test)]
+mod tests;
