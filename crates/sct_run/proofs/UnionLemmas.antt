@@ -18,7 +18,7 @@ use Rattle.sct_world.proofs.KeptLemmas.{HolderOf, some_place}
 use Rattle.sct_lines.specs.Lines.{set_read}
 use Rattle.sct_world.specs.Settling.{AreSettled, core_in, held_by_some}
 use Rattle.sct_receipts.specs.Stands.{Stands}
-use Rattle.sct_run.specs.Filled.{AllStand}
+use Rattle.sct_workers.specs.Filling.{AllStand}
 use Rattle.sct_run.specs.Runs.{set_of_all, NoOrderMatters}
 use Rattle.sct_run.proofs.RunLemmas.{as_many}
 
@@ -76,7 +76,7 @@ has_all input inputs m = contains-union message_total (set_read input) (set_of_a
 abbrev input_in : List (List ℕ) → ℕ → List ℕ
 input_in inputs place = slice_index_or inputs place []
 
-stand_at : (number size : ℕ) (cores : List Core) (inputs : List (List ℕ)) → AllStand number size cores inputs → (place : ℕ) → place < length cores
+stand_at : (number size : ℕ) (cores : List Core) (inputs : List (List ℕ)) → AllStand number size inputs cores → (place : ℕ) → place < length cores
     → Stands (number + place) size (set_read (input_in inputs place)) (core_in cores place)
 stand_at number size [] inputs all place there = absurd (omega (arith, there))
 stand_at number size (core ∷ cores) [] all place there = absurd all
@@ -105,7 +105,7 @@ number_of : (size number : ℕ) → has_site size number ≡ true → IsNumber s
 number_of size number inside = record { first = grind (arith, nat_tests, inside); last = grind (arith, nat_tests, inside) }
 
 -- What some site holds stands at its origin, as an own entry, which settling does not add; so it is read of that input.
-held_is_read : (before after : List Core) (inputs : List (List ℕ)) → AllStand 1 (length inputs) before inputs → AreSettled before after → (e : Placed)
+held_is_read : (before after : List Core) (inputs : List (List ℕ)) → AllStand 1 (length inputs) inputs before → AreSettled before after → (e : Placed)
     → held_by_some before e ≡ true → set.contains (set_of_all inputs) e.message ≡ true
 held_is_read before after inputs all settled e held =
     let many : length before ≡ length inputs = as_many 1 (length inputs) before inputs all in
@@ -135,7 +135,7 @@ pub record IsHeldBySome (cores : List Core) (message : Draft) : Type 0 where
   pub held : held_by_some cores entry ≡ true
   pub is : entry.message ≡ message
 
-read_is_held : (number size : ℕ) (cores : List Core) (inputs : List (List ℕ)) → AllStand number size cores inputs → (m : Draft)
+read_is_held : (number size : ℕ) (cores : List Core) (inputs : List (List ℕ)) → AllStand number size inputs cores → (m : Draft)
     → set.contains (set_of_all inputs) m ≡ true → IsHeldBySome cores m
 read_is_held number size cores [] all m read = absurd (false≢true (sym (contains-empty message_order m) ∙ read))
 read_is_held number size [] (input ∷ inputs) all m read = absurd all
@@ -163,7 +163,7 @@ both_ways false true there back = back refl
 both_ways false false there back = refl
 
 -- each of the settled sites has the messages that are read of the inputs
-pub union_is : (before after : List Core) (inputs : List (List ℕ)) → AllStand 1 (length inputs) before inputs → AreSettled before after
+pub union_is : (before after : List Core) (inputs : List (List ℕ)) → AllStand 1 (length inputs) inputs before → AreSettled before after
     → (place : ℕ) → place < length before → messages_of (core_in after place).arrivals ≡ set_of_all inputs
 union_is before after inputs all settled place there =
     same_contents (messages_of (core_in after place).arrivals) (set_of_all inputs) (λ m. both_ways _ _

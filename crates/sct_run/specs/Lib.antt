@@ -1,4 +1,3 @@
 -- The definitions of runs.
 pub mod Faults
-pub mod Filled
 pub mod Runs

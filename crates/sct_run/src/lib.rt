@@ -4,7 +4,6 @@
 
 mod answer;
 mod fault;
-mod filling;
 mod sites;
 mod status;
 #[cfg(test)]

@@ -1,31 +1,26 @@
 //! A run: one site for each input, and what they come to.
 ghost use Rattle.std.specs.Prelude.{◌≡◌, ◌≢◌, ◌↔◌, ◌<◌, ◌≤◌, ◌+◌, ◌++◌, ◌∷◌, [], false, true, Err, length, IfErr, IfOk, OnOk, string_bytes};
 ghost use Rattle.sct_delta.specs.Entries.{messages_of};
-ghost use Rattle.sct_run.specs.Filled.{AllStand};
-ghost use Rattle.sct_run.specs.Runs.{are_sites, bytes_of, refused_in, set_of_all, told_from, NoOrderMatters};
+ghost use Rattle.sct_run.specs.Runs.{are_sites, set_of_all, NoOrderMatters, RunHeldWhere};
 ghost use Rattle.sct_run.specs.declared.fault.RunFault.TheVariants as fault;
 ghost use Rattle.sct_view.specs.StatusText.{status_text_of};
+ghost use Rattle.sct_workers.specs.Files.{bytes_of, refused_in, told_from};
+ghost use Rattle.sct_workers.specs.Filling.{AreFilled};
+ghost use Rattle.sct_workers.specs.Holds.{HeldWhere};
 ghost use Rattle.sct_world.specs.Settling.{core_in, AreSettled};
 
 use crate::answer::RunAnswer;
 use crate::fault::RunFault;
-use crate::filling::{Filled, fill};
 use crate::status::status_text;
 use sct_receipts::WorkFault;
 use sct_site::SiteCore;
+use sct_workers::{Gate, Sites, fill_sites};
 use sct_world::settle;
 use std::alloc::Global;
 use std::sync::Wait;
+use std::thread::Threads;
 
 const MOST_SITES: usize = 16;
-
-// The sites of some inputs, and what tells the inputs' refused lines.
-#[derive(Drop)]
-struct Sites {
-    cores: Vec<SiteCore>,
-    told: String,
-    refused: u64,
-}
 
 // So many sites can be run.
 fn are_sites(count: usize) -> bool
@@ -34,62 +29,28 @@ fn are_sites(count: usize) -> bool
     count > 0 && count <= MOST_SITES
 }
 
-impl Sites {
-    // Of no inputs.
-    fn none(alloc: Global) -> Sites
-        ensures cores { result.cores.items ≡ [] }
-        ensures told { string_bytes result.told ≡ [] }
-        ensures refused { result.refused ≡ 0 }
-    {
-        Sites {
-            cores: Vec::new(alloc),
-            told: String::new(alloc),
-            refused: 0,
-        }
-    }
-
-    // Adds the site of an input.
-    fn add(&mut self, site: Filled) -> Result<(), RunFault>
-        requires few { self.old.refused ≤ length (string_bytes self.old.told) }
-        requires few_more { site.refused ≤ length (string_bytes site.told) }
-        ensures cores { OnOk result (self.new.cores.items ≡ self.old.cores.items ++ site.core ∷ []) }
-        ensures told { OnOk result (string_bytes self.new.told ≡ string_bytes self.old.told ++ string_bytes site.told) }
-        ensures refused { OnOk result (self.new.refused ≡ self.old.refused + site.refused) }
-        ensures memory { IfErr result (λ e. e ≡ fault.Memory) }
-    {
-        let Filled {
-            core,
-            told,
-            refused,
-        } = site;
-        self.told.push_str(told.as_str())?;
-        self.refused += refused;
-        self.cores.push(core)?;
-        Ok(())
-    }
-}
-
-// The sites of the inputs, numbered from 1.
-fn sites_of<W: Wait>(rt: &W, alloc: Global, inputs: Vec<Vec<u8>>) -> Result<Sites, RunFault>
-    requires { are_sites (length inputs.items) ≡ true }
-    ensures stand { IfOk result (λ sites. AllStand 1 (length inputs.items) sites.cores.items (bytes_of inputs)) }
-    ensures told { IfOk result (λ sites. string_bytes sites.told ≡ told_from 1 (bytes_of inputs)) }
-    ensures refused { IfOk result (λ sites. sites.refused ≡ refused_in (bytes_of inputs)) }
+// The sites of the inputs, each filled by workers of its own.
+#[tactic(auto, using(crate::proofs::RunLemmas::run_held, crate::proofs::RunLemmas::few_enough))]
+fn filled<G: Gate + Sync, R: Threads + Wait + Sync>(
+    rt: &R,
+    alloc: Global,
+    gate: &G,
+    inputs: &[Vec<u8>],
+) -> Result<Sites, RunFault>
+    requires { are_sites (length inputs.now) ≡ true }
+    ensures filled { IfOk result (AreFilled (length inputs.now) (bytes_of inputs.now)) }
     ensures faults { IfErr result (λ e. e ≢ fault.Usage) }
+    ensures held { IfErr result (RunHeldWhere (G.may_hold gate.now)) }
 {
-    let group = inputs.len() as u16;
-    let mut sites = Sites::none(alloc);
-    let mut number = 0;
-    for input in inputs {
-        number += 1;
-        sites.add(fill(rt, alloc, number, group, &input)?)?;
-    }
+    let sites = fill_sites(rt, alloc, gate, inputs)?;
     Ok(sites)
 }
 
 // Settles the sites. A refusal is told by its number.
+#[tactic(auto, using(sct_workers::proofs::Holding::delta_no_gate))]
 fn settle_all(alloc: Global, cores: &mut [SiteCore]) -> Result<(), WorkFault>
-    ensures { OnOk result (AreSettled cores.old cores.new) }
+    ensures settled { OnOk result (AreSettled cores.old cores.new) }
+    ensures held { IfErr result (HeldWhere (λ point. ⊥)) }
 {
     settle(alloc, cores)?;
     Ok(())
@@ -105,11 +66,13 @@ fn first_status(alloc: Global, cores: &[SiteCore]) -> Result<Vec<u8>, RunFault>
 }
 
 // Settles the sites, and answers the status text of what the first of them then holds.
+#[tactic(auto, using(crate::proofs::RunLemmas::run_held))]
 fn settled_status(alloc: Global, cores: &mut [SiteCore]) -> Result<Vec<u8>, RunFault>
     requires { 0 < length cores.old }
     ensures settled { OnOk result (AreSettled cores.old cores.new) }
     ensures text { IfOk result (λ text. text.items ≡ status_text_of (messages_of (core_in cores.new 0).arrivals)) }
     ensures faults { IfErr result (λ e. e ≢ fault.Usage) }
+    ensures held { IfErr result (RunHeldWhere (λ point. ⊥)) }
 {
     settle_all(alloc, cores)?;
     first_status(alloc, cores)
@@ -120,19 +83,26 @@ fn no_order_matters()
     ensures { NoOrderMatters }
 {}
 
-/// Fills one site from each input, numbered from 1, through a desk that is closed when all is taken; settles the sites; and
-/// answers the status text of what they then hold: of all that is read from any of the inputs, whatever their order. Each
-/// line that tells a refused line begins with the number of its input, as in `file 2 line 1: 31`. 64 Usage exactly where the
-/// inputs are not 1 to 16; 65 Memory; 66 Refused where a desk does not open or close, or the sites cannot be settled.
-pub fn run_sites<W: Wait>(
-    rt: &W,
+/// Fills one site from each input, numbered from 1, side by side: each by workers on threads of its own, through a desk that
+/// is closed with all their receipts. Then the sites are settled, and the status text of what they hold is answered: of all
+/// that is read from any of the inputs, whatever their order, however the threads are scheduled and whatever came through
+/// their channels. Each line that tells a refused line begins with the number of its input, as in `file 2 line 1: 31`.
+///
+/// 64 Usage exactly where the inputs are not 1 to 16. Else, once all workers have ended: 67 NoWorker where there was no
+/// thread, then 65 Memory, then 61 Held where the gate held a worker, then 66 Refused with the least number; then where a
+/// desk is not closed (66), site by site, and where the sites cannot be settled.
+#[tactic(auto, using(crate::proofs::RunLemmas::run_no_gate))]
+pub fn run_sites<G: Gate + Sync, R: Threads + Wait + Sync>(
+    rt: &R,
     alloc: Global,
+    gate: &G,
     inputs: Vec<Vec<u8>>,
 ) -> Result<RunAnswer, RunFault>
-    ensures status { IfOk result (λ answer. answer.status.items ≡ status_text_of (set_of_all (bytes_of inputs))) }
-    ensures told { IfOk result (λ answer. string_bytes answer.told ≡ told_from 1 (bytes_of inputs)) }
-    ensures refused { IfOk result (λ answer. answer.refused ≡ refused_in (bytes_of inputs)) }
+    ensures status { IfOk result (λ answer. answer.status.items ≡ status_text_of (set_of_all (bytes_of inputs.items))) }
+    ensures told { IfOk result (λ answer. string_bytes answer.told ≡ told_from 1 (bytes_of inputs.items)) }
+    ensures refused { IfOk result (λ answer. answer.refused ≡ refused_in (bytes_of inputs.items)) }
     ensures usage { (result ≡ Err fault.Usage) ↔ (are_sites (length inputs.items) ≡ false) }
+    ensures held { IfErr result (RunHeldWhere (G.may_hold gate.now)) }
     ensures any_order { NoOrderMatters }
 {
     no_order_matters();
@@ -143,7 +113,8 @@ pub fn run_sites<W: Wait>(
         mut cores,
         told,
         refused,
-    } = sites_of(rt, alloc, inputs)?;
+    } = filled(rt, alloc, gate, &inputs)?;
+    drop(inputs);
     let status = settled_status(alloc, &mut cores)?;
     Ok(RunAnswer {
         status,

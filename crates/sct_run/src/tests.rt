@@ -3,8 +3,10 @@ mod inputs;
 
 use crate::*;
 use inputs::{ROWS, Row};
+use sct_workers::FreeGate;
 use std::alloc::{AllocError, Global};
 use std::sync::Wait;
+use std::thread::Threads;
 
 // The inputs, each as bytes of its own.
 fn owned(alloc: Global, inputs: &[&[u8]]) -> Result<Vec<Vec<u8>>, AllocError> {
@@ -16,11 +18,11 @@ fn owned(alloc: Global, inputs: &[&[u8]]) -> Result<Vec<Vec<u8>>, AllocError> {
 }
 
 // A run of the inputs answers what the row says.
-fn fits(rt: &impl Wait, alloc: Global, row: &Row) -> bool {
+fn fits<R: Threads + Wait + Sync>(rt: &R, alloc: Global, row: &Row) -> bool {
     let Ok(inputs) = owned(alloc, row.inputs) else {
         return false;
     };
-    let Ok(answer) = run_sites(rt, alloc, inputs) else {
+    let Ok(answer) = run_sites(rt, alloc, &FreeGate, inputs) else {
         return false;
     };
     answer.status.as_slice() == row.status
@@ -36,12 +38,16 @@ fn brings_inputs_to_one_answer(rt: HostRuntime) {
 }
 
 // What becomes of so many empty inputs.
-fn fault_of(rt: &impl Wait, alloc: Global, count: usize) -> Result<Option<RunFault>, AllocError> {
+fn fault_of<R: Threads + Wait + Sync>(
+    rt: &R,
+    alloc: Global,
+    count: usize,
+) -> Result<Option<RunFault>, AllocError> {
     let mut inputs = Vec::new(alloc);
     for _ in 0..count {
         inputs.push(Vec::new(alloc))?;
     }
-    Ok(run_sites(rt, alloc, inputs).err())
+    Ok(run_sites(rt, alloc, &FreeGate, inputs).err())
 }
 
 #[test]
