@@ -4,4 +4,5 @@ mod AgainLemmas
 mod CommandLineLemmas
 mod PieceLemmas
 mod Prefixes
+mod RunFaults
 mod Values

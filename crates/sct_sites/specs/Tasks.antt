@@ -1,7 +1,8 @@
 -- What is to be done once the files are read that the command line names, and what a run then writes. Read by an auditor.
 use Rattle.std.specs.Prelude.{ℕ, ◌≡◌, List, [], length, Option, Some, None, IfSome, Result, Ok, Err, string_bytes}
-use Rattle.sct_run.specs.Runs.{bytes_of, refused_in, set_of_all, told_from}
+use Rattle.sct_run.specs.Runs.{set_of_all}
 use Rattle.sct_view.specs.StatusText.{status_text_of}
+use Rattle.sct_workers.specs.Files.{bytes_of, refused_in, told_from}
 use Rattle.sct_sites.specs.declared.engine.Job.{Job}
 use Rattle.sct_sites.specs.declared.engine.Job.TheVariants.{Report}
 use Rattle.sct_sites.specs.declared.ending.Ending.{Ending}
@@ -49,7 +50,7 @@ IsPrepared request (Err fault) = EndsFilesOf request fault
 -- that are read from the inputs; or the help
 abbrev pub out_text_of : Task → Option (List ℕ) → Option (List ℕ)
 out_text_of (Work job) input = job_text_if_told job input
-out_text_of (Settle inputs) input = Some (status_text_of (set_of_all (bytes_of inputs)))
+out_text_of (Settle inputs) input = Some (status_text_of (set_of_all (bytes_of inputs.items)))
 out_text_of (Help text) input = Some (string_bytes text)
 out_text_of (Mistake text) input = Some []
 
@@ -57,14 +58,14 @@ out_text_of (Mistake text) input = Some []
 -- where there are files
 abbrev pub refusals_text_of : Task → Option (List ℕ) → Option (List ℕ)
 refusals_text_of (Work job) input = told_text_if_told job input
-refusals_text_of (Settle inputs) input = Some (told_from 1 (bytes_of inputs))
+refusals_text_of (Settle inputs) input = Some (told_from 1 (bytes_of inputs.items))
 refusals_text_of (Help text) input = Some []
 refusals_text_of (Mistake text) input = Some []
 
 -- how a task ends that meets no fault: with the number of the refused lines, where the input is known
 abbrev pub IsEndingOf : Task → Option (List ℕ) → Ending → Type 0
 IsEndingOf (Work job) input (Done done) = IfSome input (λ bytes. done.refused ≡ refused_of job bytes)
-IsEndingOf (Settle inputs) input (Done done) = done.refused ≡ refused_in (bytes_of inputs)
+IsEndingOf (Settle inputs) input (Done done) = done.refused ≡ refused_in (bytes_of inputs.items)
 IsEndingOf (Help text) input Helped = Unit {0}
 IsEndingOf (Mistake text) input (Mistaken told) = told ≡ text
 IsEndingOf _ _ _ = ⊥
@@ -81,9 +82,8 @@ abbrev pub LeavesInput : Task → Type 0
 LeavesInput (Work job) = ⊥
 LeavesInput _ = Unit {0}
 
--- what may end the settling of inputs
+-- what may end the settling of inputs; no gate holds a worker back (61)
 abbrev pub EndsSettling : ProgramFault → Type 0
-EndsSettling fault.Held = Unit {0}
 EndsSettling fault.Write = Unit {0}
 EndsSettling fault.Usage = Unit {0}
 EndsSettling fault.Memory = Unit {0}
