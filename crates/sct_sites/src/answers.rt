@@ -22,21 +22,25 @@ use std::alloc::Global;
 use std::sync::Arc;
 use std::thread::Threads;
 
-// The view of the messages.
-fn view_of(alloc: Global, messages: Vec<Arc<Message>>) -> Result<View, ProgramFault>
+// The view of the messages, whose transfers are evaluated in as many threads as there are processors.
+fn view_of<T: Threads + Sync>(
+    rt: &T,
+    alloc: Global,
+    messages: Vec<Arc<Message>>,
+) -> Result<View, ProgramFault>
     ensures held { IfOk result (λ view. view ≡ contents_of (messages_in messages.items)) }
     ensures memory { IfErr result (λ e. e ≡ fault.Memory) }
 {
     let archive = archive_of(alloc, messages)?;
-    Ok(View::of(alloc, archive)?)
+    Ok(View::of_in_parts(rt, alloc, archive)?)
 }
 
-// The status text of a view.
-fn status_text_of(view: &View) -> Result<Vec<u8>, ProgramFault>
-    ensures text { IfOk result (λ text. text.items ≡ status_text_of view.now) }
+// The status text of a view, in pieces.
+fn status_pieces_of<T: Threads + Sync>(rt: &T, view: &View) -> Result<Vec<Vec<u8>>, ProgramFault>
+    ensures text { IfOk result (λ pieces. joined pieces.items ≡ status_text_of view.now) }
     ensures memory { IfErr result (λ e. e ≡ fault.Memory) }
 {
-    Ok(view.status_text()?)
+    Ok(view.status_text_in_pieces(rt)?)
 }
 
 // The totals text of a view.
@@ -63,22 +67,30 @@ fn report_text_of<T: Threads + Sync>(
     Ok(report.write()?)
 }
 
-// The status text of the set of some messages, which may stand in any order and more than once. Only want of memory
-// is a fault.
-fn status_text(alloc: Global, messages: Vec<Arc<Message>>) -> Result<Vec<u8>, ProgramFault>
-    ensures text { IfOk result (λ text. text.items ≡ status_text_of (contents_of (messages_in messages.items))) }
+// The status text of the set of some messages, which may stand in any order and more than once, in pieces. Only want of
+// memory is a fault.
+fn status_pieces<T: Threads + Sync>(
+    rt: &T,
+    alloc: Global,
+    messages: Vec<Arc<Message>>,
+) -> Result<Vec<Vec<u8>>, ProgramFault>
+    ensures text { IfOk result (λ pieces. joined pieces.items ≡ status_text_of (contents_of (messages_in messages.items))) }
     ensures memory { IfErr result (λ e. e ≡ fault.Memory) }
 {
-    let view = view_of(alloc, messages)?;
-    status_text_of(&view)
+    let view = view_of(rt, alloc, messages)?;
+    status_pieces_of(rt, &view)
 }
 
 // The totals text of the same set. Only want of memory is a fault.
-fn totals_text(alloc: Global, messages: Vec<Arc<Message>>) -> Result<Vec<u8>, ProgramFault>
+fn totals_text<T: Threads + Sync>(
+    rt: &T,
+    alloc: Global,
+    messages: Vec<Arc<Message>>,
+) -> Result<Vec<u8>, ProgramFault>
     ensures text { IfOk result (λ text. text.items ≡ totals_text_of (contents_of (messages_in messages.items))) }
     ensures memory { IfErr result (λ e. e ≡ fault.Memory) }
 {
-    let view = view_of(alloc, messages)?;
+    let view = view_of(rt, alloc, messages)?;
     totals_text_of(&view)
 }
 
@@ -95,7 +107,7 @@ fn report_text<T: Threads + Sync>(
         ≡ report_text_of (report_of (contents_of (messages_in messages.items)) bank.now day.now list.now)) }
     ensures memory { IfErr result (λ e. e ≡ fault.Memory) }
 {
-    let view = view_of(alloc, messages)?;
+    let view = view_of(rt, alloc, messages)?;
     report_text_of(rt, alloc, &view, bank, day, list)
 }
 
@@ -146,11 +158,11 @@ fn asked_pieces<T: Threads + Sync>(
 {
     let text = match question {
         Question::Archive => return archive_pieces(rt, alloc, messages),
-        Question::Status => status_text(alloc, messages)?,
-        Question::Totals => totals_text(alloc, messages)?,
+        Question::Status => return status_pieces(rt, alloc, messages),
+        Question::Totals => totals_text(rt, alloc, messages)?,
         Question::Report { bank, day, list } => {
             report_text(rt, alloc, messages, bank, day, list)?
-        },
+        }
     };
     one_piece(alloc, text)
 }
