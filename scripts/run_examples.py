@@ -89,9 +89,9 @@ def long_list(folder):
     return case(f"report on {ROWS} rows", ["report", "BANKDEFF", "2024-05-02", str(path)], data.encode(), text.encode(), b"")
 
 
-def long_input():
-    """Made-up messages, with blank lines and refused ones between them."""
-    words = [sys.executable, TOP / "scripts" / "generate_messages.py", str(LONG)]
+def long_input(messages=LONG):
+    """So many made-up messages, with blank lines and refused ones between them."""
+    words = [sys.executable, TOP / "scripts" / "generate_messages.py", str(messages)]
     lines = subprocess.run(words, capture_output=True, text=True, check=True).stdout.splitlines()
     for place in range(0, len(lines), 37):
         lines[place] += ["\nfoo", "\r\n", "\n \t\r\n{}"][place % 3]
