@@ -1,5 +1,6 @@
 """run_examples.py: runs the program on each example of examples/, on bad lists, on a list of 5,000 rows, on a longer input on 1,
-2, 4 and 8 processors, on sixteen files of it, and on two small files 200 times, and fails where an output differs.
+2, 4 and 8 processors, on sixteen files of it, and on two small files 200 times, and fails where an output differs; and a test in
+which three threads share a desk, 100 times.
 
 An example NAME.jsonl is a list of messages, and NAME.script a script. NAME.COMMAND is what that command must write to
 standard output, and NAME.refused what it must write to standard error. NAME.site1, NAME.site2 and so on are lists of messages
@@ -13,9 +14,11 @@ scripts/reference_status.py, from the definitions alone, and is the same on any 
 as many as there are). Its lines in turn are sixteen files, of which `run` must answer the same status text, again on any number of
 processors. The two small files are taken at two sites side by side: the answer must be one, however these are scheduled.
 
+The test `desk_shared` of crates/sct_desk, as `rt test` and the gate leave it there, must pass each time and say the same.
+
 Usage: run_examples.py [PROGRAM]   (else the program that `rt run` and the gate leave in crates/sct_sites/out)
 """
-import collections, os, pathlib, subprocess, sys, tempfile
+import collections, os, pathlib, shutil, subprocess, sys, tempfile
 import reference_status
 
 TOP = pathlib.Path(__file__).resolve().parent.parent
@@ -27,6 +30,7 @@ LONG = 2000  # messages: about a megabyte, which is read in several parts
 ROWS = 5000
 FILES = 16
 TIMES = 200
+DESKS = 100
 
 # what stands behind the header of lists that are none, and the number of the first bad record
 BAD_LISTS = [('BANKDEFF,"T""1",10,ACCEPTED\n', 2), ('BANKDEFF,T1,10,PENDING\nBANKDEFF,"T\n1",10,ACCEPTED\n', 3),
@@ -153,6 +157,18 @@ def fits(program, one, processors, times=1):
     return right
 
 
+def is_shared_alike():
+    """Whether the test of a desk that three threads share passes each time, with one output."""
+    tests = TOP / "crates" / "sct_desk" / "out" / "sct_desk_tests"
+    if not tests.is_file():
+        sys.exit(f"run_examples: there are no tests {tests}; `rt test` in crates/sct_desk makes them")
+    runner = pathlib.Path(os.path.realpath(shutil.which("rt"))).with_name("rattle-test")
+    told = [subprocess.run([runner, "--filter", "desk_shared", tests], capture_output=True, text=True) for _ in range(DESKS)]
+    right = all(it.returncode == 0 and "1 passed" in it.stdout for it in told) and len({it.stdout for it in told}) == 1
+    print(f"three threads at a desk, {DESKS} times: {'ok' if right else 'DIFFERS'}", flush=True)
+    return right
+
+
 def main():
     program = os.path.abspath(sys.argv[1] if len(sys.argv) > 1 else TOP / "crates" / "sct_sites" / "out" / "sct_sites")
     if not os.path.isfile(program):
@@ -162,6 +178,7 @@ def main():
         right.append(fits(program, two_files(folder), PROCESSORS[-1], TIMES))
         long = [*long_cases(), sixteen_files(folder)]
         right += [fits(program, one, processors) for processors in PROCESSORS for one in long]
+    right.append(is_shared_alike())
     print(f"examples: {sum(right)} passed, {len(right) - sum(right)} failed")
     sys.exit(0 if all(right) else 1)
 
