@@ -94,9 +94,7 @@ fn close_one<W: Wait + Abort>(rt: &W, alloc: Global, lost: bool) -> Result<SiteC
 
 #[test]
 fn a_desk_gives_its_core(rt: HostRuntime) {
-    let core = close_one(&rt, rt.alloc(), false)
-        .ok()
-        .expect(&rt, "a core");
+    let core = close_one(&rt, rt.alloc(), false).ok().expect(&rt, "a core");
     assert_eq!(rt; core.arrivals().len(), 1);
 }
 
