@@ -1,16 +1,20 @@
-"""refuse_memory.py: runs the program in less memory than it wants, and fails where it answers anything but the right text or 65.
+"""refuse_memory.py: runs the program in less memory than it wants, and fails where it answers anything but the right text or what
+tells that memory, a thread or a place is wanting.
 
 The input is of made-up messages, blank lines and refused ones, which threads read, evaluate and write. `status` and `archive` run
 on it in address spaces that grow by STEP bytes up to MOST. In the small ones no thread has room for its stack, in the others
 some thread, or some allocation in one of several, is refused, and which one is theirs to settle; in the largest there is room
 for all. A run must write the right text, which scripts/reference_status.py tells from the definitions alone, or nothing but
-`fault 65`, and then end with 3.
+`fault 65`, and then end with 3. The two small files of scripts/run_examples.py are taken by `run` in the same way, in address spaces
+that grow by SMALL_STEP up to SMALL_MOST: here `fault 67` may come too, where there is no thread for a worker, and `fault 66 52` where
+a desk has no place for its query, each with 2.
 
-The last line is 'N passed, M failed', and the exit status is 0 where runs of each command ended in either way and none in another.
+The last line is 'N passed, M failed', and the exit status is 0 where runs of each command wrote the right text, others did not, and
+none ended in another way.
 
 Usage: refuse_memory.py [PROGRAM]   (else the program that `rt run` and the gate leave in crates/sct_sites/out)
 """
-import os, pathlib, resource, subprocess, sys
+import collections, os, pathlib, resource, subprocess, sys, tempfile
 import reference_status
 import run_examples
 
@@ -18,39 +22,50 @@ TOP = pathlib.Path(__file__).resolve().parent.parent
 MESSAGES = 8_000
 STEP = 1 << 23
 MOST = 3 << 28
+SMALL_STEP = 1 << 20
+SMALL_MOST = 1 << 27
+WANTING = (b"", b"fault 65\n", 3)
+NO_WORKER = (b"", b"fault 67\n", 2)
+NO_PLACE = (b"", b"fault 66 52\n", 2)
 
 
-def ran(program, command, data, room):
+def ran(program, words, data, room):
     """What the program writes and ends with in an address space of so many bytes."""
     limit = lambda: resource.setrlimit(resource.RLIMIT_AS, (room, room))
-    done = subprocess.run([program, command], input=data, capture_output=True, preexec_fn=limit)
+    done = subprocess.run([program, *words], input=data, capture_output=True, preexec_fn=limit)
     return done.stdout, done.stderr, done.returncode
 
 
-def tried(program, command, data):
-    """How many runs of a command wrote the right text, how many ended with 65, and how many with anything else."""
-    text, refused, _ = reference_status.answer(command, data)
-    right, wanting, others = (text.encode(), refused.encode(), 1), (b"", b"fault 65\n", 3), 0
-    counts = {right: 0, wanting: 0}
-    for room in range(STEP, MOST + STEP, STEP):
-        answer = ran(program, command, data, room)
-        if answer in counts:
-            counts[answer] += 1
-        else:
-            others += 1
-            print(f"{command} in {room} bytes: {answer[0][:80]!r}, {answer[1][-80:]!r}, status {answer[2]}")
-    return counts[right], counts[wanting], others
+def tried(program, words, data, right, wanting, rooms):
+    """How many runs in these address spaces ended as they may, and how many failed: the right text must come, and come not always."""
+    counts = collections.Counter(ran(program, words, data, room) for room in rooms)
+    others = {answer: count for answer, count in counts.items() if answer not in (right, *wanting)}
+    for text, told, status in others:
+        print(f"{words[0]}: {text[:80]!r}, {told[-80:]!r}, status {status}")
+    short = sum(counts[answer] for answer in wanting)
+    print(f"{words[0]}: {counts[right]} runs with the right text, {short} in want, {sum(others.values())} in another way", flush=True)
+    return counts[right] + short, sum(others.values()) + (not counts[right]) + (not short)
+
+
+def tries(program):
+    """The numbers of each command."""
+    data = run_examples.long_input(MESSAGES)
+    for command in ["status", "archive"]:
+        text, refused, _ = reference_status.answer(command, data)
+        right = (text.encode(), refused.encode(), 1)
+        yield tried(program, [command], data, right, [WANTING], range(STEP, MOST + STEP, STEP))
+    with tempfile.TemporaryDirectory() as folder:
+        run = run_examples.two_files(folder)
+        rooms = range(STEP, SMALL_MOST + SMALL_STEP, SMALL_STEP)
+        yield tried(program, run.words, b"", (run.text, b"", 0), [WANTING, NO_WORKER, NO_PLACE], rooms)
 
 
 def main():
     program = os.path.abspath(sys.argv[1] if len(sys.argv) > 1 else TOP / "crates" / "sct_sites" / "out" / "sct_sites")
     if not os.path.isfile(program):
         sys.exit(f"refuse_memory: there is no program {program}; `rt run` in crates/sct_sites makes it")
-    data, passed, failed = run_examples.long_input(MESSAGES), 0, 0
-    for command in ["status", "archive"]:
-        right, wanting, others = tried(program, command, data)
-        print(f"{command}: {right} runs with the right text, {wanting} ended with 65, {others} in another way", flush=True)
-        passed, failed = passed + right + wanting, failed + others + (not right) + (not wanting)
+    numbers = list(tries(program))
+    passed, failed = sum(ended for ended, _ in numbers), sum(others for _, others in numbers)
     print(f"{passed} passed, {failed} failed")
     sys.exit(1 if failed else 0)
 
