@@ -1,7 +1,9 @@
 -- The lemmas behind the JSON form.
+pub mod Beside
 pub mod Bytes
 pub mod Extra
 pub mod Forms
+pub mod KeyTables
 pub mod NameRule
 pub mod Names
 pub mod Ordered

@@ -1,6 +1,8 @@
 -- The keys of the JSON form (short names of ISO 20022), and those of each kind. Read by an auditor.
-use Rattle.std.specs.Prelude.{ℕ, List, [], ◌∷◌, ◌||◌, Bool, codes}
+use Rattle.std.specs.Prelude.{ℕ, List, [], ◌∷◌, ◌||◌, Bool, false, codes, if◌then◌else◌}
 use Rattle.std.specs.List.{list_any}
+use Rattle.std.specs.Ordering.{nat_cmp, is_lt}
+use Rattle.std.specs.Cmp.Lexicographic.{slice_cmp}
 use Rattle.sct_message.specs.declared.kinds.Kind.{Kind}
 use Rattle.sct_message.specs.declared.kinds.Kind.TheVariants.{Camt029, Camt056, Pacs002, Pacs004, Pacs008, Pacs028}
 use Rattle.sct_element.specs.Text.{is_text}
@@ -78,6 +80,16 @@ resolution_keys = CxlStsId ∷ OrgnlCxlId ∷ Conf ∷ Rsn ∷ DbtrAgt ∷ []
 -- a name is the text of one of these keys
 unfoldable pub is_among : List Key → List ℕ → Bool
 is_among keys name = list_any (λ key. is_text name (key_text key)) keys
+
+-- what is left of the keys from the first that does not stand before the name by its bytes
+abbrev pub keys_from : List ℕ → List Key → List Key
+keys_from name [] = []
+keys_from name (key ∷ keys) = if is_lt (slice_cmp nat_cmp (key_text key) name) then keys_from name keys else key ∷ keys
+
+-- the name is the text of the first of the keys
+abbrev pub is_first : List ℕ → List Key → Bool
+is_first name [] = false
+is_first name (key ∷ keys) = is_text name (key_text key)
 
 -- the keys that a message of a kind may have
 abbrev pub is_key_of : Kind → List ℕ → Bool

@@ -1,7 +1,5 @@
 //! pacs.008: a credit transfer.
 ghost use Rattle.std.specs.Prelude.{◌≡◌, OnOk};
-ghost use Rattle.sct_message.specs.declared.kinds.Kind.TheVariants.{Pacs008};
-ghost use Rattle.sct_json.specs.Keys.{is_key_of};
 ghost use Rattle.serde_json.specs.View.{view};
 ghost use Rattle.sct_json.specs.Reading.{Gives, credit_transfer_in};
 ghost use Rattle.sct_json.specs.Line.{with_line, credit_transfer_line, Writes};
@@ -9,9 +7,9 @@ ghost use Rattle.sct_json.specs.Writing.{CreditTransferReadsBack};
 
 use crate::faults::JsonFault;
 use crate::head;
-use crate::keys::{Key, is_among};
+use crate::keys::Key;
 use crate::members::{may_read_back, optional, put, put_optional, reads_back, required};
-use crate::tables::{has_key, own_key, read_back_member, read_back_table, read_member, read_table};
+use crate::tables::{read_back_member, read_back_table, read_member, read_table};
 use json::Writer;
 use sct_message::CreditTransfer;
 use serde_json::Value;
@@ -48,13 +46,6 @@ pub(crate) fn read(alloc: Global, object: &Value) -> Result<CreditTransfer, Json
     ensures { Gives result (credit_transfer_in (view object.now)) }
 {
     credit_transfer_table!(read_table! { alloc, object })
-}
-
-/// Whether a name is one of these keys.
-pub(crate) fn is_key(name: &str) -> bool
-    ensures { result ≡ is_key_of Pacs008 name.now }
-{
-    credit_transfer_table!(has_key! { name })
 }
 
 /// Writes the members, in the order of the bytes of their keys.

@@ -1,6 +1,10 @@
 //! The keys of the JSON form: short names of ISO 20022 elements.
-ghost use Rattle.std.specs.Prelude.{◌≡◌};
-ghost use Rattle.sct_json.specs.Keys.{key_text, is_among};
+ghost use Rattle.std.specs.Prelude.{◌≡◌, ℕ, List, map};
+ghost use Rattle.sct_message.specs.declared.kinds.Kind.{Kind};
+ghost use Rattle.sct_json.specs.Keys.{key_text, is_among, is_key_of};
+ghost use Rattle.sct_json.specs.Names.{AscendByBytes};
+
+use sct_message::Kind;
 
 /// A key of the JSON form of a message.
 #[derive(Clone, Copy, Debug, PartialEq, Eq)]
@@ -125,10 +129,132 @@ impl Key {
     }
 }
 
-/// Whether a name is the text of one of these keys.
-#[tactic(auto, unfolding(crate::specs::Keys::is_among))]
-pub(crate) fn is_among(keys: &[Key], name: &str) -> bool
-    ensures { result ≡ is_among keys.now name.now }
+/// The keys of a pacs.008, in the order of their bytes.
+static CREDIT_TRANSFER_KEYS: [Key; 22] = [
+    Key::AccptncDtTm,
+    Key::Ccy,
+    Key::Cdtr,
+    Key::CdtrAcct,
+    Key::CdtrAgt,
+    Key::ChrgBr,
+    Key::CreDtTm,
+    Key::Dbtr,
+    Key::DbtrAcct,
+    Key::DbtrAgt,
+    Key::EndToEndId,
+    Key::InstdAgt,
+    Key::InstgAgt,
+    Key::InstrId,
+    Key::IntrBkSttlmAmt,
+    Key::IntrBkSttlmDt,
+    Key::LclInstrm,
+    Key::MsgId,
+    Key::MsgNmId,
+    Key::SvcLvl,
+    Key::TxId,
+    Key::Ustrd,
+];
+
+/// The keys of a pacs.002, in the order of their bytes.
+static STATUS_REPORT_KEYS: [Key; 12] = [
+    Key::CreDtTm,
+    Key::DbtrAgt,
+    Key::InstdAgt,
+    Key::InstgAgt,
+    Key::MsgId,
+    Key::MsgNmId,
+    Key::OrgnlEndToEndId,
+    Key::OrgnlMsgId,
+    Key::OrgnlMsgNmId,
+    Key::OrgnlTxId,
+    Key::Rsn,
+    Key::TxSts,
+];
+
+/// The keys of a pacs.028, in the order of their bytes.
+static STATUS_REQUEST_KEYS: [Key; 11] = [
+    Key::CreDtTm,
+    Key::DbtrAgt,
+    Key::InstdAgt,
+    Key::InstgAgt,
+    Key::MsgId,
+    Key::MsgNmId,
+    Key::OrgnlCxlId,
+    Key::OrgnlEndToEndId,
+    Key::OrgnlMsgId,
+    Key::OrgnlMsgNmId,
+    Key::OrgnlTxId,
+];
+
+/// The keys of a camt.056, in the order of their bytes.
+static CANCELLATION_REQUEST_KEYS: [Key; 15] = [
+    Key::Ccy,
+    Key::CreDtTm,
+    Key::CxlId,
+    Key::DbtrAgt,
+    Key::InstdAgt,
+    Key::InstgAgt,
+    Key::MsgId,
+    Key::MsgNmId,
+    Key::OrgnlEndToEndId,
+    Key::OrgnlIntrBkSttlmAmt,
+    Key::OrgnlIntrBkSttlmDt,
+    Key::OrgnlMsgId,
+    Key::OrgnlMsgNmId,
+    Key::OrgnlTxId,
+    Key::Rsn,
+];
+
+/// The keys of a pacs.004, in the order of their bytes.
+static PAYMENT_RETURN_KEYS: [Key; 17] = [
+    Key::Ccy,
+    Key::CreDtTm,
+    Key::DbtrAgt,
+    Key::InstdAgt,
+    Key::InstgAgt,
+    Key::IntrBkSttlmDt,
+    Key::MsgId,
+    Key::MsgNmId,
+    Key::OrgnlCxlId,
+    Key::OrgnlEndToEndId,
+    Key::OrgnlIntrBkSttlmAmt,
+    Key::OrgnlMsgId,
+    Key::OrgnlMsgNmId,
+    Key::OrgnlTxId,
+    Key::Rsn,
+    Key::RtrId,
+    Key::RtrdIntrBkSttlmAmt,
+];
+
+/// The keys of a camt.029, in the order of their bytes.
+static RESOLUTION_KEYS: [Key; 14] = [
+    Key::Conf,
+    Key::CreDtTm,
+    Key::CxlStsId,
+    Key::DbtrAgt,
+    Key::InstdAgt,
+    Key::InstgAgt,
+    Key::MsgId,
+    Key::MsgNmId,
+    Key::OrgnlCxlId,
+    Key::OrgnlEndToEndId,
+    Key::OrgnlMsgId,
+    Key::OrgnlMsgNmId,
+    Key::OrgnlTxId,
+    Key::Rsn,
+];
+
+/// The keys of a kind, in the order of their bytes.
+pub(crate) fn keys_of(kind: Kind) -> &'static [Key]
+    ensures ascend { AscendByBytes (map key_text result.now) }
+    ensures all { (name : List ℕ) → is_among result.now name ≡ is_key_of kind name }
 {
-    keys.iter().any(|key| name == key.text())
+    match kind {
+        Kind::Pacs008 => &CREDIT_TRANSFER_KEYS,
+        Kind::Pacs002 => &STATUS_REPORT_KEYS,
+        Kind::Pacs028 => &STATUS_REQUEST_KEYS,
+        Kind::Camt056 => &CANCELLATION_REQUEST_KEYS,
+        Kind::Pacs004 => &PAYMENT_RETURN_KEYS,
+        Kind::Camt029 => &RESOLUTION_KEYS,
+    }
 }

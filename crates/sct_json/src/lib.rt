@@ -7,6 +7,7 @@
 mod cancellation_request;
 mod credit_transfer;
 mod elements;
+mod extra_key;
 mod faults;
 mod head;
 mod keys;

@@ -1,12 +1,10 @@
 //! From the bytes of an object to its message.
-ghost use Rattle.std.specs.Prelude.{◌≡◌, find, not, is_some, string_bytes};
-ghost use Rattle.std.specs.Option.{option_copied};
-ghost use Rattle.std.specs.BTreeMap.{keys};
+ghost use Rattle.std.specs.Prelude.{◌≡◌};
 ghost use Rattle.serde_json.specs.View.{view, members_view};
-ghost use Rattle.sct_json.specs.Keys.{is_key_of};
-ghost use Rattle.sct_json.specs.Reading.{Gives, GivesWhere, has_free_texts, draft_in, kind_in, first_extra, passes_unless, message_in_whole, object_in, message_in};
+ghost use Rattle.sct_json.specs.Reading.{Gives, GivesWhere, has_free_texts, draft_in, kind_in, message_in_whole, object_in, message_in};
 
-use crate::faults::{ExtraKey, JsonFault};
+use crate::extra_key::refuse_extra;
+use crate::faults::JsonFault;
 use crate::keys::Key;
 use crate::{
     cancellation_request, credit_transfer, payment_return, resolution, status_report,
@@ -35,42 +33,6 @@ fn read_draft(alloc: Global, kind: Kind, object: &Value) -> Result<Draft, JsonFa
         Kind::Camt056 => Ok(Draft::CancellationRequest(cancellation_request::read(alloc, object)?)),
         Kind::Pacs004 => Ok(Draft::PaymentReturn(payment_return::read(alloc, object)?)),
         Kind::Camt029 => Ok(Draft::Resolution(resolution::read(alloc, object)?)),
-    }
-}
-
-/// Whether a name is a key of a kind.
-fn is_key_of(kind: Kind, name: &str) -> bool
-    ensures { result ≡ is_key_of kind name.now }
-{
-    match kind {
-        Kind::Pacs008 => credit_transfer::is_key(name),
-        Kind::Pacs002 => status_report::is_key(name),
-        Kind::Pacs028 => status_request::is_key(name),
-        Kind::Camt056 => cancellation_request::is_key(name),
-        Kind::Pacs004 => payment_return::is_key(name),
-        Kind::Camt029 => resolution::is_key(name),
-    }
-}
-
-/// The first name of an object, in the order of the names' bytes, that is no key of a kind.
-fn first_other(kind: Kind, object: &Map<String, Value>) -> Option<&String>
-    ensures { option_copied result
-        ≡ find (λ name. not (is_key_of kind (string_bytes name))) (keys object.now) }
-{
-    object.keys().find(|name| !is_key_of(kind, name.as_str()))
-}
-
-/// Refuses an object with a key that is none of its kind.
-fn refuse_extra(alloc: Global, kind: Kind, object: &Map<String, Value>) -> Result<(), JsonFault>
-    ensures { let extra = first_extra kind (members_view object.now.entries) in
-        GivesWhere (is_some extra) result (passes_unless extra) }
-{
-    match first_other(kind, object) {
-        None => Ok(()),
-        Some(name) => match ExtraKey::of(alloc, name.as_str()) {
-            Ok(extra) => Err(JsonFault::Extra(extra)),
-            Err(_) => Err(JsonFault::Memory),
-        },
     }
 }
 

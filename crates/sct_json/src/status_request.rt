@@ -1,16 +1,14 @@
 //! pacs.028: a question after the status of a transfer or of a recall.
 ghost use Rattle.std.specs.Prelude.{◌≡◌, OnOk};
-ghost use Rattle.sct_message.specs.declared.kinds.Kind.TheVariants.{Pacs028};
-ghost use Rattle.sct_json.specs.Keys.{is_key_of};
 ghost use Rattle.serde_json.specs.View.{view};
 ghost use Rattle.sct_json.specs.Reading.{GivesWithoutMemory, status_request_in};
 ghost use Rattle.sct_json.specs.Line.{with_line, status_request_line, Writes};
 ghost use Rattle.sct_json.specs.Writing.{StatusRequestReadsBack};
 
 use crate::faults::JsonFault;
-use crate::keys::{Key, is_among};
+use crate::keys::Key;
 use crate::members::{may_read_back, optional, put, put_optional, reads_back, required};
-use crate::tables::{has_key, own_key, read_back_member, read_back_table, read_member, read_table};
+use crate::tables::{read_back_member, read_back_table, read_member, read_table};
 use crate::{head, original};
 use json::Writer;
 use sct_message::StatusRequest;
@@ -34,13 +32,6 @@ pub(crate) fn read(alloc: Global, object: &Value) -> Result<StatusRequest, JsonF
     ensures { GivesWithoutMemory result (status_request_in (view object.now)) }
 {
     status_request_table!(read_table! { alloc, object })
-}
-
-/// Whether a name is one of these keys.
-pub(crate) fn is_key(name: &str) -> bool
-    ensures { result ≡ is_key_of Pacs028 name.now }
-{
-    status_request_table!(has_key! { name })
 }
 
 /// Writes the members, in the order of the bytes of their keys.

@@ -23,25 +23,6 @@ macro_rules! read_member {
     };
 }
 
-/// Whether a name is a key of a table: of its parts, or of its own keys.
-macro_rules! has_key {
-    ([$name:ident] $record:ident { $($field:ident: $form:ident $key:ident,)* }) => {
-        own_key!($name, [] $($form $key,)*)
-    };
-}
-
-macro_rules! own_key {
-    ($name:ident, [$($own:ident)*]) => {
-        is_among(&[$(Key::$own),*], $name)
-    };
-    ($name:ident, [$($own:ident)*] part $part:ident, $($rest:tt)*) => {
-        $part::is_key($name) || own_key!($name, [$($own)*] $($rest)*)
-    };
-    ($name:ident, [$($own:ident)*] $form:ident $key:ident, $($rest:tt)*) => {
-        own_key!($name, [$($own)* $key] $($rest)*)
-    };
-}
-
 /// Shows of each element of a record that its written form is read as the element.
 macro_rules! read_back_table {
     ([$record:ident] $name:ident { $($field:ident: $form:ident $key:ident,)* }) => {{
@@ -61,8 +42,6 @@ macro_rules! read_back_member {
     };
 }
 
-pub(crate) use has_key;
-pub(crate) use own_key;
 pub(crate) use read_back_member;
 pub(crate) use read_back_table;
 pub(crate) use read_member;

@@ -2,7 +2,7 @@
 use Rattle.std.proofs.Common.{◌≡◌, ◌∙◌, sym, ap, ℕ, List, Option, Some, option_map, is_some, string_bytes}
 use Rattle.sct_json.specs.Reading.{passes_unless}
 use Rattle.sct_json.proofs.Extra.{first_extra_found}
-use Rattle.sct_json.proofs.reading.refuse_extra.Goals as goal
+use Rattle.sct_json.proofs.extra_key.refuse_extra.Goals as goal
 
 pub returns-in-None : goal.returns-in-None
 returns-in-None c = ap passes_unless (first_extra_found c.args.kind c.args.object.now ∙ ap (option_map string_bytes) (sym c.in-None.ensures))

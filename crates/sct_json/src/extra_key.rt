@@ -1,0 +1,66 @@
+//! The extra key that is told of an object. Its names and the keys of its kind stand in one order, so one walk along both finds it.
+ghost use Rattle.std.specs.Prelude.{◌≡◌, find, not, is_some, string_bytes};
+ghost use Rattle.std.specs.Option.{option_copied};
+ghost use Rattle.std.specs.BTreeMap.{keys};
+ghost use Rattle.serde_json.specs.View.{members_view};
+ghost use Rattle.sct_json.specs.Keys.{keys_from, is_first, is_key_of};
+ghost use Rattle.sct_json.specs.Reading.{GivesWhere, first_extra, passes_unless};
+
+use crate::faults::{ExtraKey, JsonFault};
+use crate::keys::{Key, keys_of};
+use sct_message::Kind;
+use serde_json::{Map, Value};
+use std::alloc::Global;
+
+/// What is left of keys from the first that does not stand before a name.
+fn keys_from<'a>(keys: &'a [Key], name: &str) -> &'a [Key]
+    ensures { result.now ≡ keys_from name.now keys.now }
+{
+    let mut rest = keys;
+    while let [key, later @ ..] = rest
+        && key.text() < name
+    {
+        rest = later;
+    }
+    rest
+}
+
+/// Whether a name is the first of keys.
+fn is_first(name: &str, keys: &[Key]) -> bool
+    ensures { result ≡ is_first name.now keys.now }
+{
+    matches!(keys, [key, ..] if name == key.text())
+}
+
+/// The first name of an object, in the order of the names' bytes, that is no key of a kind.
+fn first_other(kind: Kind, object: &Map<String, Value>) -> Option<&String>
+    ensures { option_copied result
+        ≡ find (λ name. not (is_key_of kind (string_bytes name))) (keys object.now) }
+{
+    let mut keys = keys_of(kind);
+    for name in object.keys() {
+        keys = keys_from(keys, name.as_str());
+        if !is_first(name.as_str(), keys) {
+            return Some(name);
+        }
+    }
+    None
+}
+
+/// Refuses an object with a key that is none of its kind.
+pub(crate) fn refuse_extra(
+    alloc: Global,
+    kind: Kind,
+    object: &Map<String, Value>,
+) -> Result<(), JsonFault>
+    ensures { let extra = first_extra kind (members_view object.now.entries) in
+        GivesWhere (is_some extra) result (passes_unless extra) }
+{
+    match first_other(kind, object) {
+        None => Ok(()),
+        Some(name) => match ExtraKey::of(alloc, name.as_str()) {
+            Ok(extra) => Err(JsonFault::Extra(extra)),
+            Err(_) => Err(JsonFault::Memory),
+        },
+    }
+}
