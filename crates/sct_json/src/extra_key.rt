@@ -48,6 +48,7 @@ fn first_other(kind: Kind, object: &Map<String, Value>) -> Option<&String>
 }
 
 /// Refuses an object with a key that is none of its kind.
+#[tactic(auto, using(crate::proofs::Extra::first_extra_found))]
 pub(crate) fn refuse_extra(
     alloc: Global,
     kind: Kind,
