@@ -1,0 +1,138 @@
+"""refuse_allocations.py: runs the program with each of its allocations refused in turn, and fails where it answers anything but the
+right text or what tells that memory, a thread or a place is wanting.
+
+`status` and `archive` run on an example, which has messages of all six kinds and refused lines, and on messages about TRANSFERS
+made-up transfers: enough that threads read, evaluate and write. `run` takes the two small files of scripts/run_examples.py, in
+ROUNDS rounds. scripts/refuse_nth.c, which is preloaded, refuses the allocation of one number, whichever thread makes it, and
+counts all. The first run of a round has none refused; then each number has a run of its own, up to the greatest count that was
+seen. What is allocated to start a thread counts too, also by the C library: where that is refused, the thread is not started.
+
+A run must write the right text with its refused lines, which scripts/reference_status.py tells from the definitions alone. Where an
+allocation was refused it may instead write nothing but `fault 65`, and end with 3; of `run` it may be `fault 67`, where there is no
+thread for a worker, or `fault 66 52`, where a desk has no place for its query, each with 2. A run that lasts SECONDS is stopped and
+has failed. With several threads the allocation of a number is another one from run to run, and there are not always as many: a
+run may end before its number comes, and must then write the right text.
+
+The last line is 'N passed, M failed', and the exit status is 0 where all runs ended as they may and, of each command, several threads
+allocated and some run told what was wanting.
+
+Usage: refuse_allocations.py [PROGRAM]   (else the program that `rt run` and the gate leave in crates/sct_sites/out)
+"""
+import collections, os, pathlib, struct, subprocess, sys, tempfile
+from concurrent.futures import ThreadPoolExecutor
+import reference_status
+import run_examples
+from refuse_memory import NO_PLACE, NO_WORKER, TOP, WANTING
+
+EXAMPLE = run_examples.EXAMPLES / "hub-morning.jsonl"
+TRANSFERS = 256  # fewer are evaluated and written in one part, as fewer bytes than 65,536 are read in one
+ROUNDS = 8
+SECONDS = 20
+LATE = (b"", b"", f"none in {SECONDS} seconds")
+COUNTS = struct.Struct("@LL")
+
+# what is run, in how many rounds, the right answer, and what may be answered where an allocation was refused
+Command = collections.namedtuple("Command", "words input rounds right wanting")
+
+# the number to be refused, what was answered, how many allocations came, and from how many threads
+Run = collections.namedtuple("Run", "number answer allocations threads")
+
+
+def small_input():
+    """An example, and an instruction or a confirmation about each of the made-up transfers."""
+    made_up = [run_examples.instruction(it) if it % 2 else run_examples.confirmation(it) for it in range(TRANSFERS)]
+    return EXAMPLE.read_bytes() + "".join(made_up).encode()
+
+
+def commands(folder):
+    """What is run; the two small files go into the folder."""
+    data = small_input()
+    for word in ["status", "archive"]:
+        text, refused, status = reference_status.answer(word, data)
+        yield Command([word], data, 1, (text.encode(), refused.encode(), status), [WANTING])
+    run = run_examples.two_files(folder)
+    yield Command(run.words, b"", ROUNDS, (run.text, run.refused, run.status), [WANTING, NO_WORKER, NO_PLACE])
+
+
+def refuser(folder):
+    """The library that is preloaded, made in the folder."""
+    path = pathlib.Path(folder, "refuse_nth.so")
+    subprocess.run(["cc", "-O2", "-shared", "-fPIC", "-o", path, TOP / "scripts" / "refuse_nth.c"], check=True)
+    return str(path)
+
+
+def ran(program, preloaded, command, number):
+    """A run in which the allocation with this number is refused; with 0, none."""
+    with tempfile.NamedTemporaryFile() as counts:
+        os.truncate(counts.name, COUNTS.size)
+        words = {"LD_PRELOAD": preloaded, "REFUSE_NUMBER": str(number), "REFUSE_COUNTS": counts.name}
+        try:
+            done = subprocess.run([program, *command.words], input=command.input, capture_output=True, timeout=SECONDS,
+                                  env={**os.environ, **words})
+            answer = (done.stdout, done.stderr, done.returncode)
+        except subprocess.TimeoutExpired:
+            answer = LATE
+        return Run(number, answer, *COUNTS.unpack(counts.read()))
+
+
+def one_round(program, preloaded, command):
+    """A run with no allocation refused, and one with each number up to the greatest count."""
+    runs, most = [], 0
+    with ThreadPoolExecutor(len(os.sched_getaffinity(0))) as pool:
+        while len(runs) <= most:
+            runs += pool.map(lambda number: ran(program, preloaded, command, number), range(len(runs), most + 1))
+            most = max(run.allocations for run in runs)
+    return runs
+
+
+def is_refused(run):
+    """Whether the allocation came that was to be refused."""
+    return 0 < run.number <= run.allocations
+
+
+def mark_of(command, run):
+    """What a run wrote: the right text, or the want that it may tell; None where it failed."""
+    if run.answer == command.right:
+        return "the right text"
+    return run.answer[1].decode().strip() if is_refused(run) and run.answer in command.wanting else None
+
+
+def tell_failures(command, runs):
+    """Prints each answer of runs that failed, how many had it, and which allocation the first of them had refused."""
+    numbers = collections.defaultdict(list)
+    for run in runs:
+        if mark_of(command, run) is None:
+            numbers[run.answer].append(run.number)
+    for (text, errors, status), them in numbers.items():
+        print(f"{command.words[0]}, {len(them)} runs, the first with {them[0]}: {text[:80]!r}, {errors[-80:]!r}, status {status}")
+
+
+def tried(program, preloaded, command):
+    """How many runs of a command ended as they may, and how many failed: several threads must allocate, and some run tell a want."""
+    runs = [run for _ in range(command.rounds) for run in one_round(program, preloaded, command)]
+    marks = collections.Counter(mark_of(command, run) for run in runs)
+    failed = marks.pop(None, 0)
+    wants = sum(marks.values()) - marks["the right text"]
+    threads = min(run.threads for run in runs if run.number == 0)
+    refused = sum(map(is_refused, runs))
+    tell_failures(command, runs)
+    print(f"{command.words[0]}: up to {max(run.allocations for run in runs)} allocations, {threads} threads with none refused")
+    print(f"{command.words[0]}: {refused} runs with one refused, {len(runs) - refused} with none: "
+          + ", ".join(f"{mark} {times}" for mark, times in marks.items()) + f", {failed} in another way", flush=True)
+    return len(runs) - failed, failed + (threads < 2) + (not wants)
+
+
+def main():
+    program = os.path.abspath(sys.argv[1] if len(sys.argv) > 1 else TOP / "crates" / "sct_sites" / "out" / "sct_sites")
+    if not os.path.isfile(program):
+        sys.exit(f"refuse_allocations: there is no program {program}; `rt run` in crates/sct_sites makes it")
+    with tempfile.TemporaryDirectory() as folder:
+        preloaded = refuser(folder)
+        numbers = [tried(program, preloaded, command) for command in commands(folder)]
+    passed, failed = sum(ended for ended, _ in numbers), sum(others for _, others in numbers)
+    print(f"{passed} passed, {failed} failed")
+    sys.exit(1 if failed else 0)
+
+
+if __name__ == "__main__":
+    main()

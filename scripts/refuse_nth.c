@@ -1,0 +1,50 @@
+/* refuse_nth.c: refuses one allocation of a program, and counts all of them. scripts/refuse_allocations.py preloads it.
+ *
+ * It stands before malloc, calloc and realloc of the GNU C library, in all threads. The allocation whose number REFUSE_NUMBER
+ * tells, from 1 in the order in which they come, is answered NULL; where the number is 0, none is. The file REFUSE_COUNTS has room
+ * for two unsigned longs: how many allocations came, and from how many threads. It is mapped, so they stand in it however the
+ * program ends. What the C library allocates by these three counts too, as for the start of a thread; a thread's stack, which it
+ * maps, does not.
+ */
+#include <errno.h>
+#include <fcntl.h>
+#include <stdatomic.h>
+#include <stdlib.h>
+#include <sys/mman.h>
+#include <unistd.h>
+
+extern void *__libc_malloc(size_t size);
+extern void *__libc_calloc(size_t many, size_t size);
+extern void *__libc_realloc(void *old, size_t size);
+
+struct counts {
+    atomic_ulong allocations, threads;
+};
+
+/* Before `begin` there is no number, and the counts go nowhere. */
+static struct counts nowhere, *counts = &nowhere;
+static unsigned long number;
+static __thread int has_allocated __attribute__((tls_model("initial-exec")));
+
+__attribute__((constructor)) static void begin(void) {
+    int file = open(getenv("REFUSE_COUNTS"), O_RDWR);
+    void *mapped = mmap(NULL, sizeof *counts, PROT_READ | PROT_WRITE, MAP_SHARED, file, 0);
+    if (mapped == MAP_FAILED) abort();
+    close(file);
+    counts = mapped;
+    number = strtoul(getenv("REFUSE_NUMBER"), NULL, 10);
+}
+
+static int is_refused(void) {
+    if (!has_allocated) {
+        has_allocated = 1;
+        atomic_fetch_add(&counts->threads, 1);
+    }
+    if (atomic_fetch_add(&counts->allocations, 1) + 1 != number) return 0;
+    errno = ENOMEM; /* pthread_create answers it where its own allocation is refused */
+    return 1;
+}
+
+void *malloc(size_t size) { return is_refused() ? NULL : __libc_malloc(size); }
+void *calloc(size_t many, size_t size) { return is_refused() ? NULL : __libc_calloc(many, size); }
+void *realloc(void *old, size_t size) { return is_refused() ? NULL : __libc_realloc(old, size); }
