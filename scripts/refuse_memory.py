@@ -1,13 +1,14 @@
 """refuse_memory.py: runs the program in less memory than it wants, and fails where it answers anything but the right text or what
 tells that memory, a thread or a place is wanting.
 
-The input is of made-up messages, blank lines and refused ones, which threads read, evaluate and write. `status` and `archive` run
-on it in address spaces that grow by STEP bytes up to MOST. In the small ones no thread has room for its stack, in the others
-some thread, or some allocation in one of several, is refused, and which one is theirs to settle; in the largest there is room
-for all. A run must write the right text, which scripts/reference_status.py tells from the definitions alone, or nothing but
-`fault 65`, and then end with 3. The two small files of scripts/run_examples.py are taken by `run` in the same way, in address spaces
-that grow by SMALL_STEP up to SMALL_MOST: here `fault 67` may come too, where there is no thread for a worker, and `fault 66 52` where
-a desk has no place for its query, each with 2.
+What limits a run is how many bytes it may map to write in, the stacks of its threads included; the limit grows by STEP bytes up to
+MOST. The first thread's own stack is not counted: a process whose first stack may not grow is ended by the system, and can say
+nothing. `status` and `archive` run on made-up messages, blank lines and refused ones, which threads read, evaluate and write. With
+the small limits no thread has room for its stack, with the others some thread, or some allocation in one of several, is refused,
+and which one is theirs to settle; with the largest there is room for all. A run must write the right text, which
+scripts/reference_status.py tells from the definitions alone, or nothing but `fault 65`, and then end with 3. The two small files of
+scripts/run_examples.py are taken by `run` in the same way: here `fault 67` may come too, where there is no thread for a worker, and
+`fault 66 52` where a desk has no place for its query, each with 2.
 
 The last line is 'N passed, M failed', and the exit status is 0 where runs of each command wrote the right text, others did not, and
 none ended in another way.
@@ -20,25 +21,23 @@ import run_examples
 
 TOP = pathlib.Path(__file__).resolve().parent.parent
 MESSAGES = 8_000
-STEP = 1 << 23
-MOST = 3 << 28
-SMALL_STEP = 1 << 20
-SMALL_MOST = 1 << 27
+STEP = 1 << 20
+MOST = 96 << 20
 WANTING = (b"", b"fault 65\n", 3)
 NO_WORKER = (b"", b"fault 67\n", 2)
 NO_PLACE = (b"", b"fault 66 52\n", 2)
 
 
 def ran(program, words, data, room):
-    """What the program writes and ends with in an address space of so many bytes."""
-    limit = lambda: resource.setrlimit(resource.RLIMIT_AS, (room, room))
+    """What the program writes and ends with where it may map so many bytes to write in."""
+    limit = lambda: resource.setrlimit(resource.RLIMIT_DATA, (room, room))
     done = subprocess.run([program, *words], input=data, capture_output=True, preexec_fn=limit)
     return done.stdout, done.stderr, done.returncode
 
 
-def tried(program, words, data, right, wanting, rooms):
-    """How many runs in these address spaces ended as they may, and how many failed: the right text must come, and come not always."""
-    counts = collections.Counter(ran(program, words, data, room) for room in rooms)
+def tried(program, words, data, right, wanting):
+    """How many runs with these limits ended as they may, and how many failed: the right text must come, and come not always."""
+    counts = collections.Counter(ran(program, words, data, room) for room in range(STEP, MOST + STEP, STEP))
     others = {answer: count for answer, count in counts.items() if answer not in (right, *wanting)}
     for text, told, status in others:
         print(f"{words[0]}: {text[:80]!r}, {told[-80:]!r}, status {status}")
@@ -53,11 +52,10 @@ def tries(program):
     for command in ["status", "archive"]:
         text, refused, _ = reference_status.answer(command, data)
         right = (text.encode(), refused.encode(), 1)
-        yield tried(program, [command], data, right, [WANTING], range(STEP, MOST + STEP, STEP))
+        yield tried(program, [command], data, right, [WANTING])
     with tempfile.TemporaryDirectory() as folder:
         run = run_examples.two_files(folder)
-        rooms = range(STEP, SMALL_MOST + SMALL_STEP, SMALL_STEP)
-        yield tried(program, run.words, b"", (run.text, b"", 0), [WANTING, NO_WORKER, NO_PLACE], rooms)
+        yield tried(program, run.words, b"", (run.text, b"", 0), [WANTING, NO_WORKER, NO_PLACE])
 
 
 def main():
