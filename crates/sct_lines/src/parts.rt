@@ -21,6 +21,30 @@ fn count_feeds(text: &[u8]) -> u64
     text.iter().filter(|byte| **byte == b'\n').count() as u64
 }
 
+// The same, counted by halves of halves.
+#[cycle(counting)]
+fn count_by_halves<R: Threads + Sync>(rt: &R, text: &[u8], halvings: u32) -> u64
+    ensures count { result ≡ length (filter (λ byte. byte == 10) text.now) }
+    ensures most { result ≤ length text.now }
+{
+    if halvings == 0 {
+        return count_feeds(text);
+    }
+    let (front, back) = text.split_at(text.len() / 2);
+    let (first, second) = join(
+        rt,
+        || -> u64
+            requires { IsSync R.row × (0 < halvings) }
+            ensures { (result ≡ length (filter (λ byte. byte == 10) front.entry.now)) × (result ≤ length front.entry.now) }
+        { count_by_halves(rt, front, halvings - 1) },
+        || -> u64
+            requires { IsSync R.row × (0 < halvings) }
+            ensures { (result ≡ length (filter (λ byte. byte == 10) back.entry.now)) × (result ≤ length back.entry.now) }
+        { count_by_halves(rt, back, halvings - 1) },
+    );
+    first + second
+}
+
 // The first line feed from a place on.
 fn feed_from(text: &[u8], place: usize) -> Option<usize>
     requires { place ≤ length text.now }
@@ -61,7 +85,7 @@ pub(crate) fn read_by_halves<R: Threads + Sync>(
     let Some((front, back)) = cut_from(part, part.len() / 2) else {
         return read_part(alloc, "", before, part);
     };
-    let behind = before + count_feeds(front);
+    let behind = before + count_by_halves(rt, front, halvings);
     let (first, second) = join(
         rt,
         || -> Result<Intake, AllocError>

@@ -19,6 +19,7 @@ use sct_message::Message;
 use sct_reconcile::{List, reconcile};
 use sct_view::View;
 use std::alloc::Global;
+use std::mem;
 use std::sync::Arc;
 use std::thread::Threads;
 
@@ -68,7 +69,8 @@ fn report_text_of<T: Threads + Sync>(
 }
 
 // The status text of the set of some messages, which may stand in any order and more than once, in pieces. Only want of
-// memory is a fault.
+// memory is a fault. The view is left to the end of the program, which gives back all at once what would be given back
+// message by message here.
 fn status_pieces<T: Threads + Sync>(
     rt: &T,
     alloc: Global,
@@ -78,7 +80,9 @@ fn status_pieces<T: Threads + Sync>(
     ensures memory { IfErr result (λ e. e ≡ fault.Memory) }
 {
     let view = view_of(rt, alloc, messages)?;
-    status_pieces_of(rt, &view)
+    let pieces = status_pieces_of(rt, &view);
+    mem::forget(view);
+    pieces
 }
 
 // The totals text of the same set. Only want of memory is a fault.

@@ -11,6 +11,7 @@ use crate::fault::ProgramFault;
 use sct_message::Message;
 use sct_set::Archive;
 use std::alloc::Global;
+use std::mem;
 use std::sync::Arc;
 use std::thread::Threads;
 
@@ -32,7 +33,8 @@ fn the_archive_text_gives_the_set_back()
 {}
 
 /// Each message once, written on a line of its own, by identity and then by text, in pieces that are made in as many threads
-/// as there are processors. Only want of memory is a fault.
+/// as there are processors. Only want of memory is a fault. The archive is left to the end of the program, which gives back
+/// all at once what would be given back message by message here.
 pub fn archive_pieces<T: Threads + Sync>(
     rt: &T,
     alloc: Global,
@@ -43,5 +45,8 @@ pub fn archive_pieces<T: Threads + Sync>(
     ensures memory { IfErr result (λ e. e ≡ fault.Memory) }
 {
     the_archive_text_gives_the_set_back();
-    Ok(archive_of(alloc, messages)?.text_in_pieces(rt)?)
+    let archive = archive_of(alloc, messages)?;
+    let pieces = archive.text_in_pieces(rt)?;
+    mem::forget(archive);
+    Ok(pieces)
 }

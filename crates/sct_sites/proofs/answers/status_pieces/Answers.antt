@@ -6,5 +6,5 @@ use Rattle.sct_sites.proofs.answers.status_pieces.Goals as goal
 
 pub returns-clause-text : goal.returns-clause-text
 returns-clause-text g c =
-    subst (λ held. IfOk c.status_pieces_of.result (λ pieces. joined pieces.items ≡ status_text_of held))
-    c.in_ok-view.ensures.held c.status_pieces_of.ensures.text
+    subst (λ held. IfOk c.status_pieces_of-pieces.result (λ pieces. joined pieces.items ≡ status_text_of held))
+    c.in_ok-view.ensures.held c.status_pieces_of-pieces.ensures.text
