@@ -30,3 +30,8 @@ fault_of_delta refusal = fault.Refused (delta_fault_number refusal)
 -- a refusal of a desk that was to be closed: 53 or 54
 abbrev pub IsNotClosed : WorkFault → Type 0
 IsNotClosed refusal = (refusal ≡ fault.Refused 53) ⊎ (refusal ≡ fault.Refused 54)
+
+-- the number with which a call is refused (66): that of a refusal of a desk or of a delta, want of memory left out
+abbrev pub IsRefusalNumber : ℕ → Type 0
+IsRefusalNumber number =
+    ((refusal : DeskFault) × (fault_of_desk refusal ≡ fault.Refused number)) ⊎ ((refusal : DeltaFault) × (fault_of_delta refusal ≡ fault.Refused number))

@@ -5,10 +5,10 @@ use Rattle.sct_site.specs.Cores.{Core}
 use Rattle.sct_receipts.specs.declared.fault.WorkFault.{WorkFault}
 use Rattle.sct_receipts.specs.declared.fault.WorkFault.TheVariants as work
 use Rattle.sct_workers.specs.Filling.{AllStand}
-use Rattle.sct_workers.specs.Holds.{HeldWhere}
+use Rattle.sct_workers.specs.Holds.{EndsWhere}
 use Rattle.sct_workers.specs.declared.gate.Point.{Point}
 use Rattle.sct_run.specs.Faults.{fault_of_work}
-use Rattle.sct_run.specs.Runs.{are_sites, RunHeldWhere}
+use Rattle.sct_run.specs.Runs.{are_sites, RunEndsWhere}
 use Rattle.sct_run.specs.declared.fault.RunFault.{RunFault}
 use Rattle.sct_run.specs.declared.fault.RunFault.TheVariants as fault
 
@@ -35,17 +35,17 @@ no_usage work.Memory usage = cc
 no_usage (work.Refused number) usage = cc
 no_usage work.NoWorker usage = cc
 
--- a run is held where a worker is
-pub run_held : (may : Point → Type 0) (w : WorkFault) → HeldWhere may w → RunHeldWhere may (fault_of_work w)
-run_held may work.Held held = held
-run_held may work.Memory held = tt
-run_held may (work.Refused number) held = tt
-run_held may work.NoWorker held = tt
+-- what may end a worker may end a run
+pub run_ends : (may : Point → Type 0) (w : WorkFault) → EndsWhere may w → RunEndsWhere may (fault_of_work w)
+run_ends may work.Held ends = ends
+run_ends may work.Memory ends = tt
+run_ends may (work.Refused number) ends = ends
+run_ends may work.NoWorker ends = tt
 
 -- a fault that is no gate's is one that any gate may leave
-pub run_no_gate : (may : Point → Type 0) (f : RunFault) → RunHeldWhere (λ point. ⊥) f → RunHeldWhere may f
-run_no_gate may fault.Usage held = tt
-run_no_gate may fault.Held held = absurd held.1
-run_no_gate may fault.Memory held = tt
-run_no_gate may (fault.Refused number) held = tt
-run_no_gate may fault.NoWorker held = tt
+pub run_no_gate : (may : Point → Type 0) (f : RunFault) → RunEndsWhere (λ point. ⊥) f → RunEndsWhere may f
+run_no_gate may fault.Usage ends = tt
+run_no_gate may fault.Held ends = absurd ends.1
+run_no_gate may fault.Memory ends = tt
+run_no_gate may (fault.Refused number) ends = ends
+run_no_gate may fault.NoWorker ends = tt

@@ -4,6 +4,7 @@ use Rattle.std.specs.FinSet as set
 use Rattle.std.specs.Prelude.{ℕ, ◌≡◌, ◌↔◌, ◌&&◌, not, Bool, List, [], ◌∷◌, nat_lt}
 use Rattle.std.specs.List.{Contains}
 use Rattle.sct_lines.specs.Lines.{set_read}
+use Rattle.sct_receipts.specs.Faults.{IsRefusalNumber}
 use Rattle.sct_run.specs.declared.fault.RunFault.{RunFault}
 use Rattle.sct_run.specs.declared.fault.RunFault.TheVariants as fault
 use Rattle.sct_set.specs.Contents.{Contents}
@@ -18,10 +19,12 @@ abbrev pub set_of_all : List (List ℕ) → Contents
 set_of_all [] = set.empty
 set_of_all (input ∷ inputs) = set.union (set_read input) (set_of_all inputs)
 
--- a run is held (61) only where there is a point at which its gate may hold a worker
-abbrev pub RunHeldWhere : (Point → Type 0) → RunFault → Type 0
-RunHeldWhere may fault.Held = (point : Point) × may point
-RunHeldWhere may other = Unit {0}
+-- a run is held (61) only where there is a point at which its gate may hold a worker, and a call is refused (66) with the
+-- number of a refusal
+abbrev pub RunEndsWhere : (Point → Type 0) → RunFault → Type 0
+RunEndsWhere may fault.Held = (point : Point) × may point
+RunEndsWhere may (fault.Refused number) = IsRefusalNumber number
+RunEndsWhere may other = Unit {0}
 
 -- inputs that are the same but for their order, and for how often each is there, have one set
 abbrev pub NoOrderMatters : Type 0

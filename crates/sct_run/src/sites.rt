@@ -1,12 +1,12 @@
 //! A run: one site for each input, and what they come to.
 ghost use Rattle.std.specs.Prelude.{◌≡◌, ◌≢◌, ◌↔◌, ◌<◌, ◌≤◌, ◌+◌, ◌++◌, ◌∷◌, [], false, true, Err, length, IfErr, IfOk, OnOk, string_bytes};
 ghost use Rattle.sct_delta.specs.Entries.{messages_of};
-ghost use Rattle.sct_run.specs.Runs.{are_sites, set_of_all, NoOrderMatters, RunHeldWhere};
+ghost use Rattle.sct_run.specs.Runs.{are_sites, set_of_all, NoOrderMatters, RunEndsWhere};
 ghost use Rattle.sct_run.specs.declared.fault.RunFault.TheVariants as fault;
 ghost use Rattle.sct_view.specs.StatusText.{status_text_of};
 ghost use Rattle.sct_workers.specs.Files.{bytes_of, refused_in, told_from};
 ghost use Rattle.sct_workers.specs.Filling.{AreFilled};
-ghost use Rattle.sct_workers.specs.Holds.{HeldWhere};
+ghost use Rattle.sct_workers.specs.Holds.{EndsWhere};
 ghost use Rattle.sct_world.specs.Settling.{core_in, AreSettled};
 
 use crate::answer::RunAnswer;
@@ -30,7 +30,7 @@ fn are_sites(count: usize) -> bool
 }
 
 // The sites of the inputs, each filled by workers of its own.
-#[tactic(auto, using(crate::proofs::RunLemmas::run_held, crate::proofs::RunLemmas::few_enough))]
+#[tactic(auto, using(crate::proofs::RunLemmas::run_ends, crate::proofs::RunLemmas::few_enough))]
 fn filled<G: Gate + Sync, R: Threads + Wait + Sync>(
     rt: &R,
     alloc: Global,
@@ -40,17 +40,17 @@ fn filled<G: Gate + Sync, R: Threads + Wait + Sync>(
     requires { are_sites (length inputs.now) ≡ true }
     ensures filled { IfOk result (AreFilled (length inputs.now) (bytes_of inputs.now)) }
     ensures faults { IfErr result (λ e. e ≢ fault.Usage) }
-    ensures held { IfErr result (RunHeldWhere (G.may_hold gate.now)) }
+    ensures ends { IfErr result (RunEndsWhere (G.may_hold gate.now)) }
 {
     let sites = fill_sites(rt, alloc, gate, inputs)?;
     Ok(sites)
 }
 
 // Settles the sites. A refusal is told by its number.
-#[tactic(auto, using(sct_workers::proofs::Holding::delta_no_gate))]
+#[tactic(auto, using(sct_workers::proofs::Holding::delta_ends))]
 fn settle_all(alloc: Global, cores: &mut [SiteCore]) -> Result<(), WorkFault>
     ensures settled { OnOk result (AreSettled cores.old cores.new) }
-    ensures held { IfErr result (HeldWhere (λ point. ⊥)) }
+    ensures ends { IfErr result (EndsWhere (λ point. ⊥)) }
 {
     settle(alloc, cores)?;
     Ok(())
@@ -66,13 +66,13 @@ fn first_status(alloc: Global, cores: &[SiteCore]) -> Result<Vec<u8>, RunFault>
 }
 
 // Settles the sites, and answers the status text of what the first of them then holds.
-#[tactic(auto, using(crate::proofs::RunLemmas::run_held))]
+#[tactic(auto, using(crate::proofs::RunLemmas::run_ends))]
 fn settled_status(alloc: Global, cores: &mut [SiteCore]) -> Result<Vec<u8>, RunFault>
     requires { 0 < length cores.old }
     ensures settled { OnOk result (AreSettled cores.old cores.new) }
     ensures text { IfOk result (λ text. text.items ≡ status_text_of (messages_of (core_in cores.new 0).arrivals)) }
     ensures faults { IfErr result (λ e. e ≢ fault.Usage) }
-    ensures held { IfErr result (RunHeldWhere (λ point. ⊥)) }
+    ensures ends { IfErr result (RunEndsWhere (λ point. ⊥)) }
 {
     settle_all(alloc, cores)?;
     first_status(alloc, cores)
@@ -102,7 +102,7 @@ pub fn run_sites<G: Gate + Sync, R: Threads + Wait + Sync>(
     ensures told { IfOk result (λ answer. string_bytes answer.told ≡ told_from 1 (bytes_of inputs.items)) }
     ensures refused { IfOk result (λ answer. answer.refused ≡ refused_in (bytes_of inputs.items)) }
     ensures usage { (result ≡ Err fault.Usage) ↔ (are_sites (length inputs.items) ≡ false) }
-    ensures held { IfErr result (RunHeldWhere (G.may_hold gate.now)) }
+    ensures ends { IfErr result (RunEndsWhere (G.may_hold gate.now)) }
     ensures any_order { NoOrderMatters }
 {
     no_order_matters();

@@ -1,34 +1,40 @@
--- Faults that are no gate's. Proof plumbing.
+-- Faults that may end a worker. Proof plumbing.
+use Rattle.std.proofs.Common.{refl, inl, inr, subst, sym}
 use Rattle.sct_receipts.specs.declared.fault.WorkFault.{WorkFault}
 use Rattle.sct_receipts.specs.declared.fault.WorkFault.TheVariants as fault
 use Rattle.sct_delta.specs.declared.fault.DeltaFault.{DeltaFault}
 use Rattle.sct_delta.specs.declared.fault.DeltaFault.TheVariants as delta
 use Rattle.sct_desk.specs.declared.fault.DeskFault.{DeskFault}
 use Rattle.sct_desk.specs.declared.fault.DeskFault.TheVariants as desk
-use Rattle.sct_receipts.specs.Faults.{fault_of_delta, fault_of_desk}
+use Rattle.sct_receipts.specs.Faults.{IsNotClosed, fault_of_delta, fault_of_desk}
 use Rattle.sct_workers.specs.declared.gate.Point.{Point}
-use Rattle.sct_workers.specs.Holds.{HeldWhere}
+use Rattle.sct_workers.specs.Holds.{EndsWhere}
 
-pub delta_no_gate : (may : Point → Type 0) (refusal : DeltaFault) → HeldWhere may (fault_of_delta refusal)
-delta_no_gate may delta.Memory = tt
-delta_no_gate may (delta.Gap origin have first) = tt
-delta_no_gate may (delta.Fork origin n) = tt
-delta_no_gate may (delta.OwnAhead n) = tt
-delta_no_gate may delta.BadSite = tt
-delta_no_gate may (delta.BadDelta line) = tt
+pub delta_ends : (may : Point → Type 0) (refusal : DeltaFault) → EndsWhere may (fault_of_delta refusal)
+delta_ends may delta.Memory = tt
+delta_ends may (delta.Gap origin have first) = inr (delta.Gap origin have first, refl)
+delta_ends may (delta.Fork origin n) = inr (delta.Fork origin n, refl)
+delta_ends may (delta.OwnAhead n) = inr (delta.OwnAhead n, refl)
+delta_ends may delta.BadSite = inr (delta.BadSite, refl)
+delta_ends may (delta.BadDelta line) = inr (delta.BadDelta line, refl)
+
+pub desk_ends : (may : Point → Type 0) (refusal : DeskFault) → EndsWhere may (fault_of_desk refusal)
+desk_ends may desk.BadSite = inl (desk.BadSite, refl)
+desk_ends may desk.Memory = tt
+desk_ends may (desk.Unpublished from) = tt
+desk_ends may desk.NoPlace = inl (desk.NoPlace, refl)
+desk_ends may (desk.Pending from) = inl (desk.Pending from, refl)
+desk_ends may (desk.Untold position) = inl (desk.Untold position, refl)
+desk_ends may desk.Closed = inl (desk.Closed, refl)
+
+-- a refusal of a desk that was to be closed, as a worker's fault
+pub not_closed_ends : (may : Point → Type 0) (reason : WorkFault) → IsNotClosed reason → EndsWhere may reason
+not_closed_ends may reason (inl pending) = subst (EndsWhere may) (sym pending) (desk_ends may (desk.Pending 0))
+not_closed_ends may reason (inr untold) = subst (EndsWhere may) (sym untold) (desk_ends may (desk.Untold 0))
 
 -- a fault that is no gate's is one that any gate may leave
-pub no_gate : (may : Point → Type 0) (reason : WorkFault) → HeldWhere (λ point. ⊥) reason → HeldWhere may reason
-no_gate may fault.Held held = absurd held.1
-no_gate may fault.Memory held = tt
-no_gate may (fault.Refused number) held = tt
-no_gate may fault.NoWorker held = tt
-
-pub desk_no_gate : (may : Point → Type 0) (refusal : DeskFault) → HeldWhere may (fault_of_desk refusal)
-desk_no_gate may desk.BadSite = tt
-desk_no_gate may desk.Memory = tt
-desk_no_gate may (desk.Unpublished from) = tt
-desk_no_gate may desk.NoPlace = tt
-desk_no_gate may (desk.Pending from) = tt
-desk_no_gate may (desk.Untold position) = tt
-desk_no_gate may desk.Closed = tt
+pub no_gate : (may : Point → Type 0) (reason : WorkFault) → EndsWhere (λ point. ⊥) reason → EndsWhere may reason
+no_gate may fault.Held ends = absurd ends.1
+no_gate may fault.Memory ends = tt
+no_gate may (fault.Refused number) ends = ends
+no_gate may fault.NoWorker ends = tt

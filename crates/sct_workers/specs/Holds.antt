@@ -1,20 +1,24 @@
--- What ends workers: where a gate may have held them, and which of several faults is told. Read by an auditor.
+-- What ends workers: where a gate may have held them, with which numbers calls are refused, and which of several faults is
+-- told. Read by an auditor.
 use Rattle.std.specs.Prelude.{ℕ, ◌+◌}
 use Rattle.sct_receipts.specs.declared.fault.WorkFault.{WorkFault}
 use Rattle.sct_receipts.specs.declared.fault.WorkFault.TheVariants as fault
+use Rattle.sct_receipts.specs.Faults.{IsRefusalNumber}
 use Rattle.sct_workers.specs.declared.fault.SiteFault.{SiteFault}
 use Rattle.sct_workers.specs.declared.fault.SiteFault.TheVariants as site
 use Rattle.sct_workers.specs.declared.gate.Point.{Point}
 
--- a worker was held (61) only where there is a point at which the gate may hold it
-abbrev pub HeldWhere : (Point → Type 0) → WorkFault → Type 0
-HeldWhere may fault.Held = (point : Point) × may point
-HeldWhere may other = Unit {0}
+-- a worker was held (61) only where there is a point at which the gate may hold it, and a call was refused (66) with the
+-- number of a refusal
+abbrev pub EndsWhere : (Point → Type 0) → WorkFault → Type 0
+EndsWhere may fault.Held = (point : Point) × may point
+EndsWhere may (fault.Refused number) = IsRefusalNumber number
+EndsWhere may other = Unit {0}
 
 -- the same of a site
-abbrev pub SiteHeldWhere : (Point → Type 0) → SiteFault → Type 0
-SiteHeldWhere may (site.Working reason) = HeldWhere may reason
-SiteHeldWhere may (site.Closing reason) = HeldWhere may reason
+abbrev pub SiteEndsWhere : (Point → Type 0) → SiteFault → Type 0
+SiteEndsWhere may (site.Working reason) = EndsWhere may reason
+SiteEndsWhere may (site.Closing reason) = EndsWhere may reason
 
 -- the order in which the faults of workers are told: 67, then 65, then 61, then 66 with the least number
 abbrev pub rank_of : WorkFault → ℕ

@@ -3,7 +3,7 @@
 ghost use Rattle.std.specs.Prelude.{◌≡◌, [], IfErr, IfOk};
 ghost use Rattle.sct_receipts.specs.Kept.{AllKeep, Keeps};
 ghost use Rattle.sct_set.specs.Contents.{contents_of};
-ghost use Rattle.sct_workers.specs.Holds.{HeldWhere};
+ghost use Rattle.sct_workers.specs.Holds.{EndsWhere};
 
 use crate::gate::{Gate, Point, pass};
 use crate::note::Note;
@@ -14,7 +14,7 @@ use std::alloc::Global;
 use std::sync::Wait;
 
 // Learns the receipt of a note and asks for its transfer. The receipt comes back.
-#[tactic(auto, using(crate::proofs::Holding::desk_no_gate))]
+#[tactic(auto, using(crate::proofs::Holding::desk_ends))]
 fn answer<J: Site, G: Gate, R: Wait>(
     rt: &R,
     alloc: Global,
@@ -26,7 +26,7 @@ fn answer<J: Site, G: Gate, R: Wait>(
     requires { query.old.book ≡ J.book }
     ensures same { query.new.book ≡ query.old.book }
     ensures keeps { IfOk result (Keeps J.book J.number J.group (contents_of [])) }
-    ensures held { IfErr result (HeldWhere (G.may_hold gate.now)) }
+    ensures ends { IfErr result (EndsWhere (G.may_hold gate.now)) }
 {
     query.learn(&note.receipt);
     query.status(alloc, &note.transfer)?;
@@ -46,7 +46,7 @@ pub(crate) fn answers<J: Site, G: Gate, R: Wait>(
 ) -> Result<Vec<Receipt>, WorkFault>
     requires { query.book ≡ J.book }
     ensures kept { IfOk result (λ kept. AllKeep J.book J.number J.group (contents_of []) kept.items) }
-    ensures held { IfErr result (HeldWhere (G.may_hold gate.now)) }
+    ensures ends { IfErr result (EndsWhere (G.may_hold gate.now)) }
 {
     let mut query = query;
     let mut kept = Vec::new(alloc);

@@ -3,7 +3,7 @@
 ghost use Rattle.std.specs.Prelude.{◌≡◌, [], IfErr, IfOk, OnOk};
 ghost use Rattle.sct_receipts.specs.Kept.{AllKeep};
 ghost use Rattle.sct_set.specs.Contents.{contents_of};
-ghost use Rattle.sct_workers.specs.Holds.{HeldWhere};
+ghost use Rattle.sct_workers.specs.Holds.{EndsWhere};
 
 use crate::gate::{Gate, Point, pass};
 use crossbeam_channel::Receiver;
@@ -14,9 +14,9 @@ use std::alloc::Global;
 use std::sync::Wait;
 
 // The delta of one entry.
-#[tactic(auto, using(crate::proofs::Holding::delta_no_gate))]
+#[tactic(auto, using(crate::proofs::Holding::delta_ends))]
 fn delta_of(alloc: Global, entry: Entry) -> Result<Delta, WorkFault>
-    ensures { IfErr result (HeldWhere (λ point. ⊥)) }
+    ensures { IfErr result (EndsWhere (λ point. ⊥)) }
 {
     let mut entries = Vec::new(alloc);
     entries.push(entry)?;
@@ -25,7 +25,7 @@ fn delta_of(alloc: Global, entry: Entry) -> Result<Delta, WorkFault>
 
 // Hands an entry to the desk, keeps the receipt and answers whether the entry was accepted. It is not where an entry before
 // it did not come, which is no fault.
-#[tactic(auto, using(crate::proofs::Holding::delta_no_gate))]
+#[tactic(auto, using(crate::proofs::Holding::delta_ends))]
 fn accept_one<J: Site, H: Wait + Drop, R: Wait>(
     rt: &R,
     alloc: Global,
@@ -35,7 +35,7 @@ fn accept_one<J: Site, H: Wait + Drop, R: Wait>(
 ) -> Result<bool, WorkFault>
     requires kept { AllKeep J.book J.number J.group (contents_of []) kept.old.items }
     ensures kept { OnOk result (AllKeep J.book J.number J.group (contents_of []) kept.new.items) }
-    ensures held { IfErr result (HeldWhere (λ point. ⊥)) }
+    ensures ends { IfErr result (EndsWhere (λ point. ⊥)) }
 {
     let delta = delta_of(alloc, entry)?;
     let (answer, receipt) = accepted(rt, alloc, desk, &delta)?;
@@ -59,7 +59,7 @@ pub(crate) fn exchange<J: Site, H: Wait + Drop, G: Gate, R: Wait>(
     inbox: Receiver<Entry>,
 ) -> Result<Vec<Receipt>, WorkFault>
     ensures kept { IfOk result (λ kept. AllKeep J.book J.number J.group (contents_of []) kept.items) }
-    ensures held { IfErr result (HeldWhere (G.may_hold gate.now)) }
+    ensures ends { IfErr result (EndsWhere (G.may_hold gate.now)) }
 {
     let mut kept = Vec::new(alloc);
     for entry in inbox.iter(rt) {

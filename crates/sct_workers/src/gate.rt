@@ -1,7 +1,7 @@
 //! Gates: they may hold workers at the points that these pass.
 
 ghost use Rattle.std.specs.Prelude.{IfErr};
-ghost use Rattle.sct_workers.specs.Holds.{HeldWhere};
+ghost use Rattle.sct_workers.specs.Holds.{EndsWhere};
 
 use sct_receipts::WorkFault;
 use std::sync::Wait;
@@ -47,7 +47,7 @@ impl Gate for FreeGate {
 
 // Passes a point of a gate. 61 `Held` where the gate holds the worker.
 pub(crate) fn pass<G: Gate, R: Wait>(rt: &R, gate: &G, point: Point) -> Result<(), WorkFault>
-    ensures { IfErr result (HeldWhere (G.may_hold gate.now)) }
+    ensures { IfErr result (EndsWhere (G.may_hold gate.now)) }
 {
     match gate.pass(rt, point) {
         Ok(()) => Ok(()),

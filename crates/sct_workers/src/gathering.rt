@@ -6,7 +6,7 @@ ghost use Rattle.sct_receipts.specs.declared.fault.WorkFault.TheVariants as faul
 ghost use Rattle.sct_workers.specs.Each.{AtEach};
 ghost use Rattle.sct_workers.specs.Files.{bytes_of};
 ghost use Rattle.sct_workers.specs.Filling.{AreFilled, IsFilled};
-ghost use Rattle.sct_workers.specs.Holds.{HeldWhere, SiteHeldWhere};
+ghost use Rattle.sct_workers.specs.Holds.{EndsWhere, SiteEndsWhere};
 
 use crate::fault::{SiteFault, told_of_sites};
 use crate::filled::{Filled, Sites};
@@ -66,7 +66,8 @@ fn posts(alloc: Global, count: usize) -> Result<Vec<Post>, AllocError>
     Ok(posts)
 }
 
-/// What a site's thread promises: the site was filled from the input, and a worker was held only where the gate may hold it.
+/// What a site's thread promises: the site was filled from the input, a worker was held only where the gate may hold it, and
+/// a call was refused only with the number of a refusal.
 #[derive(Drop)]
 pub(crate) struct Fills<'a, G: Gate> {
     gate: &'a G,
@@ -77,7 +78,7 @@ pub(crate) struct Fills<'a, G: Gate> {
 
 impl<'a, G: Gate> Promise<Result<Filled, SiteFault>> for Fills<'a, G> {
     ghost kept_by = { λ p r.
-        IfOk r (IsFilled p.number p.group p.input.now) × IfErr r (SiteHeldWhere (G.may_hold p.gate.now)) };
+        IfOk r (IsFilled p.number p.group p.input.now) × IfErr r (SiteEndsWhere (G.may_hold p.gate.now)) };
 }
 
 type Child<'a, G> = PromisedHandle<Result<Filled, SiteFault>, Fills<'a, G>>;
@@ -96,7 +97,7 @@ fn start_one<'s, E, G: Gate + Sync, R: Threads + Wait + Sync>(
     ensures gate { IfOk result (λ child. child.promise.gate.now ≡ gate.now) }
     ensures site { IfOk result (λ child. (child.promise.number ≡ number) × (child.promise.group ≡ group)) }
     ensures input { IfOk result (λ child. child.promise.input.now ≡ input.now) }
-    ensures held { IfErr result (HeldWhere (λ point. ⊥)) }
+    ensures ends { IfErr result (EndsWhere (λ point. ⊥)) }
 {
     let started = scope.spawn_with(
         Fills {
@@ -107,7 +108,7 @@ fn start_one<'s, E, G: Gate + Sync, R: Threads + Wait + Sync>(
         },
         move || -> Result<Filled, SiteFault>
             ensures { IfOk result (IsFilled number group input.entry.now)
-                × IfErr result (SiteHeldWhere (G.may_hold gate.entry.now)) }
+                × IfErr result (SiteEndsWhere (G.may_hold gate.entry.now)) }
         { fill(rt, alloc, gate, number, group, input, post) },
     );
     match started {
@@ -143,7 +144,7 @@ fn start<'s, E, G: Gate + Sync, R: Threads + Wait + Sync>(
     ensures inputs { IfOk result (λ children.
         AtEach (λ at child. slice_get (bytes_of inputs.now) at ≡ Some child.promise.input.now) children.items) }
     ensures gate { IfOk result (λ children. AtEach (λ at child. child.promise.gate.now ≡ gate.now) children.items) }
-    ensures held { IfErr result (HeldWhere (λ point. ⊥)) }
+    ensures ends { IfErr result (EndsWhere (λ point. ⊥)) }
 {
     let group = inputs.len() as u16;
     let mut posts = posts;
@@ -168,11 +169,11 @@ fn next<G: Gate>(
 ) -> Result<Sites, SiteFault>
     requires few { IfOk so_far (λ sites. sites.refused ≤ length (string_bytes sites.told)) }
     requires few_more { IfOk site (λ one. one.refused ≤ length (string_bytes one.told)) }
-    requires held { IfErr so_far (SiteHeldWhere (G.may_hold gate.now)) }
-    requires one_held { IfErr site (SiteHeldWhere (G.may_hold gate.now)) }
+    requires ends { IfErr so_far (SiteEndsWhere (G.may_hold gate.now)) }
+    requires one_ends { IfErr site (SiteEndsWhere (G.may_hold gate.now)) }
     ensures filled { (size : ℕ) (inputs : List (List ℕ)) (input : List ℕ) → IfOk so_far (AreFilled size inputs)
         → IfOk site (IsFilled (length inputs + 1) size input) → IfOk result (AreFilled size (inputs ++ input ∷ [])) }
-    ensures held { IfErr result (SiteHeldWhere (G.may_hold gate.now)) }
+    ensures ends { IfErr result (SiteEndsWhere (G.may_hold gate.now)) }
 {
     match (so_far, site) {
         (Ok(sites), Ok(one)) => match sites.with(one) {
@@ -198,7 +199,7 @@ fn gather<'s, G: Gate, R: Threads>(
     requires inputs { AtEach (λ at child. slice_get (bytes_of inputs.now) at ≡ Some child.promise.input.now) children.items }
     requires gate { AtEach (λ at child. child.promise.gate.now ≡ gate.now) children.items }
     ensures filled { IfOk result (AreFilled (length inputs.now) (bytes_of inputs.now)) }
-    ensures held { IfErr result (SiteHeldWhere (G.may_hold gate.now)) }
+    ensures ends { IfErr result (SiteEndsWhere (G.may_hold gate.now)) }
 {
     let mut so_far = Ok(Sites::none(alloc));
     for child in children {
@@ -209,9 +210,9 @@ fn gather<'s, G: Gate, R: Threads>(
 
 // What several sites answered, for one caller.
 fn told<G: Gate>(gate: &G, gathered: Result<Sites, SiteFault>) -> Result<Sites, WorkFault>
-    requires { IfErr gathered (SiteHeldWhere (G.may_hold gate.now)) }
+    requires { IfErr gathered (SiteEndsWhere (G.may_hold gate.now)) }
     ensures filled { IfOk result (λ sites. gathered ≡ Ok sites) }
-    ensures held { IfErr result (HeldWhere (G.may_hold gate.now)) }
+    ensures ends { IfErr result (EndsWhere (G.may_hold gate.now)) }
 {
     match gathered {
         Ok(sites) => Ok(sites),
@@ -233,7 +234,7 @@ pub fn fill_sites<G: Gate + Sync, R: Threads + Wait + Sync>(
 ) -> Result<Sites, WorkFault>
     requires { length inputs.now ≤ 64 }
     ensures filled { IfOk result (AreFilled (length inputs.now) (bytes_of inputs.now)) }
-    ensures held { IfErr result (HeldWhere (G.may_hold gate.now)) }
+    ensures ends { IfErr result (EndsWhere (G.may_hold gate.now)) }
 {
     let posts = posts(alloc, inputs.len())?;
     thread::scope(
@@ -242,7 +243,7 @@ pub fn fill_sites<G: Gate + Sync, R: Threads + Wait + Sync>(
         move |scope| -> Result<Sites, WorkFault>
             requires { (length inputs.now ≤ 64) × (vec_len posts ≡ length inputs.now) }
             ensures { IfOk result (AreFilled (length inputs.entry.now) (bytes_of inputs.entry.now))
-                × IfErr result (HeldWhere (G.may_hold gate.entry.now)) }
+                × IfErr result (EndsWhere (G.may_hold gate.entry.now)) }
         {
             let children = start(rt, alloc, gate, scope, inputs, posts)?;
             told(gate, gather(rt, alloc, gate, inputs, children))

@@ -7,7 +7,7 @@ ghost use Rattle.sct_message.specs.Sets.{messages_in};
 ghost use Rattle.sct_receipts.specs.Kept.{AllKeep, AllShown, is_shown};
 ghost use Rattle.sct_receipts.specs.declared.fault.WorkFault.TheVariants as fault;
 ghost use Rattle.sct_set.specs.Contents.{contents_of};
-ghost use Rattle.sct_workers.specs.Holds.{HeldWhere};
+ghost use Rattle.sct_workers.specs.Holds.{EndsWhere};
 ghost use Rattle.sct_workers.specs.Shown.{ShowsMore};
 
 use crate::gate::{Gate, Point, pass};
@@ -104,7 +104,7 @@ pub(crate) fn intake<J: Site, H: Wait + Drop, G: Gate, R: Wait>(
     ensures kept { IfOk result (λ kept.
         AllKeep J.book J.number J.group (contents_of (messages_in messages.now)) kept.items) }
     ensures shown { IfOk result (λ kept. AllShown (contents_of (messages_in messages.now)) kept.items) }
-    ensures held { IfErr result (HeldWhere (G.may_hold gate.now)) }
+    ensures ends { IfErr result (EndsWhere (G.may_hold gate.now)) }
 {
     let mut kept = Vec::new(alloc);
     let mut k = 0;

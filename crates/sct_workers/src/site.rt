@@ -9,7 +9,7 @@ ghost use Rattle.sct_receipts.specs.Stands.{Stands};
 ghost use Rattle.sct_set.specs.Contents.{contents_of};
 ghost use Rattle.sct_workers.specs.Files.{file_front, told_of_file};
 ghost use Rattle.sct_workers.specs.Filling.{IsFilled};
-ghost use Rattle.sct_workers.specs.Holds.{HeldWhere, SiteHeldWhere};
+ghost use Rattle.sct_workers.specs.Holds.{EndsWhere, SiteEndsWhere};
 
 use crate::fault::SiteFault;
 use crate::filled::Filled;
@@ -35,7 +35,7 @@ fn one_of<J: Site>(mut queries: Vec<Query>) -> Option<Query>
 }
 
 // A desk of a site, and its one query.
-#[tactic(auto, using(crate::proofs::Holding::desk_no_gate))]
+#[tactic(auto, using(crate::proofs::Holding::desk_ends))]
 fn opened<'a, J: Site, R: Wait>(
     rt: &'a R,
     alloc: Global,
@@ -48,7 +48,7 @@ fn opened<'a, J: Site, R: Wait>(
     requires track { (track.book ≡ J.book) × (track.log ≡ []) }
     requires site { (number ≡ J.number) × (group ≡ J.group) }
     ensures query { IfOk result (λ d. d.1.book ≡ J.book) }
-    ensures held { IfErr result (HeldWhere (λ point. ⊥)) }
+    ensures ends { IfErr result (EndsWhere (λ point. ⊥)) }
 {
     let (desk, queries) = Desk::<J, &'a R>::open(rt, alloc, history, track, number, group, 1)?;
     match one_of::<J>(queries) {
@@ -74,7 +74,7 @@ fn worked<J: Site + Send + Sync, G: Gate + Sync, R: Threads + Wait + Sync>(
     requires track { (track.book ≡ J.book) × (track.log ≡ []) }
     requires site { (number ≡ J.number) × (group ≡ J.group) }
     ensures core { IfOk result (Stands J.number J.group (contents_of (messages_in messages.now))) }
-    ensures held { IfErr result (SiteHeldWhere (G.may_hold gate.now)) }
+    ensures ends { IfErr result (SiteEndsWhere (G.may_hold gate.now)) }
 {
     let (desk, query) = opened::<J, R>(rt, alloc, history, track, number, group)?;
     let receipts = workers(rt, alloc, gate, &desk, query, number, messages, post)?;
@@ -112,7 +112,7 @@ pub(crate) fn fill<G: Gate + Sync, R: Threads + Wait + Sync>(
     post: Post,
 ) -> Result<Filled, SiteFault>
     ensures filled { IfOk result (IsFilled number group input.now) }
-    ensures held { IfErr result (SiteHeldWhere (G.may_hold gate.now)) }
+    ensures ends { IfErr result (SiteEndsWhere (G.may_hold gate.now)) }
 {
     let Ok(read) = read(alloc, number, input) else {
         return Err(SiteFault::Working(WorkFault::Memory));

@@ -5,7 +5,7 @@ ghost use Rattle.sct_message.specs.Sets.{messages_in};
 ghost use Rattle.sct_receipts.specs.Kept.{AllKeep, AllShown};
 ghost use Rattle.sct_receipts.specs.declared.fault.WorkFault.TheVariants as fault;
 ghost use Rattle.sct_set.specs.Contents.{contents_of};
-ghost use Rattle.sct_workers.specs.Holds.{HeldWhere};
+ghost use Rattle.sct_workers.specs.Holds.{EndsWhere};
 
 use crate::asking::answers;
 use crate::exchange::exchange;
@@ -31,8 +31,8 @@ pub(crate) struct Post {
     pub(crate) others: Vec<Sender<Entry>>,
 }
 
-/// What a worker's thread promises: by the receipts that it kept no own entry came, and it is held only where the gate may
-/// hold it.
+/// What a worker's thread promises: by the receipts that it kept no own entry came, it is held only where the gate may hold
+/// it, and a call is refused only with the number of a refusal.
 #[derive(Drop)]
 struct AddsNothing<'a, J: Site, G: Gate> {
     gate: &'a G,
@@ -41,7 +41,7 @@ struct AddsNothing<'a, J: Site, G: Gate> {
 
 impl<'a, J: Site, G: Gate> Promise<Result<Vec<Receipt>, WorkFault>> for AddsNothing<'a, J, G> {
     ghost kept_by = { λ p r.
-        IfOk r (λ kept. AllKeep J.book J.number J.group (contents_of []) kept.items) × IfErr r (HeldWhere (G.may_hold p.gate.now)) };
+        IfOk r (λ kept. AllKeep J.book J.number J.group (contents_of []) kept.items) × IfErr r (EndsWhere (G.may_hold p.gate.now)) };
 }
 
 // What a worker answered that was to be started. 67 `NoWorker` where there was no thread for it.
@@ -55,7 +55,7 @@ fn ended<'a, J: Site, G: Gate, F: Drop, R: Threads>(
 ) -> Result<Vec<Receipt>, WorkFault>
     requires { IfOk started (λ child. child.promise.gate.now ≡ gate.now) }
     ensures kept { IfOk result (λ kept. AllKeep J.book J.number J.group (contents_of []) kept.items) }
-    ensures held { IfErr result (HeldWhere (G.may_hold gate.now)) }
+    ensures ends { IfErr result (EndsWhere (G.may_hold gate.now)) }
 {
     match started {
         Ok(child) => child.join(rt),
@@ -93,11 +93,11 @@ fn both<J: Site, G: Gate>(
     requires kept { IfOk first (λ kept. AllKeep J.book J.number J.group (contents_of (messages_in messages.now)) kept.items) }
     requires shown { IfOk first (λ kept. AllShown (contents_of (messages_in messages.now)) kept.items) }
     requires more { IfOk second (λ more. AllKeep J.book J.number J.group (contents_of []) more.items) }
-    requires first_held { IfErr first (HeldWhere (G.may_hold gate.now)) }
-    requires second_held { IfErr second (HeldWhere (G.may_hold gate.now)) }
+    requires first_ends { IfErr first (EndsWhere (G.may_hold gate.now)) }
+    requires second_ends { IfErr second (EndsWhere (G.may_hold gate.now)) }
     ensures kept { IfOk result (λ kept. AllKeep J.book J.number J.group (contents_of (messages_in messages.now)) kept.items) }
     ensures shown { IfOk result (λ kept. AllShown (contents_of (messages_in messages.now)) kept.items) }
-    ensures held { IfErr result (HeldWhere (G.may_hold gate.now)) }
+    ensures ends { IfErr result (EndsWhere (G.may_hold gate.now)) }
 {
     match (first, second) {
         (Ok(kept), Ok(more)) => joined::<J>(messages, kept, more),
@@ -127,7 +127,7 @@ pub(crate) fn workers<
     requires { query.book ≡ J.book }
     ensures kept { IfOk result (λ kept. AllKeep J.book J.number J.group (contents_of (messages_in messages.now)) kept.items) }
     ensures shown { IfOk result (λ kept. AllShown (contents_of (messages_in messages.now)) kept.items) }
-    ensures held { IfErr result (HeldWhere (G.may_hold gate.now)) }
+    ensures ends { IfErr result (EndsWhere (G.may_hold gate.now)) }
 {
     let (asks, notes) = crossbeam_channel::unbounded(alloc)?;
     let Post { inbox, others } = post;
@@ -139,7 +139,7 @@ pub(crate) fn workers<
             requires { query.book ≡ J.book }
             ensures { IfOk result (λ kept. AllKeep J.book J.number J.group (contents_of (messages_in messages.entry.now)) kept.items
                 × AllShown (contents_of (messages_in messages.entry.now)) kept.items)
-                × IfErr result (HeldWhere (G.may_hold gate.entry.now)) }
+                × IfErr result (EndsWhere (G.may_hold gate.entry.now)) }
         {
             let accepts = scope.spawn_with(
                 AddsNothing {
@@ -148,7 +148,7 @@ pub(crate) fn workers<
                 },
                 move || -> Result<Vec<Receipt>, WorkFault>
                     ensures { IfOk result (λ kept. AllKeep J.book J.number J.group (contents_of []) kept.items)
-                        × IfErr result (HeldWhere (G.may_hold gate.entry.now)) }
+                        × IfErr result (EndsWhere (G.may_hold gate.entry.now)) }
                 { exchange(rt, alloc, gate, desk, site, inbox) },
             );
             let asked = scope.spawn_with(
@@ -159,7 +159,7 @@ pub(crate) fn workers<
                 move || -> Result<Vec<Receipt>, WorkFault>
                     requires { query.book ≡ J.book }
                     ensures { IfOk result (λ kept. AllKeep J.book J.number J.group (contents_of []) kept.items)
-                        × IfErr result (HeldWhere (G.may_hold gate.entry.now)) }
+                        × IfErr result (EndsWhere (G.may_hold gate.entry.now)) }
                 { answers::<J, G, R>(rt, alloc, gate, query, site, notes) },
             );
             let taken = if accepts.is_ok() && asked.is_ok() {

@@ -5,7 +5,7 @@ use Rattle.std.specs.Vec.Iter.{into_iter_items}
 use Rattle.std.proofs.lemmas.List.{length-map}
 use Rattle.sct_workers.specs.Files.{bytes_of}
 use Rattle.sct_workers.specs.Filling.{AreFilled, IsFilled}
-use Rattle.sct_workers.specs.Holds.{SiteHeldWhere}
+use Rattle.sct_workers.specs.Holds.{SiteEndsWhere}
 use Rattle.sct_workers.proofs.FilledMore.{all_by_place, few_filled, few_of_all, next_by_place, ok_so}
 use Rattle.sct_workers.proofs.Places.{all_done, get_behind, same_by_places}
 use Rattle.sct_workers.proofs.gathering.gather.Goals as goal
@@ -20,12 +20,12 @@ next-so_far-requires-clause-few_more g c =
     ok_so (IsFilled c.in-Some.child.promise.number c.in-Some.child.promise.group c.in-Some.child.promise.input.now) (λ one. one.refused ≤ length (string_bytes one.told))
     c.join.result (few_filled _ _ _) c.join.ensures.0
 
-pub next-so_far-requires-clause-one_held : goal.next-so_far-requires-clause-one_held
-next-so_far-requires-clause-one_held g c =
+pub next-so_far-requires-clause-one_ends : goal.next-so_far-requires-clause-one_ends
+next-so_far-requires-clause-one_ends g c =
     let step : into_iter_items c.loop-child.child-iterator ≡ c.in-Some.child ∷ into_iter_items c.next.new.self = search rules in
     let all = ap (λ rest. c.loop-child.yielded ++ rest) (sym step) ∙ c.loop-child.invariant.rest in
     let here = get_behind c.loop-child.yielded c.in-Some.child (into_iter_items c.next.new.self) c.args.children.items all in
-    subst (λ gate. IfErr c.join.result (SiteHeldWhere (g.G.Gate.may_hold gate))) (c.requires.gate (length c.loop-child.yielded) c.in-Some.child here) c.join.ensures.1
+    subst (λ gate. IfErr c.join.result (SiteEndsWhere (g.G.Gate.may_hold gate))) (c.requires.gate (length c.loop-child.yielded) c.in-Some.child here) c.join.ensures.1
 
 pub loop-child-preserved : goal.loop-child-preserved
 loop-child-preserved g c =
@@ -43,7 +43,7 @@ loop-child-preserved g c =
           (c.next-so_far.ensures.filled (length c.args.inputs.now) (map (λ child. child.promise.input.now) c.loop-child.yielded) c.in-Some.child.promise.input.now
           c.loop-child.invariant.filled filled);
       count = omega (arith, c.in-Some.ensures.steps.1, ap length c.in-Some.ensures.steps.0, c.loop-child.invariant.count);
-      held = c.next-so_far.ensures.held;
+      ends = c.next-so_far.ensures.ends;
     }
 
 pub returns-clause-filled : goal.returns-clause-filled
