@@ -1,13 +1,14 @@
 -- What an archive's table and its lines have to do with the set of its messages. Proof plumbing.
-use Rattle.std.proofs.Common.{◌≡◌, ℕ, suc, nat_eq, ◌+◌, Bool, true, false, cond, not, ◌&&◌, ◌||◌, List, [], ◌∷◌, ◌++◌, map, length, refl, sym, ap, ◌∙◌, filter, arith, nat_lt, take, get_or, ◌<◌}
+use Rattle.std.proofs.Common.{◌≡◌, ℕ, suc, nat_eq, ◌+◌, Bool, true, false, cond, not, ◌&&◌, ◌||◌, List, [], ◌∷◌, ◌++◌, map, length, refl, sym, ap, ◌∙◌, filter, arith, nat_lt, take, get_or, ◌<◌, Some, None}
 use Rattle.std.specs.FinSet as set
 use borrow.Author.Tests.{lt-ltb}
 use Rattle.std.specs.Arc.{arc_value}
 use Rattle.std.specs.Global.{Global}
-use Rattle.std.specs.List.{list_any}
+use Rattle.std.specs.List.{list_any, slice_get}
 use Rattle.std.specs.Ordering.{eq_by_cmp}
 use Rattle.std.specs.declared.sync.Arc.{Arc}
-use Rattle.std.proofs.lemmas.Bool.{eq-eqb}
+use Rattle.std.proofs.Math.Nat.{suc-ne-zero}
+use Rattle.std.proofs.lemmas.Bool.{eq-eqb, ne_eqb}
 use Rattle.std.proofs.lemmas.List.{length-map, map-append}
 use Rattle.std.proofs.lemmas.Grind.{take_at_read}
 use Rattle.sct_message.specs.declared.draft.Draft.{Draft}
@@ -17,12 +18,13 @@ use Rattle.sct_message.specs.Keys.{identity_of}
 use Rattle.sct_message.specs.Order.{identity_order, same_message, same_identity}
 use Rattle.sct_message.specs.Ascending.{ascending}
 use Rattle.sct_message.proofs.AscendingLemmas.{ascending-same}
-use Rattle.sct_message.proofs.Members.{list_any-filter, list_any-map}
+use Rattle.sct_message.proofs.Members.{list_any-filter, list_any-map, ties_itself}
 use Rattle.sct_set.specs.Archive.{added_of, added_where, has_identity}
 use Rattle.sct_set.specs.Contents.{Contents, contents_of}
 use Rattle.sct_set.specs.Contradictions.{contradicted_identities, is_disputed, is_rival}
 use Rattle.sct_set.specs.Digest.{digest_of}
-use Rattle.sct_set.specs.Drafts.{drafts_in, drafts_of, drafts_alike}
+use Rattle.sct_set.specs.Drafts.{against_in, drafts_in, drafts_of, drafts_alike, finds}
+use Rattle.sct_set.proofs.AgainstLemmas.{first_or_against}
 use Rattle.sct_set.specs.declared.added.Added.TheVariants as added
 use Rattle.sct_set.proofs.ContentsLemmas.{any_items, contains-contents_of, same_is}
 
@@ -36,15 +38,44 @@ implied true b h = refl
 implied false true h = h refl
 implied false false h = refl
 
--- a message is held where it is among those of its digest
-pub held-is : (ms : List (Arc Draft Global)) (ds : List Draft) (m : Draft) → drafts_in ms ≡ drafts_alike (digest_of m) ds
-    → list_any (λ held. same_message (arc_value held) m) ms ≡ set.contains (contents_of ds) m
-held-is ms ds m e =
-    sym (list_any-map (λ d. same_message d m) arc_value ms)
+same_have_one_identity : (d m : Draft) → same_message d m ≡ true → same_identity (identity_of d) (identity_of m) ≡ true
+same_have_one_identity d m e = ap (λ (x : Draft). same_identity (identity_of x) (identity_of m)) (same_is d m e) ∙ ties_itself identity_total identities_same (identity_of m)
+
+-- a message is not held where no message of its identity is
+pub held-not : (ms : List (Arc Draft Global)) (ds : List Draft) (m : Draft) → drafts_in ms ≡ drafts_of (identity_of m) ds → None ≡ slice_get ms 0
+    → false ≡ set.contains (contents_of ds) m
+held-not [] ds m all f =
+    ap (list_any (λ d. same_message d m)) all
+    ∙ list_any-filter (λ d. same_message d m) (λ d. same_identity (identity_of d) (identity_of m)) ds
+    ∙ ap (λ (p : Draft → Bool). list_any p ds) (λ i d. implied _ _ (same_have_one_identity d m) i)
+    ∙ sym (contains-contents_of ds m)
+held-not (x ∷ ms) ds m all f = let h : None ≡ Some x = f in cc
+
+or_false : (a : Bool) → a ≡ (a || false)
+or_false true = refl
+or_false false = refl
+
+-- a message is held where it is the first of its identity, or among those that came against another
+pub held-is : (ms : List (Arc Draft Global)) (ds : List Draft) (m : Draft) (x : Arc Draft Global) → drafts_in ms ≡ drafts_of (identity_of m) ds → Some x ≡ slice_get ms 0
+    → (same_message (arc_value x) m || list_any (λ d. same_message d m) (against_in ds)) ≡ set.contains (contents_of ds) m
+held-is [] ds m x all f = cc
+held-is (y ∷ ms) ds m x all f =
+    let h : Some x ≡ Some y = f in
+    let k : x ≡ y = cc in
+    ap (λ (a : Arc Draft Global). same_message (arc_value a) m || list_any (λ d. same_message d m) (against_in ds)) k
+    ∙ ap (λ (b : Bool). b || list_any (λ d. same_message d m) (against_in ds)) (or_false (same_message (arc_value y) m))
+    ∙ ap (λ (xs : List Draft). list_any (λ d. same_message d m) (take 1 xs) || list_any (λ d. same_message d m) (against_in ds)) all
+    ∙ first_or_against m ds
+    ∙ sym (contains-contents_of ds m)
+
+-- among those that came against another it is where it is among those of its digest
+pub against-is : (later : List (Arc Draft Global)) (ds : List Draft) (m : Draft) → drafts_in later ≡ drafts_alike (digest_of m) ds
+    → list_any (λ held. same_message (arc_value held) m) later ≡ list_any (λ d. same_message d m) ds
+against-is later ds m e =
+    sym (list_any-map (λ d. same_message d m) arc_value later)
     ∙ ap (list_any (λ d. same_message d m)) e
     ∙ list_any-filter (λ d. same_message d m) (λ d. nat_eq (digest_of d) (digest_of m)) ds
     ∙ ap (λ (p : Draft → Bool). list_any p ds) (λ i d. implied _ _ (same_have_one_digest d m) i)
-    ∙ sym (contains-contents_of ds m)
 
 zero_below : (n : ℕ) → nat_lt 0 (suc n) ≡ true
 zero_below n = lt-ltb 0 (suc n) (omega arith)
@@ -60,6 +91,17 @@ has-is ms ds i e =
     ∙ ap (λ (xs : List Draft). nat_lt 0 (length xs)) e
     ∙ some_kept (λ d. same_identity (identity_of d) i) ds
     ∙ sym (any_items (λ d. same_identity (identity_of d) i) ds)
+
+one_kept : (p : Draft → Bool) (ds : List Draft) → not (nat_eq (length (filter p ds)) 0) ≡ list_any p ds
+one_kept p [] = refl
+one_kept p (d ∷ ds) = elim (p d) as (λ b. not (nat_eq (length (cond b (d ∷ filter p ds) (filter p ds))) 0) ≡ (b || list_any p ds)) [ true ↦ ap not (ne_eqb (suc (length (filter p ds))) 0 (suc-ne-zero (length (filter p ds)))) | false ↦ one_kept p ds ]
+
+-- the list of an identity is not empty where one of the messages has it
+pub found-is : (ms : List (Arc Draft Global)) (ds : List Draft) (i : Identity) → drafts_in ms ≡ drafts_of i ds → not (nat_eq (length ms) 0) ≡ finds i ds
+found-is ms ds i e =
+    ap (λ (n : ℕ). not (nat_eq n 0)) (sym (length-map ms arc_value))
+    ∙ ap (λ (xs : List Draft). not (nat_eq (length xs) 0)) e
+    ∙ one_kept (λ d. same_identity (identity_of d) i) ds
 
 -- ---- how a message comes
 

@@ -1,5 +1,5 @@
 -- What filing a message and taking it out do to an index. Proof plumbing.
-use Rattle.std.proofs.Common.{◌≡◌, ℕ, ◌+◌, ◌-◌, Bool, true, false, cond, List, [], ◌∷◌, ◌++◌, map, length, take, sym, ap, subst, ◌∙◌, filter, arith, length-append}
+use Rattle.std.proofs.Common.{◌≡◌, ℕ, ◌+◌, ◌-◌, Bool, true, false, cond, List, [], ◌∷◌, ◌++◌, map, length, take, sym, ap, subst, ◌∙◌, filter, arith, length-append, Result, Ok, Err, OnErr}
 use Rattle.std.proofs.lemmas.List.{append-nil, length-map, map-append, take-map}
 use Rattle.std.proofs.lemmas.List.Elements.{filter-append}
 use Rattle.std.proofs.Math.Seq.{take-append_seam}
@@ -17,6 +17,11 @@ one_less e = omega arith
 but_last : {A : Type 0} (xs : List A) (x : A) → take (length (xs ++ x ∷ []) - 1) (xs ++ x ∷ []) ≡ xs
 but_last xs x = ap (λ (n : ℕ). take n (xs ++ x ∷ [])) (one_less (length-append xs (x ∷ []))) ∙ take-append_seam xs (x ∷ [])
 
+-- what an error leaves
+pub on_err : {T F : Type 0} {P : Type 0} (r : Result T F) → P → OnErr r P
+on_err (Ok x) p = tt
+on_err (Err e) p = p
+
 -- a value is what an item holds, and an item is of a key where its value passes the key's test
 module _ {A D : Type 0} (value : A → D) (is_of : D → Bool) where
   pub filed : (old new : List A) (item : A) (ds : List D) → map value old ≡ filter is_of ds → new ≡ cond (is_of (value item)) (old ++ item ∷ []) old
@@ -29,19 +34,16 @@ module _ {A D : Type 0} (value : A → D) (is_of : D → Bool) where
       ]
       ∙ sym (filter-append is_of ds (value item ∷ []))
 
-  pub unfiled : (old new : List A) (item : A) (ds : List D) → map value old ≡ filter is_of (ds ++ value item ∷ []) → new ≡ cond (is_of (value item)) (take (length old - 1) old) old
+  pub unfiled : (old new : List A) (d : D) (ds : List D) → map value old ≡ filter is_of (ds ++ d ∷ []) → new ≡ cond (is_of d) (take (length old - 1) old) old
       → map value new ≡ filter is_of ds
-  unfiled old new item ds was is =
-      let parts = was ∙ filter-append is_of ds (value item ∷ []) in
+  unfiled old new d ds was is =
+      let parts = was ∙ filter-append is_of ds (d ∷ []) in
       ap (map value) is
-      ∙ elim (is_of (value item)) as (λ b. map value old ≡ filter is_of ds ++ cond b (value item ∷ []) [] → map value (cond b (take (length old - 1) old) old) ≡ filter is_of ds) [
+      ∙ elim (is_of d) as (λ b. map value old ≡ filter is_of ds ++ cond b (d ∷ []) [] → map value (cond b (take (length old - 1) old) old) ≡ filter is_of ds) [
         | true ↦ λ e. sym (take-map value (length old - 1) old) ∙ ap (λ (n : ℕ). take (n - 1) (map value old)) (sym (length-map old value))
-            ∙ ap (λ (xs : List D). take (length xs - 1) xs) e ∙ but_last (filter is_of ds) (value item)
+            ∙ ap (λ (xs : List D). take (length xs - 1) xs) e ∙ but_last (filter is_of ds) d
         | false ↦ λ e. e ∙ append-nil (filter is_of ds)
       ] parts
-
-abbrev Messages : Type 0
-Messages = List (Arc Draft Global)
 
 -- a map compares its keys by a test that answers as the one of the index does
 module _ {K S : Type 0} (key_of : Draft → K) (T E : K → K → Bool) (ties : (j k : K) → E j k ≡ T j k) (old new : IndexMap K (Vec (Arc Draft Global)) S) where
@@ -53,30 +55,29 @@ module _ {K S : Type 0} (key_of : Draft → K) (T E : K → K → Bool) (ties : 
   HasNoEmptyList-kept keeps was = subst (λ (F : K → K → Bool). HasNoEmptyList F new) is_same (keeps (subst (λ (F : K → K → Bool). HasNoEmptyList F old) (sym is_same) was))
 
   -- an index in which a message was filed
-  pub IsIndexBy-filed : (key : K) (message : Arc Draft Global) (messages : Messages) → key ≡ key_of (arc_value message) → IsIndexBy key_of T old (drafts_in messages)
+  pub IsIndexBy-filed : (key : K) (message : Arc Draft Global) (d : Draft) (ds : List Draft) → arc_value message ≡ d → key ≡ key_of d → IsIndexBy key_of T old ds
       → ((k : K) → bucket E new k ≡ cond (E key k) (bucket E old k ++ message ∷ []) (bucket E old k)) → (HasNoEmptyList E old → HasNoEmptyList E new)
-      → IsIndexBy key_of T new (drafts_in (messages ++ message ∷ []))
-  IsIndexBy-filed key message messages is was became keeps = record {
+      → IsIndexBy key_of T new (ds ++ d ∷ [])
+  IsIndexBy-filed key message d ds value is was became keeps = record {
     messages = λ k.
         let told : bucket T new k ≡ cond (T (key_of (arc_value message)) k) (bucket T old k ++ message ∷ []) (bucket T old k)
-        = subst (λ (j : K). bucket T new k ≡ cond (T j k) (bucket T old k ++ message ∷ []) (bucket T old k)) is
+        = subst (λ (j : K). bucket T new k ≡ cond (T j k) (bucket T old k ++ message ∷ []) (bucket T old k)) (is ∙ ap key_of (sym value))
         (subst (λ (F : K → K → Bool). bucket F new k ≡ cond (F key k) (bucket F old k ++ message ∷ []) (bucket F old k)) is_same (became k)) in
-        filed arc_value (λ d. T (key_of d) k) (bucket T old k) (bucket T new k) message (drafts_in messages) (was.messages k) told
-        ∙ ap (filter (λ d. T (key_of d) k)) (sym (map-append arc_value messages (message ∷ [])));
+        filed arc_value (λ m. T (key_of m) k) (bucket T old k) (bucket T new k) message ds (was.messages k) told
+        ∙ ap (λ (m : Draft). filter (λ n. T (key_of n) k) (ds ++ m ∷ [])) value;
     no_empty = HasNoEmptyList-kept keeps was.no_empty;
   }
 
   -- an index out of which the last message was taken
-  pub IsIndexBy-unfiled : (key : K) (message : Arc Draft Global) (messages rest : Messages) → key ≡ key_of (arc_value message) → messages ≡ rest ++ message ∷ [] → IsIndexBy key_of T old (drafts_in messages)
+  pub IsIndexBy-unfiled : (key : K) (d : Draft) (ds : List Draft) → key ≡ key_of d → IsIndexBy key_of T old (ds ++ d ∷ [])
       → ((k : K) → bucket E new k ≡ cond (E key k) (take (length (bucket E old k) - 1) (bucket E old k)) (bucket E old k)) → (HasNoEmptyList E old → HasNoEmptyList E new)
-      → IsIndexBy key_of T new (drafts_in rest)
-  IsIndexBy-unfiled key message messages rest is ends was became keeps = record {
+      → IsIndexBy key_of T new ds
+  IsIndexBy-unfiled key d ds is was became keeps = record {
     messages = λ k.
-        let told : bucket T new k ≡ cond (T (key_of (arc_value message)) k) (take (length (bucket T old k) - 1) (bucket T old k)) (bucket T old k)
+        let told : bucket T new k ≡ cond (T (key_of d) k) (take (length (bucket T old k) - 1) (bucket T old k)) (bucket T old k)
         = subst (λ (j : K). bucket T new k ≡ cond (T j k) (take (length (bucket T old k) - 1) (bucket T old k)) (bucket T old k)) is
         (subst (λ (F : K → K → Bool). bucket F new k ≡ cond (F key k) (take (length (bucket F old k) - 1) (bucket F old k)) (bucket F old k)) is_same (became k)) in
-        unfiled arc_value (λ d. T (key_of d) k) (bucket T old k) (bucket T new k) message (drafts_in rest)
-        (was.messages k ∙ ap (λ (xs : Messages). filter (λ d. T (key_of d) k) (drafts_in xs)) ends ∙ ap (filter (λ d. T (key_of d) k)) (map-append arc_value rest (message ∷ []))) told;
+        unfiled arc_value (λ m. T (key_of m) k) (bucket T old k) (bucket T new k) d ds (was.messages k) told;
     no_empty = HasNoEmptyList-kept keeps was.no_empty;
   }
 

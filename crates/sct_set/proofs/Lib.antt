@@ -1,4 +1,5 @@
 -- The lemmas of the archive.
+pub mod AgainstLemmas
 pub mod ArchiveLemmas
 pub mod ContentsLemmas
 pub mod GroupLemmas

@@ -1,7 +1,8 @@
 -- Lists of shared messages, read as the messages, and the indexes of them. Read by an auditor.
-use Rattle.std.specs.Prelude.{ℕ, nat_eq, Bool, ◌≡◌, List, map, filter}
+use Rattle.std.specs.Prelude.{ℕ, nat_eq, Bool, ◌≡◌, ◌∷◌, ◌++◌, [], List, map, filter, if◌then◌else◌}
 use Rattle.std.specs.Global.{Vec, Global}
 use Rattle.std.specs.Arc.{arc_value}
+use Rattle.std.specs.List.{list_any}
 use Rattle.std.specs.declared.sync.Arc.{Arc}
 use Rattle.indexmap.specs.IndexMap.{IndexMap}
 use Rattle.sct_message.specs.declared.draft.Draft.{Draft}
@@ -23,6 +24,22 @@ drafts_of identity drafts = filter (λ draft. same_identity (identity_of draft) 
 abbrev pub drafts_alike : ℕ → List Draft → List Draft
 drafts_alike digest drafts = filter (λ draft. nat_eq (digest_of draft) digest) drafts
 
+-- whether one of some messages has the identity
+abbrev pub finds : Identity → List Draft → Bool
+finds identity drafts = list_any (λ draft. same_identity (identity_of draft) identity) drafts
+
+-- the messages of a list that find another of their identity before them, be it one of some that stand before the list
+abbrev pub against_after : List Draft → List Draft → List Draft
+against_after before [] = []
+against_after before (draft ∷ drafts) =
+    if finds (identity_of draft) before
+    then draft ∷ against_after (before ++ draft ∷ []) drafts
+    else against_after (before ++ draft ∷ []) drafts
+
+-- the messages of a list that are not the first of their identity
+abbrev pub against_in : List Draft → List Draft
+against_in drafts = against_after [] drafts
+
 -- an index of messages: the map has each key that a message has, with the messages of it in their order,
 -- and no other key
 pub record IsIndexBy {K S : Type 0} (key_of : Draft → K) (same : K → K → Bool)
@@ -31,8 +48,8 @@ pub record IsIndexBy {K S : Type 0} (key_of : Draft → K) (same : K → K → B
       → drafts_in (bucket same index key) ≡ filter (λ draft. same (key_of draft) key) drafts
   pub no_empty : HasNoEmptyList same index
 
--- the index of identities and the index of digests
+-- the index of identities, and the index of the digests of those messages that are not the first of their identity
 pub record AreIndexes {S Z : Type 0} (by_identity : IndexMap Identity (Vec (Arc Draft Global)) S)
     (by_digest : IndexMap ℕ (Vec (Arc Draft Global)) Z) (drafts : List Draft) : Type 0 where
   pub identities : IsIndexBy identity_of same_identity by_identity drafts
-  pub digests : IsIndexBy digest_of nat_eq by_digest drafts
+  pub digests : IsIndexBy digest_of nat_eq by_digest (against_in drafts)

@@ -23,7 +23,7 @@ pub fn file<K: Eq + Hash + Drop, V: Drop>(
         list.push(item)?;
         return Ok(());
     }
-    let mut list = Vec::new(alloc);
+    let mut list = Vec::with_capacity(alloc, 1)?;
     list.push(item)?;
     index.insert(key, list)?;
     Ok(())

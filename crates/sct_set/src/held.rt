@@ -25,9 +25,12 @@ pub fn is_another_among(message: &Message, messages: &[Arc<Message>]) -> bool
     messages.iter().any(|held| **held != *message)
 }
 
-/// Whether a message is one of a table.
+/// Whether a message is one of a table: the first of its identity, or one of those that came against it.
 pub fn holds(table: &Table, message: &Message) -> bool
     ensures { result ≡ set.contains (contents_of table.now) message.now }
 {
-    is_among(message, table.alike(message))
+    let Some(first) = table.of(&message.identity()).first() else {
+        return false;
+    };
+    **first == *message || is_among(message, table.against(message))
 }

@@ -7,6 +7,7 @@ pub mod buckets;
 mod contradictions;
 mod digest;
 mod fault;
+mod filing;
 mod held;
 pub mod laws;
 mod line;

@@ -1,14 +1,17 @@
-//! The messages of an archive in the order of their arrival, with an index by identity and one by digest.
+//! The messages of an archive in the order of their arrival, with an index by identity, and one by digest of those that
+//! are not the first of their identity.
 
 ghost use Rattle.std.specs.Prelude.{◌≡◌, ◌++◌, ◌∷◌, ◌-◌, [], length, take, OnOk, OnErr};
 ghost use Rattle.std.specs.Arc.{arc_value};
 ghost use Rattle.sct_set.specs.Digest.{digest_of};
-ghost use Rattle.sct_set.specs.Drafts.{drafts_in, drafts_of, drafts_alike};
+ghost use Rattle.sct_set.specs.Drafts.{against_in, drafts_in, drafts_of, drafts_alike};
 
-use crate::buckets::{file, unfile};
-use crate::digest::digest;
+use crate::filing::{
+    ByDigest, ByIdentity, file_against, file_by_identity, has_identity, of_digest, of_identity,
+    unfile_against, unfile_by_identity,
+};
 use indexmap::IndexMap;
-use sct_message::{Identity, Message, keys_are_ordered};
+use sct_message::{Identity, Message};
 use std::alloc::{AllocError, Global};
 use std::marker::Model;
 use std::sync::Arc;
@@ -18,8 +21,8 @@ use std::sync::Arc;
 pub struct Table {
     alloc: Global,
     messages: Vec<Arc<Message>>,
-    by_identity: IndexMap<Identity, Vec<Arc<Message>>>,
-    by_digest: IndexMap<u64, Vec<Arc<Message>>>,
+    by_identity: ByIdentity,
+    by_digest: ByDigest,
 }
 
 impl Model for Table {
@@ -66,21 +69,14 @@ impl Table {
     pub fn of(&self, identity: &Identity) -> &[Arc<Message>]
         ensures { drafts_in result.now ≡ drafts_of identity.now self.now }
     {
-        keys_are_ordered();
-        match self.by_identity.get(identity) {
-            Some(messages) => messages,
-            None => &[],
-        }
+        of_identity(&self.by_identity, identity)
     }
 
-    /// The messages of the digest of one.
-    pub fn alike(&self, message: &Message) -> &[Arc<Message>]
-        ensures { drafts_in result.now ≡ drafts_alike (digest_of message.now) self.now }
+    /// The messages of the digest of one, the first of each identity left out.
+    pub fn against(&self, message: &Message) -> &[Arc<Message>]
+        ensures { drafts_in result.now ≡ drafts_alike (digest_of message.now) (against_in self.now) }
     {
-        match self.by_digest.get(&digest(message)) {
-            Some(messages) => messages,
-            None => &[],
-        }
+        of_digest(&self.by_digest, message)
     }
 
     /// Appends a message. Where memory is wanting nothing has changed.
@@ -88,13 +84,11 @@ impl Table {
         ensures ok { OnOk result (self.new ≡ self.old ++ arc_value message ∷ []) }
         ensures err { OnErr result (self.new ≡ self.old) }
     {
-        keys_are_ordered();
-        let filed = message.clone()?;
-        let again = message.clone()?;
+        let against = has_identity(&self.by_identity, &message.identity());
         self.messages.reserve(1)?;
-        file(self.alloc, &mut self.by_identity, message.identity(), filed)?;
-        if let Err(refused) = file(self.alloc, &mut self.by_digest, digest(&message), again) {
-            unfile(&mut self.by_identity, &message.identity());
+        file_by_identity(self.alloc, &mut self.by_identity, &message)?;
+        if let Err(refused) = file_against(self.alloc, &mut self.by_digest, against, &message) {
+            unfile_by_identity(&mut self.by_identity, &message);
             return Err(refused);
         }
         self.messages.push_reserved(message);
@@ -105,11 +99,12 @@ impl Table {
     pub fn pop(&mut self)
         ensures { self.new ≡ take (length self.old - 1) self.old }
     {
-        keys_are_ordered();
-        if let Some(last) = self.messages.pop() {
-            unfile(&mut self.by_identity, &last.identity());
-            unfile(&mut self.by_digest, &digest(&last));
-        }
+        let Some(last) = self.messages.pop() else {
+            return;
+        };
+        unfile_by_identity(&mut self.by_identity, &last);
+        let against = has_identity(&self.by_identity, &last.identity());
+        unfile_against(&mut self.by_digest, against, &last);
     }
 
     /// Keeps the first messages, as many as are named.
