@@ -1,4 +1,4 @@
 -- The lemmas behind the lines.
 pub mod LineLawLemmas
 pub mod LineLemmas
-mod PartLemmas
+pub mod PartLemmas
