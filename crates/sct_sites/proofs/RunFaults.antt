@@ -10,5 +10,5 @@ pub ends_settling : (f : RunFault) → RunEndsWhere (λ point. ⊥) f → EndsSe
 ends_settling run.Usage ends = tt
 ends_settling run.Held ends = absurd ends.1
 ends_settling run.Memory ends = tt
-ends_settling (run.Refused number) ends = tt
+ends_settling (run.Refused number) ends = ends
 ends_settling run.NoWorker ends = tt

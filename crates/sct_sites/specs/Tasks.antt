@@ -1,5 +1,6 @@
 -- What is to be done once the files are read that the command line names, and what a run then writes. Read by an auditor.
 use Rattle.std.specs.Prelude.{ℕ, ◌≡◌, List, [], length, Option, Some, None, IfSome, Result, Ok, Err, string_bytes}
+use Rattle.sct_receipts.specs.Faults.{IsRefusalNumber}
 use Rattle.sct_run.specs.Runs.{set_of_all}
 use Rattle.sct_view.specs.StatusText.{status_text_of}
 use Rattle.sct_workers.specs.Files.{bytes_of, refused_in, told_from}
@@ -82,11 +83,12 @@ abbrev pub LeavesInput : Task → Type 0
 LeavesInput (Work job) = ⊥
 LeavesInput _ = Unit {0}
 
--- what may end the settling of inputs; no gate holds a worker back (61)
+-- what may end the settling of inputs; no gate holds a worker back (61), and where a call was refused, the number is one
+-- that a refusal has
 abbrev pub EndsSettling : ProgramFault → Type 0
 EndsSettling fault.Write = Unit {0}
 EndsSettling fault.Usage = Unit {0}
 EndsSettling fault.Memory = Unit {0}
-EndsSettling (fault.Refused number) = Unit {0}
+EndsSettling (fault.Refused number) = IsRefusalNumber number
 EndsSettling fault.NoWorker = Unit {0}
 EndsSettling _ = ⊥
