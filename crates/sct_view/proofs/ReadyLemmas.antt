@@ -58,28 +58,40 @@ module _ {Y Z : Type 0} (cases later_cases : IndexMap TransferKey Case Y) (total
 -- What is left to be put into the tables, so that they keep these cases in the end.
 pub record IsLeft {Y Z : Type 0} (s : MessageSet) (rest : List Planned) (cases : IndexMap TransferKey Case Y)
     (totals : IndexMap (List ℕ) Totals Z) (in_the_end : Cases) : Type 0 where
-  pub ready : are_ready cases totals rest ≡ true
   pub among : are_among (keys_of s) rest ≡ true
   pub kept : AreTotalsOver cases totals (keys_of s)
   pub small : (t : TransferKey) → IsSmall (case_at cases t)
   pub after : (t : TransferKey) → case_after (map change_in rest) (case_at cases) t ≡ in_the_end t
 
-module _ {Y Z : Type 0} (s : MessageSet) (all : List Planned) (one : Planned) (rest : List Planned) (cases later_cases : IndexMap TransferKey Case Y)
-    (totals later_totals : IndexMap (List ℕ) Totals Z) (in_the_end : Cases) (is : all ≡ one ∷ rest) (whole : IsLeft s all cases totals in_the_end) where
+module _ {Y Z : Type 0} (s : MessageSet) (all : List Planned) (one : Planned) (rest : List Planned) (cases : IndexMap TransferKey Case Y)
+    (totals : IndexMap (List ℕ) Totals Z) (in_the_end : Cases) (is : all ≡ one ∷ rest) (whole : IsLeft s all cases totals in_the_end) where
   left : IsLeft s (one ∷ rest) cases totals in_the_end
   left = subst (λ (ps : List Planned). IsLeft s ps cases totals in_the_end) is whole
 
+  -- the first is among the transfers
+  pub first_among : list_any (same_key one.transfer) (keys_of s) ≡ true
+  first_among = first_of (list_any (same_key one.transfer) (keys_of s)) (are_among (keys_of s) rest) left.among
+
+module _ {Y Z : Type 0} (s : MessageSet) (all : List Planned) (one : Planned) (rest : List Planned) (cases later_cases : IndexMap TransferKey Case Y)
+    (totals later_totals : IndexMap (List ℕ) Totals Z) (in_the_end : Cases) (is : all ≡ one ∷ rest) (whole : IsLeft s all cases totals in_the_end) where
   -- once the first is put in, the others are left
   pub one_less : ((t : TransferKey) → case_at later_cases t ≡ cond (same_key one.transfer t) (kept_in one.case) (case_at cases t))
       → AreTotalsOver later_cases later_totals (keys_of s) → ((t : TransferKey) → IsSmall (case_at later_cases t))
-      → ((t : TransferKey) → has_case later_cases t ≡ has_case cases t) → ((p : List ℕ) → has_totals later_totals p ≡ has_totals totals p)
       → IsLeft s rest later_cases later_totals in_the_end
-  one_less made kept small cases_stay totals_stay = record {
-    ready = all_wider (is_ready_for cases totals) (is_ready_for later_cases later_totals)
-        (stays_ready cases later_cases totals later_totals (λ t e. cases_stay t ∙ e) (λ p e. totals_stay p ∙ e)) rest
-        (second_of (is_ready_for cases totals one) (are_ready cases totals rest) left.ready);
-    among = second_of (list_any (same_key one.transfer) (keys_of s)) (are_among (keys_of s) rest) left.among;
-    kept = kept;
-    small = small;
-    after = λ t. case_after-alike (map change_in rest) (λ k. cond (same_key one.transfer k) (kept_in one.case) (case_at cases k)) (case_at later_cases) made t ∙ left.after t;
-  }
+  one_less made kept small =
+      let before = left s all one rest cases totals in_the_end is whole in record {
+        among = second_of (list_any (same_key one.transfer) (keys_of s)) (are_among (keys_of s) rest) before.among;
+        kept = kept;
+        small = small;
+        after = λ t. case_after-alike (map change_in rest) (λ k. cond (same_key one.transfer k) (kept_in one.case) (case_at cases k)) (case_at later_cases) made t ∙ before.after t;
+      }
+
+module _ {Y Z : Type 0} (all : List Planned) (one : Planned) (rest : List Planned) (cases later_cases : IndexMap TransferKey Case Y)
+    (totals later_totals : IndexMap (List ℕ) Totals Z) (is : all ≡ one ∷ rest) (ready : are_ready cases totals all ≡ true) where
+  -- and they have their places
+  pub others_ready : ((t : TransferKey) → has_case later_cases t ≡ has_case cases t) → ((p : List ℕ) → has_totals later_totals p ≡ has_totals totals p)
+      → are_ready later_cases later_totals rest ≡ true
+  others_ready cases_stay totals_stay =
+      all_wider (is_ready_for cases totals) (is_ready_for later_cases later_totals)
+      (stays_ready cases later_cases totals later_totals (λ t e. cases_stay t ∙ e) (λ p e. totals_stay p ∙ e)) rest
+      (second_of (is_ready_for cases totals one) (are_ready cases totals rest) (ap (are_ready cases totals) (sym is) ∙ ready))

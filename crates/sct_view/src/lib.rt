@@ -7,6 +7,7 @@ mod commit;
 mod euros;
 mod evaluation;
 mod filed;
+mod filling;
 mod found;
 pub mod laws;
 mod listed;

@@ -14,11 +14,9 @@ ghost use Rattle.sct_view.specs.Filed.{IsFiled};
 ghost use Rattle.sct_view.specs.Kept.{case_of, IsViewOf};
 
 use crate::case::Planned;
-use crate::commit::commit_all;
 use crate::evaluation::evaluate;
 use crate::filed::{by_transfer, on_transfer, transfers};
-use crate::rebuild::Tables;
-use crate::room::open_all;
+use crate::filling::{Tables, fill};
 use indexmap::IndexMap;
 use sct_case::CaseFault;
 use sct_message::{Message, TransferKey};
@@ -153,23 +151,41 @@ fn sort_by_transfer<R: Threads + Sync>(
     Ok(Sorted { index, transfers })
 }
 
+// Messages filed by transfer, and the case of each transfer that they are on.
+#[derive(Drop)]
+struct Evaluated {
+    index: IndexMap<TransferKey, Vec<Arc<Message>>>,
+    planned: Vec<Planned>,
+}
+
 // The case of each transfer of an archive.
-fn planned_of<R: Threads + Sync>(
+fn evaluate_all<R: Threads + Sync>(
     rt: &R,
     alloc: Global,
     archive: &Archive,
-) -> Result<Vec<Planned>, CaseFault>
-    ensures { IfOk result (λ planned. map change_in planned.items ≡ changes_of archive.now (keys_of archive.now)) }
+) -> Result<Evaluated, CaseFault>
+    ensures { IfOk result (λ evaluated. map change_in evaluated.planned.items ≡ changes_of archive.now (keys_of archive.now)) }
 {
     let Sorted { index, transfers } = sort_by_transfer(rt, alloc, archive.messages())?;
-    planned_by_halves(
-        rt,
-        alloc,
-        archive,
-        &index,
-        &transfers,
-        halvings(rt, &transfers),
-    )
+    let halvings = halvings(rt, &transfers);
+    let planned = planned_by_halves(rt, alloc, archive, &index, &transfers, halvings)?;
+    Ok(Evaluated { index, planned })
+}
+
+// The tables of the planned cases of all transfers of an archive.
+fn tables_of_planned(
+    alloc: Global,
+    archive: &Archive,
+    planned: Vec<Planned>,
+) -> Result<Tables, CaseFault>
+    requires { map change_in planned.items ≡ changes_of archive.now (keys_of archive.now) }
+    ensures { IfOk result (λ tables. IsViewOf archive.now tables.cases tables.totals) }
+{
+    let cases = IndexMap::with_capacity(alloc, planned.len())?;
+    let totals = IndexMap::new(alloc);
+    let mut tables = Tables { cases, totals };
+    fill(alloc, archive, &mut tables, planned)?;
+    Ok(tables)
 }
 
 /// The tables of an archive's messages, whose transfers are evaluated in as many threads as there are processors. Where no
@@ -181,12 +197,14 @@ pub(crate) fn tables_in_parts<R: Threads + Sync>(
 ) -> Result<Tables, CaseFault>
     ensures { IfOk result (λ tables. IsViewOf archive.now tables.cases tables.totals) }
 {
-    let planned = planned_of(rt, alloc, archive)?;
-    let mut tables = Tables {
-        cases: IndexMap::new(alloc),
-        totals: IndexMap::new(alloc),
-    };
-    open_all(alloc, &mut tables.cases, &mut tables.totals, &planned)?;
-    commit_all(archive, &mut tables.cases, &mut tables.totals, planned);
-    Ok(tables)
+    let Evaluated { index, planned } = evaluate_all(rt, alloc, archive)?;
+    let ((), tables) = join(
+        rt,
+        move || -> () { drop(index) },
+        move || -> Result<Tables, CaseFault>
+            requires { map change_in planned.items ≡ changes_of archive.now (keys_of archive.now) }
+            ensures { IfOk result (λ tables. IsViewOf archive.entry.now tables.cases tables.totals) }
+        { tables_of_planned(alloc, archive, planned) },
+    );
+    tables
 }

@@ -10,26 +10,16 @@ ghost use Rattle.sct_message.specs.Transfers.{is_on, keys_of};
 ghost use Rattle.sct_message.specs.declared.keys.TransferKey.{TransferKey as TransferOf};
 ghost use Rattle.sct_view.specs.Kept.{case_at, case_of, same_key, AreTotalsOver, IsSmall, IsViewOf};
 
-use crate::case::{Case, Planned};
+use crate::case::Planned;
 use crate::evaluation::evaluate;
 use crate::filed::{by_transfer, on_transfer, transfers};
-use crate::opening::open_planned;
-use crate::replacing::commit_one;
-use crate::totals::Totals;
+use crate::filling::{Tables, place};
 use indexmap::IndexMap;
 use sct_case::CaseFault;
-use sct_element::Bic;
 use sct_message::{Message, TransferKey};
 use sct_set::Archive;
 use std::alloc::Global;
 use std::sync::Arc;
-
-/// What is kept of each transfer and of each bank.
-#[derive(Drop)]
-pub(crate) struct Tables {
-    pub(crate) cases: IndexMap<TransferKey, Case>,
-    pub(crate) totals: IndexMap<Bic, Totals>,
-}
 
 /// Evaluates a transfer of an archive from its messages, and keeps its case in place of the one that was kept.
 fn keep(
@@ -58,8 +48,7 @@ fn keep(
         transfer: transfer.copy(),
         case,
     };
-    open_planned(alloc, &mut tables.cases, &mut tables.totals, &planned)?;
-    commit_one(archive, &mut tables.cases, &mut tables.totals, planned);
+    place(alloc, archive, tables, planned)?;
     Ok(())
 }
 

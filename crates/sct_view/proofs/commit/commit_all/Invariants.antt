@@ -1,6 +1,6 @@
--- What is left to be put into the tables.
-use Rattle.std.proofs.Common.{map}
-use Rattle.sct_view.specs.Changes.{case_after, change_in}
+-- What is left to be put into the tables, which have places for it.
+use Rattle.std.proofs.Common.{◌≡◌, map, true}
+use Rattle.sct_view.specs.Changes.{are_ready, case_after, change_in}
 use Rattle.sct_view.specs.Kept.{case_at}
 use Rattle.sct_view.proofs.ReadyLemmas.{IsLeft}
 use Rattle.sct_view.proofs.commit.commit_all.Given as goal
@@ -9,4 +9,5 @@ abbrev pub invariant-loop-one : goal.invariant-loop-one
 invariant-loop-one l =
     (goal.iterator-loop-one).can_next l.one-iterator ×
     (goal.iterator-loop-one).is_finite l.one-iterator ×
-    IsLeft l.archive l.one-iterator.rest.items l.cases l.totals (λ t. case_after (map change_in l.initial.one-iterator.rest.items) (case_at l.initial.cases) t)
+    IsLeft l.archive l.one-iterator.rest.items l.cases l.totals (λ t. case_after (map change_in l.initial.one-iterator.rest.items) (case_at l.initial.cases) t) ×
+    (are_ready l.cases l.totals l.one-iterator.rest.items ≡ true)
