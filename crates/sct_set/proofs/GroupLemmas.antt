@@ -210,7 +210,7 @@ group_more text old ds is n i ms below at group before now again =
 
 -- ---- what is told apart of a list of which all was lent and put back
 
-pub put_back : (same : Identity → Identity → Bool) (n : ℕ) (sorted old told : List Identity) → length sorted ≡ n
+pub put_back : {X : Type 0} (same : X → X → Bool) (n : ℕ) (sorted old told : List X) → length sorted ≡ n
     → told ≡ dedup same (take n (sorted ++ drop (length sorted) old)) → told ≡ dedup same sorted
 put_back same n sorted old told long apart =
     apart ∙ ap (λ (m : ℕ). dedup same (take m (sorted ++ drop (length sorted) old))) (sym long)

@@ -10,10 +10,12 @@ ghost use Rattle.sct_message.specs.declared.draft.Draft.{Draft as DraftOf};
 ghost use Rattle.sct_set.specs.Drafts.{IsIndexBy};
 
 use indexmap::IndexMap;
+use rayon::prelude::*;
 use sct_message::{Identity, Message, TransferKey, keys_are_ordered};
 use sct_set::buckets::file;
 use std::alloc::{AllocError, Global};
 use std::sync::Arc;
+use std::thread::Threads;
 
 /// The messages in their order, each once.
 pub(crate) fn in_order(
@@ -80,6 +82,20 @@ pub(crate) fn on_transfer<'a>(
     }
 }
 
+// The transfer of each message.
+fn transfer_of_each(
+    alloc: Global,
+    messages: &[Arc<Message>],
+) -> Result<Vec<TransferKey>, AllocError>
+    ensures { IfOk result (λ found. found.items ≡ map transfer_of (messages_in messages.now)) }
+{
+    let mut found = Vec::with_capacity(alloc, messages.len())?;
+    for message in messages {
+        found.push(message.transfer())?;
+    }
+    Ok(found)
+}
+
 /// The transfers that the messages are on, ascending, each once.
 pub(crate) fn transfers(
     alloc: Global,
@@ -88,11 +104,23 @@ pub(crate) fn transfers(
     ensures { IfOk result (λ found.
         found.items ≡ ascending transfer_order (map transfer_of (messages_in messages.now))) }
 {
-    let mut found = Vec::new(alloc);
-    for message in messages {
-        found.push(message.transfer())?;
-    }
+    let mut found = transfer_of_each(alloc, messages)?;
     found.sort()?;
+    found.dedup();
+    Ok(found)
+}
+
+/// The same, sorted in several threads.
+pub(crate) fn transfers_in_parts<R: Threads + Sync>(
+    rt: &R,
+    alloc: Global,
+    messages: &[Arc<Message>],
+) -> Result<Vec<TransferKey>, AllocError>
+    ensures { IfOk result (λ found.
+        found.items ≡ ascending transfer_order (map transfer_of (messages_in messages.now))) }
+{
+    let mut found = transfer_of_each(alloc, messages)?;
+    par_sort(rt, alloc, &mut found)?;
     found.dedup();
     Ok(found)
 }

@@ -15,7 +15,7 @@ ghost use Rattle.sct_view.specs.Kept.{case_of, IsViewOf};
 
 use crate::case::Planned;
 use crate::evaluation::evaluate;
-use crate::filed::{by_transfer, on_transfer, transfers};
+use crate::filed::{by_transfer, on_transfer, transfers_in_parts};
 use crate::filling::{Tables, fill};
 use indexmap::IndexMap;
 use sct_case::CaseFault;
@@ -142,9 +142,10 @@ fn sort_by_transfer<R: Threads + Sync>(
             ensures { IfOk result (λ index. IsIndexBy transfer_of same_transfer index (messages_in messages.entry.now)) }
         { by_transfer(alloc, messages) },
         || -> Result<Vec<TransferKey>, AllocError>
+            requires { IsSync R.row }
             ensures { IfOk result (λ found.
                 found.items ≡ ascending transfer_order (map transfer_of (messages_in messages.entry.now))) }
-        { transfers(alloc, messages) },
+        { transfers_in_parts(rt, alloc, messages) },
     );
     let index = filed?;
     let transfers = listed?;
