@@ -40,6 +40,21 @@ against_in-found ds m e = against-push [] ds m ∙ ap (λ (b : Bool). against_in
 pub against_in-first : (ds : List Draft) (m : Draft) → finds (identity_of m) ds ≡ false → against_in (ds ++ m ∷ []) ≡ against_in ds
 against_in-first ds m e = against-push [] ds m ∙ ap (λ (b : Bool). against_in ds ++ cond b (m ∷ []) []) e ∙ append-nil (against_in ds)
 
+none_kept : (p : Draft → Bool) (ds : List Draft) → list_any p ds ≡ false → filter p ds ≡ []
+none_kept p [] e = refl
+none_kept p (d ∷ ds) e =
+    elim (p d) as (λ b. (b || list_any p ds) ≡ false → cond b (d ∷ filter p ds) (filter p ds) ≡ []) [
+      | true ↦ λ f. absurd (false≢true (sym f))
+      | false ↦ λ f. none_kept p ds f
+    ] e
+
+-- where no message of an identity is found, none is at a key that is that identity
+pub none_found : (ds : List Draft) (key i : Identity) → key ≡ i → finds i ds ≡ false
+    → (k : Identity) → same_identity key k ≡ true → filter (λ m. same_identity (identity_of m) k) ds ≡ []
+none_found ds key i is none k e =
+    none_kept (λ m. same_identity (identity_of m) k) ds
+    (ap (λ (j : Identity). finds j ds) (sym (tie_is identity_total identities_same key k e) ∙ is) ∙ none)
+
 module _ (m : Draft) where
   abbrev is : Draft → Bool
   is d = same_message d m

@@ -77,21 +77,6 @@ against-is later ds m e =
     ∙ list_any-filter (λ d. same_message d m) (λ d. nat_eq (digest_of d) (digest_of m)) ds
     ∙ ap (λ (p : Draft → Bool). list_any p ds) (λ i d. implied _ _ (same_have_one_digest d m) i)
 
-zero_below : (n : ℕ) → nat_lt 0 (suc n) ≡ true
-zero_below n = lt-ltb 0 (suc n) (omega arith)
-
-some_kept : (p : Draft → Bool) (ds : List Draft) → nat_lt 0 (length (filter p ds)) ≡ list_any p ds
-some_kept p [] = refl
-some_kept p (d ∷ ds) = elim (p d) as (λ b. nat_lt 0 (length (cond b (d ∷ filter p ds) (filter p ds))) ≡ (b || list_any p ds)) [ true ↦ zero_below _ | false ↦ some_kept p ds ]
-
--- a message of an identity is held where its list is not empty
-pub has-is : (ms : List (Arc Draft Global)) (ds : List Draft) (i : Identity) → drafts_in ms ≡ drafts_of i ds → nat_lt 0 (length ms) ≡ has_identity (contents_of ds) i
-has-is ms ds i e =
-    ap (nat_lt 0) (sym (length-map ms arc_value))
-    ∙ ap (λ (xs : List Draft). nat_lt 0 (length xs)) e
-    ∙ some_kept (λ d. same_identity (identity_of d) i) ds
-    ∙ sym (any_items (λ d. same_identity (identity_of d) i) ds)
-
 one_kept : (p : Draft → Bool) (ds : List Draft) → not (nat_eq (length (filter p ds)) 0) ≡ list_any p ds
 one_kept p [] = refl
 one_kept p (d ∷ ds) = elim (p d) as (λ b. not (nat_eq (length (cond b (d ∷ filter p ds) (filter p ds))) 0) ≡ (b || list_any p ds)) [ true ↦ ap not (ne_eqb (suc (length (filter p ds))) 0 (suc-ne-zero (length (filter p ds)))) | false ↦ one_kept p ds ]

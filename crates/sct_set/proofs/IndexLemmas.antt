@@ -1,5 +1,5 @@
 -- What filing a message and taking it out do to an index. Proof plumbing.
-use Rattle.std.proofs.Common.{◌≡◌, ℕ, ◌+◌, ◌-◌, Bool, true, false, cond, List, [], ◌∷◌, ◌++◌, map, length, take, sym, ap, subst, ◌∙◌, filter, arith, length-append, Result, Ok, Err, OnErr}
+use Rattle.std.proofs.Common.{◌≡◌, ℕ, ◌+◌, ◌-◌, Bool, true, false, cond, List, [], ◌∷◌, ◌++◌, map, length, take, refl, sym, ap, subst, ◌∙◌, filter, arith, length-append, Result, Ok, Err, OnErr}
 use Rattle.std.proofs.lemmas.List.{append-nil, length-map, map-append, take-map}
 use Rattle.std.proofs.lemmas.List.Elements.{filter-append}
 use Rattle.std.proofs.Math.Seq.{take-append_seam}
@@ -45,6 +45,10 @@ module _ {A D : Type 0} (value : A → D) (is_of : D → Bool) where
         | false ↦ λ e. e ∙ append-nil (filter is_of ds)
       ] parts
 
+no_values : (ms : List (Arc Draft Global)) → drafts_in ms ≡ [] → ms ≡ []
+no_values [] e = refl
+no_values (m ∷ ms) e = cc
+
 -- a map compares its keys by a test that answers as the one of the index does
 module _ {K S : Type 0} (key_of : Draft → K) (T E : K → K → Bool) (ties : (j k : K) → E j k ≡ T j k) (old new : IndexMap K (Vec (Arc Draft Global)) S) where
   is_same : E ≡ T
@@ -67,6 +71,21 @@ module _ {K S : Type 0} (key_of : Draft → K) (T E : K → K → Bool) (ties : 
         ∙ ap (λ (m : Draft). filter (λ n. T (key_of n) k) (ds ++ m ∷ [])) value;
     no_empty = HasNoEmptyList-kept keeps was.no_empty;
   }
+
+  -- an index in which the first message of its key was filed
+  pub IsIndexBy-first : (key : K) (message : Arc Draft Global) (d : Draft) (ds : List Draft) → arc_value message ≡ d → key ≡ key_of d → IsIndexBy key_of T old ds
+      → ((k : K) → T key k ≡ true → filter (λ m. T (key_of m) k) ds ≡ [])
+      → ((k : K) → bucket E new k ≡ cond (E key k) (message ∷ []) (bucket E old k)) → (HasNoEmptyList E old → HasNoEmptyList E new)
+      → IsIndexBy key_of T new (ds ++ d ∷ [])
+  IsIndexBy-first key message d ds value is was none became keeps =
+      IsIndexBy-filed key message d ds value is was
+      (λ k. became k
+      ∙ elim (E key k) as (λ b. E key k ≡ b → cond b (message ∷ []) (bucket E old k) ≡ cond b (bucket E old k ++ message ∷ []) (bucket E old k)) [
+        | true ↦ λ e. ap (λ (ms : List (Arc Draft Global)). ms ++ message ∷ [])
+            (sym (no_values _ (ap (λ (F : K → K → Bool). drafts_in (bucket F old k)) is_same ∙ was.messages k ∙ none k (sym (ties key k) ∙ e))))
+        | false ↦ λ _. refl
+      ] refl)
+      keeps
 
   -- an index out of which the last message was taken
   pub IsIndexBy-unfiled : (key : K) (d : Draft) (ds : List Draft) → key ≡ key_of d → IsIndexBy key_of T old (ds ++ d ∷ [])

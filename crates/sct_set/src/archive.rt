@@ -5,6 +5,7 @@ ghost use Rattle.std.specs.Arc.{arc_value};
 ghost use Rattle.std.specs.FinSet as set;
 ghost use Rattle.std.specs.Option.{option_copied, option_to_list};
 ghost use Rattle.sct_message.specs.Order.{message_order};
+ghost use Rattle.sct_set.specs.Archive.{added_where};
 ghost use Rattle.sct_set.specs.Contents.{contents_of, HasNoRepeat};
 ghost use Rattle.sct_set.specs.Drafts.{drafts_in};
 ghost use Rattle.sct_set.specs.Pieces.{joined};
@@ -22,6 +23,17 @@ use std::alloc::Global;
 use std::marker::Model;
 use std::sync::Arc;
 use std::thread::Threads;
+
+// How a message that is not held comes: against another of its identity, or not.
+fn added_new(against: bool) -> Added
+    ensures { result ≡ added_where against }
+{
+    if against {
+        Added::Against
+    } else {
+        Added::Fresh
+    }
+}
 
 /// Messages, each held once, whatever their identities are.
 #[derive(Drop)]
@@ -45,7 +57,7 @@ impl Model for Archive {
 }
 
 impl Archive {
-    ghost use Rattle.sct_set.specs.Archive.{added_of, archive_text_of, has_identity, AreReadAgain};
+    ghost use Rattle.sct_set.specs.Archive.{added_of, archive_text_of, AreReadAgain};
     ghost use Rattle.sct_set.specs.Contradictions.{contradicted_identities, is_disputed, undisputed_of};
 
     pub fn new(alloc: Global) -> Self
@@ -98,26 +110,6 @@ impl Archive {
         Some(first)
     }
 
-    // Whether a message of the identity is held.
-    fn has(&self, identity: &Identity) -> bool
-        ensures { result ≡ has_identity self.now identity.now }
-    {
-        self.table.of(identity).len() > 0
-    }
-
-    // How a message that is not held comes.
-    #[tactic(auto, unfolding(crate::specs::Archive::added_of))]
-    fn added_new(&self, message: &Message) -> Added
-        requires { set.contains self.now message.now ≡ false }
-        ensures { result ≡ added_of self.now message.now }
-    {
-        if self.has(&message.identity()) {
-            Added::Against
-        } else {
-            Added::Fresh
-        }
-    }
-
     /// Adds a message, and tells how it came.
     pub fn add(&mut self, message: Arc<Message>) -> Result<Added, SetFault>
         ensures answer { IfOk result (λ added. added ≡ added_of self.old (arc_value message)) }
@@ -127,9 +119,8 @@ impl Archive {
         if self.holds(&message) {
             return Ok(Added::Repeat);
         }
-        let added = self.added_new(&message);
-        self.table.push(message)?;
-        Ok(added)
+        let against = self.table.push(message)?;
+        Ok(added_new(against))
     }
 
     /// Adds each message of a list, and tells how many of them were new. Where memory is wanting none is

@@ -7,6 +7,24 @@ use indexmap::IndexMap;
 use std::alloc::{AllocError, Global};
 use std::hash::Hash;
 
+/// Puts an item into a list of its own, in the place of any that its key had. Where memory is wanting no list has changed.
+pub fn file_first<K: Eq + Hash + Drop, V: Drop>(
+    alloc: Global,
+    index: &mut IndexMap<K, Vec<V>>,
+    key: K,
+    item: V,
+) -> Result<(), AllocError>
+    ensures ok { OnOk result ((k : K) → bucket K.eq index.new k
+        ≡ (if K.eq key k then item ∷ [] else bucket K.eq index.old k)) }
+    ensures err { OnErr result ((k : K) → bucket K.eq index.new k ≡ bucket K.eq index.old k) }
+    ensures no_empty { HasNoEmptyList K.eq index.old → HasNoEmptyList K.eq index.new }
+{
+    let mut list = Vec::with_capacity(alloc, 1)?;
+    list.push(item)?;
+    index.insert(key, list)?;
+    Ok(())
+}
+
 /// Puts an item at the end of its key's list. Where memory is wanting no list has changed.
 pub fn file<K: Eq + Hash + Drop, V: Drop>(
     alloc: Global,
@@ -23,9 +41,7 @@ pub fn file<K: Eq + Hash + Drop, V: Drop>(
         list.push(item)?;
         return Ok(());
     }
-    let mut list = Vec::with_capacity(alloc, 1)?;
-    list.push(item)?;
-    index.insert(key, list)?;
+    file_first(alloc, index, key, item)?;
     Ok(())
 }
 

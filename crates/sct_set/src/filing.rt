@@ -8,7 +8,7 @@ ghost use Rattle.sct_message.specs.Order.{same_identity};
 ghost use Rattle.sct_set.specs.Digest.{digest_of};
 ghost use Rattle.sct_set.specs.Drafts.{against_in, drafts_alike, drafts_in, drafts_of, finds, IsIndexBy};
 
-use crate::buckets::{file, unfile};
+use crate::buckets::{file, file_first, unfile};
 use crate::digest::digest;
 use indexmap::IndexMap;
 use sct_message::{Identity, Message, keys_are_ordered};
@@ -51,20 +51,27 @@ pub fn of_digest<'a>(index: &'a ByDigest, message: &Message) -> &'a [Arc<Message
     }
 }
 
-/// Files a message behind those of its identity. Where memory is wanting the index has what it had.
+/// Files a message behind those of its identity, which there are where it comes against another. Where memory is wanting the
+/// index has what it had.
 pub fn file_by_identity(
     alloc: Global,
     index: &mut ByIdentity,
+    against: bool,
     message: &Arc<Message>,
 ) -> Result<(), AllocError>
-    ensures ok { OnOk result ((ds : List DraftOf) → IsIndexBy identity_of same_identity index.old ds
+    ensures ok { OnOk result ((ds : List DraftOf) → against ≡ finds (identity_of (arc_value message.now)) ds
+        → IsIndexBy identity_of same_identity index.old ds
         → IsIndexBy identity_of same_identity index.new (ds ++ arc_value message.now ∷ [])) }
     ensures err { OnErr result ((ds : List DraftOf) → IsIndexBy identity_of same_identity index.old ds
         → IsIndexBy identity_of same_identity index.new ds) }
 {
     keys_are_ordered();
     let handle = message.clone()?;
-    file(alloc, index, message.identity(), handle)?;
+    if against {
+        file(alloc, index, message.identity(), handle)?;
+        return Ok(());
+    }
+    file_first(alloc, index, message.identity(), handle)?;
     Ok(())
 }
 

@@ -1,10 +1,11 @@
 //! The messages of an archive in the order of their arrival, with an index by identity, and one by digest of those that
 //! are not the first of their identity.
 
-ghost use Rattle.std.specs.Prelude.{◌≡◌, ◌++◌, ◌∷◌, ◌-◌, [], length, take, OnOk, OnErr};
+ghost use Rattle.std.specs.Prelude.{◌≡◌, ◌++◌, ◌∷◌, ◌-◌, [], length, take, IfOk, OnOk, OnErr};
 ghost use Rattle.std.specs.Arc.{arc_value};
 ghost use Rattle.sct_set.specs.Digest.{digest_of};
-ghost use Rattle.sct_set.specs.Drafts.{against_in, drafts_in, drafts_of, drafts_alike};
+ghost use Rattle.sct_message.specs.Keys.{identity_of};
+ghost use Rattle.sct_set.specs.Drafts.{against_in, drafts_in, drafts_of, drafts_alike, finds};
 
 use crate::filing::{
     ByDigest, ByIdentity, file_against, file_by_identity, has_identity, of_digest, of_identity,
@@ -79,20 +80,22 @@ impl Table {
         of_digest(&self.by_digest, message)
     }
 
-    /// Appends a message. Where memory is wanting nothing has changed.
-    pub fn push(&mut self, message: Arc<Message>) -> Result<(), AllocError>
+    /// Appends a message, and tells whether it came against another of its identity. Where memory is wanting nothing has
+    /// changed.
+    pub fn push(&mut self, message: Arc<Message>) -> Result<bool, AllocError>
         ensures ok { OnOk result (self.new ≡ self.old ++ arc_value message ∷ []) }
+        ensures against { IfOk result (λ against. against ≡ finds (identity_of (arc_value message)) self.old) }
         ensures err { OnErr result (self.new ≡ self.old) }
     {
         let against = has_identity(&self.by_identity, &message.identity());
         self.messages.reserve(1)?;
-        file_by_identity(self.alloc, &mut self.by_identity, &message)?;
+        file_by_identity(self.alloc, &mut self.by_identity, against, &message)?;
         if let Err(refused) = file_against(self.alloc, &mut self.by_digest, against, &message) {
             unfile_by_identity(&mut self.by_identity, &message);
             return Err(refused);
         }
         self.messages.push_reserved(message);
-        Ok(())
+        Ok(against)
     }
 
     /// Takes the last message out.

@@ -18,11 +18,12 @@ invariant_of-self-in_err-file_by_identity c =
 pub invariant_of-self-in-Err : goal.invariant_of-self-in-Err
 invariant_of-self-in-Err c =
     let ds = drafts_in c.self.inside.messages.items in
+    let against = c.has_identity-against.ensures ds c.self.invariant.identities ∙ ap (λ i. finds i ds) (c.identity.ensures ∙ ap identity_of c.deref.ensures) in
     rw c.in_ok-reserve.ensures.items (record {
       identities =
           c.unfile_by_identity.ensures ds
           (subst (λ d. IsIndexBy identity_of same_identity c.file_by_identity.new.index (ds ++ d ∷ [])) (sym c.deref-in-Err.ensures)
-          (c.in_ok-file_by_identity.ensures.ok ds c.self.invariant.identities));
+          (c.in_ok-file_by_identity.ensures.ok ds against c.self.invariant.identities));
       digests = c.in-Err.ensures.err ds c.self.invariant.digests;
     })
 
@@ -34,8 +35,13 @@ invariant_of-self-2 c =
     let against = c.has_identity-against.ensures ds c.self.invariant.identities ∙ ap (λ i. finds i ds) (c.identity.ensures ∙ ap identity_of c.deref.ensures) in record {
       identities =
           subst (λ xs. IsIndexBy identity_of same_identity c.file_by_identity.new.index xs) longer
-          (c.in_ok-file_by_identity.ensures.ok ds c.self.invariant.identities);
+          (c.in_ok-file_by_identity.ensures.ok ds against c.self.invariant.identities);
       digests =
           subst (λ xs. IsIndexBy digest_of nat_eq c.file_against.new.index (against_in xs)) longer
           (c.in_default.ensures.ok ds against c.self.invariant.digests);
     }
+
+pub returns-clause-against : goal.returns-clause-against
+returns-clause-against c =
+    c.has_identity-against.ensures _ c.self.invariant.identities
+    ∙ (λ n. finds ((c.identity.ensures ∙ ap identity_of c.deref.ensures) n) (c.self.view_is n))
