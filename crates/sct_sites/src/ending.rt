@@ -1,7 +1,8 @@
 //! How a run ends: what standard error tells of its end, and the exit status.
-ghost use Rattle.std.specs.Prelude.{◌≡◌, ◌++◌, Some, OnErr, OnOk};
+ghost use Rattle.std.specs.Prelude.{◌≡◌, ◌++◌, Some, IfErr, OnErr, OnOk};
 ghost use Rattle.sct_sites.specs.Ending.{ending_text_of, exit_status_of, fault_line_of};
 ghost use Rattle.sct_sites.specs.Engine.{IsCutOff, IsWritten, IsWrittenOrCutOff};
+ghost use Rattle.sct_sites.specs.Stream.{EndsWriting};
 
 use crate::engine::Done;
 use crate::fault::ProgramFault;
@@ -50,6 +51,7 @@ fn tell_fault<E: Sink>(fault: &ProgramFault, text: &str, err: &mut E) -> Result<
         (E.failures err.old) (E.failures err.new) (E.held err.old) (E.held err.new) (Some (fault_line_of fault.now ++ text.now))) }
     ensures prefix { OnErr result (IsCutOff
         (E.failures err.old) (E.failures err.new) (E.held err.old) (E.held err.new) (Some (fault_line_of fault.now ++ text.now))) }
+    ensures faults { IfErr result EndsWriting }
 {
     write_all(err, fault_line(fault).as_bytes())?;
     write_all(err, text.as_bytes())
@@ -61,6 +63,7 @@ fn tell<E: Sink>(ended: &Result<Ending, ProgramFault>, err: &mut E) -> Result<()
         (E.failures err.old) (E.failures err.new) (E.held err.old) (E.held err.new) (Some (ending_text_of ended.now))) }
     ensures prefix { OnErr result (IsCutOff
         (E.failures err.old) (E.failures err.new) (E.held err.old) (E.held err.new) (Some (ending_text_of ended.now))) }
+    ensures faults { IfErr result EndsWriting }
 {
     match ended {
         Ok(Ending::Done(_)) | Ok(Ending::Helped) => Ok(()),
