@@ -1,12 +1,12 @@
 -- A text cut behind a line feed, and what is read of its two parts. Proof plumbing.
-use Rattle.std.proofs.Common.{ℕ, ◌≡◌, ◌+◌, ◌<◌, ◌≤◌, suc, zero, ◌++◌, ◌∷◌, [], List, Bool, true, false, cond, ◌==◌, length, take, drop, get_or, filter, string_bytes, refl, sym, ap, ◌∙◌, arith, add-one, append_assoc, length-append}
+use Rattle.std.proofs.Common.{ℕ, ◌≡◌, ◌+◌, ◌<◌, ◌≤◌, suc, zero, ◌++◌, ◌∷◌, [], List, true, false, cond, ◌==◌, length, take, drop, get_or, filter, string_bytes, refl, sym, ap, ◌∙◌, arith, add-one, append_assoc, length-append}
 use Rattle.std.proofs.lemmas.List.Sums.{length-filter}
 use Rattle.memchr.specs.Find.{is_byte, places}
 use Rattle.memchr.proofs.lemmas.CallerLemmas.{length-places}
 use Rattle.sct_message.specs.Sets.{messages_in}
 use Rattle.sct_lines.specs.declared.intake.Intake.{Intake}
 use Rattle.sct_lines.specs.Lines.{lines_of, numbered_from, onto_first}
-use Rattle.sct_lines.specs.Parts.{messages_after, refusals_after, IsReadAfter}
+use Rattle.sct_lines.specs.Parts.{refusals_after, IsReadAfter}
 use Rattle.sct_lines.proofs.LineLemmas.{is_feed, messages-append, numbered-cons, numbered_none, refusals-append, told-append}
 
 -- as many places have a line feed as there are line feeds

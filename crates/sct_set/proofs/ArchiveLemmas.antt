@@ -1,7 +1,6 @@
 -- What an archive's table and its lines have to do with the set of its messages. Proof plumbing.
-use Rattle.std.proofs.Common.{◌≡◌, ℕ, suc, nat_eq, ◌+◌, Bool, true, false, cond, not, ◌&&◌, ◌||◌, List, [], ◌∷◌, ◌++◌, map, length, refl, sym, ap, ◌∙◌, filter, arith, nat_lt, take, get_or, ◌<◌, Some, None}
+use Rattle.std.proofs.Common.{◌≡◌, ℕ, suc, nat_eq, ◌+◌, Bool, true, false, cond, not, ◌&&◌, ◌||◌, List, [], ◌∷◌, ◌++◌, map, length, refl, sym, ap, ◌∙◌, filter, take, get_or, ◌<◌, Some, None}
 use Rattle.std.specs.FinSet as set
-use borrow.Author.Tests.{lt-ltb}
 use Rattle.std.specs.Arc.{arc_value}
 use Rattle.std.specs.Global.{Global}
 use Rattle.std.specs.List.{list_any, slice_get}

@@ -1,6 +1,6 @@
 //! A set of messages.
 
-ghost use Rattle.std.specs.Prelude.{◌≡◌, ◌+◌, false, option_map, OnOk, OnErr, IfOk};
+ghost use Rattle.std.specs.Prelude.{◌≡◌, ◌+◌, option_map, OnOk, OnErr, IfOk};
 ghost use Rattle.std.specs.Arc.{arc_value};
 ghost use Rattle.std.specs.FinSet as set;
 ghost use Rattle.std.specs.Option.{option_copied, option_to_list};

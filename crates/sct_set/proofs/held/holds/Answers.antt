@@ -1,11 +1,9 @@
 -- A message is held where it is the first of its identity, or among those that came against another.
-use Rattle.std.proofs.Common.{◌≡◌, ap, sym, ◌∙◌, ◌||◌, true}
+use Rattle.std.proofs.Common.{ap, sym, ◌∙◌, ◌||◌}
 use Rattle.std.specs.List.{list_any}
-use Rattle.std.specs.Arc.{arc_value}
 use Rattle.std.specs.Option.{option_copied}
 use Rattle.sct_message.specs.Order.{same_message}
-use Rattle.sct_message.specs.Keys.{identity_of}
-use Rattle.sct_set.specs.Drafts.{against_in, drafts_in, drafts_of}
+use Rattle.sct_set.specs.Drafts.{against_in, drafts_of}
 use Rattle.sct_set.proofs.ArchiveLemmas.{against-is, held-is, held-not}
 use Rattle.sct_set.proofs.held.holds.Goals as goal
 
