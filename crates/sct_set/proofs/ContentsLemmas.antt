@@ -82,6 +82,12 @@ union-none s =
     same_set message_total message_same _ _ (λ q.
     contains-union message_total s set.empty q ∙ ap (λ (b : Bool). set.contains s q || b) (contains-empty message_order q) ∙ or_nothing (set.contains s q))
 
+-- what is added to nothing is the set
+pub union-of_none : (s : Contents) → set.union (contents_of []) s ≡ s
+union-of_none s =
+    same_set message_total message_same _ _ (λ q.
+    contains-union message_total set.empty s q ∙ ap (λ (b : Bool). b || set.contains s q) (contains-empty message_order q))
+
 pub union-push : (s : Contents) (ds : List Draft) (m : Draft) → set.union s (contents_of (ds ++ m ∷ [])) ≡ set.insert (set.union s (contents_of ds)) m
 union-push s ds m =
     ap (set.union s) (contents-push ds m)

@@ -5,6 +5,7 @@ use Rattle.std.specs.Global.{Global, Vec}
 use Rattle.std.specs.declared.sync.Arc.{Arc}
 use Rattle.std.specs.declared.cmp.Ordering.TheVariants.{Less}
 use Rattle.std.specs.Cmp.{both_ways}
+use Rattle.std.specs.FinSet as set
 use Rattle.std.specs.List.{AllByRecursion, dedup, flat_map, list_any}
 use Rattle.std.specs.List.Sorted.{IsStrictlySortedBy}
 use Rattle.std.specs.Ordering.{eq_by_cmp, ordering_then}
@@ -27,6 +28,7 @@ use Rattle.sct_set.specs.Drafts.{drafts_in, drafts_of}
 use Rattle.sct_set.specs.Groups.{group_of, groups_of, AreWritten}
 use Rattle.sct_set.specs.LineOrder.{line_order_total}
 use Rattle.sct_set.specs.Pieces.{joined}
+use Rattle.sct_set.proofs.ContentsLemmas.{any_items}
 use Rattle.sct_set.proofs.TextLemmas.{archive_text-contents_of, line_order_same, read_again-contents_of}
 
 -- ---- what holds of each member
@@ -165,6 +167,17 @@ grouped ds =
     (groups_rise (ascending line_order ds) (ascending_rises line_order_total line_order_same ds) is (ascending_rises identity_total identities_same (map identity_of ds))) in
     sym (ascending-sorted line_order_total line_order_same (flat_map (group_of ds) is) rises)
     ∙ ascending-same line_order_total line_order_same (flat_map (group_of ds) is) ds (λ q. any_grouped ds q)
+
+-- the identities of a list are those of its set
+pub identities_alike : (ds es : List Draft) → contents_of ds ≡ contents_of es
+    → ascending identity_order (map identity_of ds) ≡ ascending identity_order (map identity_of es)
+identities_alike ds es same =
+    ascending-same identity_total identities_same (map identity_of ds) (map identity_of es) (λ q.
+    list_any-map (eq_by_cmp identity_order q) identity_of ds
+    ∙ sym (any_items (λ d. eq_by_cmp identity_order q (identity_of d)) ds)
+    ∙ ap (λ s. list_any (λ d. eq_by_cmp identity_order q (identity_of d)) (set.items s)) same
+    ∙ any_items (λ d. eq_by_cmp identity_order q (identity_of d)) es
+    ∙ sym (list_any-map (eq_by_cmp identity_order q) identity_of es))
 
 -- ---- a group that has one message
 

@@ -8,13 +8,11 @@ ghost use Rattle.sct_message.specs.Order.{message_order};
 ghost use Rattle.sct_set.specs.Archive.{added_where};
 ghost use Rattle.sct_set.specs.Contents.{contents_of, HasNoRepeat};
 ghost use Rattle.sct_set.specs.Drafts.{drafts_in};
-ghost use Rattle.sct_set.specs.Pieces.{joined};
 
 use crate::added::Added;
 use crate::contradictions::{contradictions, is_disputed_in};
 use crate::fault::SetFault;
 use crate::held::holds;
-use crate::pieces::archive_pieces;
 use crate::push::push_all;
 use crate::table::Table;
 use crate::text::archive_text;
@@ -22,7 +20,6 @@ use sct_message::{Identity, Message};
 use std::alloc::Global;
 use std::marker::Model;
 use std::sync::Arc;
-use std::thread::Threads;
 
 // How a message that is not held comes: against another of its identity, or not.
 fn added_new(against: bool) -> Added
@@ -157,14 +154,5 @@ impl Archive {
         ensures again { IfOk result (λ text. AreReadAgain self.now) }
     {
         archive_text(&self.table)
-    }
-
-    /// The archive text in pieces, one after another, made in as many threads as there are processors. Where no thread can
-    /// be made, one does the work of several.
-    pub fn text_in_pieces<R: Threads + Sync>(&self, rt: &R) -> Result<Vec<Vec<u8>>, SetFault>
-        ensures text { IfOk result (λ pieces. joined pieces.items ≡ archive_text_of self.now) }
-        ensures again { IfOk result (λ pieces. AreReadAgain self.now) }
-    {
-        archive_pieces(rt, &self.table)
     }
 }

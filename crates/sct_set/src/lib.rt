@@ -11,6 +11,7 @@ mod filing;
 mod held;
 pub mod laws;
 mod line;
+mod ordered;
 mod pieces;
 mod push;
 mod table;
@@ -19,6 +20,7 @@ mod text;
 pub use added::Added;
 pub use archive::Archive;
 pub use fault::SetFault;
+pub use ordered::Ordered;
 
 #[cfg(test)]
 mod tests;

@@ -7,6 +7,7 @@ ghost use Rattle.sct_message.specs.Keys.{identity_of};
 ghost use Rattle.sct_message.specs.Order.{identity_order};
 ghost use Rattle.sct_set.specs.Archive.{archive_text_of, AreReadAgain};
 ghost use Rattle.sct_set.specs.Contents.{contents_of};
+ghost use Rattle.sct_set.specs.Drafts.{drafts_in};
 ghost use Rattle.sct_set.specs.Groups.{AreWritten};
 ghost use Rattle.sct_set.specs.Pieces.{joined};
 
@@ -14,23 +15,25 @@ use crate::fault::SetFault;
 use crate::table::Table;
 use crate::text::{identities_of, lines_by};
 use rayon::prelude::*;
-use sct_message::{Identity, keys_are_ordered};
-use std::alloc::AllocError;
+use sct_message::{Identity, Message, keys_are_ordered};
+use std::alloc::{AllocError, Global};
+use std::sync::Arc;
 use std::thread::{Threads, available_parallelism, join};
 
 // The lines of fewer identities are made in one piece.
 const WORTH_A_THREAD: usize = 256;
 
-// The identities of the messages of a table, ascending, each once, sorted in several threads.
-fn identities_in_order<R: Threads + Sync>(
+/// The identities of some messages, ascending, each once, sorted in several threads.
+pub fn identities_in_order<R: Threads + Sync>(
     rt: &R,
-    table: &Table,
+    alloc: Global,
+    messages: &[Arc<Message>],
 ) -> Result<Vec<Identity>, AllocError>
-    ensures { IfOk result (λ found. found.items ≡ ascending identity_order (map identity_of table.now)) }
+    ensures { IfOk result (λ found. found.items ≡ ascending identity_order (map identity_of (drafts_in messages.now))) }
 {
     keys_are_ordered();
-    let mut found = identities_of(table)?;
-    par_sort(rt, table.allocator(), &mut found)?;
+    let mut found = identities_of(alloc, messages)?;
+    par_sort(rt, alloc, &mut found)?;
     found.dedup();
     Ok(found)
 }
@@ -86,12 +89,17 @@ fn halvings<R: Threads>(rt: &R, identities: &[Identity]) -> u32 {
     }
 }
 
-/// The written text of each message of a table, by identity and then by text, with a line feed after each, in pieces.
-pub fn archive_pieces<R: Threads + Sync>(rt: &R, table: &Table) -> Result<Vec<Vec<u8>>, SetFault>
+/// The written text of each message of a table, by identity and then by text, with a line feed after each, in pieces, by the
+/// identities of its messages in order.
+pub fn archive_pieces<R: Threads + Sync>(
+    rt: &R,
+    table: &Table,
+    identities: &[Identity],
+) -> Result<Vec<Vec<u8>>, SetFault>
+    requires { identities.now ≡ ascending identity_order (map identity_of table.now) }
     ensures text { IfOk result (λ pieces. joined pieces.items ≡ archive_text_of (contents_of table.now)) }
     ensures again { IfOk result (λ pieces. AreReadAgain (contents_of table.now)) }
 {
-    let identities = identities_in_order(rt, table)?;
-    let pieces = pieces_by_halves(rt, table, &identities, halvings(rt, &identities))?;
+    let pieces = pieces_by_halves(rt, table, identities, halvings(rt, identities))?;
     Ok(pieces)
 }

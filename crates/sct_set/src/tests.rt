@@ -10,6 +10,7 @@ use scenes::{Row, answers_to, archive_of, messages_of};
 use sct_message::Kind;
 use std::alloc::Global;
 use std::process::Abort;
+use std::thread::Threads;
 
 // A credit transfer with banks of 8 characters, with banks of 11, and again with banks of 8.
 static SPELLED: [Row; 3] = [
@@ -152,6 +153,28 @@ fn tells_how_each_message_comes(rt: HostRuntime) {
 fn writes_by_identity_and_then_by_text(rt: HostRuntime) {
     let archive = archive_of(rt.alloc(), &CONFIRMED).expect(&rt, "an archive");
     expect_text(&rt, &archive, CONFIRMED_WRITTEN);
+}
+
+// The pieces of the archive text of the messages of some rows, one after another.
+fn text_in_pieces_of(rt: &(impl Threads + Sync), alloc: Global, rows: &[Row]) -> Option<Vec<u8>> {
+    let messages = messages_of(alloc, rows)?;
+    let pieces = Ordered::of(rt, alloc, &messages)
+        .ok()?
+        .text_in_pieces(rt)
+        .ok()?;
+    let mut text = Vec::new(alloc);
+    for piece in &pieces {
+        text.extend_from_slice(piece).ok()?;
+    }
+    Some(text)
+}
+
+#[test]
+fn writes_the_same_in_pieces(rt: HostRuntime) {
+    let text = text_in_pieces_of(&rt, rt.alloc(), &CONFIRMED).expect(&rt, "a text");
+    assert_eq!(rt; text.as_slice(), CONFIRMED_WRITTEN.as_bytes());
+    let text = text_in_pieces_of(&rt, rt.alloc(), &SPELLED).expect(&rt, "a text");
+    assert_eq!(rt; text.as_slice(), WRITTEN.as_bytes());
 }
 
 #[test]

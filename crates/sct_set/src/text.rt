@@ -22,12 +22,15 @@ use std::sync::Arc;
 // Few lines are longer.
 const BYTES_OF_A_LINE: usize = 640;
 
-// The identity of each message of a table.
-pub(crate) fn identities_of(table: &Table) -> Result<Vec<Identity>, AllocError>
-    ensures { IfOk result (λ found. found.items ≡ map identity_of table.now) }
+// The identity of each of some messages.
+pub(crate) fn identities_of(
+    alloc: Global,
+    messages: &[Arc<Message>],
+) -> Result<Vec<Identity>, AllocError>
+    ensures { IfOk result (λ found. found.items ≡ map identity_of (drafts_in messages.now)) }
 {
-    let mut found = Vec::with_capacity(table.allocator(), table.len())?;
-    for message in table.messages() {
+    let mut found = Vec::with_capacity(alloc, messages.len())?;
+    for message in messages {
         found.push(message.identity())?;
     }
     Ok(found)
@@ -38,7 +41,7 @@ fn identities(table: &Table) -> Result<Vec<Identity>, AllocError>
     ensures { IfOk result (λ found. found.items ≡ ascending identity_order (map identity_of table.now)) }
 {
     keys_are_ordered();
-    let mut found = identities_of(table)?;
+    let mut found = identities_of(table.allocator(), table.messages())?;
     found.sort()?;
     found.dedup();
     Ok(found)

@@ -12,7 +12,7 @@ ghost use Rattle.sct_view.specs.StatusText.{status_text_of};
 ghost use Rattle.sct_view.specs.TotalsText.{totals_text_of};
 
 use crate::fault::ProgramFault;
-use crate::holding::{archive_of, archive_pieces};
+use crate::holding::archive_pieces;
 use sct_element::{Bic, Day};
 use sct_lines::{Intake, read_lines};
 use sct_message::Message;
@@ -23,7 +23,8 @@ use std::mem;
 use std::sync::Arc;
 use std::thread::Threads;
 
-// The view of the messages, whose transfers are evaluated in as many threads as there are processors.
+// The view of the messages, made in as many threads as there are processors. The messages are left to the end of the
+// program, which gives back all at once what would be given back message by message here.
 fn view_of<T: Threads + Sync>(
     rt: &T,
     alloc: Global,
@@ -32,8 +33,9 @@ fn view_of<T: Threads + Sync>(
     ensures held { IfOk result (λ view. view ≡ contents_of (messages_in messages.items)) }
     ensures memory { IfErr result (λ e. e ≡ fault.Memory) }
 {
-    let archive = archive_of(alloc, messages)?;
-    Ok(View::of_in_parts(rt, alloc, archive)?)
+    let view = View::of_messages(rt, alloc, &messages)?;
+    mem::forget(messages);
+    Ok(view)
 }
 
 // The status text of a view, in pieces.
@@ -69,8 +71,7 @@ fn report_text_of<T: Threads + Sync>(
 }
 
 // The status text of the set of some messages, which may stand in any order and more than once, in pieces. Only want of
-// memory is a fault. The view is left to the end of the program, which gives back all at once what would be given back
-// message by message here.
+// memory is a fault. The view is left to the end of the program too.
 fn status_pieces<T: Threads + Sync>(
     rt: &T,
     alloc: Global,

@@ -9,23 +9,11 @@ ghost use Rattle.sct_sites.specs.declared.fault.ProgramFault.TheVariants as faul
 
 use crate::fault::ProgramFault;
 use sct_message::Message;
-use sct_set::Archive;
+use sct_set::Ordered;
 use std::alloc::Global;
 use std::mem;
 use std::sync::Arc;
 use std::thread::Threads;
-
-/// An archive that holds the messages.
-pub fn archive_of(alloc: Global, messages: Vec<Arc<Message>>) -> Result<Archive, ProgramFault>
-    ensures held { IfOk result (λ archive. archive ≡ contents_of (messages_in messages.items)) }
-    ensures memory { IfErr result (λ e. e ≡ fault.Memory) }
-{
-    let mut archive = Archive::new(alloc);
-    for message in messages {
-        archive.add(message)?;
-    }
-    Ok(archive)
-}
 
 // The archive text is an input that gives the archive back: no line of it is refused, and the set read from it is the same.
 fn the_archive_text_gives_the_set_back()
@@ -33,7 +21,7 @@ fn the_archive_text_gives_the_set_back()
 {}
 
 /// Each message once, written on a line of its own, by identity and then by text, in pieces that are made in as many threads
-/// as there are processors. Only want of memory is a fault. The archive is left to the end of the program, which gives back
+/// as there are processors. Only want of memory is a fault. What is held is left to the end of the program, which gives back
 /// all at once what would be given back message by message here.
 pub fn archive_pieces<T: Threads + Sync>(
     rt: &T,
@@ -45,8 +33,9 @@ pub fn archive_pieces<T: Threads + Sync>(
     ensures memory { IfErr result (λ e. e ≡ fault.Memory) }
 {
     the_archive_text_gives_the_set_back();
-    let archive = archive_of(alloc, messages)?;
-    let pieces = archive.text_in_pieces(rt)?;
-    mem::forget(archive);
+    let ordered = Ordered::of(rt, alloc, &messages)?;
+    let pieces = ordered.text_in_pieces(rt)?;
+    mem::forget(messages);
+    mem::forget(ordered);
     Ok(pieces)
 }

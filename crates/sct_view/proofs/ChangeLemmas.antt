@@ -200,7 +200,7 @@ among_picked p q ks =
     ∙ and_any (p q) (same_transfer q) ks
 
 -- a transfer of which nothing is kept has no share
-no_share : (bank : List ℕ) (t : TransferKey) → share_in bank t no_messages ≡ nothing
+pub no_share : (bank : List ℕ) (t : TransferKey) → share_in bank t no_messages ≡ nothing
 unfolding share
 no_share bank t =
     ap (λ (x : Totals). plus x (if false then nothing else nothing)) (nothing_either (is_originator bank t))

@@ -3,6 +3,9 @@ use Rattle.std.proofs.Common.{◌≡◌, ◌≤◌, ℕ, Bool, true, false, cond
 use Rattle.std.proofs.lemmas.List.{take-append-le}
 use Rattle.indexmap.specs.IndexMap.{IndexMap, get, insert_entry, Updates}
 use Rattle.indexmap.proofs.CallerLemmas.{insert_entry-new}
+use Rattle.sct_message.specs.declared.keys.TransferKey.{TransferKey}
+use Rattle.sct_view.specs.Kept.{case_at, kept_in, kept_or_none, same_key}
+use Rattle.sct_view.specs.declared.case.Case.{Case}
 
 none_is : {X : Type 0} (o : Option X) → is_some o ≡ false → o ≡ None
 none_is None e = refl
@@ -24,3 +27,10 @@ module _ {K X S : Type 0} (E : K → K → Bool) (old new : IndexMap K X S) (k :
       → (n : ℕ) → n ≤ length old.entries → take n new.entries ≡ take n old.entries
   front_stays absent is n within =
       ap (take n) (is ∙ insert_entry-new E old k v (none_is _ absent)) ∙ take-append-le n old.entries ((k, v) ∷ []) within
+
+-- a table shows the case that was put in
+pub shown : {S : Type 0} (old new : IndexMap TransferKey Case S) (t : TransferKey) (case : Case) → Updates same_key old new t (Some case)
+    → (k : TransferKey) → case_at new k ≡ cond (same_key t k) (kept_in case) (case_at old k)
+shown old new t case updates k =
+    ap kept_or_none (updates.0 k)
+    ∙ elim (same_key t k) as (λ b. kept_or_none (cond b (Some case) (get same_key old k)) ≡ cond b (kept_in case) (case_at old k)) [ true ↦ refl | false ↦ refl ]

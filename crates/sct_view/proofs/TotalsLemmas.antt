@@ -29,6 +29,15 @@ totals_same a b p0 p1 p2 p3 p4 p5 p6 p7 p8 p9 = λ i. record {
   returned_out = p9 i;
 }
 
+and_none : (n : ℕ) → n + 0 ≡ n
+and_none n = omega arith
+
+-- nothing changes no totals
+pub plus_nothing : (t : Totals) → plus t nothing ≡ t
+plus_nothing t =
+    totals_same (plus t nothing) t (and_none t.sent) (and_none t.sent_cents) (and_none t.returned_in) (and_none t.rejected) (and_none t.waiting)
+    (and_none t.missing) (and_none t.contradicted) (and_none t.received) (and_none t.received_cents) (and_none t.returned_out)
+
 -- shares that are the same for every transfer give the same totals
 pub totals_alike : (f g : TransferKey → Totals) → ((t : TransferKey) → f t ≡ g t) → (ts : List TransferKey)
     → totals_over f ts ≡ totals_over g ts

@@ -1,4 +1,4 @@
-//! Planned cases put into tables one after another, each into a place that is opened for it.
+//! Planned cases put into tables one after another, which grow as they come.
 
 ghost use Rattle.std.specs.Prelude.{◌≡◌, true, map, if◌then◌else◌, OnOk};
 ghost use Rattle.std.specs.List.{list_any};
@@ -8,15 +8,15 @@ ghost use Rattle.sct_view.specs.Changes.{are_among, case_after, change_in};
 ghost use Rattle.sct_view.specs.Kept.{case_at, kept_in, same_key, AreTotalsOver, IsSmall};
 
 use crate::case::{Case, Planned};
-use crate::opening::open_planned;
-use crate::replacing::commit_one;
+use crate::opening::{open_beneficiary, open_total};
+use crate::replacing::amounts_are_small;
+use crate::running::{put_shares, take_former};
 use crate::totals::Totals;
 use indexmap::IndexMap;
 use sct_case::CaseFault;
 use sct_element::Bic;
 use sct_message::TransferKey;
 use sct_set::Archive;
-use std::alloc::Global;
 
 /// What is kept of each transfer and of each bank.
 #[derive(Drop)]
@@ -25,10 +25,8 @@ pub(crate) struct Tables {
     pub(crate) totals: IndexMap<Bic, Totals>,
 }
 
-/// Puts a planned case in the place of its transfer's, which is opened where there is none. The transfer is one of the
-/// archive's.
+/// Keeps a planned case of its transfer, in the place of one that was kept. The transfer is one of the archive's.
 pub(crate) fn place(
-    alloc: Global,
     archive: &Archive,
     tables: &mut Tables,
     planned: Planned,
@@ -41,14 +39,19 @@ pub(crate) fn place(
     ensures kept { OnOk result (AreTotalsOver tables.new.cases tables.new.totals (keys_of archive.now)) }
     ensures small { OnOk result ((t : TransferOf) → IsSmall (case_at tables.new.cases t)) }
 {
-    open_planned(alloc, &mut tables.cases, &mut tables.totals, &planned)?;
-    commit_one(archive, &mut tables.cases, &mut tables.totals, planned);
+    let Planned { transfer, case } = planned;
+    open_total(&mut tables.totals, &transfer.debtor_agent)?;
+    open_beneficiary(&mut tables.totals, &case)?;
+    let _messages = archive.messages().len();
+    amounts_are_small(&case);
+    take_former(&tables.cases, &mut tables.totals, &transfer);
+    put_shares(&mut tables.totals, &transfer, &case);
+    tables.cases.insert(transfer, case)?;
     Ok(())
 }
 
 /// Puts each planned case in the place of its transfer's. The transfers are some of the archive's.
 pub(crate) fn fill(
-    alloc: Global,
     archive: &Archive,
     tables: &mut Tables,
     planned: Vec<Planned>,
@@ -62,7 +65,7 @@ pub(crate) fn fill(
     ensures small { OnOk result ((t : TransferOf) → IsSmall (case_at tables.new.cases t)) }
 {
     for one in planned {
-        place(alloc, archive, tables, one)?;
+        place(archive, tables, one)?;
     }
     Ok(())
 }

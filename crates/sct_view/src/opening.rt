@@ -60,7 +60,10 @@ pub(crate) fn open_total(totals: &mut IndexMap<Bic, Totals>, bank: &Bic) -> Resu
 }
 
 /// Opens a place for the totals of the beneficiary bank of a case.
-fn open_beneficiary(totals: &mut IndexMap<Bic, Totals>, case: &Case) -> Result<(), CaseFault>
+pub(crate) fn open_beneficiary(
+    totals: &mut IndexMap<Bic, Totals>,
+    case: &Case,
+) -> Result<(), CaseFault>
     ensures there { OnOk result (list_all (has_totals totals.new) (beneficiary_in (instruction_in (kept_in case.now))) ≡ true) }
     ensures same { (p : List ℕ) → totals_at totals.new p ≡ totals_at totals.old p }
     ensures stays { (p : List ℕ) → has_totals totals.old p ≡ true → has_totals totals.new p ≡ true }

@@ -1,4 +1,4 @@
-//! The tables of a view, built from all messages in as many threads as there are processors.
+//! The archive and the tables of a view, made of all messages in as many threads as there are processors.
 
 ghost use Rattle.std.specs.Prelude.{◌≡◌, ◌<◌, map, IfOk};
 ghost use Rattle.std.specs.FinSet as set;
@@ -8,6 +8,7 @@ ghost use Rattle.sct_message.specs.Keys.{transfer_of};
 ghost use Rattle.sct_message.specs.Order.{same_transfer, transfer_order};
 ghost use Rattle.sct_message.specs.Sets.{messages_in};
 ghost use Rattle.sct_message.specs.Transfers.{keys_of};
+ghost use Rattle.sct_set.specs.Contents.{contents_of};
 ghost use Rattle.sct_set.specs.Drafts.{IsIndexBy};
 ghost use Rattle.sct_view.specs.Changes.{change_in, changes_of};
 ghost use Rattle.sct_view.specs.Filed.{IsFiled};
@@ -152,25 +153,72 @@ fn sort_by_transfer<R: Threads + Sync>(
     Ok(Sorted { index, transfers })
 }
 
-// Messages filed by transfer, and the case of each transfer that they are on.
-#[derive(Drop)]
-struct Evaluated {
-    index: IndexMap<TransferKey, Vec<Arc<Message>>>,
-    planned: Vec<Planned>,
+// An archive of some messages.
+fn archive_of(alloc: Global, messages: &[Arc<Message>]) -> Result<Archive, CaseFault>
+    ensures { IfOk result (λ archive. archive ≡ contents_of (messages_in messages.now)) }
+{
+    let mut archive = Archive::new(alloc);
+    let Ok(_) = archive.add_all(messages) else {
+        return Err(CaseFault::Memory);
+    };
+    Ok(archive)
 }
 
-// The case of each transfer of an archive.
+// An archive of messages, and the same messages sorted by transfer.
+#[derive(Drop)]
+struct Gathered {
+    archive: Archive,
+    sorted: Sorted,
+}
+
+// Both at once, in threads of their own.
+fn gather<R: Threads + Sync>(
+    rt: &R,
+    alloc: Global,
+    messages: &[Arc<Message>],
+) -> Result<Gathered, CaseFault>
+    ensures archive { IfOk result (λ gathered. gathered.archive ≡ contents_of (messages_in messages.now)) }
+    ensures index { IfOk result (λ gathered.
+        IsIndexBy transfer_of same_transfer gathered.sorted.index (messages_in messages.now)) }
+    ensures transfers { IfOk result (λ gathered.
+        gathered.sorted.transfers.items ≡ ascending transfer_order (map transfer_of (messages_in messages.now))) }
+{
+    let (held, sorted) = join(
+        rt,
+        || -> Result<Archive, CaseFault>
+            ensures { IfOk result (λ archive. archive ≡ contents_of (messages_in messages.entry.now)) }
+        { archive_of(alloc, messages) },
+        || -> Result<Sorted, AllocError>
+            requires { IsSync R.row }
+            ensures { IfOk result (λ sorted. IsIndexBy transfer_of same_transfer sorted.index (messages_in messages.entry.now)
+                × (sorted.transfers.items ≡ ascending transfer_order (map transfer_of (messages_in messages.entry.now)))) }
+        { sort_by_transfer(rt, alloc, messages) },
+    );
+    let archive = held?;
+    let sorted = sorted?;
+    Ok(Gathered { archive, sorted })
+}
+
+// The case of each transfer of an archive, whose messages are sorted by transfer.
 fn evaluate_all<R: Threads + Sync>(
     rt: &R,
     alloc: Global,
     archive: &Archive,
-) -> Result<Evaluated, CaseFault>
-    ensures { IfOk result (λ evaluated. map change_in evaluated.planned.items ≡ changes_of archive.now (keys_of archive.now)) }
+    sorted: &Sorted,
+) -> Result<Vec<Planned>, CaseFault>
+    requires filed { IsFiled archive.now sorted.now.index }
+    requires transfers { sorted.now.transfers.items ≡ keys_of archive.now }
+    ensures { IfOk result (λ planned. map change_in planned.items ≡ changes_of archive.now (keys_of archive.now)) }
 {
-    let Sorted { index, transfers } = sort_by_transfer(rt, alloc, archive.messages())?;
-    let halvings = halvings(rt, &transfers);
-    let planned = planned_by_halves(rt, alloc, archive, &index, &transfers, halvings)?;
-    Ok(Evaluated { index, planned })
+    let halvings = halvings(rt, &sorted.transfers);
+    planned_by_halves(
+        rt,
+        alloc,
+        archive,
+        &sorted.index,
+        &sorted.transfers,
+        halvings,
+    )
 }
 
 // The tables of the planned cases of all transfers of an archive.
@@ -185,27 +233,51 @@ fn tables_of_planned(
     let cases = IndexMap::with_capacity(alloc, planned.len())?;
     let totals = IndexMap::new(alloc);
     let mut tables = Tables { cases, totals };
-    fill(alloc, archive, &mut tables, planned)?;
+    fill(archive, &mut tables, planned)?;
     Ok(tables)
 }
 
-/// The tables of an archive's messages, whose transfers are evaluated in as many threads as there are processors. Where no
-/// thread can be made, one does the work of several.
-pub(crate) fn tables_in_parts<R: Threads + Sync>(
+// The tables of an archive, whose messages are sorted by transfer. What they were sorted into is given back beside that.
+fn tables_in_parts<R: Threads + Sync>(
     rt: &R,
     alloc: Global,
     archive: &Archive,
+    sorted: Sorted,
 ) -> Result<Tables, CaseFault>
+    requires filed { IsFiled archive.now sorted.index }
+    requires transfers { sorted.transfers.items ≡ keys_of archive.now }
     ensures { IfOk result (λ tables. IsViewOf archive.now tables.cases tables.totals) }
 {
-    let Evaluated { index, planned } = evaluate_all(rt, alloc, archive)?;
+    let planned = evaluate_all(rt, alloc, archive, &sorted)?;
     let ((), tables) = join(
         rt,
-        move || -> () { drop(index) },
+        move || -> () { drop(sorted) },
         move || -> Result<Tables, CaseFault>
             requires { map change_in planned.items ≡ changes_of archive.now (keys_of archive.now) }
             ensures { IfOk result (λ tables. IsViewOf archive.entry.now tables.cases tables.totals) }
         { tables_of_planned(alloc, archive, planned) },
     );
     tables
+}
+
+/// An archive of messages, and what is kept of its transfers and its banks.
+#[derive(Drop)]
+pub(crate) struct Filled {
+    pub(crate) archive: Archive,
+    pub(crate) tables: Tables,
+}
+
+/// Both of some messages, which may stand in any order and more than once, in as many threads as there are processors. Where
+/// no thread can be made, one does the work of several.
+pub(crate) fn filled_in_parts<R: Threads + Sync>(
+    rt: &R,
+    alloc: Global,
+    messages: &[Arc<Message>],
+) -> Result<Filled, CaseFault>
+    ensures held { IfOk result (λ filled. filled.archive ≡ contents_of (messages_in messages.now)) }
+    ensures kept { IfOk result (λ filled. IsViewOf filled.archive filled.tables.cases filled.tables.totals) }
+{
+    let Gathered { archive, sorted } = gather(rt, alloc, messages)?;
+    let tables = tables_in_parts(rt, alloc, &archive, sorted)?;
+    Ok(Filled { archive, tables })
 }

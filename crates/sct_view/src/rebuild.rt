@@ -48,7 +48,7 @@ fn keep(
         transfer: transfer.copy(),
         case,
     };
-    place(alloc, archive, tables, planned)?;
+    place(archive, tables, planned)?;
     Ok(())
 }
 

@@ -39,7 +39,7 @@ fn cents_back(status: &Status) -> u64
 }
 
 /// The amounts of a case fit into 64 bits, as every amount does.
-fn amounts_are_small(case: &Case)
+pub(crate) fn amounts_are_small(case: &Case)
     ensures { IsSmall (kept_in case.now) }
 {
     let _instructed = case.cents();

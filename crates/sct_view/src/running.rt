@@ -4,7 +4,7 @@ ghost use Rattle.std.specs.Prelude.{◌≡◌, ℕ, List, true, if◌then◌else
 ghost use Rattle.sct_element.specs.Text.{is_text};
 ghost use Rattle.sct_message.specs.declared.keys.TransferKey.{TransferKey as TransferOf};
 ghost use Rattle.std.specs.List.{list_all};
-ghost use Rattle.sct_view.specs.Kept.{has_totals, kept_in, instruction_in, share_in, totals_at, IsInRange, IsUpTo};
+ghost use Rattle.sct_view.specs.Kept.{case_at, has_totals, kept_in, instruction_in, share_in, totals_at, IsInRange, IsUpTo};
 ghost use Rattle.sct_view.specs.Totals.{beneficiary_in, plus};
 
 use crate::case::Case;
@@ -73,5 +73,21 @@ pub(crate) fn take_shares(totals: &mut IndexMap<Bic, Totals>, transfer: &Transfe
     if let Some(bank) = case.beneficiary() {
         let share = share_of_beneficiary(&case.status, cents);
         take(totals, bank, &share);
+    }
+}
+
+/// Takes what a transfer added, by what is kept of it, out of the totals of its banks.
+pub(crate) fn take_former(
+    cases: &IndexMap<TransferKey, Case>,
+    totals: &mut IndexMap<Bic, Totals>,
+    transfer: &TransferKey,
+)
+    requires fits { (p : List ℕ) → IsUpTo (share_in p transfer.now (case_at cases.now transfer.now)) (totals_at totals.old p) }
+    ensures totals { (p : List ℕ) → plus (totals_at totals.new p) (share_in p transfer.now (case_at cases.now transfer.now))
+        ≡ totals_at totals.old p }
+    ensures stays { (p : List ℕ) → has_totals totals.new p ≡ has_totals totals.old p }
+{
+    if let Some(case) = cases.get(transfer) {
+        take_shares(totals, transfer, case);
     }
 }

@@ -16,7 +16,7 @@ ghost use Rattle.sct_view.specs.Touched.{touched_in};
 use crate::case::Case;
 use crate::commit::commit_all;
 use crate::listed::{all_findings, keys, recalls_of, transfers_of};
-use crate::parts::tables_in_parts;
+use crate::parts::filled_in_parts;
 use crate::rebuild::tables_of;
 use crate::replanning::{Replanned, replan};
 use crate::room::make_room;
@@ -109,21 +109,21 @@ impl View {
         })
     }
 
-    /// The same view, for which transfers are evaluated in as many threads as there are processors. Where no thread can be
-    /// made, one does the work of several.
-    pub fn of_in_parts<R: Threads + Sync>(
+    /// The view of some messages, which may stand in any order and more than once, made in as many threads as there are
+    /// processors. Where no thread can be made, one does the work of several.
+    pub fn of_messages<R: Threads + Sync>(
         rt: &R,
         alloc: Global,
-        archive: Archive,
+        messages: &[Arc<Message>],
     ) -> Result<Self, CaseFault>
-        ensures { IfOk result (λ view. view ≡ archive) }
+        ensures { IfOk result (λ view. view ≡ contents_of (messages_in messages.now)) }
     {
-        let tables = tables_in_parts(rt, alloc, &archive)?;
+        let filled = filled_in_parts(rt, alloc, messages)?;
         Ok(View {
             alloc,
-            archive,
-            cases: tables.cases,
-            totals: tables.totals,
+            archive: filled.archive,
+            cases: filled.tables.cases,
+            totals: filled.tables.totals,
             unknown: Status::Unknown,
         })
     }

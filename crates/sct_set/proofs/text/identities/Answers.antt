@@ -1,10 +1,11 @@
 -- Identities that are sorted and told apart are the ascending ones.
-use Rattle.std.proofs.Common.{◌∙◌, ap, subst}
+use Rattle.std.proofs.Common.{◌∙◌, ap, map, subst}
 use Rattle.std.proofs.lemmas.List.Filters.{dedup_is}
 use Rattle.std.specs.List.Sorted.{IsSorted}
 use Rattle.std.specs.declared.cmp.Ordering.{Ordering}
 use Rattle.sct_message.specs.declared.keys.Identity.{Identity}
 use Rattle.sct_message.specs.OrderLaws.{identity_total, identities_same}
+use Rattle.sct_message.specs.Keys.{identity_of}
 use Rattle.sct_message.specs.Order.{identity_order}
 use Rattle.sct_message.specs.Ascending.{ascending}
 use Rattle.sct_message.proofs.AscendingLemmas.{ascending-sort_dedup_plain}
@@ -14,4 +15,4 @@ pub returns : goal.returns
 returns c =
     dedup_is _ _ _ c.dedup.ensures.filtered
     ∙ ascending-sort_dedup_plain identity_total identities_same _ c.keys_are_ordered.ensures.identities_equal _ _ c.in_ok-sort.ensures.permutation (subst (λ (R : Identity → Identity → Ordering). IsSorted R c.sort.new.self.items) (λ n i j. c.keys_are_ordered.ensures.identities i j n) c.in_ok-sort.ensures.sorted)
-    ∙ ap (ascending identity_order) c.in_ok-found.ensures
+    ∙ ap (ascending identity_order) (c.in_ok-found.ensures ∙ ap (map identity_of) c.messages.ensures)

@@ -5,4 +5,4 @@ use Rattle.sct_set.specs.Drafts.{drafts_in}
 use Rattle.sct_set.proofs.text.identities_of.Given as goal
 
 abbrev pub invariant-loop-message : goal.invariant-loop-message
-invariant-loop-message l = l.found.items ≡ map identity_of (drafts_in (take l.message-index l.message-items))
+invariant-loop-message l = l.found.items ≡ map identity_of (drafts_in (take l.message-index l.messages))

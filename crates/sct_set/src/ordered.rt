@@ -1,0 +1,91 @@
+//! A set of messages with the order of its archive text, both made at once.
+
+ghost use Rattle.std.specs.Prelude.{◌≡◌, map, IfOk};
+ghost use Rattle.std.specs.Thread.{IsSync};
+ghost use Rattle.sct_message.specs.Ascending.{ascending};
+ghost use Rattle.sct_message.specs.Keys.{identity_of};
+ghost use Rattle.sct_message.specs.Order.{identity_order};
+ghost use Rattle.sct_set.specs.Contents.{contents_of};
+ghost use Rattle.sct_set.specs.Drafts.{drafts_in};
+ghost use Rattle.sct_set.specs.Pieces.{joined};
+
+use crate::fault::SetFault;
+use crate::pieces::{archive_pieces, identities_in_order};
+use crate::push::push_all;
+use crate::table::Table;
+use sct_message::{Identity, Message};
+use std::alloc::{AllocError, Global};
+use std::marker::Model;
+use std::sync::Arc;
+use std::thread::{Threads, join};
+
+// A table of some messages, each once.
+fn table_of(alloc: Global, messages: &[Arc<Message>]) -> Result<Table, AllocError>
+    ensures { IfOk result (λ table. contents_of table ≡ contents_of (drafts_in messages.now)) }
+{
+    let mut table = Table::new(alloc);
+    push_all(&mut table, messages)?;
+    Ok(table)
+}
+
+/// Messages, each held once, with their identities in order.
+#[derive(Drop)]
+pub struct Ordered {
+    table: Table,
+    identities: Vec<Identity>,
+}
+
+impl Model for Ordered {
+    ghost use Rattle.std.specs.Prelude.{◌≡◌, map};
+    ghost use Rattle.std.specs.FinSet as set;
+    ghost use Rattle.sct_message.specs.Ascending.{ascending};
+    ghost use Rattle.sct_message.specs.Keys.{identity_of};
+    ghost use Rattle.sct_message.specs.contracts.messages.Message as message;
+    ghost use Rattle.sct_message.specs.Order.{identity_order, message_order};
+
+    ghost Value = { set.FinSet message_order };
+
+    ghost coded = { set.code message.the_row.coded };
+
+    ghost view = { λ o. set.from_list o.table };
+
+    ghost invariant = { λ o. o.identities.items ≡ ascending identity_order (map identity_of o.table) };
+}
+
+impl Ordered {
+    ghost use Rattle.sct_set.specs.Archive.{archive_text_of, AreReadAgain};
+
+    /// The set of some messages, which may stand in any order and more than once. Their order is made beside the set, in as
+    /// many threads as there are processors.
+    pub fn of<R: Threads + Sync>(
+        rt: &R,
+        alloc: Global,
+        messages: &[Arc<Message>],
+    ) -> Result<Self, SetFault>
+        ensures { IfOk result (λ ordered. ordered ≡ contents_of (drafts_in messages.now)) }
+    {
+        let (filled, sorted) = join(
+            rt,
+            || -> Result<Table, AllocError>
+                ensures { IfOk result (λ table. contents_of table ≡ contents_of (drafts_in messages.entry.now)) }
+            { table_of(alloc, messages) },
+            || -> Result<Vec<Identity>, AllocError>
+                requires { IsSync R.row }
+                ensures { IfOk result (λ found.
+                    found.items ≡ ascending identity_order (map identity_of (drafts_in messages.entry.now))) }
+            { identities_in_order(rt, alloc, messages) },
+        );
+        let table = filled?;
+        let identities = sorted?;
+        Ok(Ordered { table, identities })
+    }
+
+    /// The archive text in pieces, one after another, made in as many threads as there are processors. Where no thread can
+    /// be made, one does the work of several.
+    pub fn text_in_pieces<R: Threads + Sync>(&self, rt: &R) -> Result<Vec<Vec<u8>>, SetFault>
+        ensures text { IfOk result (λ pieces. joined pieces.items ≡ archive_text_of self.now) }
+        ensures again { IfOk result (λ pieces. AreReadAgain self.now) }
+    {
+        archive_pieces(rt, &self.table, &self.identities)
+    }
+}
