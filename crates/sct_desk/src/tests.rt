@@ -90,7 +90,13 @@ fn expect_steps<J: Site, H: Wait + Drop, W: Wait + Abort>(
 }
 
 // The transfer T1 stands so, on so many arrivals.
-fn expect_status(rt: &impl Abort, alloc: Global, query: &mut Query, wanted: Status, front: u64) {
+pub(crate) fn expect_status(
+    rt: &impl Abort,
+    alloc: Global,
+    query: &mut Query,
+    wanted: Status,
+    front: u64,
+) {
     let answer = query
         .status(alloc, &first_transfer(rt))
         .expect(rt, "an answer");

@@ -3,10 +3,10 @@
 mod scenes;
 
 use crate::*;
-use scenes::{Row, messages_of, recall, transfer, view_of};
+use scenes::{Row, apply_rows, recall, transfer, view_of};
 use sct_case::{Finding, RecallStatus, Status};
 use sct_element::{Bic, Id35};
-use sct_message::TransferKey;
+use sct_message::{RecallKey, TransferKey};
 use std::alloc::Global;
 use std::process::Abort;
 use std::test::Fail;
@@ -327,7 +327,7 @@ fn assert_fresh(
     rows: &[Row],
     wanted: u64,
 ) -> Result<(), Fail> {
-    let applied = view.apply(&messages_of(alloc, rows)?)?;
+    let applied = apply_rows(alloc, view, rows)?;
     assert_eq!(rt; applied.fresh, wanted);
     Ok(())
 }
@@ -409,7 +409,7 @@ fn assert_applied(
     view: &mut View,
     batch: &Batch,
 ) -> Result<(), Fail> {
-    let applied = view.apply(&messages_of(alloc, batch.rows)?)?;
+    let applied = apply_rows(alloc, view, batch.rows)?;
     assert_eq!(rt; applied.fresh, batch.fresh);
     assert_eq!(rt; applied.touched, batch.touched);
     Ok(())
@@ -482,11 +482,13 @@ static RECALLED: [(&str, &str, &str); 5] = [
     ("T6", "R1", "CONTRADICTED"),
 ];
 
+fn assert_recall_at(rt: &impl Abort, view: &View, key: &RecallKey, wanted: &str) {
+    assert_eq!(rt; recall_word(&view.recall(key)), wanted);
+}
+
 fn assert_recall(rt: &impl Abort, view: &View, wanted: &(&str, &str, &str)) -> Result<(), Fail> {
-    assert_eq!(rt;
-        recall_word(&view.recall(&recall(wanted.0, wanted.1)?)),
-        wanted.2
-    );
+    let key = recall(wanted.0, wanted.1)?;
+    assert_recall_at(rt, view, &key, wanted.2);
     Ok(())
 }
 
@@ -497,20 +499,49 @@ fn assert_recalled(rt: &impl Abort, view: &View) -> Result<(), Fail> {
     Ok(())
 }
 
-// Whether Anna Weber's bank has what messages of all six kinds give it, and a bank that none of them names nothing.
+// What messages of all six kinds give Anna Weber's bank, and a bank that none of them names.
+static TOTALLED: [(&str, Totals); 2] = [
+    (
+        "BANKDEFF",
+        Totals {
+            sent: 1,
+            sent_cents: 10000,
+            returned_in: 9900,
+            rejected: 1,
+            waiting: 2,
+            missing: 1,
+            contradicted: 1,
+            received: 0,
+            received_cents: 0,
+            returned_out: 0,
+        },
+    ),
+    (
+        "BANKBEBB",
+        Totals {
+            sent: 0,
+            sent_cents: 0,
+            returned_in: 0,
+            rejected: 0,
+            waiting: 0,
+            missing: 0,
+            contradicted: 0,
+            received: 0,
+            received_cents: 0,
+            returned_out: 0,
+        },
+    ),
+];
+
+fn assert_total(rt: &impl Abort, view: &View, wanted: &(&str, Totals)) -> Result<(), Fail> {
+    assert!(rt; view.totals(&Bic::read(wanted.0)?) == wanted.1);
+    Ok(())
+}
+
 fn assert_totals(rt: &impl Abort, view: &View) -> Result<(), Fail> {
-    let wanted = Totals {
-        sent: 1,
-        sent_cents: 10000,
-        returned_in: 9900,
-        rejected: 1,
-        waiting: 2,
-        missing: 1,
-        contradicted: 1,
-        ..Totals::nothing()
-    };
-    assert_eq!(rt; view.totals(&Bic::read("BANKDEFF")?), wanted);
-    assert_eq!(rt; view.totals(&Bic::read("BANKBEBB")?), Totals::nothing());
+    for wanted in &TOTALLED {
+        assert_total(rt, view, wanted)?;
+    }
     Ok(())
 }
 

@@ -2,6 +2,7 @@
 
 ghost use Rattle.std.specs.Prelude.{◌≡◌, []};
 
+use super::expect_status;
 use super::scenes::{Row, delta_of, first_transfer, message_of, open_one};
 use crate::*;
 use sct_case::{RecallStatus, Status};
@@ -63,26 +64,17 @@ fn expect_cut<J: Site, H: Wait + Drop, W: Wait + Abort>(rt: &W, alloc: Global, d
     assert_eq!(rt; place_of(&entries[1]), (2, 1));
 }
 
-// The transfer T1 stands so, on so many arrivals.
-fn expect_status(rt: &impl Abort, alloc: Global, query: &mut Query, wanted: Status, front: u64) {
-    let answer = query
-        .status(alloc, &first_transfer(rt))
-        .expect(rt, "an answer");
-    assert_eq!(rt;
-        answer,
-        Answer {
-            value: wanted,
-            front
-        }
-    );
-}
-
-// Nothing contradicts itself, and nothing is recalled.
-fn expect_no_more(rt: &impl Abort, alloc: Global, query: &mut Query) {
+// Nothing contradicts itself.
+fn expect_no_findings(rt: &impl Abort, alloc: Global, query: &mut Query) {
     let found = query
         .findings(alloc, &first_transfer(rt))
         .expect(rt, "an answer");
-    assert_eq!(rt; (found.value.len(), found.front), (0, 2));
+    assert_eq!(rt; found.value.len(), 0);
+    assert_eq!(rt; found.front, 2);
+}
+
+// Nothing is recalled.
+fn expect_no_recall(rt: &impl Abort, query: &mut Query) {
     let recall = RecallKey {
         transfer: first_transfer(rt),
         cxl: Id35::read("R1").ok().expect(rt, "an identification"),
@@ -117,7 +109,8 @@ fn expect_answers<J: Site, R: Wait + Abort>(rt: &R, alloc: Global, history: Hist
     expect_cut(rt, alloc, &desk);
     query.learn(&accepted);
     expect_status(rt, alloc, &mut query, Status::Accepted, 2);
-    expect_no_more(rt, alloc, &mut query);
+    expect_no_findings(rt, alloc, &mut query);
+    expect_no_recall(rt, &mut query);
     expect_totals(rt, &mut query);
     let _later = expect_accepted(rt, alloc, &desk, 2, Row::CreditTransfer(2, "2.00"), 3);
 }

@@ -10,7 +10,7 @@ use sct_element::{Bic, Id35};
 use sct_history::{History, Track};
 use sct_json::read_message;
 use sct_message::{Message, TransferKey};
-use std::alloc::Global;
+use std::alloc::{AllocError, Global};
 use std::process::Abort;
 use std::sync::{Arc, Wait};
 
@@ -23,17 +23,21 @@ pub(crate) enum Row {
     StatusReport,
 }
 
-/// The message of a row. There is none only where memory is wanting.
-pub(crate) fn message_of(alloc: Global, row: Row) -> Option<Arc<Message>> {
-    let text = match row {
+fn text_of(alloc: Global, row: Row) -> Result<String, AllocError> {
+    match row {
         Row::CreditTransfer(at, amount) => format!(in alloc;
             r#"{{"MsgNmId":"pacs.008","MsgId":"M{at}","CreDtTm":"2024-05-02T10:00:00Z","InstgAgt":"BANKDEFF","IntrBkSttlmDt":"2024-05-02","SvcLvl":"SEPA","LclInstrm":"INST","EndToEndId":"E1","TxId":"T{at}","IntrBkSttlmAmt":"{amount}","Ccy":"EUR","ChrgBr":"SLEV","Dbtr":"Anna Weber","DbtrAcct":"DE89370400440532013000","DbtrAgt":"BANKDEFF","CdtrAgt":"BANQFRPP","Cdtr":"Bo Maes","CdtrAcct":"BE68539007547034"}}"#
         ),
         Row::StatusReport => format!(in alloc;
             r#"{{"MsgNmId":"pacs.002","MsgId":"C1","CreDtTm":"2024-05-02T10:00:02Z","InstgAgt":"BANQFRPP","OrgnlMsgId":"M1","OrgnlMsgNmId":"pacs.008","OrgnlTxId":"T1","TxSts":"ACCP","DbtrAgt":"BANKDEFF"}}"#
         ),
-    };
-    let message = read_message(alloc, text.ok()?.as_bytes()).ok()?;
+    }
+}
+
+/// The message of a row. There is none only where memory is wanting.
+pub(crate) fn message_of(alloc: Global, row: Row) -> Option<Arc<Message>> {
+    let text = text_of(alloc, row).ok()?;
+    let message = read_message(alloc, text.as_bytes()).ok()?;
     Arc::new(alloc, message).ok()
 }
 

@@ -125,8 +125,8 @@ fn text_of(alloc: Global, row: Row) -> Result<String, AllocError> {
     }
 }
 
-/// The messages of some rows.
-pub(crate) fn messages_of(alloc: Global, rows: &[Row]) -> Result<Vec<Arc<Message>>, Fail> {
+// The messages of some rows.
+fn messages_of(alloc: Global, rows: &[Row]) -> Result<Vec<Arc<Message>>, Fail> {
     let mut messages = Vec::new(alloc);
     for row in rows {
         push_message(alloc, &mut messages, &text_of(alloc, *row)?)?;
@@ -134,10 +134,15 @@ pub(crate) fn messages_of(alloc: Global, rows: &[Row]) -> Result<Vec<Arc<Message
     Ok(messages)
 }
 
+/// What the messages of some rows bring to a view, in one batch.
+pub(crate) fn apply_rows(alloc: Global, view: &mut View, rows: &[Row]) -> Result<Applied, Fail> {
+    Ok(view.apply(&messages_of(alloc, rows)?)?)
+}
+
 /// A view of the messages of some rows, applied in one batch.
 pub(crate) fn view_of(alloc: Global, rows: &[Row]) -> Result<View, Fail> {
     let mut view = View::new(alloc);
-    view.apply(&messages_of(alloc, rows)?)?;
+    apply_rows(alloc, &mut view, rows)?;
     Ok(view)
 }
 

@@ -79,16 +79,26 @@ fn expect_report<R: Abort + Threads + Sync>(
     assert_eq!(rt; text.as_slice(), wanted.as_bytes());
 }
 
+// There is no report of a site that the world has not.
+fn expect_no_report<R: Abort + Threads + Sync>(rt: &R, world: &World, site: u16, asked: &Asked) {
+    assert_eq!(rt; text_at(rt, world, site, asked).err(), Some(44));
+}
+
+// What the sites of a world of three report after the day.
+fn expect_reports<R: Abort + Threads + Sync>(rt: &R, world: &World, asked: &Asked) {
+    expect_report(rt, world, 1, asked, REPORT);
+    expect_report(rt, world, 2, asked, REPORT);
+    expect_report(rt, world, 3, asked, NOTHING_HELD);
+    expect_no_report(rt, world, 0, asked);
+    expect_no_report(rt, world, 4, asked);
+}
+
 #[test]
 fn sites_of_equal_sets_report_alike(rt: HostRuntime) {
     let events = events_of(rt.alloc(), &DAY).expect(&rt, "events");
     let asked = ask(rt.alloc()).expect(&rt, "a list");
     let ran = run(rt.alloc(), 3, &events).expect(&rt, "a run");
-    expect_report(&rt, &ran.world, 1, &asked, REPORT);
-    expect_report(&rt, &ran.world, 2, &asked, REPORT);
-    expect_report(&rt, &ran.world, 3, &asked, NOTHING_HELD);
-    assert_eq!(rt; text_at(&rt, &ran.world, 0, &asked).err(), Some(44));
-    assert_eq!(rt; text_at(&rt, &ran.world, 4, &asked).err(), Some(44));
+    expect_reports(&rt, &ran.world, &asked);
 }
 
 #[test]

@@ -32,13 +32,16 @@ static TRANSFER: &str =
 static CONFIRMATION: &str =
     r#"{"MsgNmId":"pacs.002","MsgId":"C1","CreDtTm":"2024-05-02T10:00:02Z","InstgAgt":"BANQFRPP","OrgnlMsgId":"M1","OrgnlMsgNmId":"pacs.008","OrgnlTxId":"T1","TxSts":"ACCP","DbtrAgt":"BANKDEFF"}"#;
 
-// The event in which a site takes the message of a text. There is none only where memory is wanting.
-fn take_of(alloc: Global, site: u16, text: &str) -> Option<Event> {
+// The message of a text. There is none only where memory is wanting.
+fn message_of(alloc: Global, text: &str) -> Option<Arc<Message>> {
     let message = read_message(alloc, text.as_bytes()).ok()?;
-    Some(Event::Take {
-        site,
-        message: Arc::new(alloc, message).ok()?,
-    })
+    Arc::new(alloc, message).ok()
+}
+
+// The event in which a site takes the message of a text.
+fn take_of(alloc: Global, site: u16, text: &str) -> Option<Event> {
+    let message = message_of(alloc, text)?;
+    Some(Event::Take { site, message })
 }
 
 fn instruction(
@@ -98,11 +101,8 @@ pub(crate) struct Life(
 
 // A confirmation of that identification.
 fn confirmation_of(alloc: Global, id: &str) -> Option<Arc<Message>> {
-    let text = format!(in alloc;
-        r#"{{"MsgNmId":"pacs.002","MsgId":"{id}","CreDtTm":"2024-05-02T10:00:02Z","InstgAgt":"BANQFRPP","OrgnlMsgId":"M1","OrgnlMsgNmId":"pacs.008","OrgnlTxId":"T1","TxSts":"ACCP","DbtrAgt":"BANKDEFF"}}"#
-    );
-    let message = read_message(alloc, text.ok()?.as_bytes()).ok()?;
-    Arc::new(alloc, message).ok()
+    let text = status_report(alloc, id, "T1", r#""TxSts":"ACCP""#).ok()?;
+    message_of(alloc, &text)
 }
 
 // The confirmation as the first entry of site 1.
@@ -117,14 +117,26 @@ fn delta_of(alloc: Global, id: &str) -> Option<Delta> {
     Delta::of(entries).ok()
 }
 
-fn site_of(alloc: Global, life: Life) -> Option<SiteCore> {
-    let mut site = SiteCore::open(alloc, life.0, life.1).ok()?;
-    for id in life.2 {
+// The site takes the confirmations of these identifications.
+fn take_all(alloc: Global, site: &mut SiteCore, ids: &[&str]) -> Option<()> {
+    for id in ids {
         site.take(confirmation_of(alloc, id)?).ok()?;
     }
-    if let Some(id) = life.3 {
+    Some(())
+}
+
+// The site accepts the confirmation as the first entry of site 1, where there is one.
+fn accept_first(alloc: Global, site: &mut SiteCore, id: Option<&str>) -> Option<()> {
+    if let Some(id) = id {
         site.accept(&delta_of(alloc, id)?).ok()?;
     }
+    Some(())
+}
+
+fn site_of(alloc: Global, life: Life) -> Option<SiteCore> {
+    let mut site = SiteCore::open(alloc, life.0, life.1).ok()?;
+    take_all(alloc, &mut site, life.2)?;
+    accept_first(alloc, &mut site, life.3)?;
     Some(site)
 }
 
