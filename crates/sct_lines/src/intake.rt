@@ -103,6 +103,21 @@ impl Intake {
     }
 }
 
+// So many lines are read between two askings for memory.
+const LINES: u64 = 64;
+
+// How many bytes each asks for: more than the messages of so many lines take.
+const AHEAD: usize = 98_304;
+
+// Asks for memory before every so many lines, and gives it back at once. The heap of a thread grows by no more than what is
+// asked for, and each growth is a call of the system that holds up the other threads: so it grows by many pages at a time,
+// and not by one. Where the memory is wanting, each line asks for its own as it comes.
+fn ask_ahead(alloc: Global, number: u64) {
+    if number % LINES == 0 {
+        drop(Vec::<u8>::with_capacity(alloc, AHEAD));
+    }
+}
+
 // Reads a part of an input, before which so many lines stand. Each line that tells a refused one has a text in front.
 pub(crate) fn read_part(
     alloc: Global,
@@ -117,6 +132,7 @@ pub(crate) fn read_part(
     let mut number = before;
     let mut rest = part;
     while let Some((line, after)) = first_line(rest) {
+        ask_ahead(alloc, number);
         number += 1;
         intake.take(alloc, front, number, line)?;
         rest = after;
