@@ -77,7 +77,8 @@ fn status_pieces<T: Threads + Sync>(
     alloc: Global,
     messages: Vec<Arc<Message>>,
 ) -> Result<Vec<Vec<u8>>, ProgramFault>
-    ensures text { IfOk result (λ pieces. joined pieces.items ≡ status_text_of (contents_of (messages_in messages.items))) }
+    ensures text { IfOk result (λ pieces. joined pieces.items
+        ≡ status_text_of (contents_of (messages_in messages.items))) }
     ensures memory { IfErr result (λ e. e ≡ fault.Memory) }
 {
     let view = view_of(rt, alloc, messages)?;
@@ -158,7 +159,8 @@ fn asked_pieces<T: Threads + Sync>(
     question: &Question<'_>,
     messages: Vec<Arc<Message>>,
 ) -> Result<Vec<Vec<u8>>, ProgramFault>
-    ensures text { IfOk result (λ pieces. joined pieces.items ≡ asked_text_of question.now (contents_of (messages_in messages.items))) }
+    ensures text { IfOk result (λ pieces. joined pieces.items
+        ≡ asked_text_of question.now (contents_of (messages_in messages.items))) }
     ensures memory { IfErr result (λ e. e ≡ fault.Memory) }
 {
     let text = match question {
@@ -180,7 +182,8 @@ pub fn answer_of_messages<T: Threads + Sync>(
     question: Question<'_>,
     input: Vec<u8>,
 ) -> Result<Answer, ProgramFault>
-    ensures text { IfOk result (λ answer. joined answer.pieces.items ≡ asked_text_of question.entry (set_read input.items)) }
+    ensures text { IfOk result (λ answer. joined answer.pieces.items
+        ≡ asked_text_of question.entry (set_read input.items)) }
     ensures told { IfOk result (λ answer. string_bytes answer.told ≡ told_text_of (refusals_told input.items)) }
     ensures refused { IfOk result (λ answer. answer.refused ≡ length (refusals_told input.items)) }
     ensures memory { IfErr result (λ e. e ≡ fault.Memory) }

@@ -28,8 +28,10 @@ pub fn archive_pieces<T: Threads + Sync>(
     alloc: Global,
     messages: Vec<Arc<Message>>,
 ) -> Result<Vec<Vec<u8>>, ProgramFault>
-    ensures text { IfOk result (λ pieces. joined pieces.items ≡ archive_text_of (contents_of (messages_in messages.items))) }
-    ensures again { IfOk result (λ pieces. GivesBack (contents_of (messages_in messages.items)) (joined pieces.items)) }
+    ensures text { IfOk result (λ pieces. joined pieces.items
+        ≡ archive_text_of (contents_of (messages_in messages.items))) }
+    ensures again { IfOk result (λ pieces.
+        GivesBack (contents_of (messages_in messages.items)) (joined pieces.items)) }
     ensures memory { IfErr result (λ e. e ≡ fault.Memory) }
 {
     the_archive_text_gives_the_set_back();

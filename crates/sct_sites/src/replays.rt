@@ -31,7 +31,8 @@ fn script_of(alloc: Global, input: &[u8]) -> Result<Script, ProgramFault>
 // The replay of a script.
 fn replay_text(alloc: Global, script: &Script) -> Result<Vec<u8>, ProgramFault>
     requires { is_size script.now.sites ≡ true }
-    ensures text { IfOk result (λ text. text.items ≡ replay_text script.now.sites (happenings_of script.now.events.items)) }
+    ensures text { IfOk result (λ text. text.items
+        ≡ replay_text script.now.sites (happenings_of script.now.events.items)) }
     ensures memory { IfErr result (λ e. e ≡ fault.Memory) }
 {
     match replay(alloc, script.sites, &script.events) {

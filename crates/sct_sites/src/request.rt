@@ -132,7 +132,8 @@ fn sites_of<'a>(alloc: Global, files: &[&'a str]) -> Result<Request<'a>, Program
 // The files that `run` is given.
 #[tactic(auto, using(crate::proofs::Values::values_given))]
 fn files_of<'b, 'a>(given: &'b ArgMatches<'a>) -> Option<&'b [&'a str]>
-    ensures { option_map (λ files. map (λ path. path.now) files.now) result ≡ all_of (codes "FILE") (rows_of (found_of given.now)) }
+    ensures { option_map (λ files. map (λ path. path.now) files.now) result
+        ≡ all_of (codes "FILE") (rows_of (found_of given.now)) }
 {
     given.get_strs("FILE")
 }
@@ -163,7 +164,8 @@ fn asked_with<'a>(
 
 // What clap found asks for.
 fn asked_by<'a>(alloc: Global, matches: &ArgMatches<'a>) -> Result<Request<'a>, ProgramFault>
-    ensures { IsOrdered (option_and_then (λ found. order_named found.0 found.1) (subcommand_rows_of matches.now)) result }
+    ensures { IsOrdered
+        (option_and_then (λ found. order_named found.0 found.1) (subcommand_rows_of matches.now)) result }
 {
     match matches.subcommand() {
         Some((name, given)) => asked_with(alloc, name, given),

@@ -149,7 +149,8 @@ impl GroupTrial {
 
     // Has the last site accept an entry.
     fn hold(&mut self, text: &[u8]) -> Result<()>
-        ensures { OnOk result (self.new.sites.items ≡ with_last (with_accepted (entry_in text.now)) self.old.sites.items) }
+        ensures { OnOk result (self.new.sites.items
+            ≡ with_last (with_accepted (entry_in text.now)) self.old.sites.items) }
     {
         let delta = delta_of(self.alloc, entry_in(self.alloc, text)?)?;
         let mut site = self.last()?;

@@ -64,7 +64,8 @@ impl ViewTrial {
 
     // Applies the batch. Where memory is wanting, the view and the batch are what they were.
     fn apply_batch(&mut self) -> Result<Applied, CaseFault>
-        ensures view { OnOk result (self.new.view ≡ set.union self.old.view (contents_of (messages_in self.old.batch.items))) }
+        ensures view { OnOk result (self.new.view
+            ≡ set.union self.old.view (contents_of (messages_in self.old.batch.items))) }
         ensures batch { OnOk result (messages_in self.new.batch.items ≡ []) }
         ensures fresh { IfOk result (λ applied. applied.fresh
             ≡ set.len (fresh_of self.old.view (contents_of (messages_in self.old.batch.items)))) }
@@ -80,9 +81,11 @@ impl ViewTrial {
 
     // Applies the batch, and tells what it brought.
     fn apply(&mut self) -> Result<Vec<u8>>
-        ensures view { OnOk result (self.new.view ≡ set.union self.old.view (contents_of (messages_in self.old.batch.items))) }
+        ensures view { OnOk result (self.new.view
+            ≡ set.union self.old.view (contents_of (messages_in self.old.batch.items))) }
         ensures batch { OnOk result (messages_in self.new.batch.items ≡ []) }
-        ensures told { IfOk result (λ told. told.items ≡ brought self.old.view (contents_of (messages_in self.old.batch.items))) }
+        ensures told { IfOk result (λ told. told.items
+            ≡ brought self.old.view (contents_of (messages_in self.old.batch.items))) }
     {
         let applied = self.apply_batch()?;
         tell_applied(self.alloc, &applied)
@@ -111,7 +114,8 @@ impl ViewTrial {
     // Puts a message behind those of the batch.
     fn push(&mut self, line: &str) -> Result<Vec<u8>>
         ensures view { OnOk result (self.new.view ≡ self.old.view) }
-        ensures batch { OnOk result (messages_in self.new.batch.items ≡ messages_in self.old.batch.items ++ read_from line.now) }
+        ensures batch { OnOk result (messages_in self.new.batch.items
+            ≡ messages_in self.old.batch.items ++ read_from line.now) }
         ensures told { IfOk result (λ told. told.items ≡ []) }
     {
         let message = read_message(self.alloc, line.as_bytes())?;
@@ -121,9 +125,12 @@ impl ViewTrial {
 
     /// Does what a line says, and answers what is to be printed of it.
     pub fn answer(&mut self, line: &str) -> Result<Vec<u8>>
-        ensures view { OnOk result (self.new.view ≡ view_after line.now self.old.view (messages_in self.old.batch.items)) }
-        ensures batch { OnOk result (messages_in self.new.batch.items ≡ batch_after line.now (messages_in self.old.batch.items)) }
-        ensures told { IfOk result (λ told. told.items ≡ told_by line.now self.old.view (messages_in self.old.batch.items)) }
+        ensures view { OnOk result (self.new.view
+            ≡ view_after line.now self.old.view (messages_in self.old.batch.items)) }
+        ensures batch { OnOk result (messages_in self.new.batch.items
+            ≡ batch_after line.now (messages_in self.old.batch.items)) }
+        ensures told { IfOk result (λ told. told.items
+            ≡ told_by line.now self.old.view (messages_in self.old.batch.items)) }
     {
         match line {
             "" => self.apply(),
