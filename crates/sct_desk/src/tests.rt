@@ -126,6 +126,30 @@ fn with<J: Site>(mut receipts: Vec<Receipt>, more: Receipt) -> Option<Vec<Receip
     Some(receipts)
 }
 
+// A desk is not closed, as its first position is not told.
+fn expect_gap<J: Site, H: Wait + Drop>(
+    rt: &impl Abort,
+    desk: Desk<J, H>,
+    rest: Vec<Receipt>,
+) -> NotClosed<J, H>
+    requires { AreOurs J.book J.number rest.items }
+    ensures { AreOurs J.book J.number result.receipts.items }
+{
+    let Err(refusal) = desk.close(rest) else {
+        panic!(rt; "a desk closed over a gap");
+    };
+    assert_eq!(rt; refusal.fault, DeskFault::Untold { position: 1 });
+    refusal
+}
+
+// A desk is closed, and its site has two arrivals.
+fn expect_core<J: Site, H: Wait + Drop>(rt: &impl Abort, desk: Desk<J, H>, receipts: Vec<Receipt>)
+    requires { AreOurs J.book J.number receipts.items }
+{
+    let core = desk.close(receipts).ok().expect(rt, "a core");
+    assert_eq!(rt; core.arrivals().len(), 2);
+}
+
 // Without its first receipt a desk is not closed, and with all it is.
 fn expect_closed<J: Site, H: Wait + Drop>(
     rt: &impl Abort,
@@ -136,14 +160,9 @@ fn expect_closed<J: Site, H: Wait + Drop>(
     requires first { IsOf J.book J.number first }
     requires rest { AreOurs J.book J.number rest.items }
 {
-    let Err(refusal) = desk.close(rest) else {
-        panic!(rt; "a desk closed over a gap");
-    };
-    assert_eq!(rt; refusal.fault, DeskFault::Untold { position: 1 });
-    let NotClosed { desk, receipts, .. } = refusal;
+    let NotClosed { desk, receipts, .. } = expect_gap(rt, desk, rest);
     let receipts = with::<J>(receipts, first).expect(rt, "memory");
-    let core = desk.close(receipts).ok().expect(rt, "a core");
-    assert_eq!(rt; core.arrivals().len(), 2);
+    expect_core(rt, desk, receipts);
 }
 
 // A desk from its opening to its closing.

@@ -53,15 +53,19 @@ fn place_of(entry: &Entry) -> (u16, u64) {
     (entry.origin, entry.n)
 }
 
-// All is cut that the desk holds: the first entries of the sites 1 and 2.
+// These are the first entries of the sites 1 and 2.
+fn expect_entries(rt: &impl Abort, entries: &[Entry]) {
+    assert_eq!(rt; entries.len(), 2);
+    assert_eq!(rt; place_of(&entries[0]), (1, 1));
+    assert_eq!(rt; place_of(&entries[1]), (2, 1));
+}
+
+// All is cut that the desk holds.
 fn expect_cut<J: Site, H: Wait + Drop, W: Wait + Abort>(rt: &W, alloc: Global, desk: &Desk<J, H>) {
     let vector = Vector::of(alloc, &[]).ok().expect(rt, "a vector");
     let (delta, receipt) = desk.cut(rt, alloc, &vector).expect(rt, "memory");
     assert_eq!(rt; receipt.count(), 0);
-    let entries = delta.entries();
-    assert_eq!(rt; entries.len(), 2);
-    assert_eq!(rt; place_of(&entries[0]), (1, 1));
-    assert_eq!(rt; place_of(&entries[1]), (2, 1));
+    expect_entries(rt, delta.entries());
 }
 
 // Nothing contradicts itself.

@@ -121,18 +121,28 @@ fn messages_held(alloc: Global, core: &SiteCore) -> Option<Vec<Arc<Message>>> {
     Some(messages)
 }
 
-// A site has 100 arrivals, each of a transfer of its own, and all of them are pending.
-fn expect_all(rt: &impl Abort, alloc: Global, core: &SiteCore) {
-    assert_eq!(rt; core.arrivals().len(), 100);
-    let messages = messages_held(alloc, core).expect(rt, "memory");
-    let mut view = View::new(alloc);
-    let applied = view.apply(&messages).ok().expect(rt, "memory");
-    assert_eq!(rt; applied.fresh, 100);
+// 100 transfers are known, and all of them are pending.
+fn expect_pending(rt: &impl Abort, view: &View) {
     let keys = view.keys().ok().expect(rt, "memory");
     assert_eq!(rt; keys.len(), 100);
     for key in &keys {
         assert_eq!(rt; view.status(key), &Status::Pending);
     }
+}
+
+// The messages are fresh to the view.
+fn expect_fresh(rt: &impl Abort, view: &mut View, messages: &[Arc<Message>]) {
+    let applied = view.apply(messages).ok().expect(rt, "memory");
+    assert_eq!(rt; applied.fresh, 100);
+    expect_pending(rt, view);
+}
+
+// A site has 100 arrivals, each of a transfer of its own, and all of them are pending.
+fn expect_all(rt: &impl Abort, alloc: Global, core: &SiteCore) {
+    assert_eq!(rt; core.arrivals().len(), 100);
+    let messages = messages_held(alloc, core).expect(rt, "memory");
+    let mut view = View::new(alloc);
+    expect_fresh(rt, &mut view, &messages);
 }
 
 fn expect_shared<J: Site + Send + Sync, R: Threads + Wait + Abort + Sync>(
