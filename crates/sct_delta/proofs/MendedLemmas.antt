@@ -1,5 +1,5 @@
 -- The lines before the first wrong one are those of a form: an end line in its place makes one. Proof plumbing.
-use Rattle.std.proofs.Common.{ℕ, zero, suc, ◌≡◌, ◌+◌, ◌-◌, ◌<◌, ◌≤◌, ◌^◌, ◌++◌, ◌∷◌, [], List, Bool, true, false, cond, Option, Some, None, Result, Ok, Err, ◌==◌, ◌&&◌, not, take, length, refl, sym, ap, ◌∙◌, arith, append_assoc, map}
+use Rattle.std.proofs.Common.{ℕ, zero, suc, ◌≡◌, ◌+◌, ◌<◌, ◌≤◌, ◌^◌, ◌++◌, ◌∷◌, [], List, Bool, true, false, cond, Some, None, Ok, Err, ◌==◌, take, length, refl, sym, ap, ◌∙◌, arith, append_assoc}
 use Rattle.std.specs.Prelude.{nat_eq, flat_map}
 use Rattle.std.specs.Cmp.Lexicographic.{pointwise}
 use Rattle.std.specs.List.{list_all}
@@ -12,8 +12,8 @@ use Rattle.sct_delta.specs.Shapes.{may_be_next}
 use Rattle.sct_delta.specs.DeltaText.{Line, lines_of, lines_as, onto_first, ended, entry_in, is_end_line, end_line, head_line, entries_ended, entries_on, entries_in, delta_of_lines, delta_in, first_wrong_line, AgreeTo, IsDeltaText}
 use Rattle.sct_delta.proofs.TextLemmas.{same_texts}
 use Rattle.sct_delta.proofs.FormLemmas.{end_is_end, no_entry_at_end, form_from_read}
-use Rattle.sct_delta.proofs.WritingLemmas.{lines_from_text, not_other, end_one_line}
-use Rattle.sct_delta.proofs.WrongLineLemmas.{Read, Is, told_here, at_least, from_1, wrong_is}
+use Rattle.sct_delta.proofs.WritingLemmas.{lines_from_text, end_one_line}
+use Rattle.sct_delta.proofs.WrongLineLemmas.{Is, told_here, at_least, wrong_is}
 
 -- ---- lines of a text are one line each, and no more than its bytes
 

@@ -62,6 +62,7 @@ fn told_count(line: &[u8]) -> Option<u64>
 }
 
 // The line is the end line behind so many entries.
+#[tactic(auto, using(crate::proofs::ReadingLemmas::end_by_count, crate::proofs::ReadingLemmas::no_count_no_end))]
 fn is_end_line(line: &[u8], count: u64) -> bool
     ensures { result ≡ is_end_line count line.now }
 {
@@ -93,6 +94,7 @@ fn ended(
 }
 
 // Reads what stands behind the head line: entries, and the end line behind the last one.
+#[tactic(auto, using(crate::proofs::ReadingLemmas::read_missing))]
 fn read_entries(alloc: Global, text: &[u8]) -> Result<Vec<Entry>, DeltaFault>
     requires { length text.now + 4 < 2 ^ 64 }
     ensures read { IfOk result (λ entries. entries_in 2 0 0 [] (lines_of text.now) ≡ Ok entries.items) }

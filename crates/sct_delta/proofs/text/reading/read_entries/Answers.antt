@@ -2,7 +2,7 @@
 use Rattle.std.proofs.Common.{sym, ◌∙◌, arith, ap, ◌≡◌, ◌+◌, ◌++◌, ◌∷◌, []}
 use Rattle.sct_delta.specs.Entries.{Placed}
 use Rattle.sct_delta.specs.DeltaText.{entries_in, entries_ended, lines_of}
-use Rattle.sct_delta.proofs.ReadingLemmas.{read_entry_more, read_entry_wrong, read_end, read_missing}
+use Rattle.sct_delta.proofs.ReadingLemmas.{read_entry_more, read_entry_wrong, read_end}
 use Rattle.sct_delta.proofs.text.reading.read_entries.Goals as goal
 
 at_end : (c : goal.After-ended) → entries_in 2 0 0 [] (lines_of c.args.text.now) ≡ entries_ended c.loop-line.place c.loop-line.entries.items c.in-Some.line.now (lines_of c.in-Some.after.now)
@@ -30,6 +30,3 @@ loop-line-preserved c = record {
       let n : c.entry.inside.n ≡ c.in-Some-2.entry.n = ap (λ (e : Placed). e.n) c.entry.view_is in
       rw (c.in_ok-push.ensures.items, origin, n) more;
 }
-
-pub returns-clause-wrong : goal.returns-clause-wrong
-returns-clause-wrong c = c.loop-line.invariant.left ∙ read_missing _ _ _ _ _ c.in_default.ensures.lines
