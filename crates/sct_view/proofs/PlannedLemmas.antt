@@ -1,5 +1,5 @@
 -- Tables that are built from the planned cases of all transfers. Proof plumbing.
-use Rattle.std.proofs.Common.{◌≡◌, ◌∙◌, refl, sym, ap, subst, ℕ, true, List, [], map}
+use Rattle.std.proofs.Common.{◌≡◌, ◌∙◌, refl, sym, ap, ℕ, true, List, [], map}
 use Rattle.std.specs.Prelude.{if◌then◌else◌}
 use Rattle.std.specs.List.{list_any}
 use Rattle.indexmap.specs.IndexMap.{IndexMap}
@@ -13,7 +13,7 @@ use Rattle.sct_view.specs.declared.case.Planned.{Planned}
 use Rattle.sct_view.specs.declared.totals.Totals.{Totals}
 use Rattle.sct_view.proofs.ApplyLemmas.{among_each}
 use Rattle.sct_view.proofs.ChangeLemmas.{after_changes}
-use Rattle.sct_view.proofs.RebuildLemmas.{IsBuilt, built_all, built_none, no_case_in, no_totals_in}
+use Rattle.sct_view.proofs.RebuildLemmas.{built_all, built_none, no_case_in, no_totals_in}
 use Rattle.sct_view.proofs.TotalsLemmas.{shares_alike}
 
 module _ (s : MessageSet) (planned : List Planned) (plans : map change_in planned ≡ changes_of s (keys_of s)) where

@@ -146,15 +146,6 @@ recalls_kept s t case is =
     ∙ (λ i. named_where_on t (filter (λ m. not (is_contradicted s m)) (in_order s)) i ++ named_where_on t (filter (λ m. is_contradicted s m) (in_order s)) i))
     ∙ both_name (cxls_named_by t) (is_contradicted s) (eq_by_cmp text_order q) (in_order s))
 
--- what is named in the one part, and then in the other
-pub both_put : {X Y : Type 0} (f : X → List Y) (old one two : List Y) (xs ys front back : List X) → old ≡ [] → one ≡ old ++ flat_map f xs → two ≡ one ++ flat_map f ys
-    → xs ≡ front → ys ≡ back → two ≡ flat_map f (front ++ back)
-both_put f old one two xs ys front back none first second is_front is_back =
-    second
-    ∙ ap (λ named. named ++ flat_map f ys) (first ∙ ap (λ named. named ++ flat_map f xs) none)
-    ∙ (λ i. flat_map f (is_front i) ++ flat_map f (is_back i))
-    ∙ sym (flat_map-append f front back)
-
 -- ---- the lines
 
 -- the lines of a transfer, put one after another

@@ -81,6 +81,18 @@ fn push_all_named(
     Ok(())
 }
 
+// The recalls of a transfer that the messages kept of it name, the contradicted ones too.
+fn all_named(alloc: Global, transfer: &TransferKey, case: &Case) -> Result<Vec<Id35>, AllocError>
+    ensures { IfOk result (λ found. found.items
+        ≡ flat_map (cxls_named_by transfer.now) (kept_in case.now).clean
+        ++ flat_map (cxls_named_by transfer.now) (kept_in case.now).contradicted) }
+{
+    let mut found = Vec::new(alloc);
+    push_all_named(&mut found, transfer, &case.clean)?;
+    push_all_named(&mut found, transfer, &case.contradicted)?;
+    Ok(found)
+}
+
 /// The recalls of a transfer that the messages kept of it name, ascending, each once.
 pub(crate) fn recalls_in(
     alloc: Global,
@@ -89,9 +101,7 @@ pub(crate) fn recalls_in(
 ) -> Result<Vec<Id35>, AllocError>
     ensures { IfOk result (λ found. found.items ≡ recalls_in transfer.now (kept_in case.now)) }
 {
-    let mut found = Vec::new(alloc);
-    push_all_named(&mut found, transfer, &case.clean)?;
-    push_all_named(&mut found, transfer, &case.contradicted)?;
+    let mut found = all_named(alloc, transfer, case)?;
     found.sort()?;
     found.dedup();
     Ok(found)

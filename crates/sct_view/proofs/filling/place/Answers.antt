@@ -1,8 +1,8 @@
 -- What was kept is taken out of the totals, and what is planned is put in.
-use Rattle.std.proofs.Common.{◌∙◌, ap, refl, sym}
+use Rattle.std.proofs.Common.{◌∙◌, refl, sym}
 use Rattle.sct_message.specs.Transfers.{keys_of}
 use Rattle.sct_view.specs.Kept.{case_at, kept_in, totals_at}
-use Rattle.sct_view.proofs.CommitLemmas.{exchanged, few, put_fits, small_with, taken_within, with_case}
+use Rattle.sct_view.proofs.CommitLemmas.{exchanged, few, put_fits, taken_within, with_case}
 use Rattle.sct_view.proofs.SetKeys.{keys_apart_in_table}
 use Rattle.sct_view.proofs.TableLemmas.{shown}
 use Rattle.sct_view.proofs.TotalsLemmas.{shares_alike}

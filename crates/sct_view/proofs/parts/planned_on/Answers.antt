@@ -1,6 +1,6 @@
 -- The messages filed under a transfer are those of the set on it, and nothing is contradicted by an archive without messages.
 use Rattle.std.proofs.Common.{◌∙◌, ap, sym, filter}
-use Rattle.sct_message.specs.Sets.{MessageSet, in_order, messages_in}
+use Rattle.sct_message.specs.Sets.{MessageSet, in_order}
 use Rattle.sct_message.specs.Transfers.{is_on}
 use Rattle.sct_view.specs.Kept.{case_of}
 use Rattle.sct_view.proofs.RebuildLemmas.{filed-contents, union_nothing}

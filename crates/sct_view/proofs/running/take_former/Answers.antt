@@ -1,9 +1,8 @@
 -- Of a transfer of which nothing is kept nothing is taken out.
 use Rattle.std.proofs.Common.{◌∙◌, ap, sym, subst}
 use Rattle.std.specs.Option.{option_copied}
-use Rattle.sct_view.specs.Kept.{case_at, kept_in, kept_or_none, no_messages, share_in, totals_at, IsUpTo, Kept}
+use Rattle.sct_view.specs.Kept.{kept_or_none, share_in, totals_at, IsUpTo, Kept}
 use Rattle.sct_view.specs.Totals.{plus}
-use Rattle.sct_view.specs.declared.totals.Totals.{Totals}
 use Rattle.sct_view.proofs.ChangeLemmas.{no_share}
 use Rattle.sct_view.proofs.TotalsLemmas.{plus_nothing}
 use Rattle.sct_view.proofs.running.take_former.Goals as goal
