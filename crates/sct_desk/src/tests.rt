@@ -9,7 +9,7 @@ mod scenes;
 mod shared;
 
 use crate::*;
-use scenes::{Row, first_transfer, message_of, open_one};
+use scenes::{Row, core_of, first_transfer, numbers_of, open_one, take_row};
 use sct_case::Status;
 use sct_history::{History, Track};
 use sct_site::Took;
@@ -49,10 +49,7 @@ static STEPS: [Step; 3] = [
 
 // A receipt tells of these positions, and none of them came by an earlier call.
 fn expect_told(rt: &impl Abort, receipt: &Receipt, from: u64, count: u64) {
-    assert_eq!(rt; receipt.site(), 1);
-    assert_eq!(rt; receipt.from(), from);
-    assert_eq!(rt; receipt.count(), count);
-    assert_eq!(rt; receipt.carried(), 0);
+    assert_eq!(rt; numbers_of(receipt), (1, from, count, 0));
 }
 
 fn expect_step<J: Site, H: Wait + Drop, W: Wait + Abort>(
@@ -63,8 +60,7 @@ fn expect_step<J: Site, H: Wait + Drop, W: Wait + Abort>(
 ) -> Receipt
     ensures { IsOf J.book J.number result }
 {
-    let message = message_of(alloc, step.row).expect(rt, "a message");
-    let (took, receipt) = desk.take(rt, alloc, message).expect(rt, "memory");
+    let (took, receipt) = take_row(rt, alloc, desk, step.row).expect(rt, "memory");
     assert_eq!(rt; took, step.took);
     expect_told(rt, &receipt, step.from, step.count);
     receipt
@@ -126,28 +122,41 @@ fn with<J: Site>(mut receipts: Vec<Receipt>, more: Receipt) -> Option<Vec<Receip
     Some(receipts)
 }
 
-// A desk is not closed, as its first position is not told.
-fn expect_gap<J: Site, H: Wait + Drop>(
-    rt: &impl Abort,
+// A desk that is not closed, with its receipts.
+fn refusal_of<J: Site, H: Wait + Drop>(
     desk: Desk<J, H>,
-    rest: Vec<Receipt>,
-) -> NotClosed<J, H>
-    requires { AreOurs J.book J.number rest.items }
-    ensures { AreOurs J.book J.number result.receipts.items }
+    receipts: Vec<Receipt>,
+) -> Option<NotClosed<J, H>>
+    requires { AreOurs J.book J.number receipts.items }
+    ensures { IfSome result (λ refusal. AreOurs J.book J.number refusal.receipts.items) }
 {
-    let Err(refusal) = desk.close(rest) else {
-        panic!(rt; "a desk closed over a gap");
+    let Err(refusal) = desk.close(receipts) else {
+        return None;
     };
-    assert_eq!(rt; refusal.fault, DeskFault::Untold { position: 1 });
-    refusal
+    Some(refusal)
 }
 
-// A desk is closed, and its site has two arrivals.
-fn expect_core<J: Site, H: Wait + Drop>(rt: &impl Abort, desk: Desk<J, H>, receipts: Vec<Receipt>)
+// How many arrivals the site of a desk has that is closed.
+fn closed_over<J: Site, H: Wait + Drop>(desk: Desk<J, H>, receipts: Vec<Receipt>) -> Option<usize>
     requires { AreOurs J.book J.number receipts.items }
 {
-    let core = desk.close(receipts).ok().expect(rt, "a core");
-    assert_eq!(rt; core.arrivals().len(), 2);
+    let core = core_of(desk, receipts)?;
+    Some(core.arrivals().len())
+}
+
+// A desk was not closed as its first position is not told, and is with the receipt that tells it.
+fn expect_gap<J: Site, H: Wait + Drop>(rt: &impl Abort, refusal: NotClosed<J, H>, first: Receipt)
+    requires first { IsOf J.book J.number first }
+    requires rest { AreOurs J.book J.number refusal.receipts.items }
+{
+    let NotClosed {
+        desk,
+        receipts,
+        fault,
+    } = refusal;
+    assert_eq!(rt; fault, DeskFault::Untold { position: 1 });
+    let receipts = with::<J>(receipts, first).expect(rt, "memory");
+    assert_eq!(rt; closed_over(desk, receipts), Some(2));
 }
 
 // Without its first receipt a desk is not closed, and with all it is.
@@ -160,9 +169,8 @@ fn expect_closed<J: Site, H: Wait + Drop>(
     requires first { IsOf J.book J.number first }
     requires rest { AreOurs J.book J.number rest.items }
 {
-    let NotClosed { desk, receipts, .. } = expect_gap(rt, desk, rest);
-    let receipts = with::<J>(receipts, first).expect(rt, "memory");
-    expect_core(rt, desk, receipts);
+    let refusal = refusal_of(desk, rest).expect(rt, "a gap");
+    expect_gap(rt, refusal, first);
 }
 
 // A desk from its opening to its closing.

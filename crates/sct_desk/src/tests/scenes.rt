@@ -3,6 +3,8 @@
 ghost use Rattle.std.specs.List.{All};
 ghost use Rattle.std.specs.Prelude.{◌≡◌, [], IfSome};
 ghost use Rattle.sct_desk.specs.Openings.{IsNewQuery};
+ghost use Rattle.sct_desk.specs.Passes.{IsOf};
+ghost use Rattle.sct_desk.specs.Tilings.{AreOurs};
 
 use crate::*;
 use sct_delta::{Delta, Entry};
@@ -10,6 +12,7 @@ use sct_element::{Bic, Id35};
 use sct_history::{History, Track};
 use sct_json::read_message;
 use sct_message::{Message, TransferKey};
+use sct_site::{SiteCore, Took};
 use std::alloc::{AllocError, Global};
 use std::process::Abort;
 use std::sync::{Arc, Wait};
@@ -51,6 +54,39 @@ pub(crate) fn delta_of(alloc: Global, n: u64, row: Row) -> Option<Delta> {
     };
     entries.push(entry).ok()?;
     Delta::of(entries).ok()
+}
+
+/// What comes of taking the message of a row. There is nothing only where memory is wanting.
+pub(crate) fn take_row<J: Site, H: Wait + Drop, W: Wait>(
+    rt: &W,
+    alloc: Global,
+    desk: &Desk<J, H>,
+    row: Row,
+) -> Option<(Took, Receipt)>
+    ensures { IfSome result (λ t. IsOf J.book J.number t.1) }
+{
+    let message = message_of(alloc, row)?;
+    desk.take(rt, alloc, message).ok()
+}
+
+/// What a receipt tells: its site, from which position on, how many arrivals, and how many of them came by earlier calls.
+pub(crate) fn numbers_of(receipt: &Receipt) -> (u16, u64, u64, u64) {
+    (
+        receipt.site(),
+        receipt.from(),
+        receipt.count(),
+        receipt.carried(),
+    )
+}
+
+/// The site of a desk that is closed.
+pub(crate) fn core_of<J: Site, H: Wait + Drop>(
+    desk: Desk<J, H>,
+    receipts: Vec<Receipt>,
+) -> Option<SiteCore>
+    requires { AreOurs J.book J.number receipts.items }
+{
+    desk.close(receipts).ok()
 }
 
 /// The transfer T1.

@@ -1,9 +1,9 @@
 //! A desk that three threads share.
 
-ghost use Rattle.std.specs.List.{All};
 ghost use Rattle.std.specs.Prelude.{◌≡◌, ◌≤◌, [], IfSome};
+ghost use Rattle.sct_desk.specs.Tilings.{AreOurs};
 
-use super::scenes::{Row, first_transfer, message_of, open_one};
+use super::scenes::{Row, core_of, first_transfer, open_one, take_row};
 use crate::*;
 use sct_case::Status;
 use sct_history::{History, Track};
@@ -28,26 +28,22 @@ fn take_some<J: Site, H: Wait + Drop, W: Wait>(
     first: u64,
 ) -> Option<Vec<Receipt>>
     requires { first ≤ 2 }
-    ensures { IfSome result (λ kept. All (λ receipt. receipt.book ≡ desk.now.history) kept.items) }
+    ensures { IfSome result (λ kept. AreOurs J.book J.number kept.items) }
 {
     let mut kept = Vec::new(alloc);
     for at in 0..TAKEN {
-        let message = message_of(alloc, Row::CreditTransfer(first + 2 * at, "1.00"))?;
-        let (_, receipt) = desk.take(rt, alloc, message).ok()?;
+        let row = Row::CreditTransfer(first + 2 * at, "1.00");
+        let (_, receipt) = take_row(rt, alloc, desk, row)?;
         kept.push(receipt).ok()?;
     }
     Some(kept)
 }
 
 // All receipts of the two.
-fn joined(
-    one: Option<Vec<Receipt>>,
-    other: Option<Vec<Receipt>>,
-    history: &History,
-) -> Option<Vec<Receipt>>
-    requires one { IfSome one (λ kept. All (λ receipt. receipt.book ≡ history.now) kept.items) }
-    requires other { IfSome other (λ kept. All (λ receipt. receipt.book ≡ history.now) kept.items) }
-    ensures { IfSome result (λ kept. All (λ receipt. receipt.book ≡ history.now) kept.items) }
+fn joined<J: Site>(one: Option<Vec<Receipt>>, other: Option<Vec<Receipt>>) -> Option<Vec<Receipt>>
+    requires one { IfSome one (λ kept. AreOurs J.book J.number kept.items) }
+    requires other { IfSome other (λ kept. AreOurs J.book J.number kept.items) }
+    ensures { IfSome result (λ kept. AreOurs J.book J.number kept.items) }
 {
     let mut kept = one?;
     let mut rest = other?;
@@ -60,18 +56,18 @@ fn two_takers<J: Site + Send + Sync, H: Wait + Drop + Send + Sync, R: Threads + 
     alloc: Global,
     desk: &Desk<J, H>,
 ) -> Option<Vec<Receipt>>
-    ensures { IfSome result (λ kept. All (λ receipt. receipt.book ≡ desk.now.history) kept.items) }
+    ensures { IfSome result (λ kept. AreOurs J.book J.number kept.items) }
 {
     let (odd, even) = thread::join(
         rt,
         || -> Option<Vec<Receipt>>
-            ensures { IfSome result (λ kept. All (λ receipt. receipt.book ≡ desk.entry.now.history) kept.items) }
+            ensures { IfSome result (λ kept. AreOurs J.book J.number kept.items) }
         { take_some(rt, alloc, desk, 1) },
         || -> Option<Vec<Receipt>>
-            ensures { IfSome result (λ kept. All (λ receipt. receipt.book ≡ desk.entry.now.history) kept.items) }
+            ensures { IfSome result (λ kept. AreOurs J.book J.number kept.items) }
         { take_some(rt, alloc, desk, 2) },
     );
-    joined(odd, even, desk.history())
+    joined::<J>(odd, even)
 }
 
 // Asks for the transfer until it is known, and tells whether no answer stood on less than the one before.
@@ -101,13 +97,13 @@ fn three_threads<J: Site + Send + Sync, H: Wait + Drop + Send + Sync, R: Threads
     query: Query,
     transfer: TransferKey,
 ) -> (bool, Option<Vec<Receipt>>)
-    ensures { IfSome result.1 (λ kept. All (λ receipt. receipt.book ≡ desk.now.history) kept.items) }
+    ensures { IfSome result.1 (λ kept. AreOurs J.book J.number kept.items) }
 {
     thread::join(
         rt,
         move || look(query, alloc, &transfer),
         || -> Option<Vec<Receipt>>
-            ensures { IfSome result (λ kept. All (λ receipt. receipt.book ≡ desk.entry.now.history) kept.items) }
+            ensures { IfSome result (λ kept. AreOurs J.book J.number kept.items) }
         { two_takers(rt, alloc, desk) },
     )
 }
@@ -121,28 +117,39 @@ fn messages_held(alloc: Global, core: &SiteCore) -> Option<Vec<Arc<Message>>> {
     Some(messages)
 }
 
-// 100 transfers are known, and all of them are pending.
-fn expect_pending(rt: &impl Abort, view: &View) {
-    let keys = view.keys().ok().expect(rt, "memory");
-    assert_eq!(rt; keys.len(), 100);
-    for key in &keys {
-        assert_eq!(rt; view.status(key), &Status::Pending);
+fn are_pending(view: &View, transfers: &[TransferKey]) -> bool {
+    for transfer in transfers {
+        if view.status(transfer) != &Status::Pending {
+            return false;
+        }
     }
+    true
 }
 
-// The messages are fresh to the view.
+// 100 transfers are known, and all of them are pending.
+fn expect_pending(rt: &impl Abort, view: &View) {
+    let transfers = view.keys().ok().expect(rt, "memory");
+    assert_eq!(rt; transfers.len(), 100);
+    assert!(rt; are_pending(view, &transfers));
+}
+
+// The messages are fresh to the view, each on a transfer of its own.
 fn expect_fresh(rt: &impl Abort, view: &mut View, messages: &[Arc<Message>]) {
     let applied = view.apply(messages).ok().expect(rt, "memory");
     assert_eq!(rt; applied.fresh, 100);
     expect_pending(rt, view);
 }
 
+fn expect_viewed(rt: &impl Abort, alloc: Global, messages: &[Arc<Message>]) {
+    let mut view = View::new(alloc);
+    expect_fresh(rt, &mut view, messages);
+}
+
 // A site has 100 arrivals, each of a transfer of its own, and all of them are pending.
 fn expect_all(rt: &impl Abort, alloc: Global, core: &SiteCore) {
     assert_eq!(rt; core.arrivals().len(), 100);
     let messages = messages_held(alloc, core).expect(rt, "memory");
-    let mut view = View::new(alloc);
-    expect_fresh(rt, &mut view, &messages);
+    expect_viewed(rt, alloc, &messages);
 }
 
 fn expect_shared<J: Site + Send + Sync, R: Threads + Wait + Abort + Sync>(
@@ -159,7 +166,7 @@ fn expect_shared<J: Site + Send + Sync, R: Threads + Wait + Abort + Sync>(
     let (rose, kept) = three_threads(rt, alloc, &desk, query, first_transfer(rt));
     assert!(rt; rose, "a front fell, or T1 was not seen");
     let receipts = kept.expect(rt, "receipts of all calls");
-    let core = desk.close(receipts).ok().expect(rt, "a core");
+    let core = core_of(desk, receipts).expect(rt, "a core");
     expect_all(rt, alloc, &core);
 }
 

@@ -1,8 +1,6 @@
 -- The receipts so far are of this desk.
-use Rattle.std.proofs.Common.{◌≡◌}
-use Rattle.std.specs.List.{All}
-use Rattle.sct_desk.specs.Passes.{Told}
+use Rattle.sct_desk.specs.Tilings.{AreOurs}
 use Rattle.sct_desk.proofs.tests.shared.take_some.Given as goal
 
 abbrev pub invariant-loop-at : goal.invariant-loop-at
-invariant-loop-at g l = All (λ (r : Told). r.book ≡ l.desk.history) l.kept.items
+invariant-loop-at g l = AreOurs g.J.Site.book g.J.Site.number l.kept.items
