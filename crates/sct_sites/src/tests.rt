@@ -10,10 +10,11 @@ use crate::engine::{Done, Job};
 use crate::fault::ProgramFault;
 use crate::transfer::MOST_BYTES;
 use archived::ARCHIVED;
-use commands::{BOTH, COMMANDS};
+use commands::{BOTH, Command, JOBS, REPORTS, RUNS, WORDS};
 use fakes::{Given, run_engine, run_program};
-use inputs::{CASES, Case, REFUSED_AND_TAKEN};
+use inputs::{CONTRADICTIONS, Case, LINES, RECALLS, REFUSED_AND_TAKEN, STANDINGS};
 use std::alloc::{AllocError, Global};
+use std::process::Abort;
 use std::sync::Wait;
 use std::thread::Threads;
 use totalled::TOTALLED;
@@ -30,7 +31,7 @@ fn given(input: &[u8]) -> Given<'_> {
 }
 
 // A run of the job writes what the case says.
-fn fits(rt: &(impl Threads + Sync), alloc: Global, job: Job, case: &Case) -> bool {
+fn fits(rt: &(impl Threads + Sync), alloc: Global, job: &Job, case: &Case) -> bool {
     let ran = run_engine(rt, alloc, job, MOST_BYTES, &given(case.input));
     ran.answer
         == Ok(Done {
@@ -40,25 +41,40 @@ fn fits(rt: &(impl Threads + Sync), alloc: Global, job: Job, case: &Case) -> boo
         && ran.err.as_slice() == case.err
 }
 
-#[test]
-fn answers_over_slow_streams(rt: HostRuntime) {
-    for case in &CASES {
-        assert!(rt; fits(&rt, rt.alloc(), Job::Status, case));
+fn expect_cases(rt: &(impl Threads + Abort + Sync), alloc: Global, job: &Job, cases: &[Case]) {
+    for case in cases {
+        assert!(rt; fits(rt, alloc, job, case));
     }
+}
+
+#[test]
+fn reads_lines_over_slow_streams(rt: HostRuntime) {
+    expect_cases(&rt, rt.alloc(), &Job::Status, &LINES);
+}
+
+#[test]
+fn tells_standings_over_slow_streams(rt: HostRuntime) {
+    expect_cases(&rt, rt.alloc(), &Job::Status, &STANDINGS);
+}
+
+#[test]
+fn tells_contradictions_over_slow_streams(rt: HostRuntime) {
+    expect_cases(&rt, rt.alloc(), &Job::Status, &CONTRADICTIONS);
+}
+
+#[test]
+fn tells_recalls_over_slow_streams(rt: HostRuntime) {
+    expect_cases(&rt, rt.alloc(), &Job::Status, &RECALLS);
 }
 
 #[test]
 fn writes_the_archive_over_slow_streams(rt: HostRuntime) {
-    for case in &ARCHIVED {
-        assert!(rt; fits(&rt, rt.alloc(), Job::Archive, case));
-    }
+    expect_cases(&rt, rt.alloc(), &Job::Archive, &ARCHIVED);
 }
 
 #[test]
 fn writes_the_totals_over_slow_streams(rt: HostRuntime) {
-    for case in &TOTALLED {
-        assert!(rt; fits(&rt, rt.alloc(), Job::Totals, case));
-    }
+    expect_cases(&rt, rt.alloc(), &Job::Totals, &TOTALLED);
 }
 
 // The words, each as a text of its own.
@@ -70,15 +86,39 @@ fn words(alloc: Global, words: &[&str]) -> Result<Vec<String>, AllocError> {
     Ok(texts)
 }
 
+// A run writes what the command says, and ends so.
+fn does(rt: &(impl Threads + Wait + Sync), alloc: Global, command: &Command) -> bool {
+    let asked = words(alloc, command.words).map_err(ProgramFault::from);
+    let ran = run_program(rt, alloc, asked, &given(command.input));
+    ran.answer == command.status
+        && ran.out.as_slice() == command.out
+        && ran.err.as_slice() == command.err
+}
+
+fn expect_commands(rt: &(impl Threads + Wait + Abort + Sync), alloc: Global, commands: &[Command]) {
+    for command in commands {
+        assert!(rt; does(rt, alloc, command));
+    }
+}
+
+#[test]
+fn does_each_job(rt: HostRuntime) {
+    expect_commands(&rt, rt.alloc(), &JOBS);
+}
+
 #[test]
 fn does_what_the_words_ask(rt: HostRuntime) {
-    for command in &COMMANDS {
-        let asked = words(rt.alloc(), command.words).map_err(ProgramFault::from);
-        let ran = run_program(&rt, rt.alloc(), asked, &given(command.input));
-        assert_eq!(rt; ran.out.as_slice(), command.out);
-        assert_eq!(rt; ran.err.as_slice(), command.err);
-        assert_eq!(rt; ran.answer, command.status);
-    }
+    expect_commands(&rt, rt.alloc(), &WORDS);
+}
+
+#[test]
+fn reports_to_a_bank(rt: HostRuntime) {
+    expect_commands(&rt, rt.alloc(), &REPORTS);
+}
+
+#[test]
+fn runs_files(rt: HostRuntime) {
+    expect_commands(&rt, rt.alloc(), &RUNS);
 }
 
 // The status of a run of `status` over what is given, if it wrote this.
@@ -256,7 +296,7 @@ fn stops_past_the_limit(rt: HostRuntime) {
             fails: row.fails,
             ..given(input)
         };
-        let ran = run_engine(&rt, rt.alloc(), Job::Status, row.limit, &streams);
+        let ran = run_engine(&rt, rt.alloc(), &Job::Status, row.limit, &streams);
         assert_eq!(rt; ran.answer, row.answer);
         assert_eq!(rt; ran.left, row.left);
         assert!(rt; ran.out.is_empty() && ran.err.is_empty());
@@ -272,37 +312,47 @@ fn writes_nothing_after_a_failing_read(rt: HostRuntime) {
             fails: true,
             ..given(input)
         };
-        let ran = run_engine(&rt, rt.alloc(), Job::Status, MOST_BYTES, &failing);
+        let ran = run_engine(&rt, rt.alloc(), &Job::Status, MOST_BYTES, &failing);
         assert_eq!(rt; ran.answer, Err(ProgramFault::Read));
         assert!(rt; ran.out.is_empty() && ran.err.is_empty());
     }
 }
 
+// A write fails of a run over a refused line and a message, which has written this.
+fn is_cut_off(
+    rt: &(impl Threads + Sync),
+    alloc: Global,
+    given: &Given<'_>,
+    out: &[u8],
+    err: &[u8],
+) -> bool {
+    let ran = run_engine(rt, alloc, &Job::Status, MOST_BYTES, given);
+    ran.answer == Err(ProgramFault::Write) && ran.out.as_slice() == out && ran.err.as_slice() == err
+}
+
 #[test]
-fn writes_a_prefix_before_a_failing_write(rt: HostRuntime) {
+fn tells_a_prefix_before_a_failing_write(rt: HostRuntime) {
     let told = REFUSED_AND_TAKEN.err;
-    let text = REFUSED_AND_TAKEN.out;
     for room in 0..told.len() {
         let full = Given {
             err_room: room,
             ..given(REFUSED_AND_TAKEN.input)
         };
-        let ran = run_engine(&rt, rt.alloc(), Job::Status, MOST_BYTES, &full);
         let (prefix, _) = told.split_at(room);
-        assert_eq!(rt; ran.answer, Err(ProgramFault::Write));
-        assert_eq!(rt; ran.err.as_slice(), prefix);
-        assert!(rt; ran.out.is_empty());
+        assert!(rt; is_cut_off(&rt, rt.alloc(), &full, b"", prefix));
     }
+}
+
+#[test]
+fn writes_a_prefix_before_a_failing_write(rt: HostRuntime) {
+    let text = REFUSED_AND_TAKEN.out;
     for room in 0..text.len() {
         let full = Given {
             out_room: room,
             ..given(REFUSED_AND_TAKEN.input)
         };
-        let ran = run_engine(&rt, rt.alloc(), Job::Status, MOST_BYTES, &full);
         let (prefix, _) = text.split_at(room);
-        assert_eq!(rt; ran.answer, Err(ProgramFault::Write));
-        assert_eq!(rt; ran.err.as_slice(), told);
-        assert_eq!(rt; ran.out.as_slice(), prefix);
+        assert!(rt; is_cut_off(&rt, rt.alloc(), &full, prefix, REFUSED_AND_TAKEN.err));
     }
 }
 
@@ -313,6 +363,6 @@ fn writes_no_empty_text(rt: HostRuntime) {
         err_room: 0,
         ..given(b"\n")
     };
-    let ran = run_engine(&rt, rt.alloc(), Job::Status, MOST_BYTES, &full);
+    let ran = run_engine(&rt, rt.alloc(), &Job::Status, MOST_BYTES, &full);
     assert_eq!(rt; ran.answer, Ok(Done { refused: 0 }));
 }

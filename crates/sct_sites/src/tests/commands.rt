@@ -56,7 +56,8 @@ pub static SHELF: Shelf = Shelf {
     ],
 };
 
-pub static COMMANDS: [Command; 30] = [
+// Each job, beside refused lines too.
+pub static JOBS: [Command; 7] = [
     // each command
     Command {
         words: &["sct_sites", "status"],
@@ -109,6 +110,10 @@ pub static COMMANDS: [Command; 30] = [
         out: b"",
         err: b"fault 64\n",
     },
+];
+
+// Words that ask for no job, and for help.
+pub static WORDS: [Command; 6] = [
     // no command
     Command {
         words: &["sct_sites"],
@@ -156,6 +161,10 @@ pub static COMMANDS: [Command; 30] = [
         out: b"Writes the status of each transfer in the messages on standard input\n\nUsage: sct_sites status\n\nOptions:\n  -h, --help  Print help\n",
         err: b"",
     },
+];
+
+// Reports, and words that ask for none.
+pub static REPORTS: [Command; 10] = [
     // a report
     Command {
         words: &["sct_sites", "report", "BANKDEFF", "2024-05-02", "list"],
@@ -238,6 +247,10 @@ pub static COMMANDS: [Command; 30] = [
         out: b"",
         err: b"fault 64\nerror: unexpected argument 'more' found\n\nUsage: sct_sites report <BANK> <DAY> <LIST>\n\nFor more information, try '--help'.\n",
     },
+];
+
+// Runs of files, and words that ask for none.
+pub static RUNS: [Command; 7] = [
     // files of one site and of two, and one whose path looks like an option
     Command {
         words: &["sct_sites", "run", "one"],

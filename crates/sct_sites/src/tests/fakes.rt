@@ -120,7 +120,7 @@ impl<L: Ledger> Taking<L> {
 fn run_engine_over<A: Ledger, B: Ledger, C: Ledger>(
     rt: &(impl Threads + Sync),
     alloc: Global,
-    job: Job,
+    job: &Job,
     limit: u64,
     given: &Given<'_>,
     blanks: (Blank, Blank, Blank),
@@ -138,7 +138,7 @@ fn run_engine_over<A: Ledger, B: Ledger, C: Ledger>(
     let mut reader = Giving::<A>::of(given, blanks.0);
     let mut out = Taking::<B>::of(alloc, given.out_room, blanks.1);
     let mut err = Taking::<C>::of(alloc, given.err_room, blanks.2);
-    let answer = engine(rt, alloc, &job, limit, &mut reader, &mut out, &mut err);
+    let answer = engine(rt, alloc, job, limit, &mut reader, &mut out, &mut err);
     Ran {
         answer,
         left: reader.left.len(),
@@ -150,7 +150,7 @@ fn run_engine_over<A: Ledger, B: Ledger, C: Ledger>(
 pub fn run_engine(
     rt: &(impl Threads + Sync),
     alloc: Global,
-    job: Job,
+    job: &Job,
     limit: u64,
     given: &Given<'_>,
 ) -> Ran<Result<Done, ProgramFault>> {
