@@ -125,3 +125,41 @@ fn desk_answers(rt: HostRuntime) {
     let (history, track) = History::open();
     expect_answers::<Brand, HostRuntime>(&rt, rt.alloc(), history, track);
 }
+
+// A receipt of a desk of site 2 teaches a query of site 1 nothing.
+fn expect_unmoved<K: Site, R: Wait + Abort>(
+    rt: &R,
+    alloc: Global,
+    history: History,
+    track: Track,
+    query: &mut Query,
+)
+    requires history { history ≡ K.book }
+    requires track { (track.book ≡ K.book) × (track.log ≡ []) }
+    requires site { (2 ≡ K.number) × (2 ≡ K.group) }
+    requires other { query.old.site ≡ 1 }
+{
+    let opened = Desk::<K, &R>::open(rt, alloc, history, track, 2, 2, 1);
+    let (desk, _queries) = opened.ok().expect(rt, "a desk");
+    let (_, taken) = take_row(rt, alloc, &desk, Row::CreditTransfer(1, "1.00")).expect(
+        rt, "memory",
+    );
+    query.learn(&taken);
+    expect_status(rt, alloc, query, Status::Unknown, 0);
+}
+
+fn expect_apart<J: Site, R: Wait + Abort>(rt: &R, alloc: Global, history: History, track: Track)
+    requires history { history ≡ J.book }
+    requires track { (track.book ≡ J.book) × (track.log ≡ []) }
+    requires site { (1 ≡ J.number) × (2 ≡ J.group) }
+{
+    let (_desk, mut query) = open_one::<J, R>(rt, alloc, history, track, 2);
+    let (other, first) = History::open();
+    expect_unmoved::<Brand, R>(rt, alloc, other, first, &mut query);
+}
+
+#[test]
+fn desks_apart(rt: HostRuntime) {
+    let (history, track) = History::open();
+    expect_apart::<Brand, HostRuntime>(&rt, rt.alloc(), history, track);
+}
