@@ -1,9 +1,9 @@
-//! Worked examples of a set of messages, with ample memory.
+//! Two batches that come to a view of no message, and all that it answers afterwards, with ample memory.
 
 mod scenes;
 
 use crate::*;
-use scenes::{Kind, Row, apply_rows, recall};
+use scenes::{apply_texts, recall};
 use sct_case::{Finding, RecallStatus, Status};
 use sct_element::Bic;
 use sct_message::TransferKey;
@@ -11,341 +11,71 @@ use std::alloc::Global;
 use std::process::Abort;
 use std::test::Fail;
 
-/// A batch, how many of its messages are fresh, and how many transfers they touch.
-struct Batch {
-    rows: &'static [Row],
-    fresh: u64,
-    touched: u64,
-}
-
 /// A transfer and a recall of it, and where both stand.
 type Standing = (&'static str, &'static str, &'static str, &'static str);
 
-/// Batches that come to a view of no message, and what it answers afterwards.
-struct Scene {
-    batches: &'static [Batch],
-    status: &'static str,
-    totals: &'static str,
-    /// A line for each transfer, with the message that instructs it and its recalls; for each bank that has totals, with its
-    /// transfers; and for each finding.
-    listed: &'static str,
-    standing: &'static [Standing],
-    /// The totals of banks.
-    sums: &'static [(&'static str, Totals)],
-}
-
-// One transfer, of which few messages are held.
-static FEW: [Scene; 6] = [
-    // no message
-    Scene {
-        batches: &[],
-        status: "",
-        totals: "",
-        listed: "",
-        standing: &[],
-        sums: &[],
-    },
-    // an instruction alone
-    Scene {
-        batches: &[Batch {
-            rows: &[Row(Kind::Instructed, &["M1", "T1", "0.01", "BANQFRPP"])],
-            fresh: 1,
-            touched: 1,
-        }],
-        status: "T|BANKDEFFXXX|T1|PENDING\n",
-        totals: "BANKDEFFXXX|0|0.00|0.00|0|1|0|0|0|0.00|0.00\n",
-        listed: " BANKDEFFXXX T1 M1\n BANKDEFFXXX T1\n",
-        standing: &[],
-        sums: &[],
-    },
-    // a confirmation alone, twice
-    Scene {
-        batches: &[Batch {
-            rows: &[
-                Row(Kind::Accepted, &["C1", "T1"]),
-                Row(Kind::Accepted, &["C1", "T1"]),
-            ],
-            fresh: 1,
-            touched: 1,
-        }],
-        status: "T|BANKDEFFXXX|T1|MISSING\n",
-        totals: "BANKDEFFXXX|0|0.00|0.00|0|0|1|0|0|0.00|0.00\n",
-        listed: " BANKDEFFXXX T1\n BANKDEFFXXX T1\n",
-        standing: &[],
-        sums: &[],
-    },
-    // both, in either order
-    Scene {
-        batches: &[Batch {
-            rows: &[
-                Row(Kind::Accepted, &["C1", "T1"]),
-                Row(Kind::Instructed, &["M1", "T1", "0.01", "BANQFRPP"]),
-            ],
-            fresh: 2,
-            touched: 1,
-        }],
-        status: "T|BANKDEFFXXX|T1|ACCEPTED\n",
-        totals: "BANKDEFFXXX|1|0.01|0.00|0|0|0|0|0|0.00|0.00\nBANQFRPPXXX|0|0.00|0.00|0|0|0|0|1|0.01|0.00\n",
-        listed: " BANKDEFFXXX T1 M1\n BANKDEFFXXX T1\n BANQFRPPXXX T1\n",
-        standing: &[],
-        sums: &[],
-    },
-    Scene {
-        batches: &[Batch {
-            rows: &[
-                Row(Kind::Instructed, &["M1", "T1", "0.01", "BANQFRPP"]),
-                Row(Kind::Accepted, &["C1", "T1"]),
-            ],
-            fresh: 2,
-            touched: 1,
-        }],
-        status: "T|BANKDEFFXXX|T1|ACCEPTED\n",
-        totals: "BANKDEFFXXX|1|0.01|0.00|0|0|0|0|0|0.00|0.00\nBANQFRPPXXX|0|0.00|0.00|0|0|0|0|1|0.01|0.00\n",
-        listed: " BANKDEFFXXX T1 M1\n BANKDEFFXXX T1\n BANQFRPPXXX T1\n",
-        standing: &[],
-        sums: &[],
-    },
-    // a bank that pays itself
-    Scene {
-        batches: &[Batch {
-            rows: &[
-                Row(Kind::Instructed, &["M1", "T1", "5.00", "BANKDEFF"]),
-                Row(Kind::Accepted, &["C1", "T1"]),
-            ],
-            fresh: 2,
-            touched: 1,
-        }],
-        status: "T|BANKDEFFXXX|T1|ACCEPTED\n",
-        totals: "BANKDEFFXXX|1|5.00|0.00|0|0|0|0|1|5.00|0.00\n",
-        listed: " BANKDEFFXXX T1 M1\n BANKDEFFXXX T1\n",
-        standing: &[],
-        sums: &[],
-    },
+// Messages of all six kinds, with which seven transfers stand in as many ways.
+static FIRST: [&str; 17] = [
+    r#"{"MsgNmId":"pacs.002","CreDtTm":"2024-05-02T10:00:02Z","InstgAgt":"BANQFRPP","OrgnlMsgId":"M1","OrgnlMsgNmId":"pacs.008","TxSts":"RJCT","DbtrAgt":"BANKDEFF","MsgId":"C7","OrgnlTxId":"T6","Rsn":"AC04"}"#,
+    r#"{"MsgNmId":"pacs.002","CreDtTm":"2024-05-02T10:00:02Z","InstgAgt":"BANQFRPP","OrgnlMsgId":"M1","OrgnlMsgNmId":"pacs.008","TxSts":"ACCP","DbtrAgt":"BANKDEFF","MsgId":"C6","OrgnlTxId":"T6"}"#,
+    r#"{"MsgNmId":"pacs.008","CreDtTm":"2024-05-02T10:00:00Z","InstgAgt":"BANKDEFF","IntrBkSttlmDt":"2024-05-02","SvcLvl":"SEPA","LclInstrm":"INST","EndToEndId":"E1","Ccy":"EUR","ChrgBr":"SLEV","Dbtr":"Anna Weber","DbtrAcct":"DE89370400440532013000","DbtrAgt":"BANKDEFF","Cdtr":"Bo Maes","CdtrAcct":"BE68539007547034","MsgId":"M6","TxId":"T6","IntrBkSttlmAmt":"1.00","CdtrAgt":"BANQFRPP"}"#,
+    r#"{"MsgNmId":"pacs.008","CreDtTm":"2024-05-02T10:00:00Z","InstgAgt":"BANKDEFF","IntrBkSttlmDt":"2024-05-02","SvcLvl":"SEPA","LclInstrm":"INST","EndToEndId":"E1","Ccy":"EUR","ChrgBr":"SLEV","Dbtr":"Anna Weber","DbtrAcct":"DE89370400440532013000","DbtrAgt":"BANKDEFF","Cdtr":"Bo Maes","CdtrAcct":"BE68539007547034","MsgId":"M1","TxId":"T1","IntrBkSttlmAmt":"100.00","CdtrAgt":"BANQFRPP"}"#,
+    r#"{"MsgNmId":"pacs.002","CreDtTm":"2024-05-02T10:00:02Z","InstgAgt":"BANQFRPP","OrgnlMsgId":"M1","OrgnlMsgNmId":"pacs.008","TxSts":"ACCP","DbtrAgt":"BANKDEFF","MsgId":"C1","OrgnlTxId":"T1"}"#,
+    r#"{"MsgNmId":"camt.056","CreDtTm":"2024-05-03T09:00:00Z","InstgAgt":"BANKDEFF","OrgnlMsgId":"M1","OrgnlMsgNmId":"pacs.008","Ccy":"EUR","DbtrAgt":"BANKDEFF","MsgId":"K1","OrgnlTxId":"T1","CxlId":"R1","OrgnlIntrBkSttlmAmt":"100.00","Rsn":"FRAD"}"#,
+    r#"{"MsgNmId":"pacs.004","CreDtTm":"2024-05-04T09:00:00Z","InstgAgt":"BANQFRPP","RtrId":"X1","OrgnlMsgId":"M1","OrgnlMsgNmId":"pacs.008","Ccy":"EUR","IntrBkSttlmDt":"2024-05-04","Rsn":"FOCR","DbtrAgt":"BANKDEFF","MsgId":"P1","OrgnlTxId":"T1","OrgnlCxlId":"R1","OrgnlIntrBkSttlmAmt":"100.00","RtrdIntrBkSttlmAmt":"99.00"}"#,
+    r#"{"MsgNmId":"pacs.008","CreDtTm":"2024-05-02T10:00:00Z","InstgAgt":"BANKDEFF","IntrBkSttlmDt":"2024-05-02","SvcLvl":"SEPA","LclInstrm":"INST","EndToEndId":"E1","Ccy":"EUR","ChrgBr":"SLEV","Dbtr":"Anna Weber","DbtrAcct":"DE89370400440532013000","DbtrAgt":"BANKDEFF","Cdtr":"Bo Maes","CdtrAcct":"BE68539007547034","MsgId":"M2","TxId":"T2","IntrBkSttlmAmt":"50.00","CdtrAgt":"BANQFRPP"}"#,
+    r#"{"MsgNmId":"pacs.028","CreDtTm":"2024-05-02T10:00:30Z","InstgAgt":"BANKDEFF","OrgnlMsgId":"M1","OrgnlMsgNmId":"pacs.008","DbtrAgt":"BANKDEFF","MsgId":"Q1","OrgnlTxId":"T2"}"#,
+    r#"{"MsgNmId":"camt.029","CreDtTm":"2024-05-04T09:00:00Z","InstgAgt":"BANQFRPP","CxlStsId":"S1","OrgnlMsgId":"M1","OrgnlMsgNmId":"pacs.008","Conf":"RJCR","DbtrAgt":"BANKDEFF","MsgId":"N1","OrgnlTxId":"T3","OrgnlCxlId":"R9","Rsn":"CUST"}"#,
+    r#"{"MsgNmId":"pacs.008","CreDtTm":"2024-05-02T10:00:00Z","InstgAgt":"BANKDEFF","IntrBkSttlmDt":"2024-05-02","SvcLvl":"SEPA","LclInstrm":"INST","EndToEndId":"E1","Ccy":"EUR","ChrgBr":"SLEV","Dbtr":"Anna Weber","DbtrAcct":"DE89370400440532013000","DbtrAgt":"BANKDEFF","Cdtr":"Bo Maes","CdtrAcct":"BE68539007547034","MsgId":"M4","TxId":"T4","IntrBkSttlmAmt":"7.00","CdtrAgt":"BANQFRPP"}"#,
+    r#"{"MsgNmId":"pacs.002","CreDtTm":"2024-05-02T10:00:02Z","InstgAgt":"BANQFRPP","OrgnlMsgId":"M1","OrgnlMsgNmId":"pacs.008","TxSts":"RJCT","DbtrAgt":"BANKDEFF","MsgId":"C4","OrgnlTxId":"T4","Rsn":"AC04"}"#,
+    r#"{"MsgNmId":"pacs.028","CreDtTm":"2024-05-02T10:00:30Z","InstgAgt":"BANKDEFF","OrgnlMsgId":"M1","OrgnlMsgNmId":"camt.056","DbtrAgt":"BANKDEFF","MsgId":"Q5","OrgnlTxId":"T5","OrgnlCxlId":"R5"}"#,
+    r#"{"MsgNmId":"camt.056","CreDtTm":"2024-05-03T09:00:00Z","InstgAgt":"BANKDEFF","OrgnlMsgId":"M1","OrgnlMsgNmId":"pacs.008","Ccy":"EUR","DbtrAgt":"BANKDEFF","MsgId":"K6","OrgnlTxId":"T5","CxlId":"R4","OrgnlIntrBkSttlmAmt":"1.00","Rsn":"DUPL"}"#,
+    r#"{"MsgNmId":"camt.056","CreDtTm":"2024-05-03T09:00:00Z","InstgAgt":"BANKDEFF","OrgnlMsgId":"M1","OrgnlMsgNmId":"pacs.008","Ccy":"EUR","DbtrAgt":"BANKDEFF","MsgId":"K5","OrgnlTxId":"T5","CxlId":"R5","OrgnlIntrBkSttlmAmt":"1.00","Rsn":"DUPL"}"#,
+    r#"{"MsgNmId":"pacs.008","CreDtTm":"2024-05-02T10:00:00Z","InstgAgt":"BANKDEFF","IntrBkSttlmDt":"2024-05-02","SvcLvl":"SEPA","LclInstrm":"INST","EndToEndId":"E1","Ccy":"EUR","ChrgBr":"SLEV","Dbtr":"Anna Weber","DbtrAcct":"DE89370400440532013000","DbtrAgt":"BANKDEFF","Cdtr":"Bo Maes","CdtrAcct":"BE68539007547034","MsgId":"M5","TxId":"T5","IntrBkSttlmAmt":"1.00","CdtrAgt":"BANQFRPP"}"#,
+    r#"{"MsgNmId":"pacs.002","CreDtTm":"2024-05-02T10:00:02Z","InstgAgt":"BANQFRPP","OrgnlMsgId":"M1","OrgnlMsgNmId":"pacs.008","TxSts":"ACCP","DbtrAgt":"BANKDEFF","MsgId":"C8","OrgnlTxId":"T8"}"#,
 ];
 
-// Transfers of which money came back.
-static RETURNED: [Scene; 3] = [
-    // a return, and the same without the confirmation
-    Scene {
-        batches: &[Batch {
-            rows: &[
-                Row(Kind::Instructed, &["M1", "T1", "100.00", "BANQFRPP"]),
-                Row(Kind::Accepted, &["C1", "T1"]),
-                Row(Kind::Recalled, &["K1", "T1", "R1", "100.00", "FRAD"]),
-                Row(Kind::Returned, &["P1", "T1", "R1", "100.00", "99.00"]),
-            ],
-            fresh: 4,
-            touched: 1,
-        }],
-        status: "T|BANKDEFFXXX|T1|RETURNED|99.00\nR|BANKDEFFXXX|T1|R1|RETURNED|99.00\n",
-        totals: "BANKDEFFXXX|1|100.00|99.00|0|0|0|0|0|0.00|0.00\nBANQFRPPXXX|0|0.00|0.00|0|0|0|0|1|100.00|99.00\n",
-        listed: " BANKDEFFXXX T1 M1 R1\n BANKDEFFXXX T1\n BANQFRPPXXX T1\n",
-        standing: &[],
-        sums: &[],
-    },
-    Scene {
-        batches: &[Batch {
-            rows: &[
-                Row(Kind::Instructed, &["M1", "T1", "100.00", "BANQFRPP"]),
-                Row(Kind::Recalled, &["K1", "T1", "R1", "100.00", "FRAD"]),
-                Row(Kind::Returned, &["P1", "T1", "R1", "100.00", "99.00"]),
-            ],
-            fresh: 3,
-            touched: 1,
-        }],
-        status: "T|BANKDEFFXXX|T1|PENDING\nR|BANKDEFFXXX|T1|R1|RETURNED|99.00\n",
-        totals: "BANKDEFFXXX|0|0.00|0.00|0|1|0|0|0|0.00|0.00\n",
-        listed: " BANKDEFFXXX T1 M1 R1\n BANKDEFFXXX T1\n",
-        standing: &[],
-        sums: &[],
-    },
-    // the largest amounts
-    Scene {
-        batches: &[Batch {
-            rows: &[
-                Row(Kind::Instructed, &["M1", "T1", "999999999.99", "BANQFRPP"]),
-                Row(Kind::Accepted, &["C1", "T1"]),
-                Row(Kind::Instructed, &["M2", "T2", "999999999.99", "BANQFRPP"]),
-                Row(Kind::Accepted, &["C2", "T2"]),
-                Row(Kind::Instructed, &["M3", "T3", "999999999.99", "BANQFRPP"]),
-                Row(Kind::Accepted, &["C3", "T3"]),
-                Row(Kind::Recalled, &["K3", "T3", "R3", "999999999.99", "FRAD"]),
-                Row(
-                    Kind::Returned,
-                    &["P3", "T3", "R3", "999999999.99", "999999999.99"],
-                ),
-            ],
-            fresh: 8,
-            touched: 3,
-        }],
-        status: "T|BANKDEFFXXX|T1|ACCEPTED\nT|BANKDEFFXXX|T2|ACCEPTED\nT|BANKDEFFXXX|T3|RETURNED|999999999.99\nR|BANKDEFFXXX|T3|R3|RETURNED|999999999.99\n",
-        totals: "BANKDEFFXXX|3|2999999999.97|999999999.99|0|0|0|0|0|0.00|0.00\nBANQFRPPXXX|0|0.00|0.00|0|0|0|0|3|2999999999.97|999999999.99\n",
-        listed: " BANKDEFFXXX T1 M1\n BANKDEFFXXX T2 M2\n BANKDEFFXXX T3 M3 R3\n BANKDEFFXXX T1 T2 T3\n BANQFRPPXXX T1 T2 T3\n",
-        standing: &[],
-        sums: &[],
-    },
+// One of them again, and a late message under the identity of the last of them.
+static LATER: [&str; 2] = [
+    r#"{"MsgNmId":"pacs.002","CreDtTm":"2024-05-02T10:00:02Z","InstgAgt":"BANQFRPP","OrgnlMsgId":"M1","OrgnlMsgNmId":"pacs.008","TxSts":"ACCP","DbtrAgt":"BANKDEFF","MsgId":"C1","OrgnlTxId":"T1"}"#,
+    r#"{"MsgNmId":"pacs.002","CreDtTm":"2024-05-02T10:00:02Z","InstgAgt":"BANQFRPP","OrgnlMsgId":"M1","OrgnlMsgNmId":"pacs.008","TxSts":"RJCT","DbtrAgt":"BANKDEFF","MsgId":"C8","OrgnlTxId":"T8","Rsn":"AC04"}"#,
 ];
 
-// Two transfers that are accepted, and an identity that is contradicted.
-static AGAINST: [Scene; 3] = [
-    // two accepted transfers
-    Scene {
-        batches: &[Batch {
-            rows: &[
-                Row(Kind::Instructed, &["M1", "T1", "100.00", "BANQFRPP"]),
-                Row(Kind::Accepted, &["C1", "T1"]),
-                Row(Kind::Instructed, &["M2", "T2", "50.00", "BANQFRPP"]),
-                Row(Kind::Accepted, &["C2", "T2"]),
-            ],
-            fresh: 4,
-            touched: 2,
-        }],
-        status: "T|BANKDEFFXXX|T1|ACCEPTED\nT|BANKDEFFXXX|T2|ACCEPTED\n",
-        totals: "BANKDEFFXXX|2|150.00|0.00|0|0|0|0|0|0.00|0.00\nBANQFRPPXXX|0|0.00|0.00|0|0|0|0|2|150.00|0.00\n",
-        listed: " BANKDEFFXXX T1 M1\n BANKDEFFXXX T2 M2\n BANKDEFFXXX T1 T2\n BANQFRPPXXX T1 T2\n",
-        standing: &[],
-        sums: &[],
-    },
-    // the same, again, and late messages of an identity on both and on a third: from then on all three are contradicted
-    Scene {
-        batches: &[
-            Batch {
-                rows: &[
-                    Row(Kind::Instructed, &["M1", "T1", "100.00", "BANQFRPP"]),
-                    Row(Kind::Accepted, &["C1", "T1"]),
-                    Row(Kind::Instructed, &["M2", "T2", "50.00", "BANQFRPP"]),
-                    Row(Kind::Accepted, &["C2", "T2"]),
-                ],
-                fresh: 4,
-                touched: 2,
-            },
-            Batch {
-                rows: &[
-                    Row(Kind::Accepted, &["C1", "T1"]),
-                    Row(Kind::Accepted, &["C2", "T2"]),
-                ],
-                fresh: 0,
-                touched: 0,
-            },
-            Batch {
-                rows: &[Row(Kind::Accepted, &["C1", "T2"])],
-                fresh: 1,
-                touched: 2,
-            },
-            Batch {
-                rows: &[Row(Kind::Accepted, &["C1", "T2"])],
-                fresh: 0,
-                touched: 0,
-            },
-            Batch {
-                rows: &[Row(Kind::Accepted, &["C1", "T3"])],
-                fresh: 1,
-                touched: 1,
-            },
-        ],
-        status: "T|BANKDEFFXXX|T1|CONTRADICTED\nF|BANKDEFFXXX|T1|Identity|BANQFRPPXXX|pacs.002|C1\nT|BANKDEFFXXX|T2|CONTRADICTED\nF|BANKDEFFXXX|T2|Identity|BANQFRPPXXX|pacs.002|C1\nT|BANKDEFFXXX|T3|CONTRADICTED\nF|BANKDEFFXXX|T3|Identity|BANQFRPPXXX|pacs.002|C1\n",
-        totals: "BANKDEFFXXX|0|0.00|0.00|0|0|0|3|0|0.00|0.00\n",
-        listed: " BANKDEFFXXX T1 M1\n BANKDEFFXXX T2 M2\n BANKDEFFXXX T3\n BANKDEFFXXX T1 T2 T3\n T1 C1\n T2 C1\n T3 C1\n",
-        standing: &[],
-        sums: &[],
-    },
-    // an identity that is contradicted within its batch, and once more of it
-    Scene {
-        batches: &[
-            Batch {
-                rows: &[
-                    Row(Kind::Accepted, &["C1", "T1"]),
-                    Row(Kind::Accepted, &["C1", "T2"]),
-                ],
-                fresh: 2,
-                touched: 2,
-            },
-            Batch {
-                rows: &[Row(Kind::Rejected, &["C1", "T1", "AC04"])],
-                fresh: 1,
-                touched: 1,
-            },
-        ],
-        status: "T|BANKDEFFXXX|T1|CONTRADICTED\nF|BANKDEFFXXX|T1|Identity|BANQFRPPXXX|pacs.002|C1\nT|BANKDEFFXXX|T2|CONTRADICTED\nF|BANKDEFFXXX|T2|Identity|BANQFRPPXXX|pacs.002|C1\n",
-        totals: "BANKDEFFXXX|0|0.00|0.00|0|0|0|2|0|0.00|0.00\n",
-        listed: " BANKDEFFXXX T1\n BANKDEFFXXX T2\n BANKDEFFXXX T1 T2\n T1 C1\n T2 C1\n",
-        standing: &[],
-        sums: &[],
-    },
+const STATUS: &str =
+    "T|BANKDEFFXXX|T1|RETURNED|99.00\nR|BANKDEFFXXX|T1|R1|RETURNED|99.00\nT|BANKDEFFXXX|T2|INVESTIGATED\nT|BANKDEFFXXX|T3|MISSING\nR|BANKDEFFXXX|T3|R9|UNASKED\nT|BANKDEFFXXX|T4|REJECTED|AC04\nT|BANKDEFFXXX|T5|PENDING\nR|BANKDEFFXXX|T5|R4|OPEN\nR|BANKDEFFXXX|T5|R5|CHASED\nT|BANKDEFFXXX|T6|CONTRADICTED\nF|BANKDEFFXXX|T6|BothConfirmed\nT|BANKDEFFXXX|T8|CONTRADICTED\nF|BANKDEFFXXX|T8|Identity|BANQFRPPXXX|pacs.002|C8\n";
+
+const TOTALS: &str =
+    "BANKDEFFXXX|1|100.00|99.00|1|2|1|2|0|0.00|0.00\nBANQFRPPXXX|0|0.00|0.00|0|0|0|0|1|100.00|99.00\n";
+
+// A line for each transfer, with the message that instructs it and its recalls; for each bank that has totals, with its
+// transfers; and for each finding.
+const LISTED: &str =
+    " BANKDEFFXXX T1 M1 R1\n BANKDEFFXXX T2 M2\n BANKDEFFXXX T3 R9\n BANKDEFFXXX T4 M4\n BANKDEFFXXX T5 M5 R4 R5\n BANKDEFFXXX T6 M6\n BANKDEFFXXX T8\n BANKDEFFXXX T1 T2 T3 T4 T5 T6 T8\n BANQFRPPXXX T1 T2 T4 T5 T6\n T6 BothConfirmed\n T8 C8\n";
+
+// Transfers and recalls that messages name, and two that none names.
+static STANDING: [Standing; 7] = [
+    ("T2", "R1", "INVESTIGATED", "UNKNOWN"),
+    ("T3", "R9", "MISSING", "UNASKED"),
+    ("T5", "R4", "PENDING", "OPEN"),
+    ("T5", "R5", "PENDING", "CHASED"),
+    ("T5", "R1", "PENDING", "UNKNOWN"),
+    ("T6", "R1", "CONTRADICTED", "CONTRADICTED"),
+    ("T7", "R1", "UNKNOWN", "UNKNOWN"),
 ];
 
-// What all six kinds say.
-static ALL_KINDS: [Scene; 1] = [
-    // messages of all six kinds: a recall of a contradicted transfer is contradicted, also one that no message names
-    Scene {
-        batches: &[Batch {
-            rows: &[
-                Row(Kind::Rejected, &["C7", "T6", "AC04"]),
-                Row(Kind::Accepted, &["C6", "T6"]),
-                Row(Kind::Instructed, &["M6", "T6", "1.00", "BANQFRPP"]),
-                Row(Kind::Instructed, &["M1", "T1", "100.00", "BANQFRPP"]),
-                Row(Kind::Accepted, &["C1", "T1"]),
-                Row(Kind::Recalled, &["K1", "T1", "R1", "100.00", "FRAD"]),
-                Row(Kind::Returned, &["P1", "T1", "R1", "100.00", "99.00"]),
-                Row(Kind::Instructed, &["M2", "T2", "50.00", "BANQFRPP"]),
-                Row(Kind::Investigated, &["Q1", "T2"]),
-                Row(Kind::Refused, &["N1", "T3", "R9", "CUST"]),
-                Row(Kind::Instructed, &["M4", "T4", "7.00", "BANQFRPP"]),
-                Row(Kind::Rejected, &["C4", "T4", "AC04"]),
-                Row(Kind::Chased, &["Q5", "T5", "R5"]),
-                Row(Kind::Recalled, &["K6", "T5", "R4", "1.00", "DUPL"]),
-                Row(Kind::Recalled, &["K5", "T5", "R5", "1.00", "DUPL"]),
-                Row(Kind::Instructed, &["M5", "T5", "1.00", "BANQFRPP"]),
-            ],
-            fresh: 16,
-            touched: 6,
-        }],
-        status: "T|BANKDEFFXXX|T1|RETURNED|99.00\nR|BANKDEFFXXX|T1|R1|RETURNED|99.00\nT|BANKDEFFXXX|T2|INVESTIGATED\nT|BANKDEFFXXX|T3|MISSING\nR|BANKDEFFXXX|T3|R9|UNASKED\nT|BANKDEFFXXX|T4|REJECTED|AC04\nT|BANKDEFFXXX|T5|PENDING\nR|BANKDEFFXXX|T5|R4|OPEN\nR|BANKDEFFXXX|T5|R5|CHASED\nT|BANKDEFFXXX|T6|CONTRADICTED\nF|BANKDEFFXXX|T6|BothConfirmed\n",
-        totals: "BANKDEFFXXX|1|100.00|99.00|1|2|1|1|0|0.00|0.00\nBANQFRPPXXX|0|0.00|0.00|0|0|0|0|1|100.00|99.00\n",
-        listed: " BANKDEFFXXX T1 M1 R1\n BANKDEFFXXX T2 M2\n BANKDEFFXXX T3 R9\n BANKDEFFXXX T4 M4\n BANKDEFFXXX T5 M5 R4 R5\n BANKDEFFXXX T6 M6\n BANKDEFFXXX T1 T2 T3 T4 T5 T6\n BANQFRPPXXX T1 T2 T4 T5 T6\n T6 BothConfirmed\n",
-        standing: &[
-            ("T2", "R1", "INVESTIGATED", "UNKNOWN"),
-            ("T3", "R9", "MISSING", "UNASKED"),
-            ("T5", "R4", "PENDING", "OPEN"),
-            ("T5", "R5", "PENDING", "CHASED"),
-            ("T5", "R1", "PENDING", "UNKNOWN"),
-            ("T6", "R1", "CONTRADICTED", "CONTRADICTED"),
-            ("T7", "R1", "UNKNOWN", "UNKNOWN"),
-        ],
-        sums: &[
-            (
-                "BANKDEFF",
-                Totals {
-                    sent: 1,
-                    sent_cents: 10000,
-                    returned_in: 9900,
-                    rejected: 1,
-                    waiting: 2,
-                    missing: 1,
-                    contradicted: 1,
-                    received: 0,
-                    received_cents: 0,
-                    returned_out: 0,
-                },
-            ),
-            (
-                "BANKBEBB",
-                Totals {
-                    sent: 0,
-                    sent_cents: 0,
-                    returned_in: 0,
-                    rejected: 0,
-                    waiting: 0,
-                    missing: 0,
-                    contradicted: 0,
-                    received: 0,
-                    received_cents: 0,
-                    returned_out: 0,
-                },
-            ),
-        ],
-    },
-];
+// What the originator bank of all transfers sent.
+const SENT: Totals = Totals {
+    sent: 1,
+    sent_cents: 10000,
+    returned_in: 9900,
+    rejected: 1,
+    waiting: 2,
+    missing: 1,
+    contradicted: 2,
+    received: 0,
+    received_cents: 0,
+    returned_out: 0,
+};
 
 // The word of a status of the scenes that has no amount and no reason behind it.
 fn word(status: &Status) -> &'static str {
@@ -370,27 +100,26 @@ fn recall_word(status: &RecallStatus) -> &'static str {
     }
 }
 
+// A batch of messages brings so many fresh ones, and touches so many transfers.
 fn assert_applied(
     rt: &impl Abort,
     alloc: Global,
     view: &mut View,
-    batch: &Batch,
+    texts: &[&str],
+    wanted: (u64, u64),
 ) -> Result<(), Fail> {
-    let applied = apply_rows(alloc, view, batch.rows)?;
-    assert_eq!(rt;
-        (applied.fresh, applied.touched),
-        (batch.fresh, batch.touched)
-    );
+    let applied = apply_texts(alloc, view, texts)?;
+    assert!(rt; (applied.fresh, applied.touched) == wanted);
     Ok(())
 }
 
 fn assert_status_text(rt: &impl Abort, view: &View, wanted: &str) -> Result<(), Fail> {
-    assert_eq!(rt; view.status_text()?.as_slice(), wanted.as_bytes());
+    assert!(rt; view.status_text()?.as_slice() == wanted.as_bytes());
     Ok(())
 }
 
 fn assert_totals_text(rt: &impl Abort, view: &View, wanted: &str) -> Result<(), Fail> {
-    assert_eq!(rt; view.totals_text()?.as_slice(), wanted.as_bytes());
+    assert!(rt; view.totals_text()?.as_slice() == wanted.as_bytes());
     Ok(())
 }
 
@@ -465,85 +194,47 @@ fn listed(alloc: Global, view: &View) -> Result<Vec<u8>, Fail> {
 }
 
 fn assert_listed(rt: &impl Abort, alloc: Global, view: &View, wanted: &str) -> Result<(), Fail> {
-    assert_eq!(rt; listed(alloc, view)?.as_slice(), wanted.as_bytes());
+    assert!(rt; listed(alloc, view)?.as_slice() == wanted.as_bytes());
     Ok(())
 }
 
 fn assert_at(rt: &impl Abort, view: &View, wanted: &Standing) -> Result<(), Fail> {
     let key = recall(wanted.0, wanted.1)?;
-    assert_eq!(rt; word(view.status(&key.transfer)), wanted.2);
-    assert_eq!(rt; recall_word(&view.recall(&key)), wanted.3);
+    assert!(rt; word(view.status(&key.transfer)) == wanted.2);
+    assert!(rt; recall_word(&view.recall(&key)) == wanted.3);
     Ok(())
 }
 
-fn assert_standing(rt: &impl Abort, view: &View, standing: &[Standing]) -> Result<(), Fail> {
-    for wanted in standing {
+fn assert_standing(rt: &impl Abort, view: &View) -> Result<(), Fail> {
+    for wanted in &STANDING {
         assert_at(rt, view, wanted)?;
     }
     Ok(())
 }
 
-fn assert_sum(rt: &impl Abort, view: &View, wanted: &(&str, Totals)) -> Result<(), Fail> {
-    assert!(rt; view.totals(&Bic::read(wanted.0)?) == wanted.1);
+// What one bank sent, and nothing of a bank that no message names.
+fn assert_sums(rt: &impl Abort, view: &View) -> Result<(), Fail> {
+    assert!(rt; view.totals(&Bic::read("BANKDEFF")?) == SENT);
+    assert!(rt; view.totals(&Bic::read("BANKBEBB")?) == Totals::nothing());
     Ok(())
 }
 
-fn assert_sums(rt: &impl Abort, view: &View, sums: &[(&str, Totals)]) -> Result<(), Fail> {
-    for wanted in sums {
-        assert_sum(rt, view, wanted)?;
-    }
-    Ok(())
+fn assert_answers(rt: &impl Abort, alloc: Global, view: &View) -> Result<(), Fail> {
+    assert_status_text(rt, view, STATUS)?;
+    assert_totals_text(rt, view, TOTALS)?;
+    assert_listed(rt, alloc, view, LISTED)?;
+    assert_standing(rt, view)?;
+    assert_sums(rt, view)
 }
 
-fn assert_answers(rt: &impl Abort, alloc: Global, view: &View, scene: &Scene) -> Result<(), Fail> {
-    assert_status_text(rt, view, scene.status)?;
-    assert_totals_text(rt, view, scene.totals)?;
-    assert_listed(rt, alloc, view, scene.listed)?;
-    assert_standing(rt, view, scene.standing)?;
-    assert_sums(rt, view, scene.sums)
-}
-
-// Whether each batch brings to a view of no message what it should, and all is answered afterwards.
-fn assert_brought(
-    rt: &impl Abort,
-    alloc: Global,
-    view: &mut View,
-    scene: &Scene,
-) -> Result<(), Fail> {
-    for batch in scene.batches {
-        assert_applied(rt, alloc, view, batch)?;
-    }
-    assert_answers(rt, alloc, view, scene)
-}
-
-fn assert_scene(rt: &impl Abort, alloc: Global, scene: &Scene) -> Result<(), Fail> {
-    let mut view = View::new(alloc);
-    assert_brought(rt, alloc, &mut view, scene)
-}
-
-fn assert_scenes(rt: &impl Abort, alloc: Global, scenes: &[Scene]) -> Result<(), Fail> {
-    for scene in scenes {
-        assert_scene(rt, alloc, scene)?;
-    }
-    Ok(())
-}
-
-#[test]
-fn answers_on_few_messages(rt: HostRuntime) -> Result<(), Fail> {
-    assert_scenes(&rt, rt.alloc(), &FEW)
-}
-
-#[test]
-fn answers_on_returns(rt: HostRuntime) -> Result<(), Fail> {
-    assert_scenes(&rt, rt.alloc(), &RETURNED)
-}
-
-#[test]
-fn answers_on_contradictions(rt: HostRuntime) -> Result<(), Fail> {
-    assert_scenes(&rt, rt.alloc(), &AGAINST)
+fn assert_scene(rt: &impl Abort, alloc: Global, view: &mut View) -> Result<(), Fail> {
+    assert_applied(rt, alloc, view, &FIRST, (17, 7))?;
+    assert_applied(rt, alloc, view, &LATER, (1, 1))?;
+    assert_answers(rt, alloc, view)
 }
 
 #[test]
 fn answers_on_messages_of_all_kinds(rt: HostRuntime) -> Result<(), Fail> {
-    assert_scenes(&rt, rt.alloc(), &ALL_KINDS)
+    let mut view = View::new(rt.alloc());
+    assert_scene(&rt, rt.alloc(), &mut view)
 }

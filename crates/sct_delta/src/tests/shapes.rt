@@ -1,11 +1,10 @@
 //! What makes a delta, and what makes a version vector.
 
 use super::forms::INSTRUCTION;
+use super::scenes::push_entry;
 use crate::*;
-use sct_json::read_message;
 use std::alloc::Global;
 use std::process::Abort;
-use std::sync::Arc;
 
 // Places of entries, and how they are refused: the fault's number and place, or zeros.
 static DELTAS: [(&[(u16, u64)], u8, u64); 14] = [
@@ -37,18 +36,11 @@ static VECTORS: [(&[(u16, u64)], u8, u64); 8] = [
     (&[(2, 1), (1, 1), (65, 1)], 44, 0),
 ];
 
-// Pushes an entry.
-fn push_entry(alloc: Global, entries: &mut Vec<Entry>, origin: u16, n: u64) -> Option<()> {
-    let message = read_message(alloc, INSTRUCTION.as_bytes()).ok()?;
-    let message = Arc::new(alloc, message).ok()?;
-    entries.push(Entry { origin, n, message }).ok()
-}
-
 // Entries at some places.
 fn entries_at(alloc: Global, places: &[(u16, u64)]) -> Option<Vec<Entry>> {
     let mut entries = Vec::new(alloc);
     for place in places {
-        push_entry(alloc, &mut entries, place.0, place.1)?;
+        push_entry(alloc, &mut entries, place.0, place.1, INSTRUCTION)?;
     }
     Some(entries)
 }
@@ -76,6 +68,18 @@ fn refused_pairs(alloc: Global, pairs: &[(u16, u64)]) -> (u8, u64) {
     }
 }
 
+// What the vector of some pairs counts of the origins 1, 2, 3, 64 and 65.
+fn counts_of(alloc: Global, pairs: &[(u16, u64)]) -> Option<(u64, u64, u64, u64, u64)> {
+    let vector = Vector::of(alloc, pairs).ok()?;
+    Some((
+        vector.get(1),
+        vector.get(2),
+        vector.get(3),
+        vector.get(64),
+        vector.get(65),
+    ))
+}
+
 // Whether the vectors of two lists of pairs are equal.
 fn are_equal(alloc: Global, some: &[(u16, u64)], other: &[(u16, u64)]) -> Option<bool> {
     let some = Vector::of(alloc, some).ok()?;
@@ -86,38 +90,27 @@ fn are_equal(alloc: Global, some: &[(u16, u64)], other: &[(u16, u64)]) -> Option
 #[test]
 fn takes_entries_without_a_hole(rt: HostRuntime) {
     for (places, number, place) in &DELTAS {
-        let answer = refused_entries(rt.alloc(), places).expect(&rt, "room");
-        assert_eq!(rt; answer.0, *number);
-        assert_eq!(rt; answer.1, *place);
+        assert!(rt; refused_entries(rt.alloc(), places) == Some((*number, *place)));
     }
 }
 
 #[test]
 fn takes_pairs_that_ascend(rt: HostRuntime) {
     for (pairs, number, place) in &VECTORS {
-        let answer = refused_pairs(rt.alloc(), pairs);
-        assert_eq!(rt; answer.0, *number);
-        assert_eq!(rt; answer.1, *place);
+        assert!(rt; refused_pairs(rt.alloc(), pairs) == (*number, *place));
     }
 }
 
 #[test]
 fn counts_what_the_pairs_say(rt: HostRuntime) {
-    let vector = Vector::of(rt.alloc(), &[(1, 2), (3, 0), (64, 9)]).expect(&rt, "a vector");
-    assert_eq!(rt; vector.get(1), 2);
-    assert_eq!(rt; vector.get(2), 0);
-    assert_eq!(rt; vector.get(3), 0);
-    assert_eq!(rt; vector.get(64), 9);
-    assert_eq!(rt; vector.get(65), 0);
+    let counts = counts_of(rt.alloc(), &[(1, 2), (3, 0), (64, 9)]);
+    assert!(rt; counts == Some((2, 0, 0, 9, 0)));
 }
 
 #[test]
 fn a_count_of_none_is_no_count(rt: HostRuntime) {
     let alloc = rt.alloc();
-    let equal = are_equal(alloc, &[(1, 2), (2, 0)], &[(1, 2)]).expect(&rt, "vectors");
-    assert!(rt; equal);
-    let more = are_equal(alloc, &[(1, 2), (2, 1)], &[(1, 2)]).expect(&rt, "vectors");
-    assert!(rt; !more);
-    let other = are_equal(alloc, &[(1, 2)], &[(1, 3)]).expect(&rt, "vectors");
-    assert!(rt; !other);
+    assert!(rt; are_equal(alloc, &[(1, 2), (2, 0)], &[(1, 2)]) == Some(true));
+    assert!(rt; are_equal(alloc, &[(1, 2), (2, 1)], &[(1, 2)]) == Some(false));
+    assert!(rt; are_equal(alloc, &[(1, 2)], &[(1, 3)]) == Some(false));
 }

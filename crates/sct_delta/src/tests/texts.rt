@@ -1,25 +1,12 @@
 //! The delta text.
 
 use super::forms::{CONFIRMATION, ENTRIES, INSTRUCTION};
+use super::scenes::push_entry;
 use super::wrong;
 use crate::*;
-use sct_json::{read_message, write_message};
+use sct_json::write_message;
 use std::alloc::Global;
 use std::process::Abort;
-use std::sync::Arc;
-
-// Pushes an entry with the message of a text.
-fn push_entry(
-    alloc: Global,
-    entries: &mut Vec<Entry>,
-    origin: u16,
-    n: u64,
-    text: &str,
-) -> Option<()> {
-    let message = read_message(alloc, text.as_bytes()).ok()?;
-    let message = Arc::new(alloc, message).ok()?;
-    entries.push(Entry { origin, n, message }).ok()
-}
 
 // The delta of some entries.
 fn delta_of(alloc: Global, rows: &[(u16, u64, &str)]) -> Option<Delta> {
@@ -48,27 +35,34 @@ fn joined(alloc: Global, front: &str, middle: &str, back: &str) -> Option<String
     format!(in alloc; "{front}{middle}{back}").ok()
 }
 
-// Compares what is written for a delta.
-fn expect_written(rt: &impl Abort, alloc: Global, delta: &Delta, wanted: &str) {
-    let text = write_delta(alloc, delta).expect(rt, "a text");
-    assert_eq!(rt; text.as_slice(), wanted.as_bytes());
+// Whether this is written for a delta.
+fn writes(alloc: Global, delta: &Delta, wanted: &str) -> Option<bool> {
+    let text = write_delta(alloc, delta).ok()?;
+    Some(text.as_slice() == wanted.as_bytes())
 }
 
-// Compares the place and the message of an entry.
-fn expect_entry(rt: &impl Abort, alloc: Global, entry: &Entry, row: &(u16, u64, &str)) {
-    assert_eq!(rt; entry.origin, row.0);
-    assert_eq!(rt; entry.n, row.1);
-    let text = write_message(alloc, &entry.message).expect(rt, "a message");
-    assert_eq!(rt; text.as_slice(), row.2.as_bytes());
+// Whether an entry stands at this place, and has this message.
+fn is_entry(alloc: Global, entry: &Entry, row: &(u16, u64, &str)) -> Option<bool> {
+    let text = write_message(alloc, &entry.message).ok()?;
+    Some(entry.origin == row.0 && entry.n == row.1 && text.as_slice() == row.2.as_bytes())
 }
 
-// A text is read as a delta of these entries.
-fn expect_read(rt: &impl Abort, alloc: Global, text: &[u8], rows: &[(u16, u64, &str)]) {
-    let delta = read_delta(alloc, text).expect(rt, "a delta");
-    assert_eq!(rt; delta.entries().len(), rows.len());
-    for (entry, row) in delta.entries().iter().zip(rows) {
-        expect_entry(rt, alloc, entry, row);
+fn are_entries(alloc: Global, entries: &[Entry], rows: &[(u16, u64, &str)]) -> Option<bool> {
+    if entries.len() != rows.len() {
+        return Some(false);
     }
+    for (entry, row) in entries.iter().zip(rows) {
+        if !is_entry(alloc, entry, row)? {
+            return Some(false);
+        }
+    }
+    Some(true)
+}
+
+// Whether a text is read as a delta of these entries. It may be no delta.
+fn reads(alloc: Global, text: &[u8], rows: &[(u16, u64, &str)]) -> Option<bool> {
+    let delta = read_delta(alloc, text).ok()?;
+    are_entries(alloc, delta.entries(), rows)
 }
 
 // How a reading is refused: the fault's number, and its line.
@@ -81,9 +75,7 @@ fn refused(alloc: Global, text: &[u8]) -> (u8, u64) {
 }
 
 fn expect_wrong(rt: &impl Abort, alloc: Global, text: &str, line: u64) {
-    let answer = refused(alloc, text.as_bytes());
-    assert_eq!(rt; answer.0, 45, "at {text}");
-    assert_eq!(rt; answer.1, line, "at {text}");
+    assert!(rt; refused(alloc, text.as_bytes()) == (45, line), "at {text}");
 }
 
 #[test]
@@ -91,16 +83,16 @@ fn writes_and_reads_every_kind(rt: HostRuntime) {
     let alloc = rt.alloc();
     let delta = delta_of(alloc, &ENTRIES).expect(&rt, "a delta");
     let text = text_of(alloc, &ENTRIES).expect(&rt, "a text");
-    expect_written(&rt, alloc, &delta, text.as_str());
-    expect_read(&rt, alloc, text.as_bytes(), &ENTRIES);
+    assert!(rt; writes(alloc, &delta, text.as_str()) == Some(true));
+    assert!(rt; reads(alloc, text.as_bytes(), &ENTRIES) == Some(true));
 }
 
 #[test]
 fn writes_and_reads_the_empty_delta(rt: HostRuntime) {
     let alloc = rt.alloc();
     let delta = delta_of(alloc, &[]).expect(&rt, "a delta");
-    expect_written(&rt, alloc, &delta, "delta 1\nend 0\n");
-    expect_read(&rt, alloc, b"delta 1\nend 0\n", &[]);
+    assert!(rt; writes(alloc, &delta, "delta 1\nend 0\n") == Some(true));
+    assert!(rt; reads(alloc, b"delta 1\nend 0\n", &[]) == Some(true));
 }
 
 // JSON's own white space stands around a message: another space before it, a carriage return behind it.
@@ -110,7 +102,7 @@ fn reads_any_text_of_a_message(rt: HostRuntime) {
     let text = joined(alloc, "delta 1\nentry 7 3  ", INSTRUCTION, "\t\r\nend 1\n").expect(
         &rt, "a text",
     );
-    expect_read(&rt, alloc, text.as_bytes(), &[(7, 3, INSTRUCTION)]);
+    assert!(rt; reads(alloc, text.as_bytes(), &[(7, 3, INSTRUCTION)]) == Some(true));
 }
 
 #[test]
@@ -147,9 +139,7 @@ fn refuses_a_text_that_breaks_off(rt: HostRuntime) {
     let bytes = whole.as_bytes();
     let mut line = 1u64;
     for end in 0..bytes.len() {
-        let answer = refused(alloc, &bytes[..end]);
-        assert_eq!(rt; answer.0, 45);
-        assert_eq!(rt; answer.1, line);
+        assert!(rt; refused(alloc, &bytes[..end]) == (45, line));
         if bytes[end] == b'\n' {
             line = line.saturating_add(1);
         }
