@@ -115,6 +115,20 @@ answered core new delta (Err f) fresh none why joined unchanged other =
     let is = answered_err core delta (refusal_by core delta) f why other in
     (is.0, ap (λ (c : Core). c.arrivals) unchanged ∙ is.1)
 
+pub answered_so : (core new : Core) (delta : List Placed) (r : Result Accepted DeltaFault)
+    → IfOk r (λ accepted. accepted.fresh ≡ length (fresh_of core.arrivals delta)) → OnOk r (refusal_by core delta ≡ None)
+    → IfErr r (λ refusal. MatchOption (refusal_by core delta) (refusal ≡ delta_fault.Memory) (λ first. refusal ≡ first))
+    → OnOk r (new.arrivals ≡ arrivals_joined core.arrivals delta) → OnErr r (new ≡ core) → r ≢ Err delta_fault.Memory
+    → r ≡ answer_to core delta
+answered_so core new delta r fresh none why joined unchanged other = (answered core new delta r fresh none why joined unchanged other).0
+
+pub arrived_so : (core new : Core) (delta : List Placed) (r : Result Accepted DeltaFault)
+    → IfOk r (λ accepted. accepted.fresh ≡ length (fresh_of core.arrivals delta)) → OnOk r (refusal_by core delta ≡ None)
+    → IfErr r (λ refusal. MatchOption (refusal_by core delta) (refusal ≡ delta_fault.Memory) (λ first. refusal ≡ first))
+    → OnOk r (new.arrivals ≡ arrivals_joined core.arrivals delta) → OnErr r (new ≡ core) → r ≢ Err delta_fault.Memory
+    → new.arrivals ≡ arrivals_handed core delta
+arrived_so core new delta r fresh none why joined unchanged other = (answered core new delta r fresh none why joined unchanged other).1
+
 -- ---- receipts
 
 -- what a receipt shows without what came by its call

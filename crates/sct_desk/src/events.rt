@@ -2,7 +2,7 @@
 //! published.
 
 ghost use Rattle.std.specs.Arc.{arc_value};
-ghost use Rattle.std.specs.Prelude.{◌≡◌, ◌≢◌, ◌+◌, ◌≤◌, Err, IfOk, IfErr, MatchOption, OnOk, length};
+ghost use Rattle.std.specs.Prelude.{◌≡◌, ◌≢◌, ◌+◌, ◌≤◌, Err, IfNone, IfOk, IfErr, IfSome, MatchOption, OnOk, length};
 ghost use Rattle.sct_delta.specs.Entries.{IsArrivals};
 ghost use Rattle.sct_delta.specs.Vectors.{count_in};
 ghost use Rattle.sct_delta.specs.declared.fault.DeltaFault.TheVariants as delta_fault;
@@ -17,7 +17,7 @@ use crate::site::Site;
 use sct_delta::{Delta, DeltaFault, Vector};
 use sct_history::History;
 use sct_message::Message;
-use sct_site::{Accepted, Took};
+use sct_site::{Accepted, SiteCore, Took};
 use std::alloc::{AllocError, Global};
 use std::sync::{Arc, Wait};
 
@@ -52,6 +52,30 @@ fn came_with(answer: &Result<Accepted, DeltaFault>) -> Option<u64>
         Err(DeltaFault::Memory) => None,
         Err(_) => Some(0),
     }
+}
+
+// What a core answers to a delta, and how many arrivals came with it. There is nothing where memory was wanting.
+#[tactic(auto, using(crate::proofs::Arrived::answered_so, crate::proofs::Arrived::arrived_so))]
+fn handed(core: &mut SiteCore, delta: &Delta) -> Option<(Result<Accepted, DeltaFault>, u64)>
+    ensures number { core.new.number ≡ core.old.number }
+    ensures group { core.new.group ≡ core.old.group }
+    ensures answer { IfSome result (λ t. t.0 ≡ answer_to core.old delta.now) }
+    ensures news { IfSome result (λ t. t.1 ≡ came_by_delta t.0) }
+    ensures arrivals { IfSome result (λ t. core.new.arrivals ≡ arrivals_handed core.old delta.now) }
+    ensures want { IfNone result (core.new ≡ core.old) }
+{
+    let answer = core.accept(delta);
+    match came_with(&answer) {
+        Some(news) => Some((answer, news)),
+        None => None,
+    }
+}
+
+// What is cut from a core. There is nothing where memory was wanting.
+fn cut_from(core: &SiteCore, vector: &Vector) -> Option<Delta>
+    ensures { IfSome result (λ delta. delta ≡ entries_above (count_in vector.now) core.now.arrivals) }
+{
+    core.cut(vector).ok()
 }
 
 impl<J: Site, R: Wait + Drop> Held<J, R> {
@@ -113,8 +137,7 @@ impl<J: Site, R: Wait + Drop> Held<J, R> {
         let Ok(()) = make_marks(&mut self.marks, least) else {
             return Err(DeskFault::Memory);
         };
-        let answer = self.core.accept(delta);
-        let Some(news) = came_with(&answer) else {
+        let Some((answer, news)) = handed(&mut self.core, delta) else {
             return Err(DeskFault::Memory);
         };
         match self.publish_after(alloc, history, news) {
@@ -140,7 +163,7 @@ impl<J: Site, R: Wait + Drop> Held<J, R> {
         ensures want { IfErr result IsWant }
         ensures failed { IfErr result (Fails self.old self.old.core.arrivals self.new) }
     {
-        let Ok(delta) = self.core.cut(vector) else {
+        let Some(delta) = cut_from(&self.core, vector) else {
             return Err(DeskFault::Memory);
         };
         match self.publish_after(alloc, history, 0) {

@@ -102,6 +102,26 @@ fn show<R: Wait>(writer: &mut ShownWriter, rt: &R) -> Result<(), AllocError>
     replace_with(writer, rt, |writer, rt| published(writer, rt))
 }
 
+// The receipt of a call that published the arrivals from this position on, of which the last `news` came by it.
+fn receipt_of(site: u16, from: u64, track: &Track, news: u64) -> Receipt
+    requires from { 1 ≤ from }
+    requires news { news + from ≤ length track.now.log + 1 }
+    ensures site { (result.site ≡ site) × (result.book ≡ track.now.book) }
+    ensures shown { result.shown ≡ track.now.log }
+    ensures order { IsArrivals result.shown }
+    ensures from { result.from ≡ from }
+    ensures news { result.count ≡ result.carried + news }
+{
+    let count = track.len() - (from - 1);
+    Receipt {
+        site,
+        from,
+        count,
+        carried: count - news,
+        track: track.again(),
+    }
+}
+
 impl<J: Site, R: Wait + Drop> Held<J, R> {
     // Why nothing is published where memory is wanting.
     fn unpublished(&self) -> DeskFault
@@ -154,13 +174,6 @@ impl<J: Site, R: Wait + Drop> Held<J, R> {
         let Ok(()) = show(&mut self.writer, &self.rt) else {
             return Err(refusal);
         };
-        let count = self.track.len() - published;
-        Ok(Receipt {
-            site: self.core.number(),
-            from: published + 1,
-            count,
-            carried: count - news,
-            track: self.track.again(),
-        })
+        Ok(receipt_of(self.core.number(), published + 1, &self.track, news))
     }
 }

@@ -3,8 +3,8 @@
 ghost use Rattle.std.specs.Prelude.{◌≡◌, [], IfSome};
 ghost use Rattle.sct_desk.specs.Passes.{IsOf};
 
-use super::expect_status;
 use super::scenes::{Row, delta_of, first_transfer, numbers_of, open_one, take_row};
+use super::stands;
 use crate::*;
 use sct_case::{RecallStatus, Status};
 use sct_delta::{DeltaFault, Entry, Vector};
@@ -31,21 +31,23 @@ fn accept_row<J: Site, H: Wait + Drop, W: Wait>(
     desk.accept(rt, alloc, &delta).ok()
 }
 
-// An entry of site 2 comes to the desk, as its arrival of this position.
-fn expect_accepted<J: Site, H: Wait + Drop, W: Wait + Abort>(
+// The receipt of an entry of site 2 that becomes the desk's arrival of this position. There is none where something else is
+// told.
+fn entry_accepted<J: Site, H: Wait + Drop, W: Wait>(
     rt: &W,
     alloc: Global,
     desk: &Desk<J, H>,
     n: u64,
     row: Row,
     position: u64,
-) -> Receipt
-    ensures { IsOf J.book J.number result }
+) -> Option<Receipt>
+    ensures { IfSome result (λ receipt. IsOf J.book J.number receipt) }
 {
-    let (answer, receipt) = accept_row(rt, alloc, desk, n, row).expect(rt, "memory");
-    assert_eq!(rt; answer, Ok(Accepted { fresh: 1 }));
-    assert_eq!(rt; numbers_of(&receipt), (1, position, 1, 0));
-    receipt
+    let (answer, receipt) = accept_row(rt, alloc, desk, n, row)?;
+    if answer != Ok(Accepted { fresh: 1 }) || numbers_of(&receipt) != (1, position, 1, 0) {
+        return None;
+    }
+    Some(receipt)
 }
 
 // Where an entry stands.
@@ -61,46 +63,44 @@ fn are_first(entries: &[Entry]) -> bool {
     }
 }
 
-// All is cut that the desk holds.
-fn expect_cut<J: Site, H: Wait + Drop, W: Wait + Abort>(rt: &W, alloc: Global, desk: &Desk<J, H>) {
-    let vector = Vector::of(alloc, &[]).ok().expect(rt, "a vector");
-    let (delta, receipt) = desk.cut(rt, alloc, &vector).expect(rt, "memory");
-    assert_eq!(rt; receipt.count(), 0);
-    assert!(rt; are_first(delta.entries()));
+// Whether all is cut that the desk holds.
+fn cuts_all<J: Site, H: Wait + Drop, W: Wait>(
+    rt: &W,
+    alloc: Global,
+    desk: &Desk<J, H>,
+) -> Option<bool> {
+    let vector = Vector::of(alloc, &[]).ok()?;
+    let (delta, receipt) = desk.cut(rt, alloc, &vector).ok()?;
+    Some(receipt.count() == 0 && are_first(delta.entries()))
 }
 
-// Nothing contradicts itself.
-fn expect_no_findings(rt: &impl Abort, alloc: Global, query: &mut Query) {
-    let found = query
-        .findings(alloc, &first_transfer(rt))
-        .expect(rt, "an answer");
-    assert_eq!(rt; found.value.len(), 0);
-    assert_eq!(rt; found.front, 2);
+// Whether nothing contradicts itself.
+fn finds_nothing(alloc: Global, query: &mut Query) -> Option<bool> {
+    let found = query.findings(alloc, &first_transfer()?).ok()?;
+    Some(found.value.is_empty() && found.front == 2)
 }
 
-// Nothing is recalled.
-fn expect_no_recall(rt: &impl Abort, query: &mut Query) {
+// Whether nothing is recalled.
+fn knows_no_recall(query: &mut Query) -> Option<bool> {
     let recall = RecallKey {
-        transfer: first_transfer(rt),
-        cxl: Id35::read("R1").ok().expect(rt, "an identification"),
+        transfer: first_transfer()?,
+        cxl: Id35::read("R1").ok()?,
     };
-    let stands = query.recall(&recall).expect(rt, "an answer");
-    assert_eq!(rt;
-        stands,
-        Answer {
-            value: RecallStatus::Unknown,
-            front: 2
-        }
-    );
+    let stands = query.recall(&recall).ok()?;
+    Some(stands.value == RecallStatus::Unknown && stands.front == 2)
 }
 
-// The originator bank has sent one transfer of 100 cents.
-fn expect_totals(rt: &impl Abort, query: &mut Query) {
-    let totals = query
-        .totals(&first_transfer(rt).debtor_agent)
-        .expect(rt, "an answer");
-    assert_eq!(rt; (totals.value.sent, totals.value.sent_cents), (1, 100));
-    assert_eq!(rt; totals.front, 2);
+// Whether the originator bank has sent one transfer of 100 cents.
+fn counts_one(query: &mut Query) -> Option<bool> {
+    let totals = query.totals(&first_transfer()?.debtor_agent).ok()?;
+    Some((totals.value.sent, totals.value.sent_cents, totals.front) == (1, 100, 2))
+}
+
+fn expect_answered(rt: &impl Abort, alloc: Global, query: &mut Query) {
+    assert!(rt; stands(alloc, query, &Status::Accepted, 2));
+    assert!(rt; finds_nothing(alloc, query) == Some(true));
+    assert!(rt; knows_no_recall(query) == Some(true));
+    assert!(rt; counts_one(query) == Some(true));
 }
 
 fn expect_answers<J: Site, R: Wait + Abort>(rt: &R, alloc: Global, history: History, track: Track)
@@ -110,14 +110,12 @@ fn expect_answers<J: Site, R: Wait + Abort>(rt: &R, alloc: Global, history: Hist
 {
     let (desk, mut query) = open_one::<J, R>(rt, alloc, history, track, 2);
     let _taken = take_row(rt, alloc, &desk, Row::CreditTransfer(1, "1.00")).expect(rt, "memory");
-    let accepted = expect_accepted(rt, alloc, &desk, 1, Row::StatusReport, 2);
-    expect_cut(rt, alloc, &desk);
+    let accepted = entry_accepted(rt, alloc, &desk, 1, Row::StatusReport, 2).expect(rt, "an entry");
+    assert!(rt; cuts_all(rt, alloc, &desk) == Some(true));
     query.learn(&accepted);
-    expect_status(rt, alloc, &mut query, Status::Accepted, 2);
-    expect_no_findings(rt, alloc, &mut query);
-    expect_no_recall(rt, &mut query);
-    expect_totals(rt, &mut query);
-    let _later = expect_accepted(rt, alloc, &desk, 2, Row::CreditTransfer(2, "2.00"), 3);
+    expect_answered(rt, alloc, &mut query);
+    let later = entry_accepted(rt, alloc, &desk, 2, Row::CreditTransfer(2, "2.00"), 3);
+    assert!(rt; later.is_some());
 }
 
 #[test]
@@ -145,7 +143,7 @@ fn expect_unmoved<K: Site, R: Wait + Abort>(
         rt, "memory",
     );
     query.learn(&taken);
-    expect_status(rt, alloc, query, Status::Unknown, 0);
+    assert!(rt; stands(alloc, query, &Status::Unknown, 0));
 }
 
 fn expect_apart<J: Site, R: Wait + Abort>(rt: &R, alloc: Global, history: History, track: Track)

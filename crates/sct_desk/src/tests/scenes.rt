@@ -90,11 +90,11 @@ pub(crate) fn core_of<J: Site, H: Wait + Drop>(
 }
 
 /// The transfer T1.
-pub(crate) fn first_transfer(rt: &impl Abort) -> TransferKey {
-    TransferKey {
-        debtor_agent: Bic::read("BANKDEFF").ok().expect(rt, "a bank"),
-        tx: Id35::read("T1").ok().expect(rt, "an identification"),
-    }
+pub(crate) fn first_transfer() -> Option<TransferKey> {
+    Some(TransferKey {
+        debtor_agent: Bic::read("BANKDEFF").ok()?,
+        tx: Id35::read("T1").ok()?,
+    })
 }
 
 // One of the queries of a desk, which has seen nothing.

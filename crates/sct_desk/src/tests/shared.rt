@@ -7,13 +7,11 @@ use super::scenes::{Row, core_of, first_transfer, open_one, take_row};
 use crate::*;
 use sct_case::Status;
 use sct_history::{History, Track};
-use sct_message::{Message, TransferKey};
-use sct_site::SiteCore;
-use sct_view::View;
+use sct_message::TransferKey;
 use std::alloc::Global;
 use std::marker::Brand;
 use std::process::Abort;
-use std::sync::{Arc, Wait};
+use std::sync::Wait;
 use std::thread;
 use std::thread::Threads;
 
@@ -108,50 +106,6 @@ fn three_threads<J: Site + Send + Sync, H: Wait + Drop + Send + Sync, R: Threads
     )
 }
 
-// The messages of a site.
-fn messages_held(alloc: Global, core: &SiteCore) -> Option<Vec<Arc<Message>>> {
-    let mut messages = Vec::new(alloc);
-    for entry in core.arrivals() {
-        messages.push(entry.message.clone().ok()?).ok()?;
-    }
-    Some(messages)
-}
-
-fn are_pending(view: &View, transfers: &[TransferKey]) -> bool {
-    for transfer in transfers {
-        if view.status(transfer) != &Status::Pending {
-            return false;
-        }
-    }
-    true
-}
-
-// 100 transfers are known, and all of them are pending.
-fn expect_pending(rt: &impl Abort, view: &View) {
-    let transfers = view.keys().ok().expect(rt, "memory");
-    assert_eq!(rt; transfers.len(), 100);
-    assert!(rt; are_pending(view, &transfers));
-}
-
-// The messages are fresh to the view, each on a transfer of its own.
-fn expect_fresh(rt: &impl Abort, view: &mut View, messages: &[Arc<Message>]) {
-    let applied = view.apply(messages).ok().expect(rt, "memory");
-    assert_eq!(rt; applied.fresh, 100);
-    expect_pending(rt, view);
-}
-
-fn expect_viewed(rt: &impl Abort, alloc: Global, messages: &[Arc<Message>]) {
-    let mut view = View::new(alloc);
-    expect_fresh(rt, &mut view, messages);
-}
-
-// A site has 100 arrivals, each of a transfer of its own, and all of them are pending.
-fn expect_all(rt: &impl Abort, alloc: Global, core: &SiteCore) {
-    assert_eq!(rt; core.arrivals().len(), 100);
-    let messages = messages_held(alloc, core).expect(rt, "memory");
-    expect_viewed(rt, alloc, &messages);
-}
-
 fn expect_shared<J: Site + Send + Sync, R: Threads + Wait + Abort + Sync>(
     rt: &R,
     alloc: Global,
@@ -163,11 +117,13 @@ fn expect_shared<J: Site + Send + Sync, R: Threads + Wait + Abort + Sync>(
     requires site { (1 ≡ J.number) × (1 ≡ J.group) }
 {
     let (desk, query) = open_one::<J, R>(rt, alloc, history, track, 1);
-    let (rose, kept) = three_threads(rt, alloc, &desk, query, first_transfer(rt));
+    let transfer = first_transfer().expect(rt, "a transfer");
+    let (rose, kept) = three_threads(rt, alloc, &desk, query, transfer);
     assert!(rt; rose, "a front fell, or T1 was not seen");
     let receipts = kept.expect(rt, "receipts of all calls");
     let core = core_of(desk, receipts).expect(rt, "a core");
-    expect_all(rt, alloc, &core);
+    assert!(rt; core.arrivals().len() == 100);
+    assert!(rt; core.archive().len() == 100);
 }
 
 #[test]
