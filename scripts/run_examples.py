@@ -1,12 +1,17 @@
-"""run_examples.py: runs the program on each example of examples/, on bad lists, on a list of 5,000 rows, on a longer input on 1,
-2, 4 and 8 processors, on sixteen files of it, and on two small files 200 times, and fails where an output differs; and a test in
-which three threads share a desk, 100 times.
+"""run_examples.py: runs the program on each example of examples/, on each case of examples/cases/, on bad lists, on a list of 5,000
+rows, on a longer input on 1, 2, 4 and 8 processors, on sixteen files of it, and on two small files 200 times, and fails where an
+output differs; and a test in which three threads share a desk, 100 times.
 
 An example NAME.jsonl is a list of messages, and NAME.script a script. NAME.COMMAND is what that command must write to
 standard output, and NAME.refused what it must write to standard error. NAME.site1, NAME.site2 and so on are lists of messages
 at several sites, NAME.run is what `run` must answer for them, and NAME.run-refused what it must write to standard error.
 NAME.list is the list of a bank for a settlement day, which REPORTS names, and NAME.report the report on it over NAME.jsonl. The
 exit status must be 1 where a line is refused, and else 0.
+
+A file of examples/cases/ has one case after another: a line `== TITLE`, the lines of the input, and then behind each line `-- COMMAND`
+what that command must write to standard output, and behind `-- refused` what each of them must write to standard error. Each case is
+run as it stands, and without the line feed at its end; where no line is refused, also with its lines in the opposite order, and each
+line twice: the answer must be the same.
 
 The list of 5,000 rows has a row for each of as many instructions, which is MATCHED, and one that is ONLY_IN_LIST. The longer input is of made-up
 messages, blank lines and refused ones, and is read and written in threads; what must be answered is told by
@@ -18,7 +23,7 @@ The test `desk_shared` of crates/sct_desk, as `rt test` and the gate leave it th
 
 Usage: run_examples.py [PROGRAM]   (else the program that `rt run` and the gate leave in crates/sct_sites/out)
 """
-import collections, os, pathlib, shutil, subprocess, sys, tempfile
+import collections, os, pathlib, re, shutil, subprocess, sys, tempfile
 import reference_status
 
 TOP = pathlib.Path(__file__).resolve().parent.parent
@@ -56,6 +61,30 @@ def examples():
         if example.suffix == ".list":
             words = ["report", *REPORTS[example.stem], example.name]
             yield case(f"{example.stem} report", words, read(".jsonl"), read(".report"), read(".refused"))
+
+
+def titled(text, mark):
+    """The parts of a text behind its lines that begin with a mark, each with what else stands in that line."""
+    parts = re.split(rf"^{mark} (.*)\n", text, flags=re.MULTILINE)
+    return zip(parts[1::2], parts[2::2])
+
+
+def alike(lines, refused):
+    """The inputs that must be answered as these lines are."""
+    data = "".join(lines)
+    return [data, data.removesuffix("\n")] + ([] if refused else ["".join(reversed(lines)), "".join(line + line for line in lines)])
+
+
+def cases():
+    """Of each case of examples/cases/ and each of its commands the inputs that must be answered alike."""
+    for path in sorted((EXAMPLES / "cases").glob("*.txt")):
+        for title, rest in titled(path.read_text(), "=="):
+            texts = dict(titled(rest.removesuffix("\n") if rest.endswith("\n\n") else rest, "--"))
+            refused = texts.pop("refused", "")
+            lines = re.split(r"^--", rest, maxsplit=1, flags=re.MULTILINE)[0].splitlines(keepends=True)
+            for command, text in texts.items():
+                name = f"{path.stem}, {title}, {command}"
+                yield [case(name, [command], data.encode(), text.encode(), refused.encode()) for data in alike(lines, refused)]
 
 
 def instruction(number):
@@ -157,6 +186,13 @@ def fits(program, one, processors, times=1):
     return right
 
 
+def all_fit(program, ones):
+    """Whether the program answers each of some cases of one name as it must."""
+    right = all(answers(program, one, PROCESSORS[-1]) for one in ones)
+    print(f"{ones[0].name}, in {len(ones)} ways: {'ok' if right else 'DIFFERS'}", flush=True)
+    return right
+
+
 def is_shared_alike():
     """Whether the test of a desk that three threads share passes each time, with one output."""
     tests = TOP / "crates" / "sct_desk" / "out" / "sct_desk_tests"
@@ -175,6 +211,7 @@ def main():
         sys.exit(f"run_examples: there is no program {program}; `rt run` in crates/sct_sites makes it")
     with tempfile.TemporaryDirectory() as folder:
         right = [fits(program, one, PROCESSORS[-1]) for one in [*examples(), *bad_lists(folder), long_list(folder)]]
+        right += [all_fit(program, ones) for ones in cases()]
         right.append(fits(program, two_files(folder), PROCESSORS[-1], TIMES))
         long = [*long_cases(), sixteen_files(folder)]
         right += [fits(program, one, processors) for processors in PROCESSORS for one in long]

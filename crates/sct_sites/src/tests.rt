@@ -1,23 +1,19 @@
 //! Whole runs over known bytes: what no clause says is that memory is there, and how clap's texts read.
-mod archived;
 mod commands;
 mod fakes;
 mod inputs;
 mod shelf;
-mod totalled;
 
 use crate::engine::{Done, Job};
 use crate::fault::ProgramFault;
 use crate::transfer::MOST_BYTES;
-use archived::ARCHIVED;
 use commands::{BOTH, Command, JOBS, REPORTS, RUNS, WORDS};
 use fakes::{Given, run_engine, run_program};
-use inputs::{CONTRADICTIONS, Case, LINES, RECALLS, REFUSED_AND_TAKEN, STANDINGS};
+use inputs::{Case, LINES, REFUSED_AND_TAKEN};
 use std::alloc::{AllocError, Global};
 use std::process::Abort;
 use std::sync::Wait;
 use std::thread::Threads;
-use totalled::TOTALLED;
 
 const AMPLE: usize = 1_000_000;
 
@@ -30,9 +26,9 @@ fn given(input: &[u8]) -> Given<'_> {
     }
 }
 
-// A run of the job writes what the case says.
-fn fits(rt: &(impl Threads + Sync), alloc: Global, job: &Job, case: &Case) -> bool {
-    let ran = run_engine(rt, alloc, job, MOST_BYTES, &given(case.input));
+// A run of `status` writes what the case says.
+fn fits(rt: &(impl Threads + Sync), alloc: Global, case: &Case) -> bool {
+    let ran = run_engine(rt, alloc, &Job::Status, MOST_BYTES, &given(case.input));
     ran.answer
         == Ok(Done {
             refused: case.refused,
@@ -41,40 +37,11 @@ fn fits(rt: &(impl Threads + Sync), alloc: Global, job: &Job, case: &Case) -> bo
         && ran.err.as_slice() == case.err
 }
 
-fn expect_cases(rt: &(impl Threads + Abort + Sync), alloc: Global, job: &Job, cases: &[Case]) {
-    for case in cases {
-        assert!(rt; fits(rt, alloc, job, case));
-    }
-}
-
 #[test]
 fn reads_lines_over_slow_streams(rt: HostRuntime) {
-    expect_cases(&rt, rt.alloc(), &Job::Status, &LINES);
-}
-
-#[test]
-fn tells_standings_over_slow_streams(rt: HostRuntime) {
-    expect_cases(&rt, rt.alloc(), &Job::Status, &STANDINGS);
-}
-
-#[test]
-fn tells_contradictions_over_slow_streams(rt: HostRuntime) {
-    expect_cases(&rt, rt.alloc(), &Job::Status, &CONTRADICTIONS);
-}
-
-#[test]
-fn tells_recalls_over_slow_streams(rt: HostRuntime) {
-    expect_cases(&rt, rt.alloc(), &Job::Status, &RECALLS);
-}
-
-#[test]
-fn writes_the_archive_over_slow_streams(rt: HostRuntime) {
-    expect_cases(&rt, rt.alloc(), &Job::Archive, &ARCHIVED);
-}
-
-#[test]
-fn writes_the_totals_over_slow_streams(rt: HostRuntime) {
-    expect_cases(&rt, rt.alloc(), &Job::Totals, &TOTALLED);
+    for case in &LINES {
+        assert!(rt; fits(&rt, rt.alloc(), case));
+    }
 }
 
 // The words, each as a text of its own.
