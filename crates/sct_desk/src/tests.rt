@@ -9,7 +9,7 @@ mod scenes;
 mod shared;
 
 use crate::*;
-use scenes::{Row, core_of, first_transfer, numbers_of, open_one, take_row};
+use scenes::{Row, closed_over, first_transfer, open_one, take_row, tells};
 use sct_case::Status;
 use sct_history::{History, Track};
 use sct_site::Took;
@@ -47,16 +47,11 @@ static STEPS: [Step; 3] = [
     },
 ];
 
-// Whether a receipt tells of these positions, of which none came by an earlier call.
-fn tells(receipt: &Receipt, from: u64, count: u64) -> bool {
-    numbers_of(receipt) == (1, from, count, 0)
-}
-
 // The receipt of a step. There is none where something else is told.
-fn step_taken<J: Site, H: Wait + Drop, W: Wait>(
-    rt: &W,
+fn step_taken<J: Site, R: Wait>(
+    rt: &R,
     alloc: Global,
-    desk: &Desk<J, H>,
+    desk: &Desk<J, &R>,
     step: &Step,
 ) -> Option<Receipt>
     ensures { IfSome result (λ receipt. IsOf J.book J.number receipt) }
@@ -68,23 +63,26 @@ fn step_taken<J: Site, H: Wait + Drop, W: Wait>(
     Some(receipt)
 }
 
+// The receipt of a publication of nothing, at the third position.
+fn nothing_published<J: Site, R: Wait>(rt: &R, alloc: Global, desk: &Desk<J, &R>) -> Option<Receipt>
+    ensures { IfSome result (λ receipt. IsOf J.book J.number receipt) }
+{
+    let receipt = desk.publish(rt, alloc).ok()?;
+    if !tells(&receipt, 3, 0) {
+        return None;
+    }
+    Some(receipt)
+}
+
 // The receipts of the steps after the first, and of a publication of nothing.
-fn steps_taken<J: Site, H: Wait + Drop, W: Wait>(
-    rt: &W,
-    alloc: Global,
-    desk: &Desk<J, H>,
-) -> Option<Vec<Receipt>>
+fn steps_taken<J: Site, R: Wait>(rt: &R, alloc: Global, desk: &Desk<J, &R>) -> Option<Vec<Receipt>>
     ensures { IfSome result (λ receipts. AreOurs J.book J.number receipts.items) }
 {
     let mut receipts = Vec::new(alloc);
     for step in &STEPS[1..] {
         receipts.push(step_taken(rt, alloc, desk, step)?).ok()?;
     }
-    let last = desk.publish(rt, alloc).ok()?;
-    if !tells(&last, 3, 0) {
-        return None;
-    }
-    receipts.push(last).ok()?;
+    receipts.push(nothing_published(rt, alloc, desk)?).ok()?;
     Some(receipts)
 }
 
@@ -134,20 +132,12 @@ fn refusal_of<J: Site, H: Wait + Drop>(
     Some(refusal)
 }
 
-// How many arrivals the site of a desk has that is closed.
-fn closed_over<J: Site, H: Wait + Drop>(desk: Desk<J, H>, receipts: Vec<Receipt>) -> Option<usize>
-    requires { AreOurs J.book J.number receipts.items }
-{
-    let core = core_of(desk, receipts)?;
-    Some(core.arrivals().len())
-}
-
-// How many arrivals the site of a desk has that was not closed, as its first position was not told, and then was closed with
-// the receipt that tells it.
+// How many arrivals and messages the site of a desk has that was not closed, as its first position was not told, and then was
+// closed with the receipt that tells it.
 fn closed_at_last<J: Site, H: Wait + Drop>(
     refusal: NotClosed<J, H>,
     first: Receipt,
-) -> Option<usize>
+) -> Option<(usize, usize)>
     requires first { IsOf J.book J.number first }
     requires rest { AreOurs J.book J.number refusal.receipts.items }
 {
@@ -168,13 +158,13 @@ fn expect_life<J: Site, R: Wait + Abort>(rt: &R, alloc: Global, history: History
     requires track { (track.book ≡ J.book) × (track.log ≡ []) }
     requires site { (1 ≡ J.number) × (1 ≡ J.group) }
 {
-    let (desk, mut query) = open_one::<J, R>(rt, alloc, history, track, 1);
+    let (desk, mut query) = open_one::<J, R>(rt, alloc, history, track, 1, 1);
     let first = step_taken(rt, alloc, &desk, &STEPS[0]).expect(rt, "the first step");
     query.learn(&first);
     assert!(rt; stands(alloc, &mut query, &Status::Pending, 1));
     let rest = steps_taken(rt, alloc, &desk).expect(rt, "the other steps");
     let refusal = refusal_of(desk, rest).expect(rt, "a gap");
-    assert!(rt; closed_at_last(refusal, first) == Some(2));
+    assert!(rt; closed_at_last(refusal, first) == Some((2, 2)));
     assert!(rt; is_ended(alloc, &mut query));
 }
 

@@ -3,7 +3,7 @@
 ghost use Rattle.std.specs.Prelude.{◌≡◌, [], IfSome};
 ghost use Rattle.sct_desk.specs.Passes.{IsOf};
 
-use super::scenes::{Row, delta_of, first_transfer, numbers_of, open_one, take_row};
+use super::scenes::{Row, delta_of, first_transfer, open_one, receipt_of_row, tells};
 use super::stands;
 use crate::*;
 use sct_case::{RecallStatus, Status};
@@ -33,10 +33,10 @@ fn accept_row<J: Site, H: Wait + Drop, W: Wait>(
 
 // The receipt of an entry of site 2 that becomes the desk's arrival of this position. There is none where something else is
 // told.
-fn entry_accepted<J: Site, H: Wait + Drop, W: Wait>(
-    rt: &W,
+fn entry_accepted<J: Site, R: Wait>(
+    rt: &R,
     alloc: Global,
-    desk: &Desk<J, H>,
+    desk: &Desk<J, &R>,
     n: u64,
     row: Row,
     position: u64,
@@ -44,31 +44,22 @@ fn entry_accepted<J: Site, H: Wait + Drop, W: Wait>(
     ensures { IfSome result (λ receipt. IsOf J.book J.number receipt) }
 {
     let (answer, receipt) = accept_row(rt, alloc, desk, n, row)?;
-    if answer != Ok(Accepted { fresh: 1 }) || numbers_of(&receipt) != (1, position, 1, 0) {
+    if answer != Ok(Accepted { fresh: 1 }) || !tells(&receipt, position, 1) {
         return None;
     }
     Some(receipt)
 }
 
-// Where an entry stands.
-fn place_of(entry: &Entry) -> (u16, u64) {
-    (entry.origin, entry.n)
-}
-
 // Whether these are the first entries of the sites 1 and 2.
 fn are_first(entries: &[Entry]) -> bool {
     match entries {
-        [one, two] => place_of(one) == (1, 1) && place_of(two) == (2, 1),
+        [one, two] => one.origin == 1 && one.n == 1 && two.origin == 2 && two.n == 1,
         _ => false,
     }
 }
 
 // Whether all is cut that the desk holds.
-fn cuts_all<J: Site, H: Wait + Drop, W: Wait>(
-    rt: &W,
-    alloc: Global,
-    desk: &Desk<J, H>,
-) -> Option<bool> {
+fn cuts_all<J: Site, R: Wait>(rt: &R, alloc: Global, desk: &Desk<J, &R>) -> Option<bool> {
     let vector = Vector::of(alloc, &[]).ok()?;
     let (delta, receipt) = desk.cut(rt, alloc, &vector).ok()?;
     Some(receipt.count() == 0 && are_first(delta.entries()))
@@ -93,7 +84,8 @@ fn knows_no_recall(query: &mut Query) -> Option<bool> {
 // Whether the originator bank has sent one transfer of 100 cents.
 fn counts_one(query: &mut Query) -> Option<bool> {
     let totals = query.totals(&first_transfer()?.debtor_agent).ok()?;
-    Some((totals.value.sent, totals.value.sent_cents, totals.front) == (1, 100, 2))
+    let sent = totals.value;
+    Some(sent.sent == 1 && sent.sent_cents == 100 && totals.front == 2)
 }
 
 fn expect_answered(rt: &impl Abort, alloc: Global, query: &mut Query) {
@@ -103,15 +95,27 @@ fn expect_answered(rt: &impl Abort, alloc: Global, query: &mut Query) {
     assert!(rt; counts_one(query) == Some(true));
 }
 
+// The receipt of an entry of site 2, behind a message that was taken. There is none where something else is told, or where not
+// both are cut.
+fn two_held<J: Site, R: Wait>(rt: &R, alloc: Global, desk: &Desk<J, &R>) -> Option<Receipt>
+    ensures { IfSome result (λ receipt. IsOf J.book J.number receipt) }
+{
+    receipt_of_row(rt, alloc, desk, Row::CreditTransfer(1, "1.00"))?;
+    let accepted = entry_accepted(rt, alloc, desk, 1, Row::StatusReport, 2)?;
+    if cuts_all(rt, alloc, desk)? {
+        Some(accepted)
+    } else {
+        None
+    }
+}
+
 fn expect_answers<J: Site, R: Wait + Abort>(rt: &R, alloc: Global, history: History, track: Track)
     requires history { history ≡ J.book }
     requires track { (track.book ≡ J.book) × (track.log ≡ []) }
     requires site { (1 ≡ J.number) × (2 ≡ J.group) }
 {
-    let (desk, mut query) = open_one::<J, R>(rt, alloc, history, track, 2);
-    let _taken = take_row(rt, alloc, &desk, Row::CreditTransfer(1, "1.00")).expect(rt, "memory");
-    let accepted = entry_accepted(rt, alloc, &desk, 1, Row::StatusReport, 2).expect(rt, "an entry");
-    assert!(rt; cuts_all(rt, alloc, &desk) == Some(true));
+    let (desk, mut query) = open_one::<J, R>(rt, alloc, history, track, 1, 2);
+    let accepted = two_held(rt, alloc, &desk).expect(rt, "two messages");
     query.learn(&accepted);
     expect_answered(rt, alloc, &mut query);
     let later = entry_accepted(rt, alloc, &desk, 2, Row::CreditTransfer(2, "2.00"), 3);
@@ -137,11 +141,9 @@ fn expect_unmoved<K: Site, R: Wait + Abort>(
     requires site { (2 ≡ K.number) × (2 ≡ K.group) }
     requires other { query.old.site ≡ 1 }
 {
-    let opened = Desk::<K, &R>::open(rt, alloc, history, track, 2, 2, 1);
-    let (desk, _queries) = opened.ok().expect(rt, "a desk");
-    let (_, taken) = take_row(rt, alloc, &desk, Row::CreditTransfer(1, "1.00")).expect(
-        rt, "memory",
-    );
+    let (desk, _query) = open_one::<K, R>(rt, alloc, history, track, 2, 2);
+    let row = Row::CreditTransfer(1, "1.00");
+    let taken = receipt_of_row(rt, alloc, &desk, row).expect(rt, "memory");
     query.learn(&taken);
     assert!(rt; stands(alloc, query, &Status::Unknown, 0));
 }
@@ -151,7 +153,7 @@ fn expect_apart<J: Site, R: Wait + Abort>(rt: &R, alloc: Global, history: Histor
     requires track { (track.book ≡ J.book) × (track.log ≡ []) }
     requires site { (1 ≡ J.number) × (2 ≡ J.group) }
 {
-    let (_desk, mut query) = open_one::<J, R>(rt, alloc, history, track, 2);
+    let (_desk, mut query) = open_one::<J, R>(rt, alloc, history, track, 1, 2);
     let (other, first) = History::open();
     expect_unmoved::<Brand, R>(rt, alloc, other, first, &mut query);
 }

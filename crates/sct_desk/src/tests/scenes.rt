@@ -69,24 +69,43 @@ pub(crate) fn take_row<J: Site, H: Wait + Drop, W: Wait>(
     desk.take(rt, alloc, message).ok()
 }
 
-/// What a receipt tells: its site, from which position on, how many arrivals, and how many of them came by earlier calls.
-pub(crate) fn numbers_of(receipt: &Receipt) -> (u16, u64, u64, u64) {
-    (
-        receipt.site(),
-        receipt.from(),
-        receipt.count(),
-        receipt.carried(),
-    )
+/// The receipt of taking the message of a row. There is none only where memory is wanting.
+pub(crate) fn receipt_of_row<J: Site, H: Wait + Drop, W: Wait>(
+    rt: &W,
+    alloc: Global,
+    desk: &Desk<J, H>,
+    row: Row,
+) -> Option<Receipt>
+    ensures { IfSome result (λ receipt. IsOf J.book J.number receipt) }
+{
+    let (_, receipt) = take_row(rt, alloc, desk, row)?;
+    Some(receipt)
 }
 
-/// The site of a desk that is closed.
-pub(crate) fn core_of<J: Site, H: Wait + Drop>(
+/// Whether a receipt of site 1 tells of these positions, of which none came by an earlier call.
+pub(crate) fn tells(receipt: &Receipt, from: u64, count: u64) -> bool {
+    receipt.site() == 1
+        && receipt.from() == from
+        && receipt.count() == count
+        && receipt.carried() == 0
+}
+
+// How many arrivals a site has, and how many messages.
+fn sizes_of(core: &SiteCore) -> (usize, usize) {
+    (core.arrivals().len(), core.archive().len())
+}
+
+/// How many arrivals the site of a desk has that is closed, and how many messages.
+pub(crate) fn closed_over<J: Site, H: Wait + Drop>(
     desk: Desk<J, H>,
     receipts: Vec<Receipt>,
-) -> Option<SiteCore>
+) -> Option<(usize, usize)>
     requires { AreOurs J.book J.number receipts.items }
 {
-    desk.close(receipts).ok()
+    match desk.close(receipts) {
+        Ok(core) => Some(sizes_of(&core)),
+        Err(_) => None,
+    }
 }
 
 /// The transfer T1.
@@ -105,20 +124,21 @@ fn one_of<J: Site>(mut queries: Vec<Query>) -> Option<Query>
     queries.pop()
 }
 
-/// A desk of site 1, and its one query.
+/// The desk of a site, and its one query.
 pub(crate) fn open_one<'a, J: Site, R: Wait + Abort>(
     rt: &'a R,
     alloc: Global,
     history: History,
     track: Track,
+    number: u16,
     group: u16,
 ) -> (Desk<J, &'a R>, Query)
     requires history { history ≡ J.book }
     requires track { (track.book ≡ J.book) × (track.log ≡ []) }
-    requires site { (1 ≡ J.number) × (group ≡ J.group) }
+    requires site { (number ≡ J.number) × (group ≡ J.group) }
     ensures { IsNewQuery J.book J.number result.1 }
 {
-    let Ok(opened) = Desk::<J, &'a R>::open(rt, alloc, history, track, 1, group, 1) else {
+    let Ok(opened) = Desk::<J, &'a R>::open(rt, alloc, history, track, number, group, 1) else {
         panic!(rt; "no desk");
     };
     let (desk, queries) = opened;

@@ -3,7 +3,7 @@
 ghost use Rattle.std.specs.Prelude.{◌≡◌, ◌≤◌, [], IfSome};
 ghost use Rattle.sct_desk.specs.Tilings.{AreOurs};
 
-use super::scenes::{Row, core_of, first_transfer, open_one, take_row};
+use super::scenes::{Row, closed_over, first_transfer, open_one, receipt_of_row};
 use crate::*;
 use sct_case::Status;
 use sct_history::{History, Track};
@@ -31,7 +31,7 @@ fn take_some<J: Site, H: Wait + Drop, W: Wait>(
     let mut kept = Vec::new(alloc);
     for at in 0..TAKEN {
         let row = Row::CreditTransfer(first + 2 * at, "1.00");
-        let (_, receipt) = take_row(rt, alloc, desk, row)?;
+        let receipt = receipt_of_row(rt, alloc, desk, row)?;
         kept.push(receipt).ok()?;
     }
     Some(kept)
@@ -68,20 +68,31 @@ fn two_takers<J: Site + Send + Sync, H: Wait + Drop + Send + Sync, R: Threads + 
     joined::<J>(odd, even)
 }
 
-// Asks for the transfer until it is known, and tells whether no answer stood on less than the one before.
+// On how many arrivals an answer stands, and whether the transfer is pending and no more unknown. There is nothing where it
+// stands otherwise.
+fn seen(query: &mut Query, alloc: Global, transfer: &TransferKey) -> Option<(u64, bool)> {
+    let answer = query.status(alloc, transfer).ok()?;
+    match answer.value {
+        Status::Unknown => Some((answer.front, false)),
+        Status::Pending => Some((answer.front, true)),
+        _ => None,
+    }
+}
+
+// Asks for the transfer until it is pending, and tells whether no answer stood on less than the one before.
 fn look(mut query: Query, alloc: Global, transfer: &TransferKey) -> bool {
-    let mut front = 0;
+    let mut last = 0;
     for _ in 0..20_000_000 {
-        let Ok(answer) = query.status(alloc, transfer) else {
+        let Some((front, pending)) = seen(&mut query, alloc, transfer) else {
             return false;
         };
-        if answer.front < front {
+        if front < last {
             return false;
         }
-        if answer.value != Status::Unknown {
-            return answer.value == Status::Pending;
+        if pending {
+            return true;
         }
-        front = answer.front;
+        last = front;
         thread::yield_now();
     }
     false
@@ -116,14 +127,12 @@ fn expect_shared<J: Site + Send + Sync, R: Threads + Wait + Abort + Sync>(
     requires track { (track.book ≡ J.book) × (track.log ≡ []) }
     requires site { (1 ≡ J.number) × (1 ≡ J.group) }
 {
-    let (desk, query) = open_one::<J, R>(rt, alloc, history, track, 1);
+    let (desk, query) = open_one::<J, R>(rt, alloc, history, track, 1, 1);
     let transfer = first_transfer().expect(rt, "a transfer");
     let (rose, kept) = three_threads(rt, alloc, &desk, query, transfer);
     assert!(rt; rose, "a front fell, or T1 was not seen");
     let receipts = kept.expect(rt, "receipts of all calls");
-    let core = core_of(desk, receipts).expect(rt, "a core");
-    assert!(rt; core.arrivals().len() == 100);
-    assert!(rt; core.archive().len() == 100);
+    assert!(rt; closed_over(desk, receipts) == Some((100, 100)));
 }
 
 #[test]
