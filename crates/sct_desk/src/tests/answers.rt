@@ -3,7 +3,7 @@
 ghost use Rattle.std.specs.Prelude.{◌≡◌, [], IfSome};
 ghost use Rattle.sct_desk.specs.Passes.{IsOf};
 
-use super::scenes::{Row, delta_of, first_transfer, open_one, take_row, tells};
+use super::scenes::{Row, delta_of, first_transfer, open_one, receipt_of_row, tells};
 use super::stands;
 use crate::*;
 use sct_case::{RecallStatus, Status};
@@ -100,7 +100,7 @@ fn expect_answered(rt: &impl Abort, alloc: Global, query: &mut Query) {
 fn two_held<J: Site, R: Wait>(rt: &R, alloc: Global, desk: &Desk<J, &R>) -> Option<Receipt>
     ensures { IfSome result (λ receipt. IsOf J.book J.number receipt) }
 {
-    take_row(rt, alloc, desk, Row::CreditTransfer(1, "1.00"))?;
+    receipt_of_row(rt, alloc, desk, Row::CreditTransfer(1, "1.00"))?;
     let accepted = entry_accepted(rt, alloc, desk, 1, Row::StatusReport, 2)?;
     if cuts_all(rt, alloc, desk)? {
         Some(accepted)
@@ -143,7 +143,7 @@ fn expect_unmoved<K: Site, R: Wait + Abort>(
 {
     let (desk, _query) = open_one::<K, R>(rt, alloc, history, track, 2, 2);
     let row = Row::CreditTransfer(1, "1.00");
-    let taken = take_row(rt, alloc, &desk, row).expect(rt, "memory");
+    let taken = receipt_of_row(rt, alloc, &desk, row).expect(rt, "memory");
     query.learn(&taken);
     assert!(rt; stands(alloc, query, &Status::Unknown, 0));
 }

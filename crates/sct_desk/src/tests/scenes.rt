@@ -12,7 +12,7 @@ use sct_element::{Bic, Id35};
 use sct_history::{History, Track};
 use sct_json::read_message;
 use sct_message::{Message, TransferKey};
-use sct_site::SiteCore;
+use sct_site::{SiteCore, Took};
 use std::alloc::{AllocError, Global};
 use std::process::Abort;
 use std::sync::{Arc, Wait};
@@ -56,8 +56,21 @@ pub(crate) fn delta_of(alloc: Global, n: u64, row: Row) -> Option<Delta> {
     Delta::of(entries).ok()
 }
 
-/// The receipt of taking the message of a row. There is none only where memory is wanting.
+/// What comes of taking the message of a row. There is nothing only where memory is wanting.
 pub(crate) fn take_row<J: Site, H: Wait + Drop, W: Wait>(
+    rt: &W,
+    alloc: Global,
+    desk: &Desk<J, H>,
+    row: Row,
+) -> Option<(Took, Receipt)>
+    ensures { IfSome result (λ t. IsOf J.book J.number t.1) }
+{
+    let message = message_of(alloc, row)?;
+    desk.take(rt, alloc, message).ok()
+}
+
+/// The receipt of taking the message of a row. There is none only where memory is wanting.
+pub(crate) fn receipt_of_row<J: Site, H: Wait + Drop, W: Wait>(
     rt: &W,
     alloc: Global,
     desk: &Desk<J, H>,
@@ -65,8 +78,7 @@ pub(crate) fn take_row<J: Site, H: Wait + Drop, W: Wait>(
 ) -> Option<Receipt>
     ensures { IfSome result (λ receipt. IsOf J.book J.number receipt) }
 {
-    let message = message_of(alloc, row)?;
-    let (_, receipt) = desk.take(rt, alloc, message).ok()?;
+    let (_, receipt) = take_row(rt, alloc, desk, row)?;
     Some(receipt)
 }
 

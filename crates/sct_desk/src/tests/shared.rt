@@ -3,7 +3,7 @@
 ghost use Rattle.std.specs.Prelude.{◌≡◌, ◌≤◌, [], IfSome};
 ghost use Rattle.sct_desk.specs.Tilings.{AreOurs};
 
-use super::scenes::{Row, closed_over, first_transfer, open_one, take_row};
+use super::scenes::{Row, closed_over, first_transfer, open_one, receipt_of_row};
 use crate::*;
 use sct_case::Status;
 use sct_history::{History, Track};
@@ -31,7 +31,7 @@ fn take_some<J: Site, H: Wait + Drop, W: Wait>(
     let mut kept = Vec::new(alloc);
     for at in 0..TAKEN {
         let row = Row::CreditTransfer(first + 2 * at, "1.00");
-        let receipt = take_row(rt, alloc, desk, row)?;
+        let receipt = receipt_of_row(rt, alloc, desk, row)?;
         kept.push(receipt).ok()?;
     }
     Some(kept)
