@@ -1,5 +1,4 @@
 -- The lemmas of the program.
-mod Adapters
 mod AgainLemmas
 mod CommandLineLemmas
 mod PieceLemmas

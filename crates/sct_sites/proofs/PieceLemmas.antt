@@ -4,7 +4,7 @@ use Rattle.std.specs.Global.{Vec}
 use Rattle.std.proofs.lemmas.Grind.{flat_map-append, take_at_read}
 use Rattle.std.proofs.lemmas.List.{length-append, nil_from_length, take-append-drop}
 use Rattle.sct_set.specs.Pieces.{joined}
-use Rattle.sct_sites.specs.Stream.{AppendsIfTold, AppendsPrefixIfTold}
+use Rattle.sct_streams.specs.Stream.{AppendsIfTold, AppendsPrefixIfTold}
 use Rattle.sct_sites.proofs.Prefixes.{prefix_after_whole, prefix_of_both}
 
 -- two parts of a text, one after the other

@@ -6,7 +6,8 @@ use Rattle.sct_sites.specs.declared.fault.ProgramFault.{ProgramFault}
 use Rattle.sct_sites.specs.declared.fault.ProgramFault.TheVariants as fault
 use Rattle.sct_sites.specs.Engine.{IsCutOff}
 use Rattle.sct_sites.specs.Fault.{failed_writes}
-use Rattle.sct_sites.specs.Stream.{AppendsIfTold, AppendsPrefixIfTold, EndsWriting}
+use Rattle.sct_sites.specs.Stream.{EndsWriting}
+use Rattle.sct_streams.specs.Stream.{AppendsIfTold, AppendsPrefixIfTold}
 
 -- a prefix of the first part is one of both
 pub prefix_of_both : (before after : Option (List ℕ)) (first second : List ℕ) → AppendsPrefixIfTold before after first

@@ -20,7 +20,7 @@ use Rattle.sct_set.specs.Contents.{Contents}
 use Rattle.sct_script.specs.Replays.{replay_of}
 use Rattle.sct_script.specs.Scripts as script
 use Rattle.sct_script.specs.Scripts.{sites_told}
-use Rattle.sct_sites.specs.Stream.{AppendsIfTold, AppendsPrefixIfTold}
+use Rattle.sct_streams.specs.Stream.{AppendsIfTold, AppendsPrefixIfTold}
 
 -- ---- what is asked
 

@@ -13,7 +13,7 @@ use Rattle.sct_sites.specs.Tasks.{bad_row_in, out_text_of, refusals_text_of, IsE
 use Rattle.sct_sites.specs.declared.task.Task.{Task}
 use Rattle.sct_sites.specs.declared.task.Task.TheVariants as task
 use Rattle.sct_run.specs.Runs.{are_sites}
-use Rattle.sct_sites.specs.Stream.{HasTakenIfTold}
+use Rattle.sct_streams.specs.Stream.{HasTakenIfTold}
 
 -- the three streams at one moment: the bytes that standard input has left and that the other two hold, where these are
 -- known, and how many reads and writes of each have failed

@@ -6,10 +6,10 @@ ghost use Rattle.sct_sites.specs.Stream.{EndsWriting};
 
 use crate::engine::Done;
 use crate::fault::ProgramFault;
-use crate::sink::Sink;
 use crate::transfer::write_all;
 use arrayvec::ArrayString;
 use itoa::Buffer;
+use sct_streams::Sink;
 
 /// How a run ended that met no fault of its own.
 #[derive(Debug, Drop)]

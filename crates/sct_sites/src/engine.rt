@@ -37,16 +37,15 @@ ghost use Rattle.sct_sites.specs.Engine.{
   StandsOnList,
 };
 ghost use Rattle.sct_sites.specs.Fault.{failed_reads};
-ghost use Rattle.sct_sites.specs.Stream.{HasTakenIfTold};
+ghost use Rattle.sct_streams.specs.Stream.{HasTakenIfTold};
 
 use crate::answers::{Answer, Question, answer_of_messages};
 use crate::fault::ProgramFault;
 use crate::replays::answer_of_script;
-use crate::sink::Sink;
-use crate::source::Source;
 use crate::transfer::{MOST_BYTES, read_all, write_all, write_pieces};
 use sct_element::{Bic, Day};
 use sct_reconcile::List;
+use sct_streams::{Sink, Source};
 use std::alloc::Global;
 use std::thread::Threads;
 

@@ -4,8 +4,8 @@ ghost use Rattle.sct_sites.specs.declared.fault.ProgramFault.TheVariants as faul
 ghost use Rattle.sct_sites.specs.Stream.{EndsFile};
 
 use crate::fault::ProgramFault;
-use crate::source::Reading;
 use crate::transfer::{MOST_BYTES, read_all};
+use sct_streams::Reading;
 use std::alloc::Global;
 use std::marker::Brand;
 use std::rt::Files;

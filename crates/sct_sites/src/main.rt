@@ -5,7 +5,6 @@ mod answers;
 mod commands;
 mod ending;
 mod engine;
-mod failures;
 mod fault;
 mod files;
 mod holding;
@@ -13,8 +12,6 @@ mod program;
 mod replays;
 mod request;
 mod settling;
-mod sink;
-mod source;
 mod task;
 mod transfer;
 

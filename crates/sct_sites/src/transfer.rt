@@ -2,11 +2,11 @@
 ghost use Rattle.std.specs.Prelude.{◌≡◌, ◌+◌, ◌<◌, ◌≤◌, ◌++◌, [], Some, take, length, vec_len, IsOk, IfOk, IfErr, IfSome, OnOk, OnErr};
 ghost use Rattle.sct_set.specs.Pieces.{joined};
 ghost use Rattle.sct_sites.specs.Fault.{failed_reads, failed_writes};
-ghost use Rattle.sct_sites.specs.Stream.{AppendsIfTold, AppendsPrefixIfTold, EndsReading, EndsWriting, Gives, HasReadIfTold, HasTakenIfTold};
+ghost use Rattle.sct_sites.specs.Stream.{EndsReading, EndsWriting};
+ghost use Rattle.sct_streams.specs.Stream.{AppendsIfTold, AppendsPrefixIfTold, Gives, HasTakenIfTold};
 
 use crate::fault::ProgramFault;
-use crate::sink::Sink;
-use crate::source::{Failed, Source};
+use sct_streams::{Failed, Sink, Source};
 use std::alloc::Global;
 
 /// The most bytes that one input may have.

@@ -3,11 +3,9 @@ ghost use Rattle.std.specs.Prelude.{◌≡◌, Some};
 
 use super::commands::SHELF;
 use crate::engine::{Done, Job, engine};
-use crate::failures::Failures;
 use crate::fault::ProgramFault;
 use crate::program::run;
-use crate::sink::Sink;
-use crate::source::{Failed, Source};
+use sct_streams::{Failed, Failures, Sink, Source};
 use std::alloc::Global;
 use std::marker::Brand;
 use std::sync::Wait;

@@ -2,7 +2,7 @@
 use Rattle.std.proofs.Common.{◌≡◌, ◌+◌, subst, rules, IfErr}
 use Rattle.sct_sites.specs.Ending.{fault_line_of}
 use Rattle.sct_sites.specs.Fault.{failed_writes}
-use Rattle.sct_sites.specs.Stream.{AppendsIfTold, AppendsPrefixIfTold}
+use Rattle.sct_streams.specs.Stream.{AppendsIfTold, AppendsPrefixIfTold}
 use Rattle.sct_sites.proofs.Prefixes.{prefix_of_both, prefix_after_whole, cut_off, one_failed, on_err, on_err_map}
 use Rattle.sct_sites.proofs.ending.tell_fault.Goals as goal
 

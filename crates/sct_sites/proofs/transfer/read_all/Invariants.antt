@@ -1,6 +1,6 @@
 -- The bytes read so far are the front of those that were left.
 use Rattle.std.proofs.Common.{◌≡◌, ◌+◌, ◌≤◌, vec_len, ◌-◌}
-use Rattle.sct_sites.specs.Stream.{HasReadIfTold}
+use Rattle.sct_streams.specs.Stream.{HasReadIfTold}
 use Rattle.sct_sites.proofs.transfer.read_all.Given as goal
 
 abbrev pub invariant-loop-piece : goal.invariant-loop-piece

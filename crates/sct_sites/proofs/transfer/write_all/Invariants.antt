@@ -1,6 +1,6 @@
 -- The bytes written so far are the front of the text.
 use Rattle.std.proofs.Common.{length, ◌-◌, ◌≡◌, ◌≤◌, take}
-use Rattle.sct_sites.specs.Stream.{AppendsIfTold}
+use Rattle.sct_streams.specs.Stream.{AppendsIfTold}
 use Rattle.sct_sites.proofs.transfer.write_all.Given as goal
 
 abbrev pub invariant-loop-done : goal.invariant-loop-done

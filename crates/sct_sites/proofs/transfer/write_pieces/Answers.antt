@@ -2,7 +2,7 @@
 use Rattle.std.proofs.Common.{◌∙◌, subst, arith}
 use Rattle.std.proofs.lemmas.List.{take_all}
 use Rattle.sct_set.specs.Pieces.{joined}
-use Rattle.sct_sites.specs.Stream.{AppendsIfTold, AppendsPrefixIfTold}
+use Rattle.sct_streams.specs.Stream.{AppendsIfTold, AppendsPrefixIfTold}
 use Rattle.sct_sites.proofs.PieceLemmas.{never, piece_appended, piece_cut_off, piece_empty}
 use Rattle.sct_sites.proofs.Prefixes.{on_err}
 use Rattle.sct_sites.proofs.transfer.write_pieces.Goals as goal

@@ -1,7 +1,7 @@
 -- The pieces written so far are the front of the text.
 use Rattle.std.proofs.Common.{◌≡◌, [], take}
 use Rattle.sct_set.specs.Pieces.{joined}
-use Rattle.sct_sites.specs.Stream.{AppendsIfTold}
+use Rattle.sct_streams.specs.Stream.{AppendsIfTold}
 use Rattle.sct_sites.proofs.transfer.write_pieces.Given as goal
 
 abbrev pub invariant-loop-piece : goal.invariant-loop-piece

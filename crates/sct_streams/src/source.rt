@@ -1,6 +1,6 @@
 //! What the program reads from.
 ghost use Rattle.std.specs.Prelude.{◌≡◌, ◌+◌, ◌≤◌, ℕ, List, Option, None, length, IfOk, IfSome, OnOk, OnErr};
-ghost use Rattle.sct_sites.specs.Stream.{Gives, HasTakenIfTold};
+ghost use Rattle.sct_streams.specs.Stream.{Gives, HasTakenIfTold};
 
 use crate::failures::Failures;
 use std::io;

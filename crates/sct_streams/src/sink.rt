@@ -1,6 +1,6 @@
 //! What the program writes to.
 ghost use Rattle.std.specs.Prelude.{◌≡◌, ◌+◌, ◌<◌, ◌≤◌, ◌≢◌, [], ℕ, List, Option, None, length, take, IfOk, IfSome, OnOk, OnErr};
-ghost use Rattle.sct_sites.specs.Stream.{AppendsIfTold};
+ghost use Rattle.sct_streams.specs.Stream.{AppendsIfTold};
 
 use crate::failures::Failures;
 use crate::source::Failed;

@@ -1,7 +1,7 @@
 -- What the readers and writers of std tell of their bytes, in the words of a source and of a sink.
 use Rattle.std.proofs.Common.{◌≡◌, ℕ, ◌<◌, List, [], ◌++◌, Option, Some, None, length, take, IfSome, refl, sym, ap, ◌∙◌, append-nil, arith}
 use Rattle.std.specs.Io.KnownBytes.{Consumes, Appends, Keeps, IsAtEnd}
-use Rattle.sct_sites.specs.Stream.{AppendsIfTold, Gives, HasTakenIfTold}
+use Rattle.sct_streams.specs.Stream.{AppendsIfTold, Gives, HasTakenIfTold}
 
 pub read_gives : (before after : Option (List ℕ)) (n : ℕ) (piece : List ℕ) → Consumes before after (take n piece)
     → (n ≡ 0 → 0 < length piece → IsAtEnd after) → IfSome before (λ bytes. Gives bytes n (length piece) piece after)

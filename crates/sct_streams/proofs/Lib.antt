@@ -1,0 +1,2 @@
+-- The lemmas behind the streams of bytes.
+mod Adapters

@@ -1,0 +1,2 @@
+-- The definitions of streams of bytes.
+pub mod Stream
