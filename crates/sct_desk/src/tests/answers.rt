@@ -1,33 +1,57 @@
-//! What queries answer, of one site and of another.
+//! What a desk and its query answer.
 
 ghost use Rattle.std.specs.Prelude.{◌≡◌, [], IfSome};
 ghost use Rattle.sct_desk.specs.Passes.{IsOf};
 
-use super::scenes::{Row, delta_of, first_transfer, open_one, receipt_of_row, tells};
+use super::scenes::{credit_transfer, first_transfer, message_of, open_one, receipt_of};
 use super::stands;
 use crate::*;
 use sct_case::{RecallStatus, Status};
-use sct_delta::{DeltaFault, Entry, Vector};
+use sct_delta::{Delta, DeltaFault, Entry, Vector};
 use sct_element::Id35;
 use sct_history::{History, Track};
-use sct_message::RecallKey;
+use sct_message::{Message, RecallKey};
 use sct_site::Accepted;
 use std::alloc::Global;
 use std::marker::Brand;
 use std::process::Abort;
-use std::sync::Wait;
+use std::sync::{Arc, Wait};
+
+// The positive confirmation C1 of the transfer T1.
+const CONFIRMATION: &str =
+    r#"{"MsgNmId":"pacs.002","MsgId":"C1","CreDtTm":"2024-05-02T10:00:02Z","InstgAgt":"BANQFRPP","OrgnlMsgId":"M1","OrgnlMsgNmId":"pacs.008","OrgnlTxId":"T1","TxSts":"ACCP","DbtrAgt":"BANKDEFF"}"#;
+
+// The message as an entry of site 2, with this number.
+fn delta_of(alloc: Global, n: u64, message: Arc<Message>) -> Option<Delta> {
+    let mut entries = Vec::new(alloc);
+    let entry = Entry {
+        origin: 2,
+        n,
+        message,
+    };
+    entries.push(entry).ok()?;
+    Delta::of(entries).ok()
+}
+
+// Whether a receipt of site 1 tells of this position alone, which did not come by an earlier call.
+fn tells(receipt: &Receipt, position: u64) -> bool {
+    receipt.site() == 1
+        && receipt.from() == position
+        && receipt.count() == 1
+        && receipt.carried() == 0
+}
 
 // What comes of an entry of site 2.
-fn accept_row<J: Site, H: Wait + Drop, W: Wait>(
+fn accept_entry<J: Site, H: Wait + Drop, W: Wait>(
     rt: &W,
     alloc: Global,
     desk: &Desk<J, H>,
     n: u64,
-    row: Row,
+    message: Arc<Message>,
 ) -> Option<(Result<Accepted, DeltaFault>, Receipt)>
     ensures { IfSome result (λ t. IsOf J.book J.number t.1) }
 {
-    let delta = delta_of(alloc, n, row)?;
+    let delta = delta_of(alloc, n, message)?;
     desk.accept(rt, alloc, &delta).ok()
 }
 
@@ -38,13 +62,13 @@ fn entry_accepted<J: Site, R: Wait>(
     alloc: Global,
     desk: &Desk<J, &R>,
     n: u64,
-    row: Row,
+    message: Arc<Message>,
     position: u64,
 ) -> Option<Receipt>
     ensures { IfSome result (λ receipt. IsOf J.book J.number receipt) }
 {
-    let (answer, receipt) = accept_row(rt, alloc, desk, n, row)?;
-    if answer != Ok(Accepted { fresh: 1 }) || !tells(&receipt, position, 1) {
+    let (answer, receipt) = accept_entry(rt, alloc, desk, n, message)?;
+    if answer != Ok(Accepted { fresh: 1 }) || !tells(&receipt, position) {
         return None;
     }
     Some(receipt)
@@ -100,8 +124,8 @@ fn expect_answered(rt: &impl Abort, alloc: Global, query: &mut Query) {
 fn two_held<J: Site, R: Wait>(rt: &R, alloc: Global, desk: &Desk<J, &R>) -> Option<Receipt>
     ensures { IfSome result (λ receipt. IsOf J.book J.number receipt) }
 {
-    receipt_of_row(rt, alloc, desk, Row::CreditTransfer(1, "1.00"))?;
-    let accepted = entry_accepted(rt, alloc, desk, 1, Row::StatusReport, 2)?;
+    receipt_of(rt, alloc, desk, 1)?;
+    let accepted = entry_accepted(rt, alloc, desk, 1, message_of(alloc, CONFIRMATION)?, 2)?;
     if cuts_all(rt, alloc, desk)? {
         Some(accepted)
     } else {
@@ -118,7 +142,8 @@ fn expect_answers<J: Site, R: Wait + Abort>(rt: &R, alloc: Global, history: Hist
     let accepted = two_held(rt, alloc, &desk).expect(rt, "two messages");
     query.learn(&accepted);
     expect_answered(rt, alloc, &mut query);
-    let later = entry_accepted(rt, alloc, &desk, 2, Row::CreditTransfer(2, "2.00"), 3);
+    let other = credit_transfer(alloc, 2, "2.00").expect(rt, "memory");
+    let later = entry_accepted(rt, alloc, &desk, 2, other, 3);
     assert!(rt; later.is_some());
 }
 
@@ -126,40 +151,4 @@ fn expect_answers<J: Site, R: Wait + Abort>(rt: &R, alloc: Global, history: Hist
 fn desk_answers(rt: HostRuntime) {
     let (history, track) = History::open();
     expect_answers::<Brand, HostRuntime>(&rt, rt.alloc(), history, track);
-}
-
-// A receipt of a desk of site 2 teaches a query of site 1 nothing.
-fn expect_unmoved<K: Site, R: Wait + Abort>(
-    rt: &R,
-    alloc: Global,
-    history: History,
-    track: Track,
-    query: &mut Query,
-)
-    requires history { history ≡ K.book }
-    requires track { (track.book ≡ K.book) × (track.log ≡ []) }
-    requires site { (2 ≡ K.number) × (2 ≡ K.group) }
-    requires other { query.old.site ≡ 1 }
-{
-    let (desk, _query) = open_one::<K, R>(rt, alloc, history, track, 2, 2);
-    let row = Row::CreditTransfer(1, "1.00");
-    let taken = receipt_of_row(rt, alloc, &desk, row).expect(rt, "memory");
-    query.learn(&taken);
-    assert!(rt; stands(alloc, query, &Status::Unknown, 0));
-}
-
-fn expect_apart<J: Site, R: Wait + Abort>(rt: &R, alloc: Global, history: History, track: Track)
-    requires history { history ≡ J.book }
-    requires track { (track.book ≡ J.book) × (track.log ≡ []) }
-    requires site { (1 ≡ J.number) × (2 ≡ J.group) }
-{
-    let (_desk, mut query) = open_one::<J, R>(rt, alloc, history, track, 1, 2);
-    let (other, first) = History::open();
-    expect_unmoved::<Brand, R>(rt, alloc, other, first, &mut query);
-}
-
-#[test]
-fn desks_apart(rt: HostRuntime) {
-    let (history, track) = History::open();
-    expect_apart::<Brand, HostRuntime>(&rt, rt.alloc(), history, track);
 }

@@ -1,9 +1,9 @@
 //! A desk that three threads share.
 
-ghost use Rattle.std.specs.Prelude.{◌≡◌, ◌≤◌, [], IfSome};
+ghost use Rattle.std.specs.Prelude.{◌≡◌, [], IfSome};
 ghost use Rattle.sct_desk.specs.Tilings.{AreOurs};
 
-use super::scenes::{Row, closed_over, first_transfer, open_one, receipt_of_row};
+use super::scenes::{closed_over, first_transfer, open_one, take_some};
 use crate::*;
 use sct_case::Status;
 use sct_history::{History, Track};
@@ -17,25 +17,6 @@ use std::thread::Threads;
 
 /// A taker takes so many messages, every other one.
 const TAKEN: u64 = 50;
-
-// Takes the messages from `first` on, every other one.
-fn take_some<J: Site, H: Wait + Drop, W: Wait>(
-    rt: &W,
-    alloc: Global,
-    desk: &Desk<J, H>,
-    first: u64,
-) -> Option<Vec<Receipt>>
-    requires { first ≤ 2 }
-    ensures { IfSome result (λ kept. AreOurs J.book J.number kept.items) }
-{
-    let mut kept = Vec::new(alloc);
-    for at in 0..TAKEN {
-        let row = Row::CreditTransfer(first + 2 * at, "1.00");
-        let receipt = receipt_of_row(rt, alloc, desk, row)?;
-        kept.push(receipt).ok()?;
-    }
-    Some(kept)
-}
 
 // All receipts of the two.
 fn joined<J: Site>(one: Option<Vec<Receipt>>, other: Option<Vec<Receipt>>) -> Option<Vec<Receipt>>
@@ -60,10 +41,10 @@ fn two_takers<J: Site + Send + Sync, H: Wait + Drop + Send + Sync, R: Threads + 
         rt,
         || -> Option<Vec<Receipt>>
             ensures { IfSome result (λ kept. AreOurs J.book J.number kept.items) }
-        { take_some(rt, alloc, desk, 1) },
+        { take_some(rt, alloc, desk, 1, TAKEN) },
         || -> Option<Vec<Receipt>>
             ensures { IfSome result (λ kept. AreOurs J.book J.number kept.items) }
-        { take_some(rt, alloc, desk, 2) },
+        { take_some(rt, alloc, desk, 2, TAKEN) },
     );
     joined::<J>(odd, even)
 }
