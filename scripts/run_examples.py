@@ -19,7 +19,7 @@ scripts/reference_status.py, from the definitions alone, and is the same on any 
 as many as there are). Its lines in turn are sixteen files, of which `run` must answer the same status text, again on any number of
 processors. The two small files are taken at two sites side by side: the answer must be one, however these are scheduled.
 
-The test `desk_shared` of crates/sct_desk, as `rt test` and the gate leave it there, must pass each time and say the same.
+The test `desk_shared` of crates/sct_desk_trials, as `rt test` and the gate leave it there, must pass each time and say the same.
 
 Usage: run_examples.py [PROGRAM]   (else the program that `rt run` and the gate leave in crates/sct_sites/out)
 """
@@ -195,9 +195,9 @@ def all_fit(program, ones):
 
 def is_shared_alike():
     """Whether the test of a desk that three threads share passes each time, with one output."""
-    tests = TOP / "crates" / "sct_desk" / "out" / "sct_desk_tests"
+    tests = TOP / "crates" / "sct_desk_trials" / "out" / "sct_desk_trials_tests"
     if not tests.is_file():
-        sys.exit(f"run_examples: there are no tests {tests}; `rt test` in crates/sct_desk makes them")
+        sys.exit(f"run_examples: there are no tests {tests}; `rt test` in crates/sct_desk_trials makes them")
     runner = pathlib.Path(os.path.realpath(shutil.which("rt"))).with_name("rattle-test")
     told = [subprocess.run([runner, "--filter", "desk_shared", tests], capture_output=True, text=True) for _ in range(DESKS)]
     right = all(it.returncode == 0 and "1 passed" in it.stdout for it in told) and len({it.stdout for it in told}) == 1

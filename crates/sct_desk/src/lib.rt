@@ -23,6 +23,3 @@ pub use fault::DeskFault;
 pub use query::{Answer, Query};
 pub use receipt::Receipt;
 pub use site::Site;
-
-#[cfg(test)]
-mod tests;

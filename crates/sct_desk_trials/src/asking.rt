@@ -9,8 +9,8 @@ use sct_element::{Bic, Id35};
 use sct_message::{RecallKey, TransferKey};
 use std::alloc::Global;
 
-// The transfer T1 of BANKDEFF.
-fn first_transfer() -> Result<TransferKey> {
+/// The transfer T1 of BANKDEFF.
+pub fn first_transfer() -> Result<TransferKey> {
     Ok(TransferKey {
         debtor_agent: Bic::read("BANKDEFF")?,
         tx: Id35::read("T1")?,

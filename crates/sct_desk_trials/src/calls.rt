@@ -1,6 +1,6 @@
 //! Calls of one desk, line by line.
 
-ghost use Rattle.std.specs.Prelude.{◌≡◌, []};
+ghost use Rattle.std.specs.Prelude.{◌≡◌, [], IfSome};
 ghost use Rattle.sct_desk.specs.Tilings.{AreOurs};
 
 use crate::asking::{findings_text, recall_text, status_text, totals_text};
@@ -37,6 +37,14 @@ fn open_text<W: Wait>(rt: &W, alloc: Global, numbers: &str) -> Result<String> {
     opened_text(rt, alloc, group.parse()?, places.parse()?)
 }
 
+// The last of a desk's receipts.
+fn last_of<J: Site>(receipts: &[Receipt]) -> Option<&Receipt>
+    requires { AreOurs J.book J.number receipts.now }
+    ensures { IfSome result (λ receipt. receipt.now.site ≡ J.number → receipt.now.book ≡ J.book) }
+{
+    receipts.last()
+}
+
 /// A desk and its query, the receipts of its calls, and the message that is taken next.
 #[derive(Drop)]
 struct DeskTrial<J: Site, H: Wait + Drop> {
@@ -70,6 +78,15 @@ impl<J: Site, H: Wait + Drop> DeskTrial<J, H> {
         let text = taken_text(self.alloc, &took, &receipt)?;
         self.receipts.push(receipt)?;
         Ok(text)
+    }
+
+    // Has the query learn the last receipt.
+    fn learn(&mut self) -> Result<String> {
+        let Some(receipt) = last_of::<J>(&self.receipts) else {
+            bail!("no receipt yet");
+        };
+        self.query.learn(receipt);
+        Ok(format!(in self.alloc; "learned\n")?)
     }
 
     // Has the query learn the receipt of another site's desk that takes the message.
@@ -134,6 +151,7 @@ impl<J: Site, H: Wait + Drop> DeskTrial<J, H> {
         match line {
             "" => Ok(String::new(self.alloc)),
             "take" => self.take(rt),
+            "learn" => self.learn(),
             "other" => self.learn_other(rt),
             "cut" => self.cut(rt),
             "publish" => self.publish(rt),

@@ -4,13 +4,13 @@
 //! group of N sites. A JSON text is read as the message, and `read` is printed. `take` takes the message, and prints `taken` and
 //! its number or `repeat`, and the receipt's from, count and carried; `accept N` hands it over as entry N of site 2, and prints
 //! `accepted` and how many were fresh or `refused` and the number of the fault, and the receipt; `cut` cuts all, and prints each
-//! entry as its origin and number, and the receipt; `publish` publishes, and prints the receipt. `other` has the query learn the
-//! receipt of a new desk of site 2 that takes the message, which it prints. `ask` prints where the transfer T1 of BANKDEFF
-//! stands, `findings` how many findings there are on it, `recall ID` where its recall ID stands, `totals` how many transfers
-//! BANKDEFF sent and how many cents, each with the number of arrivals on which the answer stands. `open GROUP PLACES` opens
-//! another desk, and prints `opened` and how many queries it has. An empty line does nothing. At the end the desk is closed with
-//! all receipts, and `closed` is printed with the number of arrivals. Where a desk refuses, the number of the fault is printed in
-//! place of an answer, and the position that it tells.
+//! entry as its origin and number, and the receipt; `publish` publishes, and prints the receipt. `learn` has the query learn the
+//! last receipt, and prints `learned`; `other` has it learn the receipt of a new desk of site 2 that takes the message, which it
+//! prints. `ask` prints where the transfer T1 of BANKDEFF stands, `findings` how many findings there are on it, `recall ID` where
+//! its recall ID stands, `totals` how many transfers BANKDEFF sent and how many cents, each with the number of arrivals on which
+//! the answer stands. `open GROUP PLACES` opens another desk, and prints `opened` and how many queries it has. An empty line does
+//! nothing. At the end the desk is closed with all receipts, and `closed` is printed with the number of arrivals. Where a desk
+//! refuses, the number of the fault is printed in place of an answer, and the position that it tells.
 //!
 //! `times N`: one thread takes N credit transfers, each of a transfer of its own, while another asks for the last of them until
 //! it is known. The nanoseconds of each take are printed, of each of these answers, and of as many more once nothing is taken.
@@ -80,3 +80,6 @@ fn main(rt: HostRuntime) -> Result<()> {
     out.flush()?;
     Ok(())
 }
+
+#[cfg(test)]
+mod tests;

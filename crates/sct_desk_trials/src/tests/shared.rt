@@ -3,9 +3,10 @@
 ghost use Rattle.std.specs.Prelude.{◌≡◌, [], IfSome};
 ghost use Rattle.sct_desk.specs.Tilings.{AreOurs};
 
-use super::scenes::{closed_over, first_transfer, open_one, take_some};
-use crate::*;
+use super::scenes::{closed_over, open_one, take_some};
+use crate::asking::first_transfer;
 use sct_case::Status;
+use sct_desk::{Desk, Query, Receipt, Site};
 use sct_history::{History, Track};
 use sct_message::TransferKey;
 use std::alloc::Global;
@@ -109,7 +110,7 @@ fn expect_shared<J: Site + Send + Sync, R: Threads + Wait + Abort + Sync>(
     requires site { (1 ≡ J.number) × (1 ≡ J.group) }
 {
     let (desk, query) = open_one::<J, R>(rt, alloc, history, track, 1, 1);
-    let transfer = first_transfer().expect(rt, "a transfer");
+    let transfer = first_transfer().ok().expect(rt, "a transfer");
     let (rose, kept) = three_threads(rt, alloc, &desk, query, transfer);
     assert!(rt; rose, "a front fell, or T1 was not seen");
     let receipts = kept.expect(rt, "receipts of all calls");

@@ -1,4 +1,4 @@
-use Rattle.sct_desk.proofs.tests.scenes.open_one.Goals as goal
+use Rattle.sct_desk_trials.proofs.tests.scenes.open_one.Goals as goal
 
 pub one_of-requires : goal.one_of-requires
 one_of-requires g c = c.in-Ok.ensures.queries

@@ -6,31 +6,25 @@ ghost use Rattle.sct_desk.specs.Openings.{IsNewQuery};
 ghost use Rattle.sct_desk.specs.Passes.{IsOf};
 ghost use Rattle.sct_desk.specs.Tilings.{AreOurs};
 
-use crate::*;
-use sct_element::{Bic, Id35};
+use sct_desk::{Desk, Query, Receipt, Site};
 use sct_history::{History, Track};
 use sct_json::read_message;
-use sct_message::{Message, TransferKey};
+use sct_message::Message;
 use sct_site::SiteCore;
 use std::alloc::Global;
 use std::process::Abort;
 use std::sync::{Arc, Wait};
 
-/// The message of a text. There is none only where memory is wanting.
-pub(crate) fn message_of(alloc: Global, text: &str) -> Option<Arc<Message>> {
-    let message = read_message(alloc, text.as_bytes()).ok()?;
+// The credit transfer of this number, of 100 cents. There is none only where memory is wanting.
+fn credit_transfer(alloc: Global, at: u64) -> Option<Arc<Message>> {
+    let text = format!(in alloc;
+        r#"{{"MsgNmId":"pacs.008","MsgId":"M{at}","CreDtTm":"2024-05-02T10:00:00Z","InstgAgt":"BANKDEFF","IntrBkSttlmDt":"2024-05-02","SvcLvl":"SEPA","LclInstrm":"INST","EndToEndId":"E1","TxId":"T{at}","IntrBkSttlmAmt":"1.00","Ccy":"EUR","ChrgBr":"SLEV","Dbtr":"Anna Weber","DbtrAcct":"DE89370400440532013000","DbtrAgt":"BANKDEFF","CdtrAgt":"BANQFRPP","Cdtr":"Bo Maes","CdtrAcct":"BE68539007547034"}}"#
+    );
+    let message = read_message(alloc, text.ok()?.as_bytes()).ok()?;
     Arc::new(alloc, message).ok()
 }
 
-/// The credit transfer of this number and amount. There is none only where memory is wanting.
-pub(crate) fn credit_transfer(alloc: Global, at: u64, amount: &str) -> Option<Arc<Message>> {
-    let text = format!(in alloc;
-        r#"{{"MsgNmId":"pacs.008","MsgId":"M{at}","CreDtTm":"2024-05-02T10:00:00Z","InstgAgt":"BANKDEFF","IntrBkSttlmDt":"2024-05-02","SvcLvl":"SEPA","LclInstrm":"INST","EndToEndId":"E1","TxId":"T{at}","IntrBkSttlmAmt":"{amount}","Ccy":"EUR","ChrgBr":"SLEV","Dbtr":"Anna Weber","DbtrAcct":"DE89370400440532013000","DbtrAgt":"BANKDEFF","CdtrAgt":"BANQFRPP","Cdtr":"Bo Maes","CdtrAcct":"BE68539007547034"}}"#
-    );
-    message_of(alloc, text.ok()?.as_str())
-}
-
-/// The receipt of taking the credit transfer of this number, of 100 cents. There is none only where memory is wanting.
+/// The receipt of taking the credit transfer of this number. There is none only where memory is wanting.
 pub(crate) fn receipt_of<J: Site, H: Wait + Drop, W: Wait>(
     rt: &W,
     alloc: Global,
@@ -39,7 +33,7 @@ pub(crate) fn receipt_of<J: Site, H: Wait + Drop, W: Wait>(
 ) -> Option<Receipt>
     ensures { IfSome result (λ receipt. IsOf J.book J.number receipt) }
 {
-    let message = credit_transfer(alloc, at, "1.00")?;
+    let message = credit_transfer(alloc, at)?;
     let (_, receipt) = desk.take(rt, alloc, message).ok()?;
     Some(receipt)
 }
@@ -80,14 +74,6 @@ pub(crate) fn closed_over<J: Site, H: Wait + Drop>(
         Ok(core) => Some(sizes_of(&core)),
         Err(_) => None,
     }
-}
-
-/// The transfer T1.
-pub(crate) fn first_transfer() -> Option<TransferKey> {
-    Some(TransferKey {
-        debtor_agent: Bic::read("BANKDEFF").ok()?,
-        tx: Id35::read("T1").ok()?,
-    })
 }
 
 // One of the queries of a desk, which has seen nothing.
