@@ -5,6 +5,7 @@ mod scenes;
 use crate::*;
 use scenes::{Row, expect_accepted, expect_held, expect_refused, expect_taken, site_of};
 use sct_delta::DeltaFault;
+use std::alloc::Global;
 
 static NONE: [Row; 0] = [];
 
@@ -45,18 +46,22 @@ static BY_AND_BY: [Row; 4] = [
 
 static ABOVE: [Row; 3] = [Row(1, 2, "C2"), Row(1, 3, "C3"), Row(2, 1, "C5")];
 
+// Numbers and groups that are none.
+static NO_SITES: [(u16, u16); 5] = [(0, 3), (4, 3), (1, 0), (1, 65), (65, 65)];
+
+// The number and the group of a new site, and how many entries it has of its own.
+fn opened(alloc: Global, number: u16, group: u16) -> Result<(u16, u16, u64), DeltaFault> {
+    let site = SiteCore::open(alloc, number, group)?;
+    Ok((site.number(), site.group(), site.vector().get(number)))
+}
+
 #[test]
 fn sites_are_numbered_within_their_group(rt: HostRuntime) {
-    for (number, group) in [(0, 3), (4, 3), (1, 0), (1, 65), (65, 65)] {
-        let refusal = SiteCore::open(rt.alloc(), number, group)
-            .err()
-            .expect(&rt, "a refusal");
-        assert_eq!(rt; refusal, DeltaFault::BadSite);
+    for (number, group) in &NO_SITES {
+        let refused = opened(rt.alloc(), *number, *group);
+        assert!(rt; refused == Err(DeltaFault::BadSite));
     }
-    let site = SiteCore::open(rt.alloc(), 64, 64).expect(&rt, "a site");
-    assert_eq!(rt; site.number(), 64);
-    assert_eq!(rt; site.group(), 64);
-    assert_eq!(rt; site.vector().get(64), 0);
+    assert!(rt; opened(rt.alloc(), 64, 64) == Ok((64, 64, 0)));
 }
 
 #[test]

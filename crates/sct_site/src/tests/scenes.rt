@@ -92,13 +92,16 @@ pub(crate) fn expect_refused(
     assert_eq!(rt; refusal, *wanted);
 }
 
+// Whether the entry is that of the row.
+fn is_of_row(entry: &Entry, row: &Row) -> bool {
+    entry.origin == row.0 && entry.n == row.1 && entry.message.identity().msg_id.text() == row.2
+}
+
 // Compares entries with rows.
 fn expect_entries(rt: &impl Abort, entries: &[Entry], wanted: &[Row]) {
     assert_eq!(rt; entries.len(), wanted.len());
     for (entry, row) in entries.iter().zip(wanted) {
-        assert_eq!(rt; entry.origin, row.0);
-        assert_eq!(rt; entry.n, row.1);
-        assert_eq!(rt; entry.message.identity().msg_id.text(), row.2);
+        assert!(rt; is_of_row(entry, row));
     }
 }
 
