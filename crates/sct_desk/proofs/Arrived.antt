@@ -1,7 +1,7 @@
 -- What the events of a site leave under a desk's lock.
-use Rattle.std.proofs.Common.{◌≡◌, ◌∙◌, refl, ap, sym, subst, ℕ, ◌≤◌, ◌<◌, ◌+◌, ◌-◌, Bool, true, false, not, List, [], ◌∷◌, ◌++◌, take, filter, length, arith, length-append, nat_eq}
+use Rattle.std.proofs.Common.{◌≡◌, ◌∙◌, refl, ap, sym, subst, ℕ, ◌≤◌, ◌+◌, ◌-◌, Bool, true, false, not, List, [], ◌∷◌, take, length, arith, length-append, nat_eq}
 use Rattle.std.specs.Prelude.{◌≢◌, Option, Some, None, MatchOption, Result, Ok, Err, IfOk, IfErr, OnOk, OnErr}
-use Rattle.std.proofs.lemmas.List.{append-nil, take-append-le}
+use Rattle.std.proofs.lemmas.List.{take-append-le}
 use Rattle.std.proofs.lemmas.List.Filters.{length-filter_both}
 use Rattle.std.proofs.lemmas.Bool.Decides.{nat_tests}
 use Rattle.std.proofs.Math.Seq.{take-append_seam}
@@ -19,11 +19,10 @@ use Rattle.sct_site.specs.declared.answers.Accepted.{Accepted}
 use Rattle.sct_desk.specs.declared.shown.Shown.{Shown}
 use Rattle.sct_desk.specs.declared.shown.Batch.{Batch}
 use Rattle.sct_desk.specs.declared.fault.DeskFault.{DeskFault}
-use Rattle.sct_desk.specs.declared.fault.DeskFault.TheVariants as fault
 use Rattle.sct_desk.specs.HeldOk.{IsHeld}
 use Rattle.sct_desk.specs.Locked.{Locked, Fails, IsWant, answer_for, answer_to, arrivals_for, arrivals_handed, came_by_delta, came_by_take, unpublished}
 use Rattle.sct_desk.specs.Passes.{Told, before}
-use Rattle.sct_desk.specs.Rules.{handed_over, view_of}
+use Rattle.sct_desk.specs.Rules.{view_of}
 
 -- ---- more arrivals
 

@@ -1,5 +1,5 @@
 -- The steps on the published view keep its rule.
-use Rattle.std.proofs.Common.{◌≡◌, ℕ, ◌≢◌, List, [], ◌∷◌, set, refl, subst, ⊎_elim, Some, None, ◌∙◌, sym, Option}
+use Rattle.std.proofs.Common.{◌≡◌, ℕ, ◌≢◌, List, set, refl, subst, ⊎_elim, Some, None, ◌∙◌, sym, Option}
 use mathlib.Core.List.{IsPrefix}
 use mathlib.Core.Option.{some}
 use lib.ListN.{get_elem?}

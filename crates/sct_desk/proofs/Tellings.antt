@@ -1,5 +1,5 @@
 -- How marks count the receipts that tell a position.
-use Rattle.std.proofs.Common.{◌≡◌, ◌∙◌, refl, ap, sym, subst, ℕ, ◌≤◌, ◌<◌, ◌≢◌, ◌+◌, ◌-◌, ◌⊎◌, inl, inr, Bool, true, false, cond, List, [], ◌∷◌, ◌++◌, take, filter, length, arith, length-append, get_or, min}
+use Rattle.std.proofs.Common.{◌≡◌, ◌∙◌, refl, ap, sym, subst, ℕ, ◌≤◌, ◌<◌, ◌≢◌, ◌+◌, ◌-◌, ◌⊎◌, inl, inr, Bool, true, false, cond, List, [], ◌∷◌, ◌++◌, take, filter, length, arith, length-append, get_or}
 use Rattle.std.specs.Prelude.{slice_index, Option, Some, None, MatchOption}
 use Rattle.std.proofs.lemmas.Bool.Decides.{nat_tests}
 use Rattle.std.proofs.lemmas.List.Elements.{filter_more}
@@ -7,7 +7,9 @@ use mathlib.Core.List.{IsPrefix}
 use Rattle.sct_delta.specs.Entries.{Placed}
 use Rattle.sct_history.proofs.Prefixes.{prefix_whole}
 use Rattle.sct_desk.specs.Passes.{Told}
-use Rattle.sct_desk.specs.Tilings.{AllBegin, IsFirstUnmarked, IsLeastUntold, Tiles, tells, tellings, up_to_two}
+use Rattle.sct_desk.specs.Locked.{Locked}
+use Rattle.sct_desk.specs.Tilings.{AllBegin, IsFirstUnmarked, IsLeastUntold, IsPendingFrom, OneShowsMore, Tiles, tells, tellings, up_to_two}
+use Rattle.sct_desk.specs.declared.fault.DeskFault.TheVariants as fault
 
 -- ---- one receipt more
 
@@ -114,3 +116,16 @@ tiles_are number arrivals published rs n pre all most begin once = record {
   once = λ position one last. once position one (omega (arith, last, most));
   begin = subst (λ (l : List Placed). AllBegin number l rs) (prefix_whole published arrivals pre all) begin;
 }
+
+pending_told : (told from : ℕ) → Some (fault.Pending told) ≡ Some (fault.Pending from) → told ≡ from
+pending_told told from e = cc (e)
+
+-- where arrivals are pending, or a receipt shows more than what is published, the first position behind that is told
+pub pending_is : (number : ℕ) (held : Locked) (rs : List Told) (n from : ℕ) → n ≡ length held.published
+    → Some (fault.Pending (n + 1)) ≡ Some (fault.Pending from)
+    → (length held.published + 1 ≤ length held.core.arrivals) ⊎ OneShowsMore number held.published rs
+    → IsPendingFrom number held rs from
+pending_is number held rs n from len told (inl held_back) =
+    let first : from ≡ length held.published + 1 = omega (arith, pending_told (n + 1) from told, len) in
+    (first, inl (first, omega (arith, first, held_back)))
+pending_is number held rs n from len told (inr more) = (omega (arith, pending_told (n + 1) from told, len), inr more)

@@ -1,5 +1,5 @@
 -- What receipts show, and what queries have seen. Read by an auditor.
-use Rattle.std.specs.Prelude.{◌≡◌, ◌+◌, ◌-◌, ◌≤◌, ℕ, List, length, take}
+use Rattle.std.specs.Prelude.{◌≡◌, ◌-◌, ℕ, List, length, take}
 use Rattle.logbook.specs.Pages.{Book}
 use Rattle.sct_delta.specs.Entries.{Placed}
 use Rattle.sct_site.specs.Cores.{Core}

@@ -1,9 +1,10 @@
 -- Receipts that tile a site's arrivals. Read by an auditor.
-use Rattle.std.specs.Prelude.{◌≡◌, ◌≢◌, ◌+◌, ◌<◌, ◌≤◌, ◌-◌, ◌==◌, ◌&&◌, ℕ, Bool, List, length, filter, min, nat_le, nat_lt, slice_index}
-use Rattle.std.specs.List.{All}
+use Rattle.std.specs.Prelude.{◌≡◌, ◌≢◌, ◌+◌, ◌<◌, ◌≤◌, ◌-◌, ◌==◌, ◌&&◌, ◌⊎◌, ℕ, Bool, List, length, filter, min, nat_le, nat_lt, slice_index}
+use Rattle.std.specs.List.{All, Any}
 use mathlib.Core.List.{IsPrefix}
 use Rattle.logbook.specs.Pages.{Book}
 use Rattle.sct_delta.specs.Entries.{Placed}
+use Rattle.sct_desk.specs.Locked.{IsHeldBack, Locked}
 use Rattle.sct_desk.specs.Passes.{Told}
 use Rattle.sct_desk.specs.declared.fault.DeskFault.{DeskFault}
 use Rattle.sct_desk.specs.declared.fault.DeskFault.TheVariants as fault
@@ -38,6 +39,21 @@ abbrev pub FailsToClose : ℕ → List Told → DeskFault → Type 0
 FailsToClose number receipts (fault.Pending from) = 1 ≤ from
 FailsToClose number receipts (fault.Untold position) = IsLeastUntold number receipts position
 FailsToClose number receipts other = ⊥
+
+-- a receipt of this site shows more than all of the arrivals
+abbrev pub ShowsMore : ℕ → List Placed → Told → Type 0
+ShowsMore number arrivals receipt = (receipt.site ≡ number) × (length arrivals < length receipt.shown)
+
+-- one of the receipts does
+abbrev pub OneShowsMore : ℕ → List Placed → List Told → Type 0
+OneShowsMore number arrivals receipts = Any (ShowsMore number arrivals) receipts
+
+-- why a desk is not closed for what is pending from a position on, the first that is not published: some arrival is pending
+-- (or a receipt shows more than what is published, which never comes)
+abbrev pub IsPendingFrom : ℕ → Locked → List Told → ℕ → Type 0
+IsPendingFrom number held receipts from =
+    (from ≡ length held.published + 1)
+    × (IsHeldBack from held ⊎ OneShowsMore number held.published receipts)
 
 -- those of the receipts that have this site's number are of this desk
 abbrev pub AreOurs : Book → ℕ → List Told → Type 0

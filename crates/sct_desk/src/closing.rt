@@ -1,10 +1,22 @@
 //! Whether the receipts of a desk tile its arrivals.
 
-ghost use Rattle.std.specs.Bool.{OnTrue};
 ghost use Rattle.std.specs.List.{All};
-ghost use Rattle.std.specs.Prelude.{◌≡◌, ◌+◌, ◌<◌, ◌≤◌, ◌⊎◌, ℕ, length, slice_index, MatchOption};
+ghost use Rattle.std.specs.Prelude.{◌≡◌, ◌+◌, ◌<◌, ◌≤◌, ◌⊎◌, ℕ, Some, length, slice_index, MatchBool, MatchOption};
 ghost use mathlib.Core.List.{IsPrefix};
-ghost use Rattle.sct_desk.specs.Tilings.{AllBegin, AreOurs, FailsToClose, IsFirstUnmarked, IsLeastUntold, Tiles, tellings, up_to_two};
+ghost use Rattle.sct_desk.specs.Tilings.{
+  AllBegin,
+  AreOurs,
+  FailsToClose,
+  IsFirstUnmarked,
+  IsLeastUntold,
+  IsPendingFrom,
+  OneShowsMore,
+  ShowsMore,
+  Tiles,
+  tellings,
+  up_to_two,
+};
+ghost use Rattle.sct_desk.specs.declared.fault.DeskFault.TheVariants as fault;
 
 use crate::fault::DeskFault;
 use crate::held::Held;
@@ -13,10 +25,11 @@ use crate::site::Site;
 use sct_history::Track;
 use std::sync::Wait;
 
-// What a receipt of this site shows is a beginning of the arrivals.
+// What a receipt of this site shows is a beginning of the arrivals. Else it shows more than all of them.
 fn begins(receipt: &Receipt, number: u16, arrivals: &Track) -> bool
     requires { receipt.now.site ≡ number → receipt.now.book ≡ arrivals.now.book }
-    ensures { OnTrue result (receipt.now.site ≡ number → IsPrefix receipt.now.shown arrivals.now.log) }
+    ensures { MatchBool result (receipt.now.site ≡ number → IsPrefix receipt.now.shown arrivals.now.log)
+        (ShowsMore number arrivals.now.log receipt.now) }
 {
     if receipt.site == number {
         receipt.track.begins(arrivals)
@@ -25,10 +38,11 @@ fn begins(receipt: &Receipt, number: u16, arrivals: &Track) -> bool
     }
 }
 
-// What each receipt of this site shows is a beginning of the arrivals.
+// What each receipt of this site shows is a beginning of the arrivals. Else one shows more than all of them.
 fn all_begin(receipts: &[Receipt], number: u16, arrivals: &Track) -> bool
     requires { AreOurs arrivals.now.book number receipts.now }
-    ensures { OnTrue result (AllBegin number arrivals.now.log receipts.now) }
+    ensures { MatchBool result (AllBegin number arrivals.now.log receipts.now)
+        (OneShowsMore number arrivals.now.log receipts.now) }
 {
     for receipt in receipts {
         if !begins(receipt, number, arrivals) {
@@ -125,6 +139,8 @@ impl<J: Site, R: Wait + Drop> Held<J, R> {
         requires { AreOurs J.book J.number receipts.now }
         ensures same { self.new ≡ self.old }
         ensures tiles { MatchOption result (Tiles J.number self.old.core.arrivals receipts.now) (FailsToClose J.number receipts.now) }
+        ensures pending { (from : ℕ) → result ≡ Some (fault.Pending from)
+            → IsPendingFrom J.number self.old receipts.now from }
     {
         let len = self.core.arrivals().len();
         let number = self.core.number();

@@ -1,8 +1,7 @@
 //! How the arrivals that are pending come to be published.
 
 ghost use Rattle.std.specs.FinSet as set;
-ghost use Rattle.std.specs.Prelude.{◌≡◌, ◌+◌, ◌≤◌, List, [], length, map, take, drop, IfOk, IfErr, OnOk, OnErr};
-ghost use Rattle.std.specs.Bool.{OnTrue};
+ghost use Rattle.std.specs.Prelude.{◌≡◌, ◌+◌, ◌<◌, ◌≤◌, List, [], length, map, take, drop, IfOk, IfErr, MatchBool, OnOk, OnErr};
 ghost use mathlib.Core.List.{IsPrefix};
 ghost use Rattle.sct_delta.specs.Entries.{IsArrivals, messages_of};
 ghost use Rattle.sct_message.specs.Sets.{messages_in};
@@ -41,7 +40,7 @@ fn follow(track: &mut Track, history: &History, arrivals: &[Entry]) -> bool
     requires begins { IsPrefix track.old.log arrivals.now }
     ensures book { track.new.book ≡ track.old.book }
     ensures begins { IsPrefix track.new.log arrivals.now }
-    ensures all { OnTrue result (track.new.log ≡ arrivals.now) }
+    ensures all { MatchBool result (track.new.log ≡ arrivals.now) (length track.new.log < length arrivals.now) }
 {
     let known = track.len() as usize;
     for at in known..arrivals.len() {

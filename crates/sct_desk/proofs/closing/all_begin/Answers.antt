@@ -1,4 +1,4 @@
-use Rattle.std.proofs.Common.{◌≡◌, subst, List, arith}
+use Rattle.std.proofs.Common.{◌≡◌, subst, sym, List, arith}
 use Rattle.std.proofs.lemmas.List.{take_all}
 use Rattle.std.proofs.lemmas.List.Elements.{All-more}
 use mathlib.Core.List.{IsPrefix}
@@ -16,3 +16,7 @@ pub returns : goal.returns
 returns c =
     subst (λ (rs : List Told). AllBegin c.args.number c.args.arrivals.now.log rs)
     (take_all c.loop-receipt.receipt-index c.args.receipts.now (omega (arith, c.loop-receipt-test.false))) c.loop-receipt.invariant
+
+pub returns-then-not-begins : goal.returns-then-not-begins
+returns-then-not-begins c =
+    (c.loop-receipt.receipt-index, c.receipt-item.result, omega (arith, c.loop-receipt-test.true), sym c.receipt-item.is, c.if-not-begins.ensures)

@@ -1,4 +1,4 @@
-use Rattle.std.proofs.Common.{◌∙◌, sym, subst, List, arith}
+use Rattle.std.proofs.Common.{◌∙◌, ap, sym, subst, length, length-take-le, List, arith}
 use mathlib.Core.List.{IsPrefix}
 use Rattle.sct_delta.specs.Entries.{Placed}
 use Rattle.sct_desk.proofs.Batches.{next_arrives, prefix_take}
@@ -10,3 +10,7 @@ add-requires-clause-next c = next_arrives c.args.arrivals.now c.loop-at.track.lo
 pub returns-then-not-add-clause-begins : goal.returns-then-not-add-clause-begins
 returns-then-not-add-clause-begins c =
     subst (λ (l : List Placed). IsPrefix l c.args.arrivals.now) (sym (c.if-not-add.ensures.added ∙ c.loop-at.invariant.1)) (prefix_take c.loop-at.at c.args.arrivals.now)
+
+pub returns-then-not-add-clause-all : goal.returns-then-not-add-clause-all
+returns-then-not-add-clause-all c =
+    omega (arith, ap length (c.if-not-add.ensures.added ∙ c.loop-at.invariant.1), length-take-le c.loop-at.at c.args.arrivals.now (omega (arith, c.loop-at-test.true)), c.loop-at-test.true)
