@@ -64,6 +64,11 @@ fn sites_are_numbered_within_their_group(rt: HostRuntime) {
     assert!(rt; opened(rt.alloc(), 64, 64) == Ok((64, 64, 0)));
 }
 
+// How many arrivals the site has, and how many messages.
+fn counted(site: &SiteCore) -> (usize, usize) {
+    (site.arrivals().len(), site.archive().len())
+}
+
 #[test]
 fn takes_a_message_once(rt: HostRuntime) {
     let mut site = site_of(rt.alloc(), 1, &NONE).expect(&rt, "a site");
@@ -76,8 +81,7 @@ fn takes_a_message_once(rt: HostRuntime) {
 fn a_message_of_two_sites_is_two_entries(rt: HostRuntime) {
     let mut site = site_of(rt.alloc(), 3, &NONE).expect(&rt, "a site");
     expect_accepted(&rt, rt.alloc(), &mut site, &TAKEN_TWICE, 2);
-    assert_eq!(rt; site.arrivals().len(), 2);
-    assert_eq!(rt; site.archive().len(), 1);
+    assert_eq!(rt; counted(&site), (2, 1));
     expect_taken(&rt, rt.alloc(), &mut site, &ONE, &REPEAT);
     expect_held(&rt, rt.alloc(), &site, &TAKEN_TWICE, &[], &TAKEN_TWICE);
 }

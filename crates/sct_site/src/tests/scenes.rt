@@ -40,12 +40,19 @@ pub(crate) fn delta_of(alloc: Global, rows: &[Row]) -> Option<Delta> {
     Delta::of(entries_of(alloc, rows)?).ok()
 }
 
-/// A site of a group of three that took the messages of some rows.
-pub(crate) fn site_of(alloc: Global, number: u16, rows: &[Row]) -> Option<SiteCore> {
-    let mut site = SiteCore::open(alloc, number, 3).ok()?;
-    for entry in entries_of(alloc, rows)? {
+// The site takes the messages of the entries. It fails only where memory is wanting.
+fn take_each(site: &mut SiteCore, entries: Vec<Entry>) -> Option<()> {
+    for entry in entries {
         site.take(entry.message).ok()?;
     }
+    Some(())
+}
+
+/// A site of a group of three that took the messages of some rows.
+pub(crate) fn site_of(alloc: Global, number: u16, rows: &[Row]) -> Option<SiteCore> {
+    let entries = entries_of(alloc, rows)?;
+    let mut site = SiteCore::open(alloc, number, 3).ok()?;
+    take_each(&mut site, entries)?;
     Some(site)
 }
 
