@@ -1,22 +1,7 @@
 //! The program: answers on the messages of standard input, or of files, as the command line asks.
 #![tactic(auto)]
 
-mod answers;
-mod commands;
-mod ending;
-mod engine;
-mod fault;
-mod files;
-mod holding;
-mod program;
-mod replays;
-mod request;
-mod settling;
-mod task;
-mod transfer;
-
-use program::run_over_std;
-use request::read_words;
+use sct_engine::{read_words, run_over_std};
 use std::env;
 use std::marker::Brand;
 use std::process::ExitCode;

@@ -4,12 +4,10 @@ mod fakes;
 mod inputs;
 mod shelf;
 
-use crate::engine::{Done, Job};
-use crate::fault::ProgramFault;
-use crate::transfer::MOST_BYTES;
 use commands::{BOTH, Command, JOBS, REPORTS, RUNS, WORDS};
 use fakes::{Given, run_engine, run_program};
 use inputs::{Case, LINES, REFUSED_AND_TAKEN};
+use sct_engine::{Done, Job, MOST_BYTES, ProgramFault};
 use std::alloc::{AllocError, Global};
 use std::process::Abort;
 use std::sync::Wait;

@@ -1,2 +1,3 @@
 -- The lemmas behind the streams of bytes.
 mod Adapters
+mod Fronts

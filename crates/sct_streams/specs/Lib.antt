@@ -1,2 +1,3 @@
 -- The definitions of streams of bytes.
 pub mod Stream
+pub mod Whole

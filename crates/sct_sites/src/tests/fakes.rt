@@ -2,9 +2,7 @@
 ghost use Rattle.std.specs.Prelude.{◌≡◌, Some};
 
 use super::commands::SHELF;
-use crate::engine::{Done, Job, engine};
-use crate::fault::ProgramFault;
-use crate::program::run;
+use sct_engine::{Done, Job, ProgramFault, engine, run};
 use sct_streams::{Failed, Failures, Sink, Source};
 use std::alloc::Global;
 use std::marker::Brand;

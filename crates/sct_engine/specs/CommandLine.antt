@@ -1,0 +1,98 @@
+-- What the words of a command line ask for, by clap's own definitions. Read by an auditor.
+use Rattle.std.specs.Prelude.{◌≡◌, ◌≢◌, ◌↔◌, true, List, [], ◌∷◌, Option, Some, None, option_and_then, IsTrue, Result, Ok, Err, codes}
+use Rattle.clap.specs.Words.{App, Rule, Text, new_app, new_rule, subcommand_of, with_rule, with_subcommand, fault_of, IsAmong}
+use Rattle.clap.specs.declared.builder.action.ArgAction.TheVariants.{Append}
+use Rattle.clap.specs.declared.error.kind.ErrorKind.{ErrorKind}
+use Rattle.clap.specs.declared.error.kind.ErrorKind.TheVariants as kind
+use Rattle.sct_element.specs.Bank.{written_bic}
+use Rattle.sct_element.specs.Date.{written_day}
+use Rattle.sct_engine.specs.declared.jobs.Job.TheVariants.{Status, Archive, Totals, Replay}
+use Rattle.sct_engine.specs.declared.fault.ProgramFault.{ProgramFault}
+use Rattle.sct_engine.specs.declared.fault.ProgramFault.TheVariants as fault
+use Rattle.sct_engine.specs.declared.request.Request.{Request}
+use Rattle.sct_engine.specs.declared.request.Request.TheVariants.{Help, Mistake}
+use Rattle.sct_engine.specs.Request.{is_mistake, job, order_named, order_of, report, sites, Order}
+
+-- a command that wants one of its subcommands
+abbrev pub wanting_one : App → App
+wanting_one app = record app { top = record app.top { subcommand_required = true } }
+
+-- the commands that tell of each transfer and of each message, one of which is wanted
+abbrev pub listing_commands : App
+listing_commands =
+    with_subcommand (with_subcommand (wanting_one (new_app (codes "sct_sites"))) (new_app (codes "status")).top)
+    (new_app (codes "archive")).top
+
+-- a word that has to stand in its place
+abbrev pub wanted_word : Text → Rule
+wanted_word name = record (new_rule name) { required = true }
+
+-- one word or more
+abbrev pub wanted_words : Text → Rule
+wanted_words name = record (new_rule name) { required = true; action = Some Append }
+
+-- a bank, a day and a file
+abbrev pub report_command : App
+report_command = with_rule (with_rule (with_rule (new_app (codes "report")) (wanted_word (codes "BANK"))) (wanted_word (codes "DAY"))) (wanted_word (codes "LIST"))
+
+-- one file or more
+abbrev pub run_command : App
+run_command = with_rule (new_app (codes "run")) (wanted_words (codes "FILE"))
+
+-- with the commands that sum up and compare
+abbrev pub comparing_commands : App
+comparing_commands = with_subcommand (with_subcommand listing_commands (new_app (codes "totals")).top) report_command.top
+
+-- the program's command line as clap sees it: one command an order, and one of them is wanted
+abbrev pub command_line : App
+command_line = with_subcommand (with_subcommand comparing_commands (new_app (codes "replay")).top) run_command.top
+
+-- what the command orders that clap finds in the words, the first of which is the program's name
+abbrev pub order_asked : List Text → Option Order
+order_asked words = option_and_then (λ found. order_named found.0 found.1) (subcommand_of command_line words)
+
+-- what clap counts as an error and not as a request for help
+abbrev pub IsMistakeKind : ErrorKind → Type 0
+IsMistakeKind k = (k ≢ kind.DisplayHelp) × (k ≢ kind.DisplayVersion)
+
+-- what is asked for is no order but what clap answers by an error of this kind
+abbrev pub AnswersKind : Request → ErrorKind → Type 0
+AnswersKind (Help text) k = IsTrue (is_mistake (Help text)) ↔ IsMistakeKind k
+AnswersKind (Mistake text) k = IsTrue (is_mistake (Mistake text)) ↔ IsMistakeKind k
+AnswersKind _ k = ⊥
+
+-- the words ask for it: for an order, that of the command found in them; for help or as a mistake, where clap has an error
+-- of such a kind for the words
+abbrev pub AsksFor : List Text → Request → Type 0
+AsksFor words (Help text) = (k : ErrorKind) × (IsAmong k (fault_of command_line words) × AnswersKind (Help text) k)
+AsksFor words (Mistake text) = (k : ErrorKind) × (IsAmong k (fault_of command_line words) × AnswersKind (Mistake text) k)
+AsksFor words request = order_asked words ≡ order_of request
+
+-- the same, or why nothing is asked for: want of memory, or no order
+abbrev pub AreAsking : List Text → Result Request ProgramFault → Type 0
+AreAsking words (Ok request) = AsksFor words request
+AreAsking words (Err fault.Memory) = Unit {0}
+AreAsking words (Err fault.Usage) = order_asked words ≡ None
+AreAsking words (Err _) = ⊥
+
+-- clap has no error for the words, and this is what they order, if anything
+pub record AskFor (words : List Text) (order : Option Order) : Type 0 where
+  pub no_error : fault_of command_line words ≡ []
+  pub found : order_asked words ≡ order
+
+-- a report is ordered where the bank and the day are such
+abbrev pub report_from : Text → Text → Text → Option Order
+report_from bank day list =
+    option_and_then (λ b. option_and_then (λ d. Some (report b d list)) (written_day day)) (written_bic bank)
+
+-- each command asks for its order, whatever the program is called; and, behind `--`, whatever the words are
+pub record CommandsAskForTheirOrders : Type 0 where
+  pub status : (program : Text) → AskFor (program ∷ codes "status" ∷ []) (Some (job Status))
+  pub archive : (program : Text) → AskFor (program ∷ codes "archive" ∷ []) (Some (job Archive))
+  pub totals : (program : Text) → AskFor (program ∷ codes "totals" ∷ []) (Some (job Totals))
+  pub replay : (program : Text) → AskFor (program ∷ codes "replay" ∷ []) (Some (job Replay))
+  pub list : (program bank day path : Text)
+      → AskFor (program ∷ codes "report" ∷ codes "--" ∷ bank ∷ day ∷ path ∷ []) (report_from bank day path)
+  pub one_file : (program file : Text) → AskFor (program ∷ codes "run" ∷ codes "--" ∷ file ∷ []) (Some (sites (file ∷ [])))
+  pub two_files : (program file other : Text)
+      → AskFor (program ∷ codes "run" ∷ codes "--" ∷ file ∷ other ∷ []) (Some (sites (file ∷ other ∷ [])))

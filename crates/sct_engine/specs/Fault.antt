@@ -1,0 +1,43 @@
+-- The faults that end a run: their numbers, and what each says of failed calls. Read by an auditor.
+use Rattle.std.specs.Prelude.{ℕ}
+use Rattle.sct_engine.specs.declared.fault.ProgramFault.{ProgramFault}
+use Rattle.sct_engine.specs.declared.fault.ProgramFault.TheVariants.{BadList, TooLong, Held, Read, Write, Usage, Memory, Refused, NoWorker}
+use Rattle.sct_reconcile.specs.declared.fault.ReconcileFault.{ReconcileFault}
+use Rattle.sct_reconcile.specs.declared.fault.ReconcileFault.TheVariants as list
+use Rattle.sct_run.specs.declared.fault.RunFault.{RunFault}
+use Rattle.sct_run.specs.declared.fault.RunFault.TheVariants as run
+
+-- the number of a fault that ends a run
+abbrev pub program_fault_number : ProgramFault → ℕ
+program_fault_number (BadList row) = 48
+program_fault_number TooLong = 60
+program_fault_number Held = 61
+program_fault_number Read = 62
+program_fault_number Write = 63
+program_fault_number Usage = 64
+program_fault_number Memory = 65
+program_fault_number (Refused number) = 66
+program_fault_number NoWorker = 67
+
+-- how many reads have failed in a run that ended with this fault
+abbrev pub failed_reads : ProgramFault → ℕ
+failed_reads Read = 1
+failed_reads _ = 0
+
+-- how many writes have failed in a run that ended with this fault
+abbrev pub failed_writes : ProgramFault → ℕ
+failed_writes Write = 1
+failed_writes _ = 0
+
+-- what ends the program where a list is not read, or no report is made of it
+abbrev pub fault_of_list : ReconcileFault → ProgramFault
+fault_of_list (list.BadList row) = BadList row
+fault_of_list list.Memory = Memory
+
+-- what ends the program where the inputs of a run have no answer
+abbrev pub fault_of_run : RunFault → ProgramFault
+fault_of_run run.Usage = Usage
+fault_of_run run.Held = Held
+fault_of_run run.Memory = Memory
+fault_of_run (run.Refused number) = Refused number
+fault_of_run run.NoWorker = NoWorker

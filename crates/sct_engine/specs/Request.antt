@@ -1,0 +1,87 @@
+-- What the command line asks for. Read by an auditor.
+use Rattle.std.specs.Prelude.{ℕ, ◌≡◌, List, map, length, Option, Some, None, Bool, true, false, ◌&&◌, nat_lt, not, if◌then◌else◌, codes, option_and_then, option_map, Result, Ok, Err}
+use Rattle.sct_element.specs.Bank.{written_bic}
+use Rattle.sct_element.specs.Date.{written_day}
+use Rattle.sct_element.specs.Text.{is_text}
+use Rattle.clap.specs.Words.{Row, Text, all_of, first_of}
+use Rattle.sct_engine.specs.declared.jobs.Job.{Job}
+use Rattle.sct_engine.specs.declared.jobs.Job.TheVariants.{Status, Archive, Totals, Replay}
+use Rattle.sct_engine.specs.declared.fault.ProgramFault.{ProgramFault}
+use Rattle.sct_engine.specs.declared.fault.ProgramFault.TheVariants as fault
+use Rattle.sct_engine.specs.declared.request.Reconciliation.{Reconciliation}
+use Rattle.sct_engine.specs.declared.request.Request.{Request}
+use Rattle.sct_engine.specs.declared.request.Request.TheVariants.{Run, Reconcile, Settle, Help, Mistake}
+
+-- the job that a word of the command line asks for
+abbrev pub job_named : List ℕ → Option Job
+job_named word =
+    if is_text word (codes "status") then Some Status
+    else if is_text word (codes "archive") then Some Archive
+    else if is_text word (codes "totals") then Some Totals
+    else if is_text word (codes "replay") then Some Replay
+    else None
+
+-- What a command orders: a job on standard input; to compare it with a bank's list for a day, which lies in the file of a
+-- path; or to bring the sites to one answer that are filled from the files of some paths.
+pub data Order : Type 0 where
+  job : Job → Order
+  report : Text → Text → Text → Order
+  sites : List Text → Order
+
+-- what is ordered with a bank, a day and a list
+abbrev pub report_with : Reconciliation → Order
+report_with reconciliation = report reconciliation.bank reconciliation.day reconciliation.list.now
+
+-- what a request orders, where it is none for help and no mistake
+abbrev pub order_of : Request → Option Order
+order_of (Run work) = Some (job work)
+order_of (Reconcile reconciliation) = Some (report_with reconciliation)
+order_of (Settle files) = Some (sites (map (λ path. path.now) files.items))
+order_of (Help text) = None
+order_of (Mistake text) = None
+
+-- of the values of `report` the bank and the day, where these are one, in their written form, and the path of the list
+abbrev pub report_ordered : List Row → Option Order
+report_ordered given =
+    option_and_then (λ bank. option_and_then (λ day. option_map (λ list. report bank day list)
+    (first_of (codes "LIST") given))
+    (option_and_then written_day (first_of (codes "DAY") given)))
+    (option_and_then written_bic (first_of (codes "BANK") given))
+
+-- so many files can be run: 1 to 16
+abbrev pub are_sites : ℕ → Bool
+are_sites count = nat_lt 0 count && not (nat_lt 16 count)
+
+-- files that can be run
+abbrev pub sites_from : List Text → Option Order
+sites_from files = if are_sites (length files) then Some (sites files) else None
+
+-- the files that `run` is given, where they can be run
+abbrev pub sites_ordered : List Row → Option Order
+sites_ordered given = option_and_then sites_from (all_of (codes "FILE") given)
+
+-- what the command of a name orders with the values of its arguments
+abbrev pub order_named : Text → List Row → Option Order
+order_named name given =
+    if is_text name (codes "report") then report_ordered given
+    else if is_text name (codes "run") then sites_ordered given
+    else option_map (λ work. job work) (job_named name)
+
+-- the request is what is ordered; where nothing is, or memory is wanting, there is none
+abbrev pub IsOrdered : Option Order → Result Request ProgramFault → Type 0
+IsOrdered (Some order) (Ok request) = order_of request ≡ Some order
+IsOrdered None (Ok request) = ⊥
+IsOrdered order (Err fault.Memory) = Unit {0}
+IsOrdered order (Err fault.Usage) = order ≡ None
+IsOrdered order (Err _) = ⊥
+
+-- a mistake, and neither an order nor help
+abbrev pub is_mistake : Request → Bool
+is_mistake (Mistake text) = true
+is_mistake _ = false
+
+-- what is asked for in place of an order: help, or nothing that the program does
+abbrev pub AsksForNoOrder : Request → Type 0
+AsksForNoOrder (Help text) = Unit {0}
+AsksForNoOrder (Mistake text) = Unit {0}
+AsksForNoOrder _ = ⊥

@@ -1,0 +1,26 @@
+-- Which faults may end the reading and the writing of a stream. Read by an auditor.
+use Rattle.std.specs.Prelude.{ℕ, List, Option}
+use Rattle.sct_engine.specs.declared.fault.ProgramFault.{ProgramFault}
+use Rattle.sct_engine.specs.declared.fault.ProgramFault.TheVariants.{TooLong, Read, Write, Memory}
+use Rattle.sct_streams.specs.Whole as whole
+use Rattle.sct_streams.specs.declared.whole.ReadFault.TheVariants as reading
+
+-- what a fault says that ended the reading of at most so many of the bytes that were left: past the limit exactly one
+-- byte more than the limit was taken, and before a read that failed at most the limit
+abbrev pub EndsReading : ProgramFault → ℕ → Option (List ℕ) → Option (List ℕ) → Type 0
+EndsReading TooLong limit before after = whole.EndsReading reading.TooLong limit before after
+EndsReading Read limit before after = whole.EndsReading reading.Failed limit before after
+EndsReading Memory limit before after = Unit {0}
+EndsReading _ limit before after = ⊥
+
+-- the one fault that may end the writing of a text
+abbrev pub EndsWriting : ProgramFault → Type 0
+EndsWriting Write = Unit {0}
+EndsWriting _ = ⊥
+
+-- what may end the reading of a file: it cannot be opened or a read fails, it is too long, or memory is wanting
+abbrev pub EndsFile : ProgramFault → Type 0
+EndsFile Read = Unit {0}
+EndsFile TooLong = Unit {0}
+EndsFile Memory = Unit {0}
+EndsFile _ = ⊥

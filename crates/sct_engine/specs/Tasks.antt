@@ -1,0 +1,94 @@
+-- What is to be done once the files are read that the command line names, and what a run then writes. Read by an auditor.
+use Rattle.std.specs.Prelude.{ℕ, ◌≡◌, List, [], length, Option, Some, None, IfSome, Result, Ok, Err, string_bytes}
+use Rattle.sct_receipts.specs.Faults.{IsRefusalNumber}
+use Rattle.sct_run.specs.Runs.{set_of_all}
+use Rattle.sct_view.specs.StatusText.{status_text_of}
+use Rattle.sct_workers.specs.Files.{bytes_of, refused_in, told_from}
+use Rattle.sct_engine.specs.declared.jobs.Job.{Job}
+use Rattle.sct_engine.specs.declared.jobs.Job.TheVariants.{Report}
+use Rattle.sct_engine.specs.declared.ending.Ending.{Ending}
+use Rattle.sct_engine.specs.declared.ending.Ending.TheVariants.{Done, Helped, Mistaken}
+use Rattle.sct_engine.specs.declared.fault.ProgramFault.{ProgramFault}
+use Rattle.sct_engine.specs.declared.fault.ProgramFault.TheVariants as fault
+use Rattle.sct_engine.specs.declared.request.Reconciliation.{Reconciliation}
+use Rattle.sct_engine.specs.declared.request.Request.{Request}
+use Rattle.sct_engine.specs.declared.request.Request.TheVariants as request
+use Rattle.sct_engine.specs.declared.task.Task.{Task}
+use Rattle.sct_engine.specs.declared.task.Task.TheVariants.{Work, Settle, Help, Mistake}
+use Rattle.sct_engine.specs.Engine.{bad_row_of, job_text_if_told, refused_of, told_text_if_told}
+use Rattle.sct_engine.specs.Stream.{EndsFile}
+
+-- ---- the files
+
+-- the job compares with some list for the bank and the day: which list, lies with the file
+abbrev pub IsReportWith : Reconciliation → Job → Type 0
+IsReportWith with (Report bank day list) = (bank ≡ with.bank) × (day ≡ with.day)
+IsReportWith with _ = ⊥
+
+-- What a request is with the bytes of its files, whatever these are: of `run` as many inputs as files.
+abbrev pub IsTaskOf : Request → Task → Type 0
+IsTaskOf (request.Run job) (Work work) = work ≡ job
+IsTaskOf (request.Reconcile with) (Work work) = IsReportWith with work
+IsTaskOf (request.Settle files) (Settle inputs) = length inputs.items ≡ length files.items
+IsTaskOf (request.Help text) (Help told) = told ≡ text
+IsTaskOf (request.Mistake text) (Mistake told) = told ≡ text
+IsTaskOf _ _ = ⊥
+
+-- a file that cannot be read ends a request that names one
+abbrev pub EndsFilesOf : Request → ProgramFault → Type 0
+EndsFilesOf (request.Reconcile with) fault = EndsFile fault
+EndsFilesOf (request.Settle files) fault = EndsFile fault
+EndsFilesOf _ fault = ⊥
+
+-- what a request is with the bytes of its files, or why these could not be had
+abbrev pub IsPrepared : Request → Result Task ProgramFault → Type 0
+IsPrepared request (Ok task) = IsTaskOf request task
+IsPrepared request (Err fault) = EndsFilesOf request fault
+
+-- ---- what is written
+
+-- what standard output gets: the text of the job, where standard input is known; the status text of the union of the sets
+-- that are read from the inputs; or the help
+abbrev pub out_text_of : Task → Option (List ℕ) → Option (List ℕ)
+out_text_of (Work job) input = job_text_if_told job input
+out_text_of (Settle inputs) input = Some (status_text_of (set_of_all (bytes_of inputs.items)))
+out_text_of (Help text) input = Some (string_bytes text)
+out_text_of (Mistake text) input = Some []
+
+-- what standard error gets before the run's end is told: the lines that tell the refused lines, with the files' numbers
+-- where there are files
+abbrev pub refusals_text_of : Task → Option (List ℕ) → Option (List ℕ)
+refusals_text_of (Work job) input = told_text_if_told job input
+refusals_text_of (Settle inputs) input = Some (told_from 1 (bytes_of inputs.items))
+refusals_text_of (Help text) input = Some []
+refusals_text_of (Mistake text) input = Some []
+
+-- how a task ends that meets no fault: with the number of the refused lines, where the input is known
+abbrev pub IsEndingOf : Task → Option (List ℕ) → Ending → Type 0
+IsEndingOf (Work job) input (Done done) = IfSome input (λ bytes. done.refused ≡ refused_of job bytes)
+IsEndingOf (Settle inputs) input (Done done) = done.refused ≡ refused_in (bytes_of inputs.items)
+IsEndingOf (Help text) input Helped = Unit {0}
+IsEndingOf (Mistake text) input (Mistaken told) = told ≡ text
+IsEndingOf _ _ _ = ⊥
+
+-- ---- lists and inputs
+
+-- the first bad record of the list that a task compares with, where it has one
+abbrev pub bad_row_in : Task → Option ℕ
+bad_row_in (Work job) = bad_row_of job
+bad_row_in _ = None
+
+-- standard input is not read
+abbrev pub LeavesInput : Task → Type 0
+LeavesInput (Work job) = ⊥
+LeavesInput _ = Unit {0}
+
+-- what may end the settling of inputs; no gate holds a worker back (61), and where a call was refused, the number is one
+-- that a refusal has
+abbrev pub EndsSettling : ProgramFault → Type 0
+EndsSettling fault.Write = Unit {0}
+EndsSettling fault.Usage = Unit {0}
+EndsSettling fault.Memory = Unit {0}
+EndsSettling (fault.Refused number) = IsRefusalNumber number
+EndsSettling fault.NoWorker = Unit {0}
+EndsSettling _ = ⊥

@@ -1,0 +1,203 @@
+//! What is answered of the messages of an input: where each transfer stands, the archive text, the totals of each bank, or
+//! the report on a list.
+ghost use Rattle.std.specs.Prelude.{◌≡◌, length, string_bytes, IfErr, IfOk};
+ghost use Rattle.sct_lines.specs.Lines.{refusals_told, set_read, told_text_of};
+ghost use Rattle.sct_message.specs.Sets.{messages_in};
+ghost use Rattle.sct_reconcile.specs.Reports.{report_of, report_text_of};
+ghost use Rattle.sct_set.specs.Contents.{contents_of};
+ghost use Rattle.sct_set.specs.Pieces.{joined};
+ghost use Rattle.sct_engine.specs.Engine.{asked_text_of};
+ghost use Rattle.sct_engine.specs.declared.fault.ProgramFault.TheVariants as fault;
+ghost use Rattle.sct_view.specs.StatusText.{status_text_of};
+ghost use Rattle.sct_view.specs.TotalsText.{totals_text_of};
+
+use crate::fault::ProgramFault;
+use crate::holding::archive_pieces;
+use sct_element::{Bic, Day};
+use sct_lines::{Intake, read_lines};
+use sct_message::Message;
+use sct_reconcile::{List, reconcile};
+use sct_view::View;
+use std::alloc::Global;
+use std::mem;
+use std::sync::Arc;
+use std::thread::Threads;
+
+// The view of the messages, made in as many threads as there are processors. The messages are left to the end of the
+// program, which gives back all at once what would be given back message by message here.
+fn view_of<T: Threads + Sync>(
+    rt: &T,
+    alloc: Global,
+    messages: Vec<Arc<Message>>,
+) -> Result<View, ProgramFault>
+    ensures held { IfOk result (λ view. view ≡ contents_of (messages_in messages.items)) }
+    ensures memory { IfErr result (λ e. e ≡ fault.Memory) }
+{
+    let view = View::of_messages(rt, alloc, &messages)?;
+    mem::forget(messages);
+    Ok(view)
+}
+
+// The status text of a view, in pieces.
+fn status_pieces_of<T: Threads + Sync>(rt: &T, view: &View) -> Result<Vec<Vec<u8>>, ProgramFault>
+    ensures text { IfOk result (λ pieces. joined pieces.items ≡ status_text_of view.now) }
+    ensures memory { IfErr result (λ e. e ≡ fault.Memory) }
+{
+    Ok(view.status_text_in_pieces(rt)?)
+}
+
+// The totals text of a view.
+fn totals_text_of(view: &View) -> Result<Vec<u8>, ProgramFault>
+    ensures text { IfOk result (λ text. text.items ≡ totals_text_of view.now) }
+    ensures memory { IfErr result (λ e. e ≡ fault.Memory) }
+{
+    Ok(view.totals_text()?)
+}
+
+// The report of a view on a list.
+fn report_text_of<T: Threads + Sync>(
+    rt: &T,
+    alloc: Global,
+    view: &View,
+    bank: &Bic,
+    day: &Day,
+    list: &List,
+) -> Result<Vec<u8>, ProgramFault>
+    ensures text { IfOk result (λ text. text.items ≡ report_text_of (report_of view.now bank.now day.now list.now)) }
+    ensures memory { IfErr result (λ e. e ≡ fault.Memory) }
+{
+    let report = reconcile(rt, alloc, view, bank, day, list)?;
+    Ok(report.write()?)
+}
+
+// The status text of the set of some messages, which may stand in any order and more than once, in pieces. Only want of
+// memory is a fault. The view is left to the end of the program too.
+fn status_pieces<T: Threads + Sync>(
+    rt: &T,
+    alloc: Global,
+    messages: Vec<Arc<Message>>,
+) -> Result<Vec<Vec<u8>>, ProgramFault>
+    ensures text { IfOk result (λ pieces. joined pieces.items
+        ≡ status_text_of (contents_of (messages_in messages.items))) }
+    ensures memory { IfErr result (λ e. e ≡ fault.Memory) }
+{
+    let view = view_of(rt, alloc, messages)?;
+    let pieces = status_pieces_of(rt, &view);
+    mem::forget(view);
+    pieces
+}
+
+// The totals text of the same set. Only want of memory is a fault.
+fn totals_text<T: Threads + Sync>(
+    rt: &T,
+    alloc: Global,
+    messages: Vec<Arc<Message>>,
+) -> Result<Vec<u8>, ProgramFault>
+    ensures text { IfOk result (λ text. text.items ≡ totals_text_of (contents_of (messages_in messages.items))) }
+    ensures memory { IfErr result (λ e. e ≡ fault.Memory) }
+{
+    let view = view_of(rt, alloc, messages)?;
+    totals_text_of(&view)
+}
+
+// The report of the same set on a bank's list for a settlement day. Only want of memory is a fault.
+fn report_text<T: Threads + Sync>(
+    rt: &T,
+    alloc: Global,
+    messages: Vec<Arc<Message>>,
+    bank: &Bic,
+    day: &Day,
+    list: &List,
+) -> Result<Vec<u8>, ProgramFault>
+    ensures text { IfOk result (λ text. text.items
+        ≡ report_text_of (report_of (contents_of (messages_in messages.items)) bank.now day.now list.now)) }
+    ensures memory { IfErr result (λ e. e ≡ fault.Memory) }
+{
+    let view = view_of(rt, alloc, messages)?;
+    report_text_of(rt, alloc, &view, bank, day, list)
+}
+
+/// What is asked of messages.
+#[derive(Drop)]
+pub enum Question<'a> {
+    /// The status of each transfer and of its recalls, and the findings on the contradicted ones.
+    Status,
+    /// Each message held, written on a line of its own.
+    Archive,
+    /// What each bank sent and received.
+    Totals,
+    /// Where a bank's list for a settlement day differs from them.
+    Report {
+        bank: &'a Bic,
+        day: &'a Day,
+        list: List,
+    },
+}
+
+/// What an input is answered: a text in pieces, the lines that tell its refused lines, and how many these are.
+#[derive(Drop)]
+pub struct Answer {
+    pub pieces: Vec<Vec<u8>>,
+    pub told: String,
+    pub refused: u64,
+}
+
+/// A text as one piece. Only want of memory is a fault.
+pub fn one_piece(alloc: Global, text: Vec<u8>) -> Result<Vec<Vec<u8>>, ProgramFault>
+    ensures text { IfOk result (λ pieces. joined pieces.items ≡ text.items) }
+    ensures memory { IfErr result (λ e. e ≡ fault.Memory) }
+{
+    let mut pieces = Vec::new(alloc);
+    pieces.push(text)?;
+    Ok(pieces)
+}
+
+// The text that answers what is asked of some messages, in pieces.
+fn asked_pieces<T: Threads + Sync>(
+    rt: &T,
+    alloc: Global,
+    question: &Question<'_>,
+    messages: Vec<Arc<Message>>,
+) -> Result<Vec<Vec<u8>>, ProgramFault>
+    ensures text { IfOk result (λ pieces. joined pieces.items
+        ≡ asked_text_of question.now (contents_of (messages_in messages.items))) }
+    ensures memory { IfErr result (λ e. e ≡ fault.Memory) }
+{
+    let text = match question {
+        Question::Archive => return archive_pieces(rt, alloc, messages),
+        Question::Status => return status_pieces(rt, alloc, messages),
+        Question::Totals => totals_text(rt, alloc, messages)?,
+        Question::Report { bank, day, list } => {
+            report_text(rt, alloc, messages, bank, day, list)?
+        }
+    };
+    one_piece(alloc, text)
+}
+
+/// What is asked of the messages of an input, whose bytes are read in as many threads as there are processors, and dropped
+/// before the text is made. Only want of memory is a fault.
+pub fn answer_of_messages<T: Threads + Sync>(
+    rt: &T,
+    alloc: Global,
+    question: Question<'_>,
+    input: Vec<u8>,
+) -> Result<Answer, ProgramFault>
+    ensures text { IfOk result (λ answer. joined answer.pieces.items
+        ≡ asked_text_of question.entry (set_read input.items)) }
+    ensures told { IfOk result (λ answer. string_bytes answer.told ≡ told_text_of (refusals_told input.items)) }
+    ensures refused { IfOk result (λ answer. answer.refused ≡ length (refusals_told input.items)) }
+    ensures memory { IfErr result (λ e. e ≡ fault.Memory) }
+{
+    let Intake {
+        messages,
+        told,
+        refused,
+    } = read_lines(rt, alloc, &input)?;
+    drop(input);
+    let pieces = asked_pieces(rt, alloc, &question, messages)?;
+    Ok(Answer {
+        pieces,
+        told,
+        refused,
+    })
+}

@@ -1,0 +1,97 @@
+//! How a run ends: what standard error tells of its end, and the exit status.
+ghost use Rattle.std.specs.Prelude.{◌≡◌, ◌++◌, Some, IfErr, OnErr, OnOk};
+ghost use Rattle.sct_engine.specs.Ending.{ending_text_of, exit_status_of, fault_line_of};
+ghost use Rattle.sct_engine.specs.Engine.{IsCutOff, IsWritten, IsWrittenOrCutOff};
+ghost use Rattle.sct_engine.specs.Stream.{EndsWriting};
+
+use crate::fault::ProgramFault;
+use crate::jobs::Done;
+use crate::transfer::write_all;
+use arrayvec::ArrayString;
+use itoa::Buffer;
+use sct_streams::Sink;
+
+/// How a run ended that met no fault of its own.
+#[derive(Debug, Drop)]
+pub enum Ending {
+    /// The job was done.
+    Done(Done),
+    /// The help was shown.
+    Helped,
+    /// The command line was a mistake: clap's text says why.
+    Mistaken(String),
+}
+
+// The line that tells a fault, as `fault 62`. It takes no memory, since it tells of the want of memory too.
+fn fault_line(fault: &ProgramFault) -> ArrayString<64>
+    ensures { result.bytes ≡ fault_line_of fault.now }
+{
+    let mut digits = Buffer::new();
+    let mut line = ArrayString::new();
+    line.push_str("fault ");
+    line.push_str(digits.format(fault.number()));
+    match fault {
+        ProgramFault::BadList(row) => {
+            line.push_str(" ");
+            line.push_str(digits.format(*row));
+        }
+        ProgramFault::Refused(number) => {
+            line.push_str(" ");
+            line.push_str(digits.format(*number));
+        }
+        _ => {}
+    }
+    line.push_str("\n");
+    line
+}
+
+// Writes the line of a fault and the text behind it.
+fn tell_fault<E: Sink>(fault: &ProgramFault, text: &str, err: &mut E) -> Result<(), ProgramFault>
+    ensures whole { OnOk result (IsWritten
+        (E.failures err.old) (E.failures err.new) (E.held err.old) (E.held err.new) (Some (fault_line_of fault.now ++ text.now))) }
+    ensures prefix { OnErr result (IsCutOff
+        (E.failures err.old) (E.failures err.new) (E.held err.old) (E.held err.new) (Some (fault_line_of fault.now ++ text.now))) }
+    ensures faults { IfErr result EndsWriting }
+{
+    write_all(err, fault_line(fault).as_bytes())?;
+    write_all(err, text.as_bytes())
+}
+
+// Writes what standard error tells of the end of a run, beside the refused lines.
+fn tell<E: Sink>(ended: &Result<Ending, ProgramFault>, err: &mut E) -> Result<(), ProgramFault>
+    ensures whole { OnOk result (IsWritten
+        (E.failures err.old) (E.failures err.new) (E.held err.old) (E.held err.new) (Some (ending_text_of ended.now))) }
+    ensures prefix { OnErr result (IsCutOff
+        (E.failures err.old) (E.failures err.new) (E.held err.old) (E.held err.new) (Some (ending_text_of ended.now))) }
+    ensures faults { IfErr result EndsWriting }
+{
+    match ended {
+        Ok(Ending::Done(_)) | Ok(Ending::Helped) => Ok(()),
+        Ok(Ending::Mistaken(text)) => tell_fault(&ProgramFault::Usage, text.as_str(), err),
+        Err(fault) => tell_fault(fault, "", err),
+    }
+}
+
+// 0 where all was taken, 1 where some line was refused, 2 at a fault, 3 where it is memory.
+fn exit_status(ended: &Result<Ending, ProgramFault>) -> u8
+    ensures { result ≡ exit_status_of ended.now }
+{
+    match ended {
+        Ok(Ending::Done(Done { refused: 0 })) | Ok(Ending::Helped) => 0,
+        Ok(Ending::Done(_)) => 1,
+        Err(ProgramFault::Memory) => 3,
+        Ok(Ending::Mistaken(_)) | Err(_) => 2,
+    }
+}
+
+/// Tells on standard error how a run ended, and answers the exit status. What is told of a fault is its number, as
+/// `fault 62`, behind it of a bad list the row and of a refusal at a site the number of that, and of a mistake in the command
+/// line `fault 64` with clap's text behind it. A writer that fails there changes no status.
+pub fn conclude<E: Sink>(ended: &Result<Ending, ProgramFault>, err: &mut E) -> u8
+    ensures status { result ≡ exit_status_of ended.now }
+    ensures told { IsWrittenOrCutOff (E.failures err.old) (E.failures err.new) (E.held err.old) (E.held err.new)
+        (Some (ending_text_of ended.now)) }
+{
+    let _ = tell(ended, err);
+    exit_status(ended)
+}

@@ -1,0 +1,110 @@
+//! The faults that end a run, each with its number.
+ghost use Rattle.std.specs.Prelude.{◌≡◌};
+ghost use Rattle.sct_engine.specs.declared.fault.ProgramFault.TheVariants as fault;
+ghost use Rattle.sct_engine.specs.Fault.{fault_of_list, fault_of_run, program_fault_number};
+
+use sct_case::CaseFault;
+use sct_reconcile::ReconcileFault;
+use sct_run::RunFault;
+use sct_set::SetFault;
+use std::alloc::{AllocError, AllocFailed};
+use thiserror::Error;
+
+/// What ends a run of the program.
+#[derive(Clone, Copy, Debug, PartialEq, Eq, Error)]
+#[error("fault {}", self.number())]
+pub enum ProgramFault {
+    /// A record of the list is no row of a list: the first such, counted from 1 with the header row.
+    BadList(u64),
+    /// The input has a byte past the limit.
+    TooLong,
+    /// The work at a site was held back.
+    Held,
+    /// A read failed.
+    Read,
+    /// A write failed, or took no byte.
+    Write,
+    /// The command line or the limit is not one that the program takes.
+    Usage,
+    /// Memory is wanting.
+    Memory,
+    /// A call at a site was refused, with the number of its own fault.
+    Refused(u8),
+    /// There is no thread for the work at a site.
+    NoWorker,
+}
+
+impl ProgramFault {
+    pub fn number(&self) -> u8
+        ensures { result ≡ program_fault_number self.now }
+    {
+        match self {
+            ProgramFault::BadList(_) => 48,
+            ProgramFault::TooLong => 60,
+            ProgramFault::Held => 61,
+            ProgramFault::Read => 62,
+            ProgramFault::Write => 63,
+            ProgramFault::Usage => 64,
+            ProgramFault::Memory => 65,
+            ProgramFault::Refused(_) => 66,
+            ProgramFault::NoWorker => 67,
+        }
+    }
+}
+
+impl From<AllocError> for ProgramFault {
+    ghost from_gives = { λ _ e. e ≡ fault.Memory };
+
+    fn from(_error: AllocError) -> ProgramFault {
+        ProgramFault::Memory
+    }
+}
+
+impl From<CaseFault> for ProgramFault {
+    ghost from_gives = { λ _ e. e ≡ fault.Memory };
+
+    fn from(_fault: CaseFault) -> ProgramFault {
+        ProgramFault::Memory
+    }
+}
+
+impl From<SetFault> for ProgramFault {
+    ghost from_gives = { λ _ e. e ≡ fault.Memory };
+
+    fn from(_fault: SetFault) -> ProgramFault {
+        ProgramFault::Memory
+    }
+}
+
+impl<T: Drop> From<AllocFailed<T>> for ProgramFault {
+    ghost from_gives = { λ _ e. e ≡ fault.Memory };
+
+    fn from(_error: AllocFailed<T>) -> ProgramFault {
+        ProgramFault::Memory
+    }
+}
+
+impl From<ReconcileFault> for ProgramFault {
+    ghost from_gives = { λ fault e. e ≡ fault_of_list fault };
+
+    fn from(fault: ReconcileFault) -> ProgramFault {
+        match fault {
+            ReconcileFault::BadList(row) => ProgramFault::BadList(row),
+            ReconcileFault::Memory => ProgramFault::Memory,
+        }
+    }
+}
+
+impl From<RunFault> for ProgramFault {
+    ghost from_gives = { λ fault e. e ≡ fault_of_run fault };
+
+    fn from(fault: RunFault) -> ProgramFault {
+        match fault {
+            RunFault::Usage => ProgramFault::Usage,
+            RunFault::Held => ProgramFault::Held,
+            RunFault::Memory => ProgramFault::Memory,
+            RunFault::Refused { number } => ProgramFault::Refused(number),
+            RunFault::NoWorker => ProgramFault::NoWorker,
+        }
+    }
+}

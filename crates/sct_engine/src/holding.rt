@@ -1,0 +1,43 @@
+//! The archive text of the messages read.
+ghost use Rattle.std.specs.Prelude.{◌≡◌, IfErr, IfOk};
+ghost use Rattle.sct_message.specs.Sets.{messages_in};
+ghost use Rattle.sct_set.specs.Archive.{archive_text_of};
+ghost use Rattle.sct_set.specs.Contents.{contents_of};
+ghost use Rattle.sct_set.specs.Pieces.{joined};
+ghost use Rattle.sct_engine.specs.Again.{ArchiveGivesBack, GivesBack};
+ghost use Rattle.sct_engine.specs.declared.fault.ProgramFault.TheVariants as fault;
+
+use crate::fault::ProgramFault;
+use sct_message::Message;
+use sct_set::Ordered;
+use std::alloc::Global;
+use std::mem;
+use std::sync::Arc;
+use std::thread::Threads;
+
+// The archive text is an input that gives the archive back: no line of it is refused, and the set read from it is the same.
+fn the_archive_text_gives_the_set_back()
+    ensures { ArchiveGivesBack }
+{}
+
+/// Each message once, written on a line of its own, by identity and then by text, in pieces that are made in as many threads
+/// as there are processors. Only want of memory is a fault. What is held is left to the end of the program, which gives back
+/// all at once what would be given back message by message here.
+pub fn archive_pieces<T: Threads + Sync>(
+    rt: &T,
+    alloc: Global,
+    messages: Vec<Arc<Message>>,
+) -> Result<Vec<Vec<u8>>, ProgramFault>
+    ensures text { IfOk result (λ pieces. joined pieces.items
+        ≡ archive_text_of (contents_of (messages_in messages.items))) }
+    ensures again { IfOk result (λ pieces.
+        GivesBack (contents_of (messages_in messages.items)) (joined pieces.items)) }
+    ensures memory { IfErr result (λ e. e ≡ fault.Memory) }
+{
+    the_archive_text_gives_the_set_back();
+    let ordered = Ordered::of(rt, alloc, &messages)?;
+    let pieces = ordered.text_in_pieces(rt)?;
+    mem::forget(messages);
+    mem::forget(ordered);
+    Ok(pieces)
+}

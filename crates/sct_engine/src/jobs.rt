@@ -1,0 +1,175 @@
+//! One run of a job: an input is read whole, and then its refused lines are told and its text is written.
+ghost use Rattle.std.specs.Prelude.{
+  ◌≡◌,
+  ◌≢◌,
+  ◌+◌,
+  ◌<◌,
+  ◌≤◌,
+  ◌⊎◌,
+  ℕ,
+  [],
+  Some,
+  Err,
+  length,
+  string_bytes,
+  IfOk,
+  IfErr,
+  IfSome,
+  OnOk,
+};
+ghost use Rattle.sct_set.specs.Pieces.{joined};
+ghost use Rattle.sct_engine.specs.declared.fault.ProgramFault.TheVariants as fault;
+ghost use Rattle.sct_engine.specs.Engine.{
+  bad_row_of,
+  job_text_if_told,
+  job_text_of,
+  refused_of,
+  told_of,
+  told_text_if_told,
+  IsBadLimit,
+  EndsListing,
+  IsCutOff,
+  IsInputOf,
+  IsListOf,
+  IsNoInputOf,
+  IsRefusedInput,
+  IsWritten,
+  StandsOnList,
+};
+ghost use Rattle.sct_engine.specs.Fault.{failed_reads};
+ghost use Rattle.sct_streams.specs.Stream.{HasTakenIfTold};
+
+use crate::answers::{Answer, Question, answer_of_messages};
+use crate::fault::ProgramFault;
+use crate::replays::answer_of_script;
+use crate::transfer::{MOST_BYTES, read_all, write_all, write_pieces};
+use sct_element::{Bic, Day};
+use sct_reconcile::List;
+use sct_streams::{Sink, Source};
+use std::alloc::Global;
+use std::thread::Threads;
+
+/// What is asked of an input.
+#[derive(Drop)]
+pub enum Job {
+    /// The status of each transfer and of its recalls, and the findings on the contradicted ones.
+    Status,
+    /// Each message held, written on a line of its own.
+    Archive,
+    /// What each bank sent and received.
+    Totals,
+    /// Where a bank's list for a settlement day, by the bytes of its text, differs from the messages.
+    Report { bank: Bic, day: Day, list: Vec<u8> },
+    /// How the events of a script end, and what each of its sites then holds.
+    Replay,
+}
+
+/// A run that ended well.
+#[derive(Clone, Copy, Debug, PartialEq, Eq)]
+pub struct Done {
+    /// How many lines were refused.
+    pub refused: u64,
+}
+
+// The list that a job compares with. One that is none is 48 BadList.
+fn list_for(alloc: Global, job: &Job) -> Result<Option<List>, ProgramFault>
+    ensures read { IfOk result (IsListOf job.now) }
+    ensures list { StandsOnList (bad_row_of job.now) result }
+    ensures faults { IfErr result EndsListing }
+{
+    match job {
+        Job::Report { list, .. } => Ok(Some(List::read(alloc, list)?)),
+        _ => Ok(None),
+    }
+}
+
+// What the job makes of an input, with the list that it compares with. An input that it does not take is 64 Usage.
+fn answer<T: Threads + Sync>(
+    rt: &T,
+    alloc: Global,
+    job: &Job,
+    list: Option<List>,
+    input: Vec<u8>,
+) -> Result<Answer, ProgramFault>
+    requires { IsListOf job.now list }
+    ensures text { IfOk result (λ answer. joined answer.pieces.items ≡ job_text_of job.now input.items) }
+    ensures told { IfOk result (λ answer. string_bytes answer.told ≡ told_of job.now input.items) }
+    ensures refused { IfOk result (λ answer. answer.refused ≡ refused_of job.now input.items) }
+    ensures taken { OnOk result (IsInputOf job.now input.items) }
+    ensures faults { IfErr result (λ e. e ≢ fault.Memory → (e ≡ fault.Usage) × IsNoInputOf job.now input.items) }
+{
+    match (job, list) {
+        (Job::Status, _) => answer_of_messages(rt, alloc, Question::Status, input),
+        (Job::Archive, _) => answer_of_messages(rt, alloc, Question::Archive, input),
+        (Job::Totals, _) => answer_of_messages(rt, alloc, Question::Totals, input),
+        (Job::Replay, _) => answer_of_script(alloc, &input),
+        (Job::Report { bank, day, .. }, Some(list)) => {
+            answer_of_messages(rt, alloc, Question::Report { bank, day, list }, input)
+        }
+        (Job::Report { .. }, None) => unreachable!(),
+    }
+}
+
+/// Reads the job's list, if it has one, then the whole input, and then writes the lines that tell its refused lines to `err` and the job's text to `out`. An
+/// input that the job does not take is 64 Usage, told after it was read.
+pub fn engine<T: Threads + Sync, R: Source, O: Sink, E: Sink>(
+    rt: &T,
+    alloc: Global,
+    job: &Job,
+    limit: u64,
+    reader: &mut R,
+    out: &mut O,
+    err: &mut E,
+) -> Result<Done, ProgramFault>
+    // The whole of an input within the limit was read, and each stream got its text.
+    ensures input { OnOk result (IfSome (R.left reader.old)
+        (λ input. (length input ≤ limit) × (R.left reader.new ≡ Some []))) }
+    ensures told { OnOk result (IsWritten (E.failures err.old) (E.failures err.new) (E.held err.old) (E.held err.new)
+        (told_text_if_told job.now (R.left reader.old))) }
+    ensures text { OnOk result (IsWritten (O.failures out.old) (O.failures out.new) (O.held out.old) (O.held out.new)
+        (job_text_if_told job.now (R.left reader.old))) }
+    ensures refused { IfOk result (λ done. IfSome (R.left reader.old)
+        (λ input. done.refused ≡ refused_of job.now input)) }
+
+    // When each fault comes.
+    ensures limit { IsBadLimit limit → result ≡ Err fault.Usage }
+    ensures usage { result ≡ Err fault.Usage
+        → IsBadLimit limit ⊎ IsRefusedInput job.now limit (R.left reader.old) (R.left reader.new) }
+    ensures list { StandsOnList (bad_row_of job.now) result }
+    ensures taken { OnOk result (IfSome (R.left reader.old) (IsInputOf job.now)) }
+    ensures too_long { result ≡ Err fault.TooLong → IfSome (R.left reader.old) (λ input. limit < length input) }
+    ensures passed { result ≡ Err fault.TooLong → HasTakenIfTold (R.left reader.old) (R.left reader.new) (limit + 1) }
+    ensures cut_input { result ≡ Err fault.Read
+        → (n : ℕ) × ((n ≤ limit) × HasTakenIfTold (R.left reader.old) (R.left reader.new) n) }
+    ensures reads { OnOk result (R.failures reader.new ≡ R.failures reader.old) }
+    ensures failed_read { IfErr result (λ e. R.failures reader.new ≡ R.failures reader.old + failed_reads e) }
+    ensures cut_off { result ≡ Err fault.Write
+        → (IsCutOff (E.failures err.old) (E.failures err.new) (E.held err.old) (E.held err.new)
+        (told_text_if_told job.now (R.left reader.old)) × (out.new ≡ out.old))
+        ⊎ (IsWritten (E.failures err.old) (E.failures err.new) (E.held err.old) (E.held err.new)
+        (told_text_if_told job.now (R.left reader.old))
+        × IsCutOff (O.failures out.old) (O.failures out.new) (O.held out.old) (O.held out.new)
+        (job_text_if_told job.now (R.left reader.old))) }
+
+    ensures whole { result ≡ Err fault.Write → IfSome (R.left reader.old)
+        (λ input. (length input ≤ limit) × (R.left reader.new ≡ Some [])) }
+
+    // What the others leave.
+    ensures unread { IsBadLimit limit → reader.new ≡ reader.old }
+    ensures unlisted { (row : ℕ) → result ≡ Err (fault.BadList row) → reader.new ≡ reader.old }
+    ensures unwritten { IfErr result (λ e. e ≢ fault.Write → (out.new ≡ out.old) × (err.new ≡ err.old)) }
+{
+    if limit == 0 || limit > MOST_BYTES {
+        return Err(ProgramFault::Usage);
+    }
+    let list = list_for(alloc, job)?;
+    let input = read_all(alloc, reader, limit)?;
+    let Answer {
+        pieces,
+        told,
+        refused,
+    } = answer(rt, alloc, job, list, input)?;
+    write_all(err, told.as_bytes())?;
+    write_pieces(out, &pieces)?;
+    Ok(Done { refused })
+}

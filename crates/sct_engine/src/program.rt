@@ -1,0 +1,182 @@
+//! The whole program over streams of any kind: from the words of the command line to the exit status.
+ghost use Rattle.std.specs.Prelude.{◌≡◌};
+ghost use Rattle.sct_engine.specs.declared.task.Task.TheVariants as task;
+ghost use Rattle.sct_engine.specs.Run.{streams, words_told, IsAnswered, IsAnsweredIfPrepared, IsAskedBy, IsPreparedIfAsked, IsRun, Streams};
+
+use crate::ending::{Ending, conclude};
+use crate::fault::ProgramFault;
+use crate::jobs::{Job, engine};
+use crate::request::{Request, read_request};
+use crate::settling::settle_inputs;
+use crate::task::{Task, prepare};
+use crate::transfer::{MOST_BYTES, write_all};
+use sct_streams::{Reading, Sink, Source, Writing};
+use std::alloc::Global;
+use std::io;
+use std::rt::Files;
+use std::sync::Wait;
+use std::sync::ledger::{Blank, Ledger};
+use std::thread::Threads;
+
+// Does a job on an input of at most 1 GiB.
+fn work<T: Threads + Sync, R: Source, O: Sink, E: Sink>(
+    rt: &T,
+    alloc: Global,
+    job: Job,
+    reader: &mut R,
+    out: &mut O,
+    err: &mut E,
+) -> Result<Ending, ProgramFault>
+    ensures { IsAnswered (task.Work job)
+        (streams (R.left reader.old) (R.failures reader.old) (O.held out.old) (O.failures out.old)
+        (E.held err.old) (E.failures err.old))
+        (streams (R.left reader.new) (R.failures reader.new) (O.held out.new) (O.failures out.new)
+        (E.held err.new) (E.failures err.new))
+        result }
+{
+    match engine(rt, alloc, &job, MOST_BYTES, reader, out, err) {
+        Ok(done) => Ok(Ending::Done(done)),
+        Err(fault) => Err(fault),
+    }
+}
+
+// Answers a task. A mistake is not told here: that belongs to the end of the run.
+fn perform<T: Threads + Wait + Sync, R: Source, O: Sink, E: Sink>(
+    rt: &T,
+    alloc: Global,
+    task: Task,
+    reader: &mut R,
+    out: &mut O,
+    err: &mut E,
+) -> Result<Ending, ProgramFault>
+    ensures { IsAnswered task
+        (streams (R.left reader.old) (R.failures reader.old) (O.held out.old) (O.failures out.old)
+        (E.held err.old) (E.failures err.old))
+        (streams (R.left reader.new) (R.failures reader.new) (O.held out.new) (O.failures out.new)
+        (E.held err.new) (E.failures err.new))
+        result }
+{
+    match task {
+        Task::Work(job) => work(rt, alloc, job, reader, out, err),
+        Task::Settle(inputs) => match settle_inputs(rt, alloc, inputs, out, err) {
+            Ok(done) => Ok(Ending::Done(done)),
+            Err(fault) => Err(fault),
+        },
+        Task::Help(text) => {
+            write_all(out, text.as_bytes())?;
+            Ok(Ending::Helped)
+        }
+        Task::Mistake(text) => Ok(Ending::Mistaken(text)),
+    }
+}
+
+// What the words, where they could be had, ask for.
+fn ask<'a>(
+    alloc: Global,
+    words: &'a Result<Vec<String>, ProgramFault>,
+) -> Result<Request<'a>, ProgramFault>
+    ensures { IsAskedBy (words_told words.now) result }
+{
+    match words {
+        Ok(words) => read_request(alloc, words),
+        Err(fault) => Err(*fault),
+    }
+}
+
+// What was asked for, if anything was, with the bytes of its files.
+fn make_ready<F: Files>(
+    alloc: Global,
+    files: &F,
+    asked: Result<Request<'_>, ProgramFault>,
+) -> Result<Task, ProgramFault>
+    ensures { IsPreparedIfAsked asked.entry result }
+{
+    match asked {
+        Ok(request) => prepare(alloc, files, request),
+        Err(fault) => Err(fault),
+    }
+}
+
+// Answers what is ready, if anything is.
+fn perform_ready<T: Threads + Wait + Sync, R: Source, O: Sink, E: Sink>(
+    rt: &T,
+    alloc: Global,
+    ready: Result<Task, ProgramFault>,
+    reader: &mut R,
+    out: &mut O,
+    err: &mut E,
+) -> Result<Ending, ProgramFault>
+    ensures { IsAnsweredIfPrepared ready
+        (streams (R.left reader.old) (R.failures reader.old) (O.held out.old) (O.failures out.old)
+        (E.held err.old) (E.failures err.old))
+        (streams (R.left reader.new) (R.failures reader.new) (O.held out.new) (O.failures out.new)
+        (E.held err.new) (E.failures err.new))
+        result }
+{
+    match ready {
+        Ok(task) => perform(rt, alloc, task, reader, out, err),
+        Err(fault) => Err(fault),
+    }
+}
+
+/// Runs the program: reads the words of the command line and the files that they name, answers what they ask for, tells the
+/// end of the run on `err`, and answers the exit status: 0 where all lines were taken or help was shown, 1 where some line was
+/// refused, 3 at want of memory (65), and 2 at any other fault.
+pub fn run<T: Threads + Wait + Sync, F: Files, R: Source, O: Sink, E: Sink>(
+    rt: &T,
+    alloc: Global,
+    files: &F,
+    words: Result<Vec<String>, ProgramFault>,
+    reader: &mut R,
+    out: &mut O,
+    err: &mut E,
+) -> u8
+    ensures { IsRun (words_told words)
+        (streams (R.left reader.old) (R.failures reader.old) (O.held out.old) (O.failures out.old)
+        (E.held err.old) (E.failures err.old))
+        (streams (R.left reader.new) (R.failures reader.new) (O.held out.new) (O.failures out.new)
+        (E.held err.new) (E.failures err.new))
+        result }
+{
+    let asked = ask(alloc, &words);
+    let ready = make_ready(alloc, files, asked);
+    let ended = perform_ready(rt, alloc, ready, reader, out, err);
+    conclude(&ended, err)
+}
+
+/// The same over readers and writers of std, each with a ledger of its own for its failures.
+pub fn run_over_std<
+    T: Threads + Wait + Sync,
+    F: Files,
+    R: io::Read + Drop,
+    O: io::Write + Drop,
+    E: io::Write + Drop,
+    A: Ledger,
+    B: Ledger,
+    C: Ledger,
+>(
+    rt: &T,
+    alloc: Global,
+    files: &F,
+    words: Result<Vec<String>, ProgramFault>,
+    stdin: (R, Blank),
+    stdout: (O, Blank),
+    stderr: (E, Blank),
+) -> u8
+    requires stdin_name { stdin.1.name ≡ A.name }
+    requires stdin_parts { stdin.1.parts ≡ A.parts }
+    requires stdin_part { stdin.1.parts ≡ 1 }
+    requires stdout_name { stdout.1.name ≡ B.name }
+    requires stdout_parts { stdout.1.parts ≡ B.parts }
+    requires stdout_part { stdout.1.parts ≡ 1 }
+    requires stderr_name { stderr.1.name ≡ C.name }
+    requires stderr_parts { stderr.1.parts ≡ C.parts }
+    requires stderr_part { stderr.1.parts ≡ 1 }
+    ensures { (after : Streams) × IsRun (words_told words)
+        (streams (R.remaining stdin.0) 0 (O.contents stdout.0) 0 (E.contents stderr.0) 0) after result }
+{
+    let mut reader = Reading::<R, A>::new(stdin.0, stdin.1);
+    let mut out = Writing::<O, B>::new(stdout.0, stdout.1);
+    let mut err = Writing::<E, C>::new(stderr.0, stderr.1);
+    run(rt, alloc, files, words, &mut reader, &mut out, &mut err)
+}

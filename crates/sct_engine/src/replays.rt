@@ -1,0 +1,62 @@
+//! What is answered of a script.
+ghost use Rattle.std.specs.Prelude.{◌≡◌, ◌≢◌, None, Some, true, length, string_bytes, IfErr, IfOk, IsSome, OnOk};
+ghost use Rattle.sct_script.specs.Replays.{replay_of, replay_text};
+ghost use Rattle.sct_script.specs.Scripts.{happenings_told, refusals_told, sites_told, told_text_of};
+ghost use Rattle.sct_set.specs.Pieces.{joined};
+ghost use Rattle.sct_world.specs.Happenings.{happenings_of};
+ghost use Rattle.sct_world.specs.States.{is_size};
+ghost use Rattle.sct_engine.specs.declared.fault.ProgramFault.TheVariants as fault;
+
+use crate::answers::{Answer, one_piece};
+use crate::fault::ProgramFault;
+use sct_script::{Script, ScriptFault, read_script, replay};
+use std::alloc::Global;
+
+// The script that an input is. Where it is none, 64 Usage.
+fn script_of(alloc: Global, input: &[u8]) -> Result<Script, ProgramFault>
+    ensures sites { IfOk result (λ script. sites_told input.now ≡ Some script.sites) }
+    ensures size { IfOk result (λ script. is_size script.sites ≡ true) }
+    ensures events { IfOk result (λ script. happenings_of script.events.items ≡ happenings_told input.now) }
+    ensures told { IfOk result (λ script. string_bytes script.told ≡ told_text_of (refusals_told input.now)) }
+    ensures refused { IfOk result (λ script. script.refused ≡ length (refusals_told input.now)) }
+    ensures faults { IfErr result (λ e. e ≢ fault.Memory → (e ≡ fault.Usage) × (sites_told input.now ≡ None)) }
+{
+    match read_script(alloc, input) {
+        Ok(script) => Ok(script),
+        Err(ScriptFault::NoScript) => Err(ProgramFault::Usage),
+        Err(ScriptFault::Memory) => Err(ProgramFault::Memory),
+    }
+}
+
+// The replay of a script.
+fn replay_text(alloc: Global, script: &Script) -> Result<Vec<u8>, ProgramFault>
+    requires { is_size script.now.sites ≡ true }
+    ensures text { IfOk result (λ text. text.items
+        ≡ replay_text script.now.sites (happenings_of script.now.events.items)) }
+    ensures memory { IfErr result (λ e. e ≡ fault.Memory) }
+{
+    match replay(alloc, script.sites, &script.events) {
+        Ok(text) => Ok(text),
+        Err(_) => Err(ProgramFault::Memory),
+    }
+}
+
+/// What an input is answered that is a script: how its events end, and what each site then holds, and the lines that are
+/// refused. One that is no script is 64 Usage; else only want of memory is a fault.
+pub fn answer_of_script(alloc: Global, input: &[u8]) -> Result<Answer, ProgramFault>
+    ensures text { IfOk result (λ answer. joined answer.pieces.items ≡ replay_of input.now) }
+    ensures told { IfOk result (λ answer. string_bytes answer.told ≡ told_text_of (refusals_told input.now)) }
+    ensures refused { IfOk result (λ answer. answer.refused ≡ length (refusals_told input.now)) }
+    ensures script { OnOk result (IsSome (sites_told input.now)) }
+    ensures faults { IfErr result (λ e. e ≢ fault.Memory → (e ≡ fault.Usage) × (sites_told input.now ≡ None)) }
+{
+    let script = script_of(alloc, input)?;
+    let text = replay_text(alloc, &script)?;
+    let pieces = one_piece(alloc, text)?;
+    let Script { told, refused, .. } = script;
+    Ok(Answer {
+        pieces,
+        told,
+        refused,
+    })
+}

@@ -1,0 +1,190 @@
+//! The command line: its words, and what they ask for.
+ghost use Rattle.std.specs.Prelude.{◌≡◌, ◌≢◌, ◌↔◌, codes, map, Err, IfErr, IfOk, OnOk, IsTrue, option_and_then, option_map, string_bytes};
+ghost use Rattle.sct_engine.specs.declared.fault.ProgramFault.TheVariants as fault;
+ghost use Rattle.sct_engine.specs.Ending.{EndsAsking, words_fault};
+ghost use Rattle.std.specs.IoError.{error_kind};
+ghost use Rattle.clap.specs.Words.{all_of, found_of, rows_of, subcommand_rows_of};
+ghost use Rattle.clap.specs.Values.{kind_of};
+ghost use Rattle.sct_engine.specs.CommandLine.{AnswersKind, AreAsking, CommandsAskForTheirOrders};
+ghost use Rattle.clap.specs.declared.error.kind.ErrorKind.TheVariants as kind;
+ghost use Rattle.sct_engine.specs.Request.{job_named, is_mistake, order_named, are_sites, report_ordered, report_with, sites_from, AsksForNoOrder, IsOrdered};
+
+use crate::commands::command;
+use crate::fault::ProgramFault;
+use crate::jobs::Job;
+use clap::error::ErrorKind;
+use clap::{ArgMatches, Error};
+use sct_element::{Bic, Day, read_bic, read_day};
+use std::alloc::Global;
+use std::env::Args;
+use std::io;
+
+/// What `report` is asked with.
+#[derive(Drop)]
+pub struct Reconciliation<'a> {
+    /// The bank whose list it is.
+    pub bank: Bic,
+    /// The settlement day of the list.
+    pub day: Day,
+    /// The path of the file with the list.
+    pub list: &'a str,
+}
+
+/// What a command line asks for.
+#[derive(Drop)]
+pub enum Request<'a> {
+    /// To do the job on standard input.
+    Run(Job),
+    /// To compare standard input with a bank's list for a settlement day.
+    Reconcile(Reconciliation<'a>),
+    /// To bring sites to one answer, each filled from a file of its own, and from 1 to 16 in number.
+    Settle(Vec<&'a str>),
+    /// To be shown this help.
+    Help(String),
+    /// Nothing that the program does: clap's text says why.
+    Mistake(String),
+}
+
+// Why the words of the command line could not be had.
+fn fault_of(error: &io::Error) -> ProgramFault
+    ensures { result ≡ words_fault (error_kind error.now) }
+{
+    match error.kind() {
+        io::ErrorKind::OutOfMemory => ProgramFault::Memory,
+        _ => ProgramFault::Usage,
+    }
+}
+
+/// The words of a command line, as the environment answers them. Without them (where one is no UTF-8, say), the command
+/// line is one that the program does not take: 64 Usage. Want of memory is 65 Memory.
+pub fn read_words(alloc: Global, words: io::Result<Args>) -> Result<Vec<String>, ProgramFault>
+    ensures memory { OnOk words (IfErr result (λ e. e ≡ fault.Memory)) }
+    ensures unread { IfErr words (λ e. result ≡ Err (words_fault (error_kind e))) }
+{
+    match words {
+        Ok(words) => Ok(words.collect(alloc)?),
+        Err(error) => Err(fault_of(&error)),
+    }
+}
+
+// What clap answers in place of matches: a request for help, or a mistake.
+fn answer_of<'a>(alloc: Global, error: &Error) -> Result<Request<'a>, ProgramFault>
+    ensures no_order { IfOk result AsksForNoOrder }
+    ensures mistake { IfOk result (λ r. IsTrue (is_mistake r)
+        ↔ ((kind_of error.now ≢ kind.DisplayHelp) × (kind_of error.now ≢ kind.DisplayVersion))) }
+    ensures kind { IfOk result (λ r. AnswersKind r (kind_of error.now) × (kind_of error.now ≢ kind.OutOfMemory)) }
+    ensures memory { IfErr result (λ e. e ≡ fault.Memory) }
+{
+    if error.kind() == ErrorKind::OutOfMemory {
+        return Err(ProgramFault::Memory);
+    }
+    let text = format!(in alloc; "{error}")?;
+    if error.use_stderr() {
+        Ok(Request::Mistake(text))
+    } else {
+        Ok(Request::Help(text))
+    }
+}
+
+const MOST_FILES: usize = 16;
+
+// The job that a command's name asks for.
+fn job_named(name: &str) -> Option<Job>
+    ensures { result ≡ job_named name.now }
+{
+    match name {
+        "status" => Some(Job::Status),
+        "archive" => Some(Job::Archive),
+        "totals" => Some(Job::Totals),
+        "replay" => Some(Job::Replay),
+        _ => None,
+    }
+}
+
+// What `report` asks for. There is nothing to ask where the bank or the day is none.
+#[tactic(auto, using(crate::proofs::Values::value_given))]
+fn report_of<'a>(given: &ArgMatches<'a>) -> Option<Reconciliation<'a>>
+    ensures { option_map report_with result ≡ report_ordered (rows_of (found_of given.now)) }
+{
+    let bank = read_bic(given.get_str("BANK")?).ok()?;
+    let day = read_day(given.get_str("DAY")?).ok()?;
+    let list = given.get_str("LIST")?;
+    Some(Reconciliation { bank, day, list })
+}
+
+// So many files can be run.
+fn are_sites(count: usize) -> bool
+    ensures { result ≡ are_sites count }
+{
+    count > 0 && count <= MOST_FILES
+}
+
+// What `run` asks for of these files. More of them than there are sites is nothing to ask.
+fn sites_of<'a>(alloc: Global, files: &[&'a str]) -> Result<Request<'a>, ProgramFault>
+    ensures { IsOrdered (sites_from (map (λ path. path.now) files.now)) result }
+{
+    if !are_sites(files.len()) {
+        return Err(ProgramFault::Usage);
+    }
+    Ok(Request::Settle(files.to_vec(alloc)?))
+}
+
+// The files that `run` is given.
+#[tactic(auto, using(crate::proofs::Values::values_given))]
+fn files_of<'b, 'a>(given: &'b ArgMatches<'a>) -> Option<&'b [&'a str]>
+    ensures { option_map (λ files. map (λ path. path.now) files.now) result
+        ≡ all_of (codes "FILE") (rows_of (found_of given.now)) }
+{
+    given.get_strs("FILE")
+}
+
+// What a command asks for, with the values of its arguments.
+fn asked_with<'a>(
+    alloc: Global,
+    name: &str,
+    given: &ArgMatches<'a>,
+) -> Result<Request<'a>, ProgramFault>
+    ensures { IsOrdered (order_named name.now (rows_of (found_of given.now))) result }
+{
+    match name {
+        "report" => match report_of(given) {
+            Some(report) => Ok(Request::Reconcile(report)),
+            None => Err(ProgramFault::Usage),
+        },
+        "run" => match files_of(given) {
+            Some(files) => sites_of(alloc, files),
+            None => Err(ProgramFault::Usage),
+        },
+        _ => match job_named(name) {
+            Some(job) => Ok(Request::Run(job)),
+            None => Err(ProgramFault::Usage),
+        },
+    }
+}
+
+// What clap found asks for.
+fn asked_by<'a>(alloc: Global, matches: &ArgMatches<'a>) -> Result<Request<'a>, ProgramFault>
+    ensures { IsOrdered
+        (option_and_then (λ found. order_named found.0 found.1) (subcommand_rows_of matches.now)) result }
+{
+    match matches.subcommand() {
+        Some((name, given)) => asked_with(alloc, name, given),
+        None => Err(ProgramFault::Usage),
+    }
+}
+
+// Each of the commands, after any name of the program, asks for its order.
+fn commands_ask_for_their_orders()
+    ensures { CommandsAskForTheirOrders }
+{}
+
+/// Reads the words of a command line, the first of which is the program's name.
+pub fn read_request<'a>(alloc: Global, words: &'a [String]) -> Result<Request<'a>, ProgramFault>
+    ensures asked { AreAsking (map string_bytes words.now) result }
+    ensures faults { IfErr result EndsAsking }
+{
+    match command(alloc)?.try_get_matches_from(words) {
+        Ok(matches) => asked_by(alloc, &matches),
+        Err(error) => answer_of(alloc, &error),
+    }
+}

@@ -1,0 +1,56 @@
+//! Several inputs brought to one answer: each fills a site of its own, and the sites are settled.
+ghost use Rattle.std.specs.Prelude.{◌≡◌, ◌≢◌, ◌⊎◌, Err, Some, false, length, IfErr, IfOk, OnOk};
+ghost use Rattle.sct_run.specs.Runs.{are_sites, set_of_all};
+ghost use Rattle.sct_engine.specs.declared.fault.ProgramFault.TheVariants as fault;
+ghost use Rattle.sct_engine.specs.Engine.{IsCutOff, IsWritten};
+ghost use Rattle.sct_engine.specs.Tasks.{EndsSettling};
+ghost use Rattle.sct_view.specs.StatusText.{status_text_of};
+ghost use Rattle.sct_workers.specs.Files.{bytes_of, refused_in, told_from};
+
+use crate::fault::ProgramFault;
+use crate::jobs::Done;
+use crate::transfer::write_all;
+use sct_run::{RunAnswer, run_sites};
+use sct_streams::Sink;
+use sct_workers::FreeGate;
+use std::alloc::Global;
+use std::sync::Wait;
+use std::thread::Threads;
+
+/// Writes the lines that tell the refused lines of the inputs to `err`, each with its input's number, and then to `out` the
+/// status text of all that is read from any of them, each at a site of its own. No gate holds the workers of the sites. 64
+/// Usage where the inputs are not 1 to 16; 65 Memory, 66 Refused where a call at a site is refused, and 67 NoWorker where
+/// there is no thread for a worker.
+#[tactic(auto, using(crate::proofs::RunFaults::ends_settling))]
+pub fn settle_inputs<T: Threads + Wait + Sync, O: Sink, E: Sink>(
+    rt: &T,
+    alloc: Global,
+    inputs: Vec<Vec<u8>>,
+    out: &mut O,
+    err: &mut E,
+) -> Result<Done, ProgramFault>
+    ensures told { OnOk result (IsWritten (E.failures err.old) (E.failures err.new) (E.held err.old) (E.held err.new)
+        (Some (told_from 1 (bytes_of inputs.items)))) }
+    ensures text { OnOk result (IsWritten (O.failures out.old) (O.failures out.new) (O.held out.old) (O.held out.new)
+        (Some (status_text_of (set_of_all (bytes_of inputs.items))))) }
+    ensures refused { IfOk result (λ done. done.refused ≡ refused_in (bytes_of inputs.items)) }
+    ensures faults { IfErr result EndsSettling }
+    ensures usage { result ≡ Err fault.Usage → are_sites (length inputs.items) ≡ false }
+    ensures cut_off { result ≡ Err fault.Write
+        → (IsCutOff (E.failures err.old) (E.failures err.new) (E.held err.old) (E.held err.new)
+        (Some (told_from 1 (bytes_of inputs.items))) × (out.new ≡ out.old))
+        ⊎ (IsWritten (E.failures err.old) (E.failures err.new) (E.held err.old) (E.held err.new)
+        (Some (told_from 1 (bytes_of inputs.items)))
+        × IsCutOff (O.failures out.old) (O.failures out.new) (O.held out.old) (O.held out.new)
+        (Some (status_text_of (set_of_all (bytes_of inputs.items))))) }
+    ensures unwritten { IfErr result (λ e. e ≢ fault.Write → (out.new ≡ out.old) × (err.new ≡ err.old)) }
+{
+    let RunAnswer {
+        status,
+        told,
+        refused,
+    } = run_sites(rt, alloc, &FreeGate, inputs)?;
+    write_all(err, told.as_bytes())?;
+    write_all(out, &status)?;
+    Ok(Done { refused })
+}

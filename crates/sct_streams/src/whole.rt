@@ -1,0 +1,86 @@
+//! Whole inputs from a source, and whole texts to a sink.
+ghost use Rattle.std.specs.Prelude.{◌≡◌, ◌+◌, ◌≤◌, ◌<◌, [], Some, length, vec_len, IsOk, IfOk, IfErr, IfSome, OnOk, OnErr};
+ghost use Rattle.sct_streams.specs.Stream.{AppendsIfTold, AppendsPrefixIfTold, Gives, HasTakenIfTold};
+ghost use Rattle.sct_streams.specs.Whole.{failed_reads, EndsReading};
+ghost use Rattle.sct_streams.specs.declared.whole.ReadFault.TheVariants as fault;
+
+use crate::sink::Sink;
+use crate::source::{Failed, Source};
+use std::alloc::{AllocError, Global};
+
+/// Why an input was not read whole.
+#[derive(Clone, Copy, Debug, PartialEq, Eq)]
+pub enum ReadFault {
+    /// It has a byte past the limit.
+    TooLong,
+    /// A read failed.
+    Failed,
+    /// Memory is wanting.
+    Memory,
+}
+
+impl From<AllocError> for ReadFault {
+    ghost from_gives = { λ _ e. e ≡ fault.Memory };
+
+    fn from(_error: AllocError) -> ReadFault {
+        ReadFault::Memory
+    }
+}
+
+const PIECE: usize = 65_536;
+
+// Reads into the first bytes of the piece, of which no more than `most` are used.
+fn read_most<R: Source>(source: &mut R, piece: &mut [u8], most: usize) -> Result<usize, Failed>
+    requires { most ≤ length piece.old }
+    ensures fits { IfOk result (λ n. n ≤ most) }
+    ensures given { IfOk result (λ n. IfSome (R.left source.old)
+        (λ bytes. Gives bytes n most piece.new (R.left source.new))) }
+    ensures ok { OnOk result (R.failures source.new ≡ R.failures source.old) }
+    ensures failed { OnErr result (R.failures source.new ≡ R.failures source.old + 1) }
+    ensures untaken { OnErr result (HasTakenIfTold (R.left source.old) (R.left source.new) 0) }
+{
+    source.read(&mut piece[..most])
+}
+
+/// Reads to the end, or to the first byte past a limit, which counts bytes.
+pub fn read_all<R: Source>(alloc: Global, source: &mut R, limit: u64) -> Result<Vec<u8>, ReadFault>
+    ensures all { IfOk result (λ v. IfSome (R.left source.old)
+        (λ bytes. (bytes ≡ v.items) × (R.left source.new ≡ Some []))) }
+    ensures within { IfOk result (λ v. vec_len v ≤ limit) }
+    ensures faults { IfErr result (λ e. EndsReading e limit (R.left source.old) (R.left source.new)) }
+    ensures quiet { OnOk result (R.failures source.new ≡ R.failures source.old) }
+    ensures counted { IfErr result (λ e. R.failures source.new ≡ R.failures source.old + failed_reads e) }
+{
+    let mut bytes = Vec::new(alloc);
+    let mut piece = [0; PIECE];
+    let limit = limit as usize;
+    while bytes.len() <= limit {
+        let room = limit - bytes.len();
+        let most = if room < PIECE { room + 1 } else { PIECE };
+        let Ok(n) = read_most(source, &mut piece, most) else {
+            return Err(ReadFault::Failed);
+        };
+        if n == 0 {
+            return Ok(bytes);
+        }
+        bytes.extend_from_slice(&piece[..n])?;
+    }
+    Err(ReadFault::TooLong)
+}
+
+/// Writes all of the bytes, or as many as are taken before a write fails. Of no bytes there is no write.
+#[tactic(auto, using(crate::proofs::Fronts::one_write_more))]
+pub fn write_all<K: Sink>(sink: &mut K, bytes: &[u8]) -> Result<(), Failed>
+    ensures all { OnOk result (AppendsIfTold (K.held sink.old) (K.held sink.new) bytes.now) }
+    ensures prefix { OnErr result (AppendsPrefixIfTold (K.held sink.old) (K.held sink.new) bytes.now) }
+    ensures quiet { OnOk result (K.failures sink.new ≡ K.failures sink.old) }
+    ensures counted { OnErr result (K.failures sink.new ≡ K.failures sink.old + 1) }
+    ensures empty { bytes.now ≡ [] → IsOk result × (sink.new ≡ sink.old) }
+{
+    let mut done = 0;
+    while done < bytes.len() {
+        let (_, rest) = bytes.split_at(done);
+        done += sink.write(rest)?;
+    }
+    Ok(())
+}
