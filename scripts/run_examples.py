@@ -1,6 +1,7 @@
-"""run_examples.py: runs the program on each example of examples/, on each case of examples/cases/, on bad lists, on a list of 5,000
-rows, on a longer input on 1, 2, 4 and 8 processors, on sixteen files of it, and on two small files 200 times, and fails where an
-output differs; and a test in which three threads share a desk, 100 times.
+"""run_examples.py: runs the program on each example of examples/, on each case of examples/cases/ and each command line of
+examples/command-lines/, on bad lists, on a list of 5,000 rows, on blank inputs, on streams that fail, on a longer input on 1, 2, 4
+and 8 processors, on sixteen files of it, and on two small files 200 times, and fails where an output differs; and a test in which
+three threads share a desk, 100 times.
 
 An example NAME.jsonl is a list of messages, and NAME.script a script. NAME.COMMAND is what that command must write to
 standard output, and NAME.refused what it must write to standard error. NAME.site1, NAME.site2 and so on are lists of messages
@@ -12,6 +13,10 @@ A file of examples/cases/ has one case after another: a line `== TITLE`, the lin
 what that command must write to standard output, and behind `-- refused` what each of them must write to standard error. Each case is
 run as it stands, and without the line feed at its end; where no line is refused, also with its lines in the opposite order, and each
 line twice: the answer must be the same.
+
+A file of examples/command-lines/ has one command line after another: a line `== TITLE`, a line `$ WORDS`, the lines of standard
+input, behind `-- out` and `-- err` what must be written to the two outputs, and a line `-- exit STATUS`. The other files there are
+those that the words name.
 
 The list of 5,000 rows has a row for each of as many instructions, which is MATCHED, and one that is ONLY_IN_LIST. The longer input is of made-up
 messages, blank lines and refused ones, and is read and written in threads; what must be answered is told by
@@ -41,8 +46,11 @@ DESKS = 100
 BAD_LISTS = [('BANKDEFF,"T""1",10,ACCEPTED\n', 2), ('BANKDEFF,T1,10,PENDING\nBANKDEFF,"T\n1",10,ACCEPTED\n', 3),
              ("BANKDEFF,T1, 10,ACCEPTED\n", 2), ("BANKDEFF,T1,10,accepted\n", 2), ("BANKDEFF,T1,10,PENDING,\n", 2)]
 
-# what is run, and what the program must write and end with
-Case = collections.namedtuple("Case", "name words input text refused status")
+# inputs that have no message and no refused line
+BLANK = [b"", b"\n", b"\r\n \t\r\n\r"]
+
+# what is run, where and on what, and what the program must write and end with
+Case = collections.namedtuple("Case", "name words input text refused status folder", defaults=[EXAMPLES])
 
 
 def case(name, words, data, text, refused):
@@ -85,6 +93,24 @@ def cases():
             for command, text in texts.items():
                 name = f"{path.stem}, {title}, {command}"
                 yield [case(name, [command], data.encode(), text.encode(), refused.encode()) for data in alike(lines, refused)]
+
+
+def command_lines():
+    """Each command line of examples/command-lines/, run there."""
+    folder = EXAMPLES / "command-lines"
+    for path in sorted(folder.glob("*.txt")):
+        for title, rest in titled(path.read_text(), "=="):
+            words, rest = rest.removeprefix("$ ").split("\n", 1)
+            data = re.split(r"^-- ", rest, maxsplit=1, flags=re.MULTILINE)[0]
+            texts = dict(titled(rest, "--"))
+            [status] = [int(mark.removeprefix("exit ")) for mark in texts if mark.startswith("exit ")]
+            name = f"{path.stem}, {title}"
+            yield Case(name, words.split(), data.encode(), texts["out"].encode(), texts["err"].encode(), status, folder)
+
+
+def blank_inputs():
+    """Inputs without a line, and with blank ones alone."""
+    yield [case("blank inputs", ["status"], data, b"", b"") for data in BLANK]
 
 
 def instruction(number):
@@ -174,7 +200,7 @@ def on(processors):
 
 def answers(program, one, processors):
     """Whether the program answers a case as it must."""
-    done = subprocess.run([program, *one.words], input=one.input, capture_output=True, cwd=EXAMPLES, preexec_fn=on(processors))
+    done = subprocess.run([program, *one.words], input=one.input, capture_output=True, cwd=one.folder, preexec_fn=on(processors))
     return (done.stdout, done.stderr, done.returncode) == (one.text, one.refused, one.status)
 
 
@@ -191,6 +217,25 @@ def all_fit(program, ones):
     right = all(answers(program, one, PROCESSORS[-1]) for one in ones)
     print(f"{ones[0].name}, in {len(ones)} ways: {'ok' if right else 'DIFFERS'}", flush=True)
     return right
+
+
+def fails_as_it_must(program, name, streams, told):
+    """Whether `status` over some streams, one of which fails, writes and ends as it must. None is what nobody reads."""
+    done = subprocess.run([program, "status"], **streams)
+    right = (done.stdout, done.stderr, done.returncode) == told
+    print(f"{name}: {'ok' if right else 'DIFFERS'}", flush=True)
+    return right
+
+
+def failing_streams(program):
+    """A read that fails is 62 and a write that fails 63; where that cannot be told, the exit status tells of it."""
+    pipe, data = subprocess.PIPE, instruction(1).encode()
+    unread = os.open(EXAMPLES, os.O_RDONLY)  # a folder is opened, and no read of it succeeds
+    with open("/dev/full", "wb") as full:
+        yield fails_as_it_must(program, "an input that cannot be read", {"stdin": unread, "stdout": pipe, "stderr": pipe}, (b"", b"fault 62\n", 2))
+        yield fails_as_it_must(program, "a full output", {"input": data, "stdout": full, "stderr": pipe}, (None, b"fault 63\n", 2))
+        yield fails_as_it_must(program, "a full error output", {"input": b"foo\n" + data, "stdout": pipe, "stderr": full}, (b"", None, 2))
+    os.close(unread)
 
 
 def is_shared_alike():
@@ -210,8 +255,9 @@ def main():
     if not os.path.isfile(program):
         sys.exit(f"run_examples: there is no program {program}; `rt run` in crates/sct_sites makes it")
     with tempfile.TemporaryDirectory() as folder:
-        right = [fits(program, one, PROCESSORS[-1]) for one in [*examples(), *bad_lists(folder), long_list(folder)]]
-        right += [all_fit(program, ones) for ones in cases()]
+        right = [fits(program, one, PROCESSORS[-1]) for one in [*examples(), *command_lines(), *bad_lists(folder), long_list(folder)]]
+        right += [all_fit(program, ones) for ones in [*cases(), *blank_inputs()]]
+        right += failing_streams(program)
         right.append(fits(program, two_files(folder), PROCESSORS[-1], TIMES))
         long = [*long_cases(), sixteen_files(folder)]
         right += [fits(program, one, processors) for processors in PROCESSORS for one in long]

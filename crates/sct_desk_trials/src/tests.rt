@@ -9,7 +9,7 @@ mod shared;
 
 use crate::asking::status_text;
 use crate::calls::try_calls;
-use scenes::{closed_over, open_one, receipt_of, take_some};
+use scenes::{open_one, receipt_of, sizes_closed, take_some};
 use sct_desk::{Desk, DeskFault, NotClosed, Query, Receipt, Site};
 use sct_history::{History, Track};
 use std::alloc::Global;
@@ -80,20 +80,6 @@ fn with<J: Site>(mut receipts: Vec<Receipt>, more: Receipt) -> Option<Vec<Receip
     Some(receipts)
 }
 
-// A desk that is not closed, with its receipts.
-fn refusal_of<J: Site, H: Wait + Drop>(
-    desk: Desk<J, H>,
-    receipts: Vec<Receipt>,
-) -> Option<NotClosed<J, H>>
-    requires { AreOurs J.book J.number receipts.items }
-    ensures { IfSome result (λ refusal. AreOurs J.book J.number refusal.receipts.items) }
-{
-    let Err(refusal) = desk.close(receipts) else {
-        return None;
-    };
-    Some(refusal)
-}
-
 // How many arrivals and messages the site of a desk has that was not closed, as its first position was not told, and then was
 // closed with the receipt that tells it.
 fn closed_at_last<J: Site, H: Wait + Drop>(
@@ -111,7 +97,10 @@ fn closed_at_last<J: Site, H: Wait + Drop>(
     if fault != (DeskFault::Untold { position: 1 }) {
         return None;
     }
-    closed_over(desk, with::<J>(receipts, first)?)
+    match sizes_closed(desk, with::<J>(receipts, first)?) {
+        Ok(sizes) => Some(sizes),
+        Err(_) => None,
+    }
 }
 
 // A desk from its opening to its closing.
@@ -125,7 +114,9 @@ fn expect_life<J: Site, R: Wait + Abort>(rt: &R, alloc: Global, history: History
     query.learn(&first);
     assert!(rt; is_told(alloc, &mut query, "Pending 1\n"));
     let rest = take_some(rt, alloc, &desk, 2, 1).expect(rt, "another receipt");
-    let refusal = refusal_of(desk, rest).expect(rt, "a gap");
+    let Err(refusal) = sizes_closed(desk, rest) else {
+        panic!(rt; "no gap");
+    };
     assert!(rt; closed_at_last(refusal, first) == Some((2, 2)));
     assert!(rt; is_told(alloc, &mut query, "55\n"));
 }

@@ -1,12 +1,12 @@
 //! Messages, deltas and desks to try calls on.
 
 ghost use Rattle.std.specs.List.{All};
-ghost use Rattle.std.specs.Prelude.{◌≡◌, ◌≤◌, [], IfSome};
+ghost use Rattle.std.specs.Prelude.{◌≡◌, ◌≤◌, [], IfErr, IfSome};
 ghost use Rattle.sct_desk.specs.Openings.{IsNewQuery};
 ghost use Rattle.sct_desk.specs.Passes.{IsOf};
 ghost use Rattle.sct_desk.specs.Tilings.{AreOurs};
 
-use sct_desk::{Desk, Query, Receipt, Site};
+use sct_desk::{Desk, NotClosed, Query, Receipt, Site};
 use sct_history::{History, Track};
 use sct_json::read_message;
 use sct_message::Message;
@@ -63,16 +63,17 @@ fn sizes_of(core: &SiteCore) -> (usize, usize) {
     (core.arrivals().len(), core.archive().len())
 }
 
-/// How many arrivals the site of a desk has that is closed, and how many messages.
-pub(crate) fn closed_over<J: Site, H: Wait + Drop>(
+/// How many arrivals and messages the site of a desk has that is closed. A desk that is not closed comes back.
+pub(crate) fn sizes_closed<J: Site, H: Wait + Drop>(
     desk: Desk<J, H>,
     receipts: Vec<Receipt>,
-) -> Option<(usize, usize)>
+) -> Result<(usize, usize), NotClosed<J, H>>
     requires { AreOurs J.book J.number receipts.items }
+    ensures { IfErr result (λ refusal. AreOurs J.book J.number refusal.receipts.items) }
 {
     match desk.close(receipts) {
-        Ok(core) => Some(sizes_of(&core)),
-        Err(_) => None,
+        Ok(core) => Ok(sizes_of(&core)),
+        Err(refusal) => Err(refusal),
     }
 }
 

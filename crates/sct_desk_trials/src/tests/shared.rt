@@ -3,7 +3,7 @@
 ghost use Rattle.std.specs.Prelude.{◌≡◌, [], IfSome};
 ghost use Rattle.sct_desk.specs.Tilings.{AreOurs};
 
-use super::scenes::{closed_over, open_one, take_some};
+use super::scenes::{open_one, sizes_closed, take_some};
 use crate::asking::first_transfer;
 use sct_case::Status;
 use sct_desk::{Desk, Query, Receipt, Site};
@@ -114,7 +114,10 @@ fn expect_shared<J: Site + Send + Sync, R: Threads + Wait + Abort + Sync>(
     let (rose, kept) = three_threads(rt, alloc, &desk, query, transfer);
     assert!(rt; rose, "a front fell, or T1 was not seen");
     let receipts = kept.expect(rt, "receipts of all calls");
-    assert!(rt; closed_over(desk, receipts) == Some((100, 100)));
+    let Ok(sizes) = sizes_closed(desk, receipts) else {
+        panic!(rt; "a desk that is not closed");
+    };
+    assert!(rt; sizes == (100, 100));
 }
 
 #[test]

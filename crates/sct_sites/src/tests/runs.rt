@@ -1,0 +1,82 @@
+//! Runs of the program over known words and bytes.
+ghost use Rattle.std.specs.Prelude.{◌≡◌};
+
+use sct_engine::{Done, Job, ProgramFault, engine, run_over_std};
+use sct_streams::{Reading, Writing};
+use std::alloc::Global;
+use std::marker::Brand;
+use std::rt::Files;
+use std::sync::Wait;
+use std::sync::ledger::{Blank, Ledger};
+use std::thread::Threads;
+
+// With which status a run ended, and what it wrote.
+#[derive(Drop)]
+pub struct Ran {
+    pub status: u8,
+    pub out: Vec<u8>,
+    pub err: Vec<u8>,
+}
+
+// A run of the program on this input.
+pub fn run_program(
+    rt: &(impl Threads + Wait + Files + Sync),
+    alloc: Global,
+    words: Result<Vec<String>, ProgramFault>,
+    input: &[u8],
+) -> Ran {
+    let mut out = Vec::new(alloc);
+    let mut err = Vec::new(alloc);
+    let status = run_over_std::<_, _, _, _, _, Brand, Brand, Brand>(
+        rt,
+        alloc,
+        rt,
+        words,
+        (input, Blank::new(1)),
+        (&mut out, Blank::new(1)),
+        (&mut err, Blank::new(1)),
+    );
+    Ran { status, out, err }
+}
+
+fn answer_over<A: Ledger, B: Ledger, C: Ledger>(
+    rt: &(impl Threads + Sync),
+    alloc: Global,
+    limit: u64,
+    input: &[u8],
+    blanks: (Blank, Blank, Blank),
+) -> Result<Done, ProgramFault>
+    requires reader_name { blanks.0.name ≡ A.name }
+    requires reader_parts { blanks.0.parts ≡ A.parts }
+    requires reader_part { blanks.0.parts ≡ 1 }
+    requires out_name { blanks.1.name ≡ B.name }
+    requires out_parts { blanks.1.parts ≡ B.parts }
+    requires out_part { blanks.1.parts ≡ 1 }
+    requires err_name { blanks.2.name ≡ C.name }
+    requires err_parts { blanks.2.parts ≡ C.parts }
+    requires err_part { blanks.2.parts ≡ 1 }
+{
+    let mut reader = Reading::<_, A>::new(input, blanks.0);
+    let mut out = Writing::<_, B>::new(Vec::new(alloc), blanks.1);
+    let mut err = Writing::<_, C>::new(Vec::new(alloc), blanks.2);
+    engine(
+        rt,
+        alloc,
+        &Job::Status,
+        limit,
+        &mut reader,
+        &mut out,
+        &mut err,
+    )
+}
+
+// How `status` ends on an input of at most so many bytes.
+pub fn answer_within(
+    rt: &(impl Threads + Sync),
+    alloc: Global,
+    limit: u64,
+    input: &[u8],
+) -> Result<Done, ProgramFault> {
+    let blanks = (Blank::new(1), Blank::new(1), Blank::new(1));
+    answer_over::<Brand, Brand, Brand>(rt, alloc, limit, input, blanks)
+}
