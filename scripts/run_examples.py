@@ -86,10 +86,10 @@ def alike(lines, refused):
 def cases():
     """Of each case of examples/cases/ and each of its commands the inputs that must be answered alike."""
     for path in sorted((EXAMPLES / "cases").glob("*.txt")):
-        for title, rest in titled(path.read_text(), "=="):
+        for title, rest in titled(path.read_bytes().decode(), "=="):
             texts = dict(titled(rest.removesuffix("\n") if rest.endswith("\n\n") else rest, "--"))
             refused = texts.pop("refused", "")
-            lines = re.split(r"^--", rest, maxsplit=1, flags=re.MULTILINE)[0].splitlines(keepends=True)
+            lines = re.findall(r".*\n", re.split(r"^--", rest, maxsplit=1, flags=re.MULTILINE)[0])
             for command, text in texts.items():
                 name = f"{path.stem}, {title}, {command}"
                 yield [case(name, [command], data.encode(), text.encode(), refused.encode()) for data in alike(lines, refused)]

@@ -19,7 +19,7 @@ pub struct Ran {
 }
 
 // A run of the program on this input.
-pub fn run_program(
+pub(super) fn run_program(
     rt: &(impl Threads + Wait + Files + Sync),
     alloc: Global,
     words: Result<Vec<String>, ProgramFault>,
@@ -71,7 +71,7 @@ fn answer_over<A: Ledger, B: Ledger, C: Ledger>(
 }
 
 // How `status` ends on an input of at most so many bytes.
-pub fn answer_within(
+pub(super) fn answer_within(
     rt: &(impl Threads + Sync),
     alloc: Global,
     limit: u64,
