@@ -1,5 +1,5 @@
 """run_examples.py: runs the program on each example of examples/, on each case of examples/cases/ and each command line of
-examples/command-lines/, on bad lists, on a list of 5,000 rows, on blank inputs, on streams that fail, on a longer input on 1, 2, 4
+examples/command-lines/, on bad lists, on a list of 5,000 rows, on blank inputs, on streams that fail behind each byte, on a longer input on 1, 2, 4
 and 8 processors, on sixteen files of it, and on two small files 200 times, and fails where an output differs; and a test in which
 three threads share a desk, 100 times.
 
@@ -28,7 +28,7 @@ The test `desk_shared` of crates/sct_desk_trials, as `rt test` and the gate leav
 
 Usage: run_examples.py [PROGRAM]   (else the program that `rt run` and the gate leave in crates/sct_sites/out)
 """
-import collections, os, pathlib, re, shutil, subprocess, sys, tempfile
+import collections, os, pathlib, pty, re, resource, shutil, subprocess, sys, tempfile, tty
 import reference_status
 
 TOP = pathlib.Path(__file__).resolve().parent.parent
@@ -219,23 +219,52 @@ def all_fit(program, ones):
     return right
 
 
-def fails_as_it_must(program, name, streams, told):
-    """Whether `status` over some streams, one of which fails, writes and ends as it must. None is what nobody reads."""
-    done = subprocess.run([program, "status"], **streams)
-    right = (done.stdout, done.stderr, done.returncode) == told
-    print(f"{name}: {'ok' if right else 'DIFFERS'}", flush=True)
-    return right
+def front_then_failure(front):
+    """An input that gives these bytes, and of which a read then fails: the other end of a terminal that was closed."""
+    end, terminal = pty.openpty()
+    tty.setraw(terminal)
+    os.write(terminal, front)
+    os.close(terminal)
+    return end
+
+
+def after_failing_read(program, front):
+    """What `status` writes where a read fails behind these bytes, and how it ends."""
+    end = front_then_failure(front)
+    done = subprocess.run([program, "status"], stdin=end, capture_output=True)
+    os.close(end)
+    return done.stdout, done.stderr, done.returncode
+
+
+def into_little_room(program, data, room, full):
+    """What `status` writes where one output, 1 or 2, has room for so many bytes, and how it ends."""
+    outputs = {"stdout": subprocess.PIPE, "stderr": subprocess.PIPE}
+    limit = lambda: resource.setrlimit(resource.RLIMIT_FSIZE, (room, room))
+    with tempfile.TemporaryFile() as file:
+        outputs["stdout" if full == 1 else "stderr"] = file
+        done = subprocess.run([program, "status"], input=data, preexec_fn=limit, restore_signals=False, **outputs)
+        file.seek(0)
+        held = file.read()
+    return (held, done.stderr, done.returncode) if full == 1 else (done.stdout, held, done.returncode)
 
 
 def failing_streams(program):
-    """A read that fails is 62 and a write that fails 63; where that cannot be told, the exit status tells of it."""
-    pipe, data = subprocess.PIPE, instruction(1).encode()
-    unread = os.open(EXAMPLES, os.O_RDONLY)  # a folder is opened, and no read of it succeeds
-    with open("/dev/full", "wb") as full:
-        yield fails_as_it_must(program, "an input that cannot be read", {"stdin": unread, "stdout": pipe, "stderr": pipe}, (b"", b"fault 62\n", 2))
-        yield fails_as_it_must(program, "a full output", {"input": data, "stdout": full, "stderr": pipe}, (None, b"fault 63\n", 2))
-        yield fails_as_it_must(program, "a full error output", {"input": b"foo\n" + data, "stdout": pipe, "stderr": full}, (b"", None, 2))
-    os.close(unread)
+    """A read that fails behind any number of bytes is 62, and nothing is written. A write that fails behind any number of bytes is
+    63, and what was written is a prefix; where that cannot be told, the exit status tells of it. No bytes are written of an empty text."""
+    data = b"foo\n" + instruction(1).encode()
+    text, told = b"T|BANKDEFFXXX|T1|PENDING\n", b"line 1: 31\n"
+    runs = {
+        "an input of which a read fails": [
+            after_failing_read(program, data[:length]) == (b"", b"fault 62\n", 2) for length in range(len(data) + 1)],
+        "an output that is full": [
+            into_little_room(program, data, room, 1) == (text[:room], told + b"fault 63\n", 2) for room in range(len(text))],
+        "an error output that is full": [
+            into_little_room(program, data, room, 2) == (b"", told[:room], 2) for room in range(len(told))],
+        "an empty text": [into_little_room(program, b"\n", 0, full) == (b"", b"", 0) for full in (1, 2)],
+    }
+    for name, right in runs.items():
+        print(f"{name}, in {len(right)} ways: {'ok' if all(right) else 'DIFFERS'}", flush=True)
+        yield all(right)
 
 
 def is_shared_alike():
