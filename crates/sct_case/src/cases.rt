@@ -19,7 +19,8 @@ use std::sync::Arc;
 /// The transfer that all of some messages are on; none where there is no message.
 fn transfer_of(clean: &[Arc<Message>]) -> Option<TransferKey>
     ensures key { (t : TransferOf) → AreOn t (messages_in clean.now) → IfSome result (λ key. key ≡ t) }
-    ensures some { MatchOption result (messages_in clean.now ≡ []) (λ key. has_some (messages_in clean.now) ≡ true) }
+    ensures some { MatchOption result
+        (messages_in clean.now ≡ []) (λ key. has_some (messages_in clean.now) ≡ true) }
 {
     match clean.first() {
         Some(message) => Some(message.transfer()),

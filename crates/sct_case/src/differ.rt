@@ -146,7 +146,8 @@ pub(crate) fn is_some_on<S: OfRecall>(said: &[S], cxl: &Id35) -> bool
 
 /// Whether something that is said of a recall differs from one.
 fn differs_on<S: Compared + OfRecall>(said: &[S], one: &S, cxl: &Id35) -> bool
-    ensures { result ≡ list_any (λ other. is_text (S.recall other) cxl.now && not (S.same one.now other)) said.now }
+    ensures { result ≡ list_any
+        (λ other. is_text (S.recall other) cxl.now && not (S.same one.now other)) said.now }
 {
     said.iter().any(|other| other.cxl().text() == cxl.text() && !one.is_same(other))
 }

@@ -195,7 +195,8 @@ fn push_recalls(
     transfer: &TransferKey,
     clean: &[Arc<Message>],
 ) -> Result<(), AllocError>
-    ensures { OnOk result (found.new.items ≡ found.old.items ++ told_recalls transfer.now (messages_in clean.now)) }
+    ensures { OnOk result (found.new.items
+        ≡ found.old.items ++ told_recalls transfer.now (messages_in clean.now)) }
 {
     let made = said::<RecallMade>(alloc, transfer, clean)?;
     let cxls = cxls(alloc, &made)?;
@@ -209,7 +210,8 @@ fn push_answers(
     transfer: &TransferKey,
     clean: &[Arc<Message>],
 ) -> Result<(), AllocError>
-    ensures { OnOk result (found.new.items ≡ found.old.items ++ told_answers transfer.now (messages_in clean.now)) }
+    ensures { OnOk result (found.new.items
+        ≡ found.old.items ++ told_answers transfer.now (messages_in clean.now)) }
 {
     let refusals = said::<RefusalMade>(alloc, transfer, clean)?;
     let returns = said::<ReturnMade>(alloc, transfer, clean)?;
@@ -224,7 +226,8 @@ fn push_refusals(
     transfer: &TransferKey,
     clean: &[Arc<Message>],
 ) -> Result<(), AllocError>
-    ensures { OnOk result (found.new.items ≡ found.old.items ++ told_refusals transfer.now (messages_in clean.now)) }
+    ensures { OnOk result (found.new.items
+        ≡ found.old.items ++ told_refusals transfer.now (messages_in clean.now)) }
 {
     let made = said::<RefusalMade>(alloc, transfer, clean)?;
     let cxls = cxls(alloc, &made)?;
@@ -260,7 +263,8 @@ fn findings_of_instruction(
     clean: &[Arc<Message>],
     asides: &[Identity],
 ) -> Result<Vec<Finding>, AllocError>
-    ensures { IfOk result (λ found. found.items ≡ findings_of_instruction transfer.now (messages_in clean.now) asides.now) }
+    ensures { IfOk result (λ found. found.items
+        ≡ findings_of_instruction transfer.now (messages_in clean.now) asides.now) }
 {
     let two_instructions = has_two_instructions(alloc, transfer, clean)?;
     let both_confirmed = is_both_confirmed(alloc, transfer, clean)?;
@@ -282,7 +286,8 @@ fn push_findings_of_recalls(
     transfer: &TransferKey,
     clean: &[Arc<Message>],
 ) -> Result<(), AllocError>
-    ensures { OnOk result (found.new.items ≡ found.old.items ++ findings_of_recalls transfer.now (messages_in clean.now)) }
+    ensures { OnOk result (found.new.items
+        ≡ found.old.items ++ findings_of_recalls transfer.now (messages_in clean.now)) }
 {
     let two_returns = has_two_returns(alloc, transfer, clean)?;
     let return_of_rejected = has_return_of_rejected(alloc, transfer, clean)?;

@@ -93,7 +93,8 @@ fn reason_of(draft: &Draft, cxl: &Id35) -> Option<Reason>
 }
 
 fn is_named(clean: &[Arc<Message>], cxl: &Id35) -> bool
-    ensures { result ≡ list_any (λ m. list_any (named_of_it cxl.now) (recalls_in (cancellation_of (arc_value m)))) clean.now }
+    ensures { result ≡ list_any (λ m. list_any (named_of_it cxl.now)
+        (recalls_in (cancellation_of (arc_value m)))) clean.now }
 {
     clean.iter().any(|message| names(message.draft(), cxl))
 }

@@ -58,7 +58,8 @@ impl Logs {
         requires inside { list_any (is_outside self.old.group) entries.items ≡ false }
         ensures group { self.new.group ≡ self.old.group }
         ensures ok { IsOk result }
-        ensures logs { (origin : ℕ) → log_in self.new origin ≡ log_in self.old origin ++ log_of origin entries.items }
+        ensures logs { (origin : ℕ) → log_in self.new origin
+            ≡ log_in self.old origin ++ log_of origin entries.items }
     {
         for entry in entries {
             self.append(entry.origin, entry.message)?;
@@ -72,9 +73,11 @@ impl Logs {
     pub fn join(&mut self, own: u16, delta: Delta) -> Result<u64, DeltaFault>
         ensures group { self.new.group ≡ self.old.group }
         ensures answer { IfOk result (λ fresh. fresh ≡ length (fresh_in (log_in self.old) delta)) }
-        ensures ok { OnOk result ((origin : ℕ) → log_in self.new origin ≡ joined (log_in self.old) delta origin) }
+        ensures ok { OnOk result ((origin : ℕ) → log_in self.new origin
+            ≡ joined (log_in self.old) delta origin) }
         ensures fits { OnOk result (first_refusal own self.old.group (log_in self.old) delta ≡ None) }
-        ensures err { IfErr result (λ refusal. MatchOption (first_refusal own self.old.group (log_in self.old) delta)
+        ensures err { IfErr result (λ refusal. MatchOption
+            (first_refusal own self.old.group (log_in self.old) delta)
             (refusal ≡ fault.Memory) (λ first. refusal ≡ first)) }
         ensures unchanged { OnErr result (HoldSame self.new self.old) }
         ensures room { HasRoomFor self.old delta → IfErr result (λ refusal. refusal ≢ fault.Memory) }

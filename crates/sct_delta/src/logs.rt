@@ -122,7 +122,8 @@ impl Logs {
     pub fn push(&mut self, origin: u16, message: Arc<Message>) -> Result<u64, DeltaFault>
         ensures group { self.new.group ≡ self.old.group }
         ensures answer { IfOk result (λ n. n ≡ vector_of (log_in self.old) origin + 1) }
-        ensures ok { OnOk result ((k : ℕ) → log_in self.new k ≡ appended (log_in self.old) origin (arc_value message) k) }
+        ensures ok { OnOk result ((k : ℕ) → log_in self.new k
+            ≡ appended (log_in self.old) origin (arc_value message) k) }
         ensures site { OnOk result (has_site self.old.group origin ≡ true) }
         ensures err { IfErr result (λ refusal. refusal ≡ refusal_at self.old.group origin) }
         ensures unchanged { OnErr result (HoldSame self.new self.old) }
@@ -139,7 +140,8 @@ impl Logs {
         requires { has_site self.old.group origin ≡ true }
         ensures group { self.new.group ≡ self.old.group }
         ensures answer { IfOk result (λ n. n ≡ vector_of (log_in self.old) origin + 1) }
-        ensures ok { OnOk result ((k : ℕ) → log_in self.new k ≡ appended (log_in self.old) origin (arc_value message) k) }
+        ensures ok { OnOk result ((k : ℕ) → log_in self.new k
+            ≡ appended (log_in self.old) origin (arc_value message) k) }
         ensures err { IfErr result (λ refusal. refusal ≡ fault.Memory) }
         ensures unchanged { OnErr result (HoldSame self.new self.old) }
         ensures room { HasRoom self.old origin → IsOk result }

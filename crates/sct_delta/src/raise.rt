@@ -34,7 +34,8 @@ impl Vector {
 
     // Counts the entries of the origin anew.
     pub(crate) fn set(&mut self, origin: u16, count: u64) -> Result<(), AllocError>
-        ensures ok { OnOk result ((k : ℕ) → count_in self.new k ≡ (if nat_eq origin k then count else count_in self.old k)) }
+        ensures ok { OnOk result ((k : ℕ) → count_in self.new k
+            ≡ (if nat_eq origin k then count else count_in self.old k)) }
         ensures err { OnErr result ((k : ℕ) → count_in self.new k ≡ count_in self.old k) }
         ensures keeps { (k : ℕ) → Names self.old k → Names self.new k }
         ensures named { OnOk result (Names self.new origin) }

@@ -22,7 +22,8 @@ fn push_above(
     have: u64,
     log: &[Arc<Message>],
 ) -> Result<(), AllocError>
-    ensures { OnOk result (out.new.items ≡ out.old.items ++ numbered origin (have + 1) (drop have (map arc_value log.now))) }
+    ensures { OnOk result (out.new.items
+        ≡ out.old.items ++ numbered origin (have + 1) (drop have (map arc_value log.now))) }
 {
     let mut place = have;
     while place < log.len() as u64 {
@@ -99,10 +100,12 @@ impl Shelf {
 
     /// Appends a message to the log of the origin.
     pub fn push(&mut self, origin: u16, message: Arc<Message>) -> Result<(), AllocError>
-        ensures ok { OnOk result ((k : ℕ) → log_on self.new k ≡ appended (log_on self.old) origin (arc_value message) k) }
+        ensures ok { OnOk result ((k : ℕ) → log_on self.new k
+            ≡ appended (log_on self.old) origin (arc_value message) k) }
         ensures err { OnErr result ((k : ℕ) → log_on self.new k ≡ log_on self.old k) }
         ensures room { 1 ≤ places_at self.old origin → IsOk result }
-        ensures keeps { (k : ℕ) → places_at self.old k ≤ places_at self.new k + (if nat_eq origin k then 1 else 0) }
+        ensures keeps { (k : ℕ)
+            → places_at self.old k ≤ places_at self.new k + (if nat_eq origin k then 1 else 0) }
     {
         if let Some(log) = self.logs.get_mut(&origin) {
             log.push(message)?;

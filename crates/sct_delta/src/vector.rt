@@ -59,7 +59,8 @@ fn refusal(pairs: &[(u16, u64)]) -> Option<DeltaFault>
 
 // The counts that pairs give.
 fn counted(alloc: Global, pairs: &[(u16, u64)]) -> Result<Vector, DeltaFault>
-    ensures counts { IfOk result (λ vector. (origin : ℕ) → count_in vector origin ≡ count_among pairs.now origin 0) }
+    ensures counts { IfOk result (λ vector. (origin : ℕ)
+        → count_in vector origin ≡ count_among pairs.now origin 0) }
     ensures memory { IfErr result (λ refusal. refusal ≡ fault.Memory) }
 {
     let mut vector = Vector::empty(alloc);
@@ -83,9 +84,11 @@ impl Vector {
     /// (BadSite) an origin outside 1 to 64, and then 45 (BadDelta) with the place, from 1, of the first pair that does
     /// not ascend.
     pub fn of(alloc: Global, pairs: &[(u16, u64)]) -> Result<Vector, DeltaFault>
-        ensures counts { IfOk result (λ vector. (origin : ℕ) → count_in vector origin ≡ count_among pairs.now origin 0) }
+        ensures counts { IfOk result (λ vector. (origin : ℕ)
+            → count_in vector origin ≡ count_among pairs.now origin 0) }
         ensures accepted { OnOk result (vector_refusal pairs.now ≡ None) }
-        ensures refused { IfErr result (λ refusal. refusal ≢ fault.Memory → vector_refusal pairs.now ≡ Some refusal) }
+        ensures refused { IfErr result (λ refusal. refusal ≢ fault.Memory
+            → vector_refusal pairs.now ≡ Some refusal) }
     {
         if let Some(refusal) = refusal(pairs) {
             return Err(refusal);

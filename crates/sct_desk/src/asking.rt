@@ -28,7 +28,8 @@ impl Query {
         ensures same { (self.new.site ≡ self.old.site) × (self.new.book ≡ self.old.book) }
         ensures later { IsPrefix self.old.seen self.new.seen }
         ensures front { IfOk result (λ answer. answer.front ≡ length self.new.seen) }
-        ensures value { IfOk result (λ answer. told answer.value ≡ status_of (messages_of self.new.seen) transfer.now) }
+        ensures value { IfOk result (λ answer. told answer.value
+            ≡ status_of (messages_of self.new.seen) transfer.now) }
         ensures refused { IfErr result (λ refusal. (refusal ≡ fault.Closed) ⊎ (refusal ≡ fault.Memory)) }
     {
         replace_with(self, StatusOf { alloc, transfer }, |query, question| {
@@ -46,7 +47,8 @@ impl Query {
         ensures same { (self.new.site ≡ self.old.site) × (self.new.book ≡ self.old.book) }
         ensures later { IsPrefix self.old.seen self.new.seen }
         ensures front { IfOk result (λ answer. answer.front ≡ length self.new.seen) }
-        ensures value { IfOk result (λ answer. answer.value.items ≡ found_on (messages_of self.new.seen) transfer.now) }
+        ensures value { IfOk result (λ answer. answer.value.items
+            ≡ found_on (messages_of self.new.seen) transfer.now) }
         ensures refused { IfErr result (λ refusal. (refusal ≡ fault.Closed) ⊎ (refusal ≡ fault.Memory)) }
     {
         replace_with(self, FindingsOf { alloc, transfer }, |query, question| {
@@ -59,7 +61,8 @@ impl Query {
         ensures same { (self.new.site ≡ self.old.site) × (self.new.book ≡ self.old.book) }
         ensures later { IsPrefix self.old.seen self.new.seen }
         ensures front { IfOk result (λ answer. answer.front ≡ length self.new.seen) }
-        ensures value { IfOk result (λ answer. answer.value ≡ recall_of (messages_of self.new.seen) recall.now) }
+        ensures value { IfOk result (λ answer. answer.value
+            ≡ recall_of (messages_of self.new.seen) recall.now) }
         ensures refused { IfErr result (λ refusal. refusal ≡ fault.Closed) }
     {
         replace_with(

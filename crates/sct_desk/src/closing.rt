@@ -66,8 +66,10 @@ fn clear(marks: &mut [u8])
 fn mark(marks: &mut [u8], start: usize, end: usize)
     requires { (start ≤ end) × (end ≤ length marks.old) }
     ensures len { length marks.new ≡ length marks.old }
-    ensures inside { (at : ℕ) → start ≤ at → at < end → slice_index marks.new at ≡ up_to_two (slice_index marks.old at + 1) }
-    ensures outside { (at : ℕ) → (at < start) ⊎ (end ≤ at) → slice_index marks.new at ≡ slice_index marks.old at }
+    ensures inside { (at : ℕ) → start ≤ at → at < end → slice_index marks.new at
+        ≡ up_to_two (slice_index marks.old at + 1) }
+    ensures outside { (at : ℕ) → (at < start) ⊎ (end ≤ at)
+        → slice_index marks.new at ≡ slice_index marks.old at }
 {
     for at in start..end {
         marks[at] = if marks[at] == 0 { 1 } else { 2 };
@@ -77,9 +79,11 @@ fn mark(marks: &mut [u8], start: usize, end: usize)
 // Each mark counts, up to two, how many receipts of this site tell its position.
 fn mark_all(marks: &mut [u8], receipts: &[Receipt], number: u16)
     requires clear { (at : ℕ) → at < length marks.old → slice_index marks.old at ≡ 0 }
-    requires room { All (λ receipt. receipt.site ≡ number → length receipt.shown ≤ length marks.old) receipts.now }
+    requires room { All
+        (λ receipt. receipt.site ≡ number → length receipt.shown ≤ length marks.old) receipts.now }
     ensures len { length marks.new ≡ length marks.old }
-    ensures marks { (at : ℕ) → at < length marks.new → slice_index marks.new at ≡ up_to_two (tellings number (at + 1) receipts.now) }
+    ensures marks { (at : ℕ) → at < length marks.new → slice_index marks.new at
+        ≡ up_to_two (tellings number (at + 1) receipts.now) }
 {
     for receipt in receipts {
         if receipt.site == number {
@@ -108,7 +112,8 @@ fn first_untold(marks: &mut [u8], receipts: &[Receipt], number: u16) -> Option<u
     requires { All (λ receipt. receipt.site ≡ number → length receipt.shown ≤ length marks.old) receipts.now }
     ensures len { length marks.new ≡ length marks.old }
     ensures first { MatchOption result
-        ((position : ℕ) → 1 ≤ position → position ≤ length marks.old → tellings number position receipts.now ≡ 1)
+        ((position : ℕ) → 1 ≤ position → position ≤ length marks.old
+        → tellings number position receipts.now ≡ 1)
         (IsLeastUntold number receipts.now) }
 {
     clear(marks);
@@ -138,7 +143,8 @@ impl<J: Site, R: Wait + Drop> Held<J, R> {
     pub(crate) fn untold(&mut self, receipts: &[Receipt]) -> Option<DeskFault>
         requires { AreOurs J.book J.number receipts.now }
         ensures same { self.new ≡ self.old }
-        ensures tiles { MatchOption result (Tiles J.number self.old.core.arrivals receipts.now) (FailsToClose J.number receipts.now) }
+        ensures tiles { MatchOption result (Tiles J.number self.old.core.arrivals receipts.now)
+            (FailsToClose J.number receipts.now) }
         ensures pending { (from : ℕ) → result ≡ Some (fault.Pending from)
             → IsPendingFrom J.number self.old receipts.now from }
     {

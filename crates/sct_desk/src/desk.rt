@@ -55,7 +55,8 @@ impl<J: Site, R: Wait + Drop> Desk<J, R> {
         message: Arc<Message>,
     ) -> Result<(Took, Receipt), DeskFault>
         ensures receipt { IfOk result (λ t. IsOf J.book J.number t.1) }
-        ensures took { IfOk result (λ t. t.0 ≡ took_by (site_with J.number J.group (before t.1)) (arc_value message)) }
+        ensures took { IfOk result (λ t. t.0
+            ≡ took_by (site_with J.number J.group (before t.1)) (arc_value message)) }
         ensures shown { IfOk result (λ t.
             t.1.shown ≡ arrivals_taken (site_with J.number J.group (before t.1)) (arc_value message)) }
         ensures order { IfOk result (λ t. IsArrivals t.1.shown) }
@@ -76,7 +77,8 @@ impl<J: Site, R: Wait + Drop> Desk<J, R> {
         delta: &Delta,
     ) -> Result<(Result<Accepted, DeltaFault>, Receipt), DeskFault>
         ensures receipt { IfOk result (λ t. IsOf J.book J.number t.1) }
-        ensures answer { IfOk result (λ t. t.0 ≡ answer_to (site_with J.number J.group (before t.1)) delta.now) }
+        ensures answer { IfOk result (λ t. t.0
+            ≡ answer_to (site_with J.number J.group (before t.1)) delta.now) }
         ensures shown { IfOk result (λ t.
             t.1.shown ≡ arrivals_handed (site_with J.number J.group (before t.1)) delta.now) }
         ensures order { IfOk result (λ t. IsArrivals t.1.shown) }

@@ -90,14 +90,16 @@ impl<J: Site, R: Wait + Drop> Held<J, R> {
         ensures site { self.old.core ≡ site_with J.number J.group self.old.core.arrivals }
         ensures same { self.new.core ≡ site_with J.number J.group self.new.core.arrivals }
         ensures took { IfOk result (λ t. t.0 ≡ took_by self.old.core (arc_value message)) }
-        ensures arrivals { OnOk result (self.new.core.arrivals ≡ arrivals_taken self.old.core (arc_value message)) }
+        ensures arrivals { OnOk result (self.new.core.arrivals
+            ≡ arrivals_taken self.old.core (arc_value message)) }
         ensures shown { OnOk result (IsShown self.new) }
         ensures receipt { IfOk result (λ t. IsOf J.book J.number t.1
             × (before t.1 ≡ self.old.core.arrivals) × (t.1.shown ≡ self.new.core.arrivals)) }
         ensures order { IfOk result (λ t. IsArrivals t.1.shown) }
         ensures count { IfOk result (λ t. t.1.count ≡ t.1.carried + came_by_take t.0) }
         ensures want { IfErr result IsWant }
-        ensures failed { IfErr result (Fails self.old (arrivals_taken self.old.core (arc_value message)) self.new) }
+        ensures failed { IfErr result (Fails self.old
+            (arrivals_taken self.old.core (arc_value message)) self.new) }
     {
         let least = self.core.arrivals().len() + 1;
         let Ok(()) = make_marks(&mut self.marks, least) else {
@@ -177,7 +179,8 @@ impl<J: Site, R: Wait + Drop> Held<J, R> {
         requires { history.now ≡ J.book }
         ensures core { self.new.core ≡ self.old.core }
         ensures shown { OnOk result (IsShown self.new) }
-        ensures receipt { IfOk result (λ receipt. IsOf J.book J.number receipt × (receipt.shown ≡ self.old.core.arrivals)) }
+        ensures receipt { IfOk result (λ receipt. IsOf J.book J.number receipt
+            × (receipt.shown ≡ self.old.core.arrivals)) }
         ensures order { IfOk result (λ receipt. IsArrivals receipt.shown) }
         ensures count { IfOk result (λ receipt. receipt.count ≡ receipt.carried) }
         ensures want { IfErr result IsWant }

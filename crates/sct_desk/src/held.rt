@@ -34,7 +34,8 @@ impl<J: Site, R: Wait + Drop> Model for Held<J, R> {
 
     ghost view = { λ h. record { core = h.core; published = h.writer.desk.shown.value.track.log } };
 
-    ghost invariant = { λ h. IsHeld J.book J.number J.group h.core h.track h.writer.desk.shown.value (drop h.writer.behind h.writer.log.items) h.handed h.marks.items };
+    ghost invariant = { λ h. IsHeld J.book J.number J.group h.core h.track h.writer.desk.shown.value
+        (drop h.writer.behind h.writer.log.items) h.handed h.marks.items };
 }
 
 impl<J: Site, R: Wait + Drop> Drop for Held<J, R> {

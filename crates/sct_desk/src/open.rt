@@ -69,9 +69,11 @@ fn writer<R: Wait>(
 fn query(writer: &mut ShownWriter, number: u16, track: &Track) -> Result<Query, DeskFault>
     requires { book_known (seat_view writer.old.desk.place) ≡ Some track.now.book }
     ensures shown { writer.new.desk.shown ≡ writer.old.desk.shown }
-    ensures pending { drop writer.new.behind writer.new.log.items ≡ drop writer.old.behind writer.old.log.items }
+    ensures pending { drop writer.new.behind writer.new.log.items
+        ≡ drop writer.old.behind writer.old.log.items }
     ensures knows { seat_view writer.new.desk.place ≡ seat_view writer.old.desk.place }
-    ensures query { IfOk result (λ q. q ≡ record { site = number; book = track.now.book; seen = track.now.log }) }
+    ensures query { IfOk result (λ q. q
+        ≡ record { site = number; book = track.now.book; seen = track.now.log }) }
     ensures refused { IfErr result (λ refusal. refusal ≡ fault.NoPlace) }
 {
     let Ok(mut reader) = writer.factory().reader() else {
@@ -95,9 +97,11 @@ fn queries(
 ) -> Result<Vec<Query>, DeskFault>
     requires { book_known (seat_view writer.old.desk.place) ≡ Some track.now.book }
     ensures shown { writer.new.desk.shown ≡ writer.old.desk.shown }
-    ensures pending { drop writer.new.behind writer.new.log.items ≡ drop writer.old.behind writer.old.log.items }
+    ensures pending { drop writer.new.behind writer.new.log.items
+        ≡ drop writer.old.behind writer.old.log.items }
     ensures len { IfOk result (λ qs. vec_len qs ≡ places) }
-    ensures queries { IfOk result (λ qs. All (λ q. q ≡ record { site = number; book = track.now.book; seen = track.now.log }) qs.items) }
+    ensures queries { IfOk result (λ qs. All (λ q. q
+        ≡ record { site = number; book = track.now.book; seen = track.now.log }) qs.items) }
     ensures refused { IfErr result (λ refusal. (refusal ≡ fault.NoPlace) ⊎ (refusal ≡ fault.Memory)) }
 {
     let mut queries = Vec::new(alloc);

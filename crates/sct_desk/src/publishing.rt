@@ -61,12 +61,16 @@ fn hand_over(
 ) -> Result<(), AllocError>
     requires { handed ≤ length arrivals.now }
     ensures desk { writer.new.desk ≡ writer.old.desk }
-    ensures ok { OnOk result (handed_over writer.old.desk.shown.value (drop writer.new.behind writer.new.log.items)
+    ensures ok { OnOk result (
+        handed_over writer.old.desk.shown.value (drop writer.new.behind writer.new.log.items)
         ≡ record {
-          view = set.union (handed_over writer.old.desk.shown.value (drop writer.old.behind writer.old.log.items)).view (messages_of (drop handed arrivals.now));
+          view = set.union
+              (handed_over writer.old.desk.shown.value (drop writer.old.behind writer.old.log.items)).view
+              (messages_of (drop handed arrivals.now));
           track = track.now;
         }) }
-    ensures err { OnErr result (drop writer.new.behind writer.new.log.items ≡ drop writer.old.behind writer.old.log.items) }
+    ensures err { OnErr result (drop writer.new.behind writer.new.log.items
+        ≡ drop writer.old.behind writer.old.log.items) }
 {
     let messages = messages_of(alloc, &arrivals[handed..])?;
     let batch = Batch {
@@ -81,22 +85,28 @@ fn hand_over(
 
 // The writer, once queries see what was handed over.
 fn published<R: Wait>(writer: ShownWriter, rt: &R) -> (ShownWriter, Result<(), AllocError>)
-    requires { GoesOn writer.desk.shown.value (handed_over writer.desk.shown.value (drop writer.behind writer.log.items)) }
-    ensures ok { OnOk result.1 (result.0.desk.shown.value ≡ handed_over writer.desk.shown.value (drop writer.behind writer.log.items)) }
+    requires { GoesOn writer.desk.shown.value
+        (handed_over writer.desk.shown.value (drop writer.behind writer.log.items)) }
+    ensures ok { OnOk result.1 (result.0.desk.shown.value
+        ≡ handed_over writer.desk.shown.value (drop writer.behind writer.log.items)) }
     ensures none { OnOk result.1 (drop result.0.behind result.0.log.items ≡ []) }
     ensures err { OnErr result.1 (result.0.desk.shown.value ≡ writer.desk.shown.value) }
-    ensures same { OnErr result.1 (drop result.0.behind result.0.log.items ≡ drop writer.behind writer.log.items) }
+    ensures same { OnErr result.1 (drop result.0.behind result.0.log.items
+        ≡ drop writer.behind writer.log.items) }
 {
     writer.publish_as::<Sees, R>(rt)
 }
 
 // Queries see from now on what was handed over.
 fn show<R: Wait>(writer: &mut ShownWriter, rt: &R) -> Result<(), AllocError>
-    requires { GoesOn writer.old.desk.shown.value (handed_over writer.old.desk.shown.value (drop writer.old.behind writer.old.log.items)) }
-    ensures ok { OnOk result (writer.new.desk.shown.value ≡ handed_over writer.old.desk.shown.value (drop writer.old.behind writer.old.log.items)) }
+    requires { GoesOn writer.old.desk.shown.value
+        (handed_over writer.old.desk.shown.value (drop writer.old.behind writer.old.log.items)) }
+    ensures ok { OnOk result (writer.new.desk.shown.value
+        ≡ handed_over writer.old.desk.shown.value (drop writer.old.behind writer.old.log.items)) }
     ensures none { OnOk result (drop writer.new.behind writer.new.log.items ≡ []) }
     ensures err { OnErr result (writer.new.desk.shown.value ≡ writer.old.desk.shown.value) }
-    ensures same { OnErr result (drop writer.new.behind writer.new.log.items ≡ drop writer.old.behind writer.old.log.items) }
+    ensures same { OnErr result (drop writer.new.behind writer.new.log.items
+        ≡ drop writer.old.behind writer.old.log.items) }
 {
     replace_with(writer, rt, |writer, rt| published(writer, rt))
 }

@@ -47,7 +47,8 @@ impl Query {
     pub fn learn(&mut self, receipt: &Receipt)
         requires { receipt.now.site ≡ self.old.site → receipt.now.book ≡ self.old.book }
         ensures same { (self.new.site ≡ self.old.site) × (self.new.book ≡ self.old.book) }
-        ensures longer { receipt.now.site ≡ self.old.site → IsLonger self.old.seen receipt.now.shown self.new.seen }
+        ensures longer { receipt.now.site ≡ self.old.site
+            → IsLonger self.old.seen receipt.now.shown self.new.seen }
         ensures other { receipt.now.site ≢ self.old.site → self.new.seen ≡ self.old.seen }
     {
         if receipt.site == self.site {
@@ -62,8 +63,10 @@ impl Query {
     ) -> (Query, Result<Answer<Q::Value>, DeskFault>)
         ensures same { (result.0.site ≡ self.site) × (result.0.book ≡ self.book) }
         ensures later { IsPrefix self.seen result.0.seen }
-        ensures value { IfOk result.1 (λ a. (a.front ≡ length result.0.seen) × Q.is_answer question.now (messages_of result.0.seen) a.value) }
-        ensures refused { IfErr result.1 (λ refusal. (refusal ≡ fault.Closed) ⊎ ((refusal ≡ fault.Memory) × Q.may_want)) }
+        ensures value { IfOk result.1 (λ a. (a.front ≡ length result.0.seen)
+            × Q.is_answer question.now (messages_of result.0.seen) a.value) }
+        ensures refused { IfErr result.1 (λ refusal. (refusal ≡ fault.Closed)
+            ⊎ ((refusal ≡ fault.Memory) × Q.may_want)) }
     {
         let Query {
             site,

@@ -23,9 +23,17 @@ impl Model for Receipt {
 
     ghost Value = { Told };
 
-    ghost view = { λ r. record { site = r.site; from = r.from; count = r.count; carried = r.carried; book = r.track.book; shown = r.track.log } };
+    ghost view = { λ r. record {
+      site = r.site;
+      from = r.from;
+      count = r.count;
+      carried = r.carried;
+      book = r.track.book;
+      shown = r.track.log;
+    } };
 
-    ghost invariant = { λ r. (r.from + r.count ≡ length r.track.log + 1) × (1 ≤ r.from) × (r.carried ≤ r.count) };
+    ghost invariant = { λ r. (r.from + r.count ≡ length r.track.log + 1)
+        × (1 ≤ r.from) × (r.carried ≤ r.count) };
 }
 
 impl Receipt {

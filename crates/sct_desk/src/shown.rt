@@ -30,7 +30,10 @@ impl Absorb<Batch> for Shown {
 
     ghost state = { λ s. s };
 
-    ghost applied = { λ s b. record { view = set.union s.view (contents_of (messages_in b.messages.items)); track = b.track } };
+    ghost applied = { λ s b. record {
+      view = set.union s.view (contents_of (messages_in b.messages.items));
+      track = b.track;
+    } };
 
     fn absorb_first(&mut self, operation: &Batch, _other: &Shown) -> Result<(), AllocError> {
         let Ok(_) = self.view.apply(&operation.messages) else {

@@ -63,7 +63,8 @@ fn report_text_of<T: Threads + Sync>(
     day: &Day,
     list: &List,
 ) -> Result<Vec<u8>, ProgramFault>
-    ensures text { IfOk result (λ text. text.items ≡ report_text_of (report_of view.now bank.now day.now list.now)) }
+    ensures text { IfOk result (λ text. text.items
+        ≡ report_text_of (report_of view.now bank.now day.now list.now)) }
     ensures memory { IfErr result (λ e. e ≡ fault.Memory) }
 {
     let report = reconcile(rt, alloc, view, bank, day, list)?;
@@ -93,7 +94,8 @@ fn totals_text<T: Threads + Sync>(
     alloc: Global,
     messages: Vec<Arc<Message>>,
 ) -> Result<Vec<u8>, ProgramFault>
-    ensures text { IfOk result (λ text. text.items ≡ totals_text_of (contents_of (messages_in messages.items))) }
+    ensures text { IfOk result (λ text. text.items
+        ≡ totals_text_of (contents_of (messages_in messages.items))) }
     ensures memory { IfErr result (λ e. e ≡ fault.Memory) }
 {
     let view = view_of(rt, alloc, messages)?;

@@ -48,9 +48,11 @@ fn fault_line(fault: &ProgramFault) -> ArrayString<64>
 // Writes the line of a fault and the text behind it.
 fn tell_fault<E: Sink>(fault: &ProgramFault, text: &str, err: &mut E) -> Result<(), ProgramFault>
     ensures whole { OnOk result (IsWritten
-        (E.failures err.old) (E.failures err.new) (E.held err.old) (E.held err.new) (Some (fault_line_of fault.now ++ text.now))) }
+        (E.failures err.old) (E.failures err.new) (E.held err.old) (E.held err.new)
+        (Some (fault_line_of fault.now ++ text.now))) }
     ensures prefix { OnErr result (IsCutOff
-        (E.failures err.old) (E.failures err.new) (E.held err.old) (E.held err.new) (Some (fault_line_of fault.now ++ text.now))) }
+        (E.failures err.old) (E.failures err.new) (E.held err.old) (E.held err.new)
+        (Some (fault_line_of fault.now ++ text.now))) }
     ensures faults { IfErr result EndsWriting }
 {
     write_all(err, fault_line(fault).as_bytes())?;
@@ -60,9 +62,11 @@ fn tell_fault<E: Sink>(fault: &ProgramFault, text: &str, err: &mut E) -> Result<
 // Writes what standard error tells of the end of a run, beside the refused lines.
 fn tell<E: Sink>(ended: &Result<Ending, ProgramFault>, err: &mut E) -> Result<(), ProgramFault>
     ensures whole { OnOk result (IsWritten
-        (E.failures err.old) (E.failures err.new) (E.held err.old) (E.held err.new) (Some (ending_text_of ended.now))) }
+        (E.failures err.old) (E.failures err.new) (E.held err.old) (E.held err.new)
+        (Some (ending_text_of ended.now))) }
     ensures prefix { OnErr result (IsCutOff
-        (E.failures err.old) (E.failures err.new) (E.held err.old) (E.held err.new) (Some (ending_text_of ended.now))) }
+        (E.failures err.old) (E.failures err.new) (E.held err.old) (E.held err.new)
+        (Some (ending_text_of ended.now))) }
     ensures faults { IfErr result EndsWriting }
 {
     match ended {

@@ -23,7 +23,8 @@ fn read_left<R: io::Read + Drop, L: Ledger>(
     requires one_part { blank.parts ≡ 1 }
     ensures whole { IfOk result (λ v. IfSome (R.remaining reader) (λ bytes. bytes ≡ v.items)) }
     ensures within { IfOk result (λ v. vec_len v ≤ 1073741824) }
-    ensures too_long { result ≡ Err fault.TooLong → IfSome (R.remaining reader) (λ bytes. 1073741824 < length bytes) }
+    ensures too_long { result ≡ Err fault.TooLong
+        → IfSome (R.remaining reader) (λ bytes. 1073741824 < length bytes) }
     ensures faults { IfErr result EndsFile }
 {
     let mut source = Reading::<R, L>::new(reader, blank);

@@ -96,7 +96,8 @@ fn answer<T: Threads + Sync>(
     ensures told { IfOk result (λ answer. string_bytes answer.told ≡ told_of job.now input.items) }
     ensures refused { IfOk result (λ answer. answer.refused ≡ refused_of job.now input.items) }
     ensures taken { OnOk result (IsInputOf job.now input.items) }
-    ensures faults { IfErr result (λ e. e ≢ fault.Memory → (e ≡ fault.Usage) × IsNoInputOf job.now input.items) }
+    ensures faults { IfErr result (λ e. e ≢ fault.Memory
+        → (e ≡ fault.Usage) × IsNoInputOf job.now input.items) }
 {
     match (job, list) {
         (Job::Status, _) => answer_of_messages(rt, alloc, Question::Status, input),
@@ -124,9 +125,11 @@ pub fn engine<T: Threads + Sync, R: Source, O: Sink, E: Sink>(
     // The whole of an input within the limit was read, and each stream got its text.
     ensures input { OnOk result (IfSome (R.left reader.old)
         (λ input. (length input ≤ limit) × (R.left reader.new ≡ Some []))) }
-    ensures told { OnOk result (IsWritten (E.failures err.old) (E.failures err.new) (E.held err.old) (E.held err.new)
+    ensures told { OnOk result (IsWritten
+        (E.failures err.old) (E.failures err.new) (E.held err.old) (E.held err.new)
         (told_text_if_told job.now (R.left reader.old))) }
-    ensures text { OnOk result (IsWritten (O.failures out.old) (O.failures out.new) (O.held out.old) (O.held out.new)
+    ensures text { OnOk result (IsWritten
+        (O.failures out.old) (O.failures out.new) (O.held out.old) (O.held out.new)
         (job_text_if_told job.now (R.left reader.old))) }
     ensures refused { IfOk result (λ done. IfSome (R.left reader.old)
         (λ input. done.refused ≡ refused_of job.now input)) }
@@ -138,7 +141,8 @@ pub fn engine<T: Threads + Sync, R: Source, O: Sink, E: Sink>(
     ensures list { StandsOnList (bad_row_of job.now) result }
     ensures taken { OnOk result (IfSome (R.left reader.old) (IsInputOf job.now)) }
     ensures too_long { result ≡ Err fault.TooLong → IfSome (R.left reader.old) (λ input. limit < length input) }
-    ensures passed { result ≡ Err fault.TooLong → HasTakenIfTold (R.left reader.old) (R.left reader.new) (limit + 1) }
+    ensures passed { result ≡ Err fault.TooLong
+        → HasTakenIfTold (R.left reader.old) (R.left reader.new) (limit + 1) }
     ensures cut_input { result ≡ Err fault.Read
         → (n : ℕ) × ((n ≤ limit) × HasTakenIfTold (R.left reader.old) (R.left reader.new) n) }
     ensures reads { OnOk result (R.failures reader.new ≡ R.failures reader.old) }

@@ -72,7 +72,8 @@ fn answer_of<'a>(alloc: Global, error: &Error) -> Result<Request<'a>, ProgramFau
     ensures no_order { IfOk result AsksForNoOrder }
     ensures mistake { IfOk result (λ r. IsTrue (is_mistake r)
         ↔ ((kind_of error.now ≢ kind.DisplayHelp) × (kind_of error.now ≢ kind.DisplayVersion))) }
-    ensures kind { IfOk result (λ r. AnswersKind r (kind_of error.now) × (kind_of error.now ≢ kind.OutOfMemory)) }
+    ensures kind { IfOk result (λ r. AnswersKind r (kind_of error.now)
+        × (kind_of error.now ≢ kind.OutOfMemory)) }
     ensures memory { IfErr result (λ e. e ≡ fault.Memory) }
 {
     if error.kind() == ErrorKind::OutOfMemory {

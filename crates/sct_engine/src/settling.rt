@@ -29,9 +29,11 @@ pub fn settle_inputs<T: Threads + Wait + Sync, O: Sink, E: Sink>(
     out: &mut O,
     err: &mut E,
 ) -> Result<Done, ProgramFault>
-    ensures told { OnOk result (IsWritten (E.failures err.old) (E.failures err.new) (E.held err.old) (E.held err.new)
+    ensures told { OnOk result (IsWritten
+        (E.failures err.old) (E.failures err.new) (E.held err.old) (E.held err.new)
         (Some (told_from 1 (bytes_of inputs.items)))) }
-    ensures text { OnOk result (IsWritten (O.failures out.old) (O.failures out.new) (O.held out.old) (O.held out.new)
+    ensures text { OnOk result (IsWritten
+        (O.failures out.old) (O.failures out.new) (O.held out.old) (O.held out.new)
         (Some (status_text_of (set_of_all (bytes_of inputs.items))))) }
     ensures refused { IfOk result (λ done. done.refused ≡ refused_in (bytes_of inputs.items)) }
     ensures faults { IfErr result EndsSettling }

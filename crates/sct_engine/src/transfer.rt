@@ -51,7 +51,8 @@ pub fn write_all<K: Sink>(sink: &mut K, bytes: &[u8]) -> Result<(), ProgramFault
 /// Writes all of the bytes of some pieces, one piece after another, or as many as are taken before a write fails.
 pub fn write_pieces<K: Sink>(sink: &mut K, pieces: &[Vec<u8>]) -> Result<(), ProgramFault>
     ensures all { OnOk result (AppendsIfTold (K.held sink.old) (K.held sink.new) (joined pieces.now)) }
-    ensures prefix { OnErr result (AppendsPrefixIfTold (K.held sink.old) (K.held sink.new) (joined pieces.now)) }
+    ensures prefix { OnErr result (AppendsPrefixIfTold
+        (K.held sink.old) (K.held sink.new) (joined pieces.now)) }
     ensures faults { IfErr result EndsWriting }
     ensures quiet { OnOk result (K.failures sink.new ≡ K.failures sink.old) }
     ensures counted { IfErr result (λ e. K.failures sink.new ≡ K.failures sink.old + failed_writes e) }

@@ -76,7 +76,8 @@ impl Track {
     /// Whether the other beginning of this history begins with this one; else it is shorter.
     pub fn begins(&self, other: &Track) -> bool
         requires { self.now.book ≡ other.now.book }
-        ensures { MatchBool result (IsPrefix self.now.log other.now.log) (length other.now.log < length self.now.log) }
+        ensures { MatchBool result (IsPrefix self.now.log other.now.log)
+            (length other.now.log < length self.now.log) }
     {
         let mut both = self.seen.again();
         both.learn(&other.seen);
@@ -90,7 +91,8 @@ impl Track {
         requires next { IsArrivals (self.old.log ++ entry.now ∷ []) }
         requires room { length self.old.log < 2 ^ 63 }
         ensures book { self.new.book ≡ self.old.book }
-        ensures added { MatchBool result (self.new.log ≡ self.old.log ++ entry.now ∷ []) (self.new.log ≡ self.old.log) }
+        ensures added { MatchBool result
+            (self.new.log ≡ self.old.log ++ entry.now ∷ []) (self.new.log ≡ self.old.log) }
     {
         let mut seen = self.seen.again();
         let mut offer: Offer<Entry, u64, Law, Nothing> = seen.plain::<Nothing, Entry, Add>(entry);

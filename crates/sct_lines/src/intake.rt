@@ -64,7 +64,8 @@ impl Intake {
         ensures messages { OnOk result (messages_in self.new.messages.items
             ≡ messages_in self.old.messages.items ++ messages_among (numbered_from number (line.now ∷ []))) }
         ensures told { OnOk result (string_bytes self.new.told
-            ≡ string_bytes self.old.told ++ told_after front.now (refusals_among (numbered_from number (line.now ∷ [])))) }
+            ≡ string_bytes self.old.told
+            ++ told_after front.now (refusals_among (numbered_from number (line.now ∷ [])))) }
         ensures refused { OnOk result (self.new.refused
             ≡ self.old.refused + length (refusals_among (numbered_from number (line.now ∷ [])))) }
         ensures one { OnOk result (self.new.refused ≤ self.old.refused + 1) }
@@ -88,7 +89,8 @@ impl Intake {
         requires { self.old.refused + other.refused < 2 ^ 64 }
         ensures messages { OnOk result (messages_in self.new.messages.items
             ≡ messages_in self.old.messages.items ++ messages_in other.messages.items) }
-        ensures told { OnOk result (string_bytes self.new.told ≡ string_bytes self.old.told ++ string_bytes other.told) }
+        ensures told { OnOk result (string_bytes self.new.told
+            ≡ string_bytes self.old.told ++ string_bytes other.told) }
         ensures refused { OnOk result (self.new.refused ≡ self.old.refused + other.refused) }
     {
         let Intake {
@@ -144,7 +146,8 @@ pub(crate) fn read_part(
 /// want of memory is an error.
 pub fn read_lines_after(alloc: Global, front: &str, input: &[u8]) -> Result<Intake, AllocError>
     ensures messages { IfOk result (λ intake. messages_in intake.messages.items ≡ messages_read input.now) }
-    ensures told { IfOk result (λ intake. string_bytes intake.told ≡ told_after front.now (refusals_told input.now)) }
+    ensures told { IfOk result (λ intake. string_bytes intake.told
+        ≡ told_after front.now (refusals_told input.now)) }
     ensures refused { IfOk result (λ intake. intake.refused ≡ length (refusals_told input.now)) }
 {
     read_part(alloc, front, 0, input)

@@ -37,11 +37,13 @@ fn count_by_halves<R: Threads + Sync>(rt: &R, text: &[u8], halvings: u32) -> u64
         rt,
         || -> u64
             requires { IsSync R.row × (0 < halvings) }
-            ensures { (result ≡ length (filter (λ byte. byte == 10) front.entry.now)) × (result ≤ length front.entry.now) }
+            ensures { (result ≡ length (filter (λ byte. byte == 10) front.entry.now))
+                × (result ≤ length front.entry.now) }
         { count_by_halves(rt, front, halvings - 1) },
         || -> u64
             requires { IsSync R.row × (0 < halvings) }
-            ensures { (result ≡ length (filter (λ byte. byte == 10) back.entry.now)) × (result ≤ length back.entry.now) }
+            ensures { (result ≡ length (filter (λ byte. byte == 10) back.entry.now))
+                × (result ≤ length back.entry.now) }
         { count_by_halves(rt, back, halvings - 1) },
     );
     first + second

@@ -50,7 +50,8 @@ pub fn push_refusal(
     number: u64,
     fault: &JsonFault,
 ) -> Result<(), AllocError>
-    ensures { IfOk result (λ _. string_bytes text.new ≡ string_bytes text.old ++ refusal_line (number, fault.now)) }
+    ensures { IfOk result (λ _. string_bytes text.new
+        ≡ string_bytes text.old ++ refusal_line (number, fault.now)) }
 {
     write!(text, "line {number}: ")?;
     push_json_fault(alloc, text, fault)?;

@@ -40,9 +40,11 @@ pub fn taken<J: Site, H: Wait + Drop, W: Wait>(
     desk: &Desk<J, H>,
     message: Arc<Message>,
 ) -> Result<(Took, Receipt), WorkFault>
-    ensures keeps { IfOk result (λ t. Keeps J.book J.number J.group (contents_of (arc_value message ∷ [])) t.1) }
+    ensures keeps { IfOk result (λ t. Keeps J.book J.number J.group
+        (contents_of (arc_value message ∷ [])) t.1) }
     ensures shown { IfOk result (λ t. shows (arc_value message) t.1 ≡ true) }
-    ensures took { IfOk result (λ t. t.0 ≡ took_by (site_with J.number J.group (before t.1)) (arc_value message)) }
+    ensures took { IfOk result (λ t. t.0
+        ≡ took_by (site_with J.number J.group (before t.1)) (arc_value message)) }
     ensures memory { IfErr result (λ e. e ≡ fault.Memory) }
 {
     let (took, receipt) = desk.take(rt, alloc, message)?;
@@ -90,7 +92,8 @@ pub fn keep<J: Site>(
 ) -> Result<(), WorkFault>
     requires kept { AllKeep J.book J.number J.group (contents_of (messages_in messages.now)) kept.old.items }
     requires receipt { Keeps J.book J.number J.group (contents_of (messages_in messages.now)) receipt }
-    ensures kept { OnOk result (AllKeep J.book J.number J.group (contents_of (messages_in messages.now)) kept.new.items) }
+    ensures kept { OnOk result (AllKeep J.book J.number J.group
+        (contents_of (messages_in messages.now)) kept.new.items) }
     ensures items { OnOk result (kept.new.items ≡ kept.old.items ++ receipt ∷ []) }
     ensures memory { IfErr result (λ e. e ≡ fault.Memory) }
 {

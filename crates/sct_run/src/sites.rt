@@ -59,7 +59,8 @@ fn settle_all(alloc: Global, cores: &mut [SiteCore]) -> Result<(), WorkFault>
 // The status text of the first of some sites.
 fn first_status(alloc: Global, cores: &[SiteCore]) -> Result<Vec<u8>, RunFault>
     requires { 0 < length cores.now }
-    ensures text { IfOk result (λ text. text.items ≡ status_text_of (messages_of (core_in cores.now 0).arrivals)) }
+    ensures text { IfOk result (λ text. text.items
+        ≡ status_text_of (messages_of (core_in cores.now 0).arrivals)) }
     ensures memory { IfErr result (λ e. e ≡ fault.Memory) }
 {
     status_text(alloc, cores[0].archive())
@@ -70,7 +71,8 @@ fn first_status(alloc: Global, cores: &[SiteCore]) -> Result<Vec<u8>, RunFault>
 fn settled_status(alloc: Global, cores: &mut [SiteCore]) -> Result<Vec<u8>, RunFault>
     requires { 0 < length cores.old }
     ensures settled { OnOk result (AreSettled cores.old cores.new) }
-    ensures text { IfOk result (λ text. text.items ≡ status_text_of (messages_of (core_in cores.new 0).arrivals)) }
+    ensures text { IfOk result (λ text. text.items
+        ≡ status_text_of (messages_of (core_in cores.new 0).arrivals)) }
     ensures faults { IfErr result (λ e. e ≢ fault.Usage) }
     ensures ends { IfErr result (RunEndsWhere (λ point. ⊥)) }
 {
@@ -98,7 +100,8 @@ pub fn run_sites<G: Gate + Sync, R: Threads + Wait + Sync>(
     gate: &G,
     inputs: Vec<Vec<u8>>,
 ) -> Result<RunAnswer, RunFault>
-    ensures status { IfOk result (λ answer. answer.status.items ≡ status_text_of (set_of_all (bytes_of inputs.items))) }
+    ensures status { IfOk result (λ answer. answer.status.items
+        ≡ status_text_of (set_of_all (bytes_of inputs.items))) }
     ensures told { IfOk result (λ answer. string_bytes answer.told ≡ told_from 1 (bytes_of inputs.items)) }
     ensures refused { IfOk result (λ answer. answer.refused ≡ refused_in (bytes_of inputs.items)) }
     ensures usage { (result ≡ Err fault.Usage) ↔ (are_sites (length inputs.items) ≡ false) }

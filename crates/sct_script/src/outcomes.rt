@@ -68,7 +68,8 @@ fn push_outcome(text: &mut String, outcome: &Outcome) -> Result<(), AllocError>
 // Adds the line of an event, by its number and how it ended.
 #[tactic(auto, unfolding(crate::specs::Replays::outcome_line))]
 fn push_line(text: &mut String, number: u64, outcome: &Outcome) -> Result<(), AllocError>
-    ensures { IfOk result (λ _. string_bytes text.new ≡ string_bytes text.old ++ outcome_line (number, outcome.now)) }
+    ensures { IfOk result (λ _. string_bytes text.new
+        ≡ string_bytes text.old ++ outcome_line (number, outcome.now)) }
 {
     write!(text, "E|{number}|")?;
     push_outcome(text, outcome)?;

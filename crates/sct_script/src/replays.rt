@@ -23,7 +23,8 @@ fn head_of(alloc: Global, site: u16) -> Result<String, AllocError>
 #[tactic(auto, unfolding(crate::specs::Replays::site_text))]
 fn push_site(alloc: Global, text: &mut Vec<u8>, world: &World, site: u16) -> Result<(), WorldFault>
     ensures text { OnOk result (text.new.items ≡ text.old.items ++ site_text (site, held_at world.now site)) }
-    ensures err { IfErr result (λ refusal. refusal ≢ fault.Delta delta.Memory → is_no_site world.now site ≡ true) }
+    ensures err { IfErr result (λ refusal. refusal ≢ fault.Delta delta.Memory
+        → is_no_site world.now site ≡ true) }
 {
     let head = head_of(alloc, site)?;
     let answers = world.answers(site)?;
@@ -47,7 +48,8 @@ fn push_sites(alloc: Global, text: &mut Vec<u8>, world: &World) -> Result<(), Wo
 
 // How the events ended, and then what each site holds.
 fn text_of(alloc: Global, ran: &Ran) -> Result<Vec<u8>, WorldFault>
-    ensures text { IfOk result (λ text. text.items ≡ outcomes_text ran.now.outcomes.items ++ sites_text ran.now.world) }
+    ensures text { IfOk result (λ text. text.items
+        ≡ outcomes_text ran.now.outcomes.items ++ sites_text ran.now.world) }
     ensures err { IfErr result (λ refusal. refusal ≡ fault.Delta delta.Memory) }
 {
     let mut text = outcomes_text(alloc, &ran.outcomes)?.into_bytes();

@@ -60,7 +60,8 @@ fn size_of(line: &[u8]) -> Option<u16>
 // The first line that is not blank: its number, the line, and what comes after it.
 fn first_told(input: &[u8]) -> Option<(u64, &[u8], &[u8])>
     ensures lines { MatchOption result (script_lines input.now ≡ [])
-        (λ first. script_lines input.now ≡ (first.0, first.1.now) ∷ numbered_from (first.0 + 1) (lines_of first.2.now)) }
+        (λ first. script_lines input.now
+        ≡ (first.0, first.1.now) ∷ numbered_from (first.0 + 1) (lines_of first.2.now)) }
     ensures counted { IfSome result (λ first. first.0 + length first.2.now ≤ length input.now) }
 {
     let mut number = 0;
@@ -99,7 +100,8 @@ impl Script {
         ensures events { OnOk result (happenings_of self.new.events.items
             ≡ happenings_of self.old.events.items ++ happenings_among (numbered_from number (line.now ∷ []))) }
         ensures told { OnOk result (string_bytes self.new.told
-            ≡ string_bytes self.old.told ++ told_text_of (refusals_among (numbered_from number (line.now ∷ [])))) }
+            ≡ string_bytes self.old.told
+            ++ told_text_of (refusals_among (numbered_from number (line.now ∷ [])))) }
         ensures refused { OnOk result (self.new.refused
             ≡ self.old.refused + length (refusals_among (numbered_from number (line.now ∷ [])))) }
         ensures one { OnOk result (self.new.refused ≤ self.old.refused + 1) }
@@ -150,7 +152,8 @@ pub fn read_script(alloc: Global, input: &[u8]) -> Result<Script, ScriptFault>
     ensures events { IfOk result (λ script. happenings_of script.events.items ≡ happenings_told input.now) }
     ensures told { IfOk result (λ script. string_bytes script.told ≡ told_text_of (refusals_told input.now)) }
     ensures refused { IfOk result (λ script. script.refused ≡ length (refusals_told input.now)) }
-    ensures no_script { IfErr result (λ e. e ≢ fault.Memory → (e ≡ fault.NoScript) × (sites_told input.now ≡ None)) }
+    ensures no_script { IfErr result (λ e. e ≢ fault.Memory
+        → (e ≡ fault.NoScript) × (sites_told input.now ≡ None)) }
 {
     let Some((number, line, rest)) = first_told(input) else {
         return Err(ScriptFault::NoScript);

@@ -26,7 +26,8 @@ pub fn push_refusal(
     number: u64,
     fault: &LineFault,
 ) -> Result<(), AllocError>
-    ensures { IfOk result (λ _. string_bytes text.new ≡ string_bytes text.old ++ refusal_line (number, fault.now)) }
+    ensures { IfOk result (λ _. string_bytes text.new
+        ≡ string_bytes text.old ++ refusal_line (number, fault.now)) }
 {
     write!(text, "line {number}: ")?;
     push_fault(alloc, text, fault)?;

@@ -52,7 +52,8 @@ fn first_part(text: &[u8]) -> Option<(&[u8], &[u8])>
 
 // Pairs with a comma between each two; none where one of them is no pair.
 fn pairs_among(alloc: Global, text: &[u8]) -> Result<Option<Vec<(u16, u64)>>, AllocError>
-    ensures { IfOk result (λ pairs. option_map (λ list. list.items) pairs ≡ pairs_among (slice_split is_comma text.now)) }
+    ensures { IfOk result (λ pairs. option_map (λ list. list.items) pairs
+        ≡ pairs_among (slice_split is_comma text.now)) }
 {
     let mut pairs = Vec::new(alloc);
     let mut rest = text;
@@ -84,7 +85,8 @@ fn pairs_of(alloc: Global, text: &[u8]) -> Result<Option<Vec<(u16, u64)>>, Alloc
 // The version vector of pairs; none where they make none.
 #[tactic(auto, unfolding(crate::specs::Events::vector_of_pairs))]
 fn vector_of_pairs(alloc: Global, pairs: &[(u16, u64)]) -> Result<Option<Vector>, AllocError>
-    ensures { IfOk result (λ vector. option_map count_in vector ≡ option_map counts_of (vector_of_pairs pairs.now)) }
+    ensures { IfOk result (λ vector. option_map count_in vector
+        ≡ option_map counts_of (vector_of_pairs pairs.now)) }
 {
     match Vector::of(alloc, pairs) {
         Ok(vector) => Ok(Some(vector)),

@@ -140,7 +140,8 @@ impl SiteCore {
     // Takes in the entries of a delta that nothing refuses. Where memory is wanting nothing has changed.
     fn admit(&mut self, delta: &Delta) -> Result<Accepted, DeltaFault>
         requires { refusal_by self.old delta.now ≡ None }
-        ensures answer { IfOk result (λ accepted. accepted.fresh ≡ length (fresh_of self.old.arrivals delta.now)) }
+        ensures answer { IfOk result (λ accepted. accepted.fresh
+            ≡ length (fresh_of self.old.arrivals delta.now)) }
         ensures number { self.new.number ≡ self.old.number }
         ensures group { self.new.group ≡ self.old.group }
         ensures ok { OnOk result (self.new.arrivals ≡ arrivals_joined self.old.arrivals delta.now) }
@@ -165,7 +166,8 @@ impl SiteCore {
     /// for an own entry above the own count, 41 `Gap` for an origin that begins past its next number, 42 `Fork` for an
     /// entry whose number is held with another message, 40 `Memory`. Where it is refused nothing has changed.
     pub fn accept(&mut self, delta: &Delta) -> Result<Accepted, DeltaFault>
-        ensures answer { IfOk result (λ accepted. accepted.fresh ≡ length (fresh_of self.old.arrivals delta.now)) }
+        ensures answer { IfOk result (λ accepted. accepted.fresh
+            ≡ length (fresh_of self.old.arrivals delta.now)) }
         ensures number { self.new.number ≡ self.old.number }
         ensures group { self.new.group ≡ self.old.group }
         ensures ok { OnOk result (self.new.arrivals ≡ arrivals_joined self.old.arrivals delta.now) }

@@ -72,7 +72,8 @@ impl ViewTrial {
         ensures touched { IfOk result (λ applied. applied.touched
             ≡ length (touched_in self.old.view (contents_of (messages_in self.old.batch.items)))) }
         ensures view_stays { OnErr result (self.new.view ≡ self.old.view) }
-        ensures batch_stays { OnErr result (messages_in self.new.batch.items ≡ messages_in self.old.batch.items) }
+        ensures batch_stays { OnErr result (messages_in self.new.batch.items
+            ≡ messages_in self.old.batch.items) }
     {
         let applied = self.view.apply(&self.batch)?;
         self.batch = Vec::new(self.alloc);

@@ -26,7 +26,8 @@ pub(crate) fn commit_all(
     requires among { are_among (keys_of archive.now) planned.items ≡ true }
     requires kept { AreTotalsOver cases.old totals.old (keys_of archive.now) }
     requires small { (t : TransferOf) → IsSmall (case_at cases.old t) }
-    ensures cases { (t : TransferOf) → case_at cases.new t ≡ case_after (map change_in planned.items) (case_at cases.old) t }
+    ensures cases { (t : TransferOf) → case_at cases.new t
+        ≡ case_after (map change_in planned.items) (case_at cases.old) t }
     ensures kept { AreTotalsOver cases.new totals.new (keys_of archive.now) }
     ensures small { (t : TransferOf) → IsSmall (case_at cases.new t) }
 {

@@ -38,7 +38,8 @@ fn part(
     messages: &[Arc<Message>],
 ) -> Result<Parted, AllocError>
     ensures clean { IfOk result (λ parted. messages_in parted.clean.items
-        ≡ filter (λ m. not (is_contradicted held.now m || is_contradicted fresh.now m)) (messages_in messages.now)) }
+        ≡ filter (λ m. not (is_contradicted held.now m || is_contradicted fresh.now m))
+        (messages_in messages.now)) }
     ensures contradicted { IfOk result (λ parted. messages_in parted.contradicted.items
         ≡ filter (λ m. is_contradicted held.now m || is_contradicted fresh.now m) (messages_in messages.now)) }
 {

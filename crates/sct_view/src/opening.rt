@@ -34,7 +34,8 @@ pub(crate) fn open_case(
     ensures there { OnOk result (has_case cases.new transfer.now ≡ true) }
     ensures same { (t : TransferOf) → case_at cases.new t ≡ case_at cases.old t }
     ensures stays { (t : TransferOf) → has_case cases.old t ≡ true → has_case cases.new t ≡ true }
-    ensures front { (n : ℕ) → n ≤ length cases.old.entries → take n cases.new.entries ≡ take n cases.old.entries }
+    ensures front { (n : ℕ) → n ≤ length cases.old.entries
+        → take n cases.new.entries ≡ take n cases.old.entries }
     ensures grows { length cases.old.entries ≤ length cases.new.entries }
 {
     if cases.contains_key(transfer) {
@@ -49,7 +50,8 @@ pub(crate) fn open_total(totals: &mut IndexMap<Bic, Totals>, bank: &Bic) -> Resu
     ensures there { OnOk result (has_totals totals.new bank.now ≡ true) }
     ensures same { (p : List ℕ) → totals_at totals.new p ≡ totals_at totals.old p }
     ensures stays { (p : List ℕ) → has_totals totals.old p ≡ true → has_totals totals.new p ≡ true }
-    ensures front { (n : ℕ) → n ≤ length totals.old.entries → take n totals.new.entries ≡ take n totals.old.entries }
+    ensures front { (n : ℕ) → n ≤ length totals.old.entries
+        → take n totals.new.entries ≡ take n totals.old.entries }
     ensures grows { length totals.old.entries ≤ length totals.new.entries }
 {
     if totals.contains_key(bank) {
@@ -64,10 +66,12 @@ pub(crate) fn open_beneficiary(
     totals: &mut IndexMap<Bic, Totals>,
     case: &Case,
 ) -> Result<(), CaseFault>
-    ensures there { OnOk result (list_all (has_totals totals.new) (beneficiary_in (instruction_in (kept_in case.now))) ≡ true) }
+    ensures there { OnOk result (list_all (has_totals totals.new)
+        (beneficiary_in (instruction_in (kept_in case.now))) ≡ true) }
     ensures same { (p : List ℕ) → totals_at totals.new p ≡ totals_at totals.old p }
     ensures stays { (p : List ℕ) → has_totals totals.old p ≡ true → has_totals totals.new p ≡ true }
-    ensures front { (n : ℕ) → n ≤ length totals.old.entries → take n totals.new.entries ≡ take n totals.old.entries }
+    ensures front { (n : ℕ) → n ≤ length totals.old.entries
+        → take n totals.new.entries ≡ take n totals.old.entries }
     ensures grows { length totals.old.entries ≤ length totals.new.entries }
 {
     match case.beneficiary() {
@@ -83,13 +87,16 @@ pub(crate) fn open_planned(
     totals: &mut IndexMap<Bic, Totals>,
     planned: &Planned,
 ) -> Result<(), CaseFault>
-    ensures ready { OnOk result (is_ready cases.new totals.new planned.now.transfer (kept_in planned.now.case) ≡ true) }
+    ensures ready { OnOk result (is_ready cases.new totals.new planned.now.transfer
+        (kept_in planned.now.case) ≡ true) }
     ensures same_cases { (t : TransferOf) → case_at cases.new t ≡ case_at cases.old t }
     ensures same_totals { (p : List ℕ) → totals_at totals.new p ≡ totals_at totals.old p }
     ensures cases_stay { (t : TransferOf) → has_case cases.old t ≡ true → has_case cases.new t ≡ true }
     ensures totals_stay { (p : List ℕ) → has_totals totals.old p ≡ true → has_totals totals.new p ≡ true }
-    ensures cases_front { (n : ℕ) → n ≤ length cases.old.entries → take n cases.new.entries ≡ take n cases.old.entries }
-    ensures totals_front { (n : ℕ) → n ≤ length totals.old.entries → take n totals.new.entries ≡ take n totals.old.entries }
+    ensures cases_front { (n : ℕ) → n ≤ length cases.old.entries
+        → take n cases.new.entries ≡ take n cases.old.entries }
+    ensures totals_front { (n : ℕ) → n ≤ length totals.old.entries
+        → take n totals.new.entries ≡ take n totals.old.entries }
     ensures cases_grow { length cases.old.entries ≤ length cases.new.entries }
     ensures totals_grow { length totals.old.entries ≤ length totals.new.entries }
 {

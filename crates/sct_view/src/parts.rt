@@ -96,11 +96,13 @@ fn planned_by_halves<R: Threads + Sync>(
         rt,
         || -> Result<Vec<Planned>, CaseFault>
             requires { IsSync R.row × (0 < halvings) × IsFiled archive.now index.now }
-            ensures { IfOk result (λ planned. map change_in planned.items ≡ changes_of archive.entry.now front.entry.now) }
+            ensures { IfOk result (λ planned. map change_in planned.items
+                ≡ changes_of archive.entry.now front.entry.now) }
         { planned_by_halves(rt, alloc, archive, index, front, halvings - 1) },
         || -> Result<Vec<Planned>, CaseFault>
             requires { IsSync R.row × (0 < halvings) × IsFiled archive.now index.now }
-            ensures { IfOk result (λ planned. map change_in planned.items ≡ changes_of archive.entry.now back.entry.now) }
+            ensures { IfOk result (λ planned. map change_in planned.items
+                ≡ changes_of archive.entry.now back.entry.now) }
         { planned_by_halves(rt, alloc, archive, index, back, halvings - 1) },
     );
     let mut planned = first?;
@@ -133,14 +135,16 @@ fn sort_by_transfer<R: Threads + Sync>(
     alloc: Global,
     messages: &[Arc<Message>],
 ) -> Result<Sorted, AllocError>
-    ensures index { IfOk result (λ sorted. IsIndexBy transfer_of same_transfer sorted.index (messages_in messages.now)) }
+    ensures index { IfOk result (λ sorted. IsIndexBy transfer_of same_transfer sorted.index
+        (messages_in messages.now)) }
     ensures transfers { IfOk result (λ sorted.
         sorted.transfers.items ≡ ascending transfer_order (map transfer_of (messages_in messages.now))) }
 {
     let (filed, listed) = join(
         rt,
         || -> Result<IndexMap<TransferKey, Vec<Arc<Message>>>, AllocError>
-            ensures { IfOk result (λ index. IsIndexBy transfer_of same_transfer index (messages_in messages.entry.now)) }
+            ensures { IfOk result (λ index. IsIndexBy transfer_of same_transfer index
+                (messages_in messages.entry.now)) }
         { by_transfer(alloc, messages) },
         || -> Result<Vec<TransferKey>, AllocError>
             requires { IsSync R.row }
@@ -181,7 +185,8 @@ fn gather<R: Threads + Sync>(
     ensures index { IfOk result (λ gathered.
         IsIndexBy transfer_of same_transfer gathered.sorted.index (messages_in messages.now)) }
     ensures transfers { IfOk result (λ gathered.
-        gathered.sorted.transfers.items ≡ ascending transfer_order (map transfer_of (messages_in messages.now))) }
+        gathered.sorted.transfers.items
+        ≡ ascending transfer_order (map transfer_of (messages_in messages.now))) }
 {
     let (held, sorted) = join(
         rt,
@@ -190,8 +195,10 @@ fn gather<R: Threads + Sync>(
         { archive_of(alloc, messages) },
         || -> Result<Sorted, AllocError>
             requires { IsSync R.row }
-            ensures { IfOk result (λ sorted. IsIndexBy transfer_of same_transfer sorted.index (messages_in messages.entry.now)
-                × (sorted.transfers.items ≡ ascending transfer_order (map transfer_of (messages_in messages.entry.now)))) }
+            ensures { IfOk result (λ sorted.
+                IsIndexBy transfer_of same_transfer sorted.index (messages_in messages.entry.now)
+                × (sorted.transfers.items
+                ≡ ascending transfer_order (map transfer_of (messages_in messages.entry.now)))) }
         { sort_by_transfer(rt, alloc, messages) },
     );
     let archive = held?;
@@ -208,7 +215,8 @@ fn evaluate_all<R: Threads + Sync>(
 ) -> Result<Vec<Planned>, CaseFault>
     requires filed { IsFiled archive.now sorted.now.index }
     requires transfers { sorted.now.transfers.items ≡ keys_of archive.now }
-    ensures { IfOk result (λ planned. map change_in planned.items ≡ changes_of archive.now (keys_of archive.now)) }
+    ensures { IfOk result (λ planned. map change_in planned.items
+        ≡ changes_of archive.now (keys_of archive.now)) }
 {
     let halvings = halvings(rt, &sorted.transfers);
     planned_by_halves(

@@ -32,7 +32,8 @@ fn keep(
     evaluations: &mut u64,
 ) -> Result<(), CaseFault>
     requires nothing { nothing.now ≡ set.empty }
-    requires messages { ascending message_order (messages_in messages.now) ≡ filter (is_on transfer.now) (in_order archive.now) }
+    requires messages { ascending message_order (messages_in messages.now)
+        ≡ filter (is_on transfer.now) (in_order archive.now) }
     requires among { list_any (same_key transfer.now) (keys_of archive.now) ≡ true }
     requires kept { AreTotalsOver tables.old.cases tables.old.totals (keys_of archive.now) }
     requires small { (t : TransferOf) → IsSmall (case_at tables.old.cases t) }

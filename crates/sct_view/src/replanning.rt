@@ -25,7 +25,8 @@ use std::sync::Arc;
 
 /// Appends handles on some messages.
 fn append(gathered: &mut Vec<Arc<Message>>, messages: &[Arc<Message>]) -> Result<(), AllocError>
-    ensures { OnOk result (messages_in gathered.new.items ≡ messages_in gathered.old.items ++ messages_in messages.now) }
+    ensures { OnOk result (messages_in gathered.new.items
+        ≡ messages_in gathered.old.items ++ messages_in messages.now) }
 {
     for message in messages {
         gathered.push(message.clone()?)?;
@@ -40,7 +41,8 @@ fn append_kept(
     transfer: &TransferKey,
 ) -> Result<(), AllocError>
     ensures { OnOk result (messages_in gathered.new.items
-        ≡ messages_in gathered.old.items ++ (case_at cases.now transfer.now).clean ++ (case_at cases.now transfer.now).contradicted) }
+        ≡ messages_in gathered.old.items ++ (case_at cases.now transfer.now).clean
+        ++ (case_at cases.now transfer.now).contradicted) }
 {
     let Some(case) = cases.get(transfer) else {
         return Ok(());
@@ -58,7 +60,8 @@ fn gather(
     fresh: &[Arc<Message>],
 ) -> Result<Vec<Arc<Message>>, AllocError>
     ensures { IfOk result (λ gathered. messages_in gathered.items
-        ≡ (case_at cases.now transfer.now).clean ++ (case_at cases.now transfer.now).contradicted ++ messages_in fresh.now) }
+        ≡ (case_at cases.now transfer.now).clean
+        ++ (case_at cases.now transfer.now).contradicted ++ messages_in fresh.now) }
 {
     let mut gathered = Vec::new(alloc);
     append_kept(&mut gathered, cases, transfer)?;
@@ -77,7 +80,8 @@ fn evaluate_anew(
     evaluations: &mut u64,
 ) -> Result<Planned, CaseFault>
     requires messages { ascending message_order
-        ((case_at cases.now transfer.now).clean ++ (case_at cases.now transfer.now).contradicted ++ messages_in messages.now)
+        ((case_at cases.now transfer.now).clean
+        ++ (case_at cases.now transfer.now).contradicted ++ messages_in messages.now)
         ≡ filter (is_on transfer.now) (in_order (set.union held.now fresh.now)) }
     requires room { evaluations.old + 1 < 2 ^ 64 }
     ensures planned { IfOk result (λ planned. change_in planned
@@ -103,7 +107,8 @@ pub(crate) fn evaluate_each(
 ) -> Result<Vec<Planned>, CaseFault>
     requires kept { (t : TransferOf) → case_at cases.now t ≡ case_of held.now t }
     requires none { evaluations.old ≡ 0 }
-    ensures planned { IfOk result (λ planned. map change_in planned.items ≡ changes_of (set.union held.now fresh.now) touched.now) }
+    ensures planned { IfOk result (λ planned. map change_in planned.items
+        ≡ changes_of (set.union held.now fresh.now) touched.now) }
     ensures counted { OnOk result (evaluations.new ≡ length touched.now) }
 {
     let index = by_transfer(alloc, fresh.messages())?;

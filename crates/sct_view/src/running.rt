@@ -44,8 +44,10 @@ fn take(totals: &mut IndexMap<Bic, Totals>, bank: &Bic, share: &Totals)
 #[tactic(auto, unfolding(crate::specs::Totals::share))]
 pub(crate) fn put_shares(totals: &mut IndexMap<Bic, Totals>, transfer: &TransferKey, case: &Case)
     requires originator { has_totals totals.old transfer.now.debtor_agent ≡ true }
-    requires beneficiary { list_all (has_totals totals.old) (beneficiary_in (instruction_in (kept_in case.now))) ≡ true }
-    requires fits { (p : List ℕ) → IsInRange (plus (totals_at totals.old p) (share_in p transfer.now (kept_in case.now))) }
+    requires beneficiary { list_all (has_totals totals.old)
+        (beneficiary_in (instruction_in (kept_in case.now))) ≡ true }
+    requires fits { (p : List ℕ)
+        → IsInRange (plus (totals_at totals.old p) (share_in p transfer.now (kept_in case.now))) }
     ensures totals { (p : List ℕ) → totals_at totals.new p
         ≡ plus (totals_at totals.old p) (share_in p transfer.now (kept_in case.now)) }
     ensures stays { (p : List ℕ) → has_totals totals.new p ≡ has_totals totals.old p }
@@ -62,7 +64,8 @@ pub(crate) fn put_shares(totals: &mut IndexMap<Bic, Totals>, transfer: &Transfer
 /// Takes what a transfer added out of the totals of its banks.
 #[tactic(auto, unfolding(crate::specs::Totals::share))]
 pub(crate) fn take_shares(totals: &mut IndexMap<Bic, Totals>, transfer: &TransferKey, case: &Case)
-    requires fits { (p : List ℕ) → IsUpTo (share_in p transfer.now (kept_in case.now)) (totals_at totals.old p) }
+    requires fits { (p : List ℕ)
+        → IsUpTo (share_in p transfer.now (kept_in case.now)) (totals_at totals.old p) }
     ensures totals { (p : List ℕ) → plus (totals_at totals.new p) (share_in p transfer.now (kept_in case.now))
         ≡ totals_at totals.old p }
     ensures stays { (p : List ℕ) → has_totals totals.new p ≡ has_totals totals.old p }
@@ -82,8 +85,10 @@ pub(crate) fn take_former(
     totals: &mut IndexMap<Bic, Totals>,
     transfer: &TransferKey,
 )
-    requires fits { (p : List ℕ) → IsUpTo (share_in p transfer.now (case_at cases.now transfer.now)) (totals_at totals.old p) }
-    ensures totals { (p : List ℕ) → plus (totals_at totals.new p) (share_in p transfer.now (case_at cases.now transfer.now))
+    requires fits { (p : List ℕ)
+        → IsUpTo (share_in p transfer.now (case_at cases.now transfer.now)) (totals_at totals.old p) }
+    ensures totals { (p : List ℕ) → plus (totals_at totals.new p)
+        (share_in p transfer.now (case_at cases.now transfer.now))
         ≡ totals_at totals.old p }
     ensures stays { (p : List ℕ) → has_totals totals.new p ≡ has_totals totals.old p }
 {

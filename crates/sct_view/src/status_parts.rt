@@ -55,12 +55,16 @@ fn pieces_by_halves<R: Threads + Sync>(
     let (first, second) = join(
         rt,
         || -> Result<Vec<Vec<u8>>, AllocError>
-            requires { IsSync R.row × (0 < halvings) × ((t : TransferOf) → case_at cases.now t ≡ case_of archive.now t) }
-            ensures { IfOk result (λ pieces. joined pieces.items ≡ flat_map (lines_on archive.entry.now) front.entry.now) }
+            requires { IsSync R.row × (0 < halvings)
+                × ((t : TransferOf) → case_at cases.now t ≡ case_of archive.now t) }
+            ensures { IfOk result (λ pieces. joined pieces.items
+                ≡ flat_map (lines_on archive.entry.now) front.entry.now) }
         { pieces_by_halves(rt, alloc, archive, cases, front, halvings - 1) },
         || -> Result<Vec<Vec<u8>>, AllocError>
-            requires { IsSync R.row × (0 < halvings) × ((t : TransferOf) → case_at cases.now t ≡ case_of archive.now t) }
-            ensures { IfOk result (λ pieces. joined pieces.items ≡ flat_map (lines_on archive.entry.now) back.entry.now) }
+            requires { IsSync R.row × (0 < halvings)
+                × ((t : TransferOf) → case_at cases.now t ≡ case_of archive.now t) }
+            ensures { IfOk result (λ pieces. joined pieces.items
+                ≡ flat_map (lines_on archive.entry.now) back.entry.now) }
         { pieces_by_halves(rt, alloc, archive, cases, back, halvings - 1) },
     );
     let mut pieces = first?;

@@ -132,7 +132,8 @@ impl View {
     pub fn apply(&mut self, messages: &[Arc<Message>]) -> Result<Applied, CaseFault>
         ensures ok { OnOk result (self.new ≡ set.union self.old (contents_of (messages_in messages.now))) }
         ensures fresh { IfOk result (λ applied. set.len self.new ≡ set.len self.old + applied.fresh) }
-        ensures touched { IfOk result (λ applied. applied.touched ≡ length (touched_in self.old (contents_of (messages_in messages.now)))) }
+        ensures touched { IfOk result (λ applied. applied.touched
+            ≡ length (touched_in self.old (contents_of (messages_in messages.now)))) }
         ensures few { IfOk result (λ applied. applied.touched ≤ 2 * applied.fresh) }
         ensures err { OnErr result (self.new ≡ self.old) }
     {

@@ -42,7 +42,8 @@ impl Sites {
         requires few { self.refused ≤ length (string_bytes self.told) }
         requires few_more { site.refused ≤ length (string_bytes site.told) }
         ensures cores { IfOk result (λ sites. sites.cores.items ≡ self.cores.items ++ site.core ∷ []) }
-        ensures told { IfOk result (λ sites. string_bytes sites.told ≡ string_bytes self.told ++ string_bytes site.told) }
+        ensures told { IfOk result (λ sites. string_bytes sites.told
+            ≡ string_bytes self.told ++ string_bytes site.told) }
         ensures refused { IfOk result (λ sites. sites.refused ≡ self.refused + site.refused) }
         ensures memory { IfErr result (λ e. e ≡ fault.Memory) }
     {

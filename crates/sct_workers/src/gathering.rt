@@ -140,10 +140,12 @@ fn start<'s, E, G: Gate + Sync, R: Threads + Wait + Sync>(
     requires posts { vec_len posts ≡ length inputs.now }
     ensures len { IfOk result (λ children. length children.items ≡ length inputs.now) }
     ensures sites { IfOk result (λ children.
-        AtEach (λ at child. (child.promise.number ≡ at + 1) × (child.promise.group ≡ length inputs.now)) children.items) }
+        AtEach (λ at child. (child.promise.number ≡ at + 1)
+        × (child.promise.group ≡ length inputs.now)) children.items) }
     ensures inputs { IfOk result (λ children.
         AtEach (λ at child. slice_get (bytes_of inputs.now) at ≡ Some child.promise.input.now) children.items) }
-    ensures gate { IfOk result (λ children. AtEach (λ at child. child.promise.gate.now ≡ gate.now) children.items) }
+    ensures gate { IfOk result
+        (λ children. AtEach (λ at child. child.promise.gate.now ≡ gate.now) children.items) }
     ensures ends { IfErr result (EndsWhere (λ point. ⊥)) }
 {
     let group = inputs.len() as u16;
@@ -172,7 +174,8 @@ fn next<G: Gate>(
     requires ends { IfErr so_far (SiteEndsWhere (G.may_hold gate.now)) }
     requires one_ends { IfErr site (SiteEndsWhere (G.may_hold gate.now)) }
     ensures filled { (size : ℕ) (inputs : List (List ℕ)) (input : List ℕ) → IfOk so_far (AreFilled size inputs)
-        → IfOk site (IsFilled (length inputs + 1) size input) → IfOk result (AreFilled size (inputs ++ input ∷ [])) }
+        → IfOk site (IsFilled (length inputs + 1) size input)
+        → IfOk result (AreFilled size (inputs ++ input ∷ [])) }
     ensures ends { IfErr result (SiteEndsWhere (G.may_hold gate.now)) }
 {
     match (so_far, site) {
@@ -195,8 +198,10 @@ fn gather<'s, G: Gate, R: Threads>(
     children: Vec<Child<'s, G>>,
 ) -> Result<Sites, SiteFault>
     requires len { length children.items ≡ length inputs.now }
-    requires sites { AtEach (λ at child. (child.promise.number ≡ at + 1) × (child.promise.group ≡ length inputs.now)) children.items }
-    requires inputs { AtEach (λ at child. slice_get (bytes_of inputs.now) at ≡ Some child.promise.input.now) children.items }
+    requires sites { AtEach
+        (λ at child. (child.promise.number ≡ at + 1) × (child.promise.group ≡ length inputs.now)) children.items }
+    requires inputs { AtEach
+        (λ at child. slice_get (bytes_of inputs.now) at ≡ Some child.promise.input.now) children.items }
     requires gate { AtEach (λ at child. child.promise.gate.now ≡ gate.now) children.items }
     ensures filled { IfOk result (AreFilled (length inputs.now) (bytes_of inputs.now)) }
     ensures ends { IfErr result (SiteEndsWhere (G.may_hold gate.now)) }

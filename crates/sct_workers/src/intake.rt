@@ -31,7 +31,8 @@ fn take_one<J: Site, H: Wait + Drop, R: Wait>(
 ) -> Result<Took, WorkFault>
     requires kept { AllKeep J.book J.number J.group (contents_of (messages_in messages.now)) kept.old.items }
     requires among { set.contains (contents_of (messages_in messages.now)) (arc_value message.now) ≡ true }
-    ensures kept { OnOk result (AllKeep J.book J.number J.group (contents_of (messages_in messages.now)) kept.new.items) }
+    ensures kept { OnOk result (AllKeep J.book J.number J.group
+        (contents_of (messages_in messages.now)) kept.new.items) }
     ensures shown { OnOk result (is_shown kept.new.items (arc_value message.now) ≡ true) }
     ensures more { OnOk result (ShowsMore kept.old.items kept.new.items) }
     ensures memory { IfErr result (λ e. e ≡ fault.Memory) }
@@ -53,7 +54,8 @@ fn publish<J: Site, H: Wait + Drop, R: Wait>(
     kept: &mut Vec<Receipt>,
 ) -> Result<(), WorkFault>
     requires kept { AllKeep J.book J.number J.group (contents_of (messages_in messages.now)) kept.old.items }
-    ensures kept { OnOk result (AllKeep J.book J.number J.group (contents_of (messages_in messages.now)) kept.new.items) }
+    ensures kept { OnOk result (AllKeep J.book J.number J.group
+        (contents_of (messages_in messages.now)) kept.new.items) }
     ensures more { OnOk result (ShowsMore kept.old.items kept.new.items) }
     ensures memory { IfErr result (λ e. e ≡ fault.Memory) }
 {
@@ -77,7 +79,8 @@ fn work_on<J: Site, H: Wait + Drop, R: Wait>(
 ) -> Result<(), WorkFault>
     requires kept { AllKeep J.book J.number J.group (contents_of (messages_in messages.now)) kept.old.items }
     requires among { set.contains (contents_of (messages_in messages.now)) (arc_value message.now) ≡ true }
-    ensures kept { OnOk result (AllKeep J.book J.number J.group (contents_of (messages_in messages.now)) kept.new.items) }
+    ensures kept { OnOk result (AllKeep J.book J.number J.group
+        (contents_of (messages_in messages.now)) kept.new.items) }
     ensures shown { OnOk result (is_shown kept.new.items (arc_value message.now) ≡ true) }
     ensures more { OnOk result (ShowsMore kept.old.items kept.new.items) }
     ensures memory { IfErr result (λ e. e ≡ fault.Memory) }

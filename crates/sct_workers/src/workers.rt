@@ -41,7 +41,8 @@ struct AddsNothing<'a, J: Site, G: Gate> {
 
 impl<'a, J: Site, G: Gate> Promise<Result<Vec<Receipt>, WorkFault>> for AddsNothing<'a, J, G> {
     ghost kept_by = { λ p r.
-        IfOk r (λ kept. AllKeep J.book J.number J.group (contents_of []) kept.items) × IfErr r (EndsWhere (G.may_hold p.gate.now)) };
+        IfOk r (λ kept. AllKeep J.book J.number J.group (contents_of []) kept.items)
+        × IfErr r (EndsWhere (G.may_hold p.gate.now)) };
 }
 
 // What a worker answered that was to be started. 67 `NoWorker` where there was no thread for it.
@@ -73,7 +74,8 @@ fn joined<J: Site>(
     requires kept { AllKeep J.book J.number J.group (contents_of (messages_in messages.now)) kept.items }
     requires shown { AllShown (contents_of (messages_in messages.now)) kept.items }
     requires more { AllKeep J.book J.number J.group (contents_of []) more.items }
-    ensures kept { IfOk result (λ all. AllKeep J.book J.number J.group (contents_of (messages_in messages.now)) all.items) }
+    ensures kept { IfOk result (λ all. AllKeep J.book J.number J.group
+        (contents_of (messages_in messages.now)) all.items) }
     ensures shown { IfOk result (λ all. AllShown (contents_of (messages_in messages.now)) all.items) }
     ensures memory { IfErr result (λ e. e ≡ fault.Memory) }
 {
@@ -90,12 +92,14 @@ fn both<J: Site, G: Gate>(
     first: Result<Vec<Receipt>, WorkFault>,
     second: Result<Vec<Receipt>, WorkFault>,
 ) -> Result<Vec<Receipt>, WorkFault>
-    requires kept { IfOk first (λ kept. AllKeep J.book J.number J.group (contents_of (messages_in messages.now)) kept.items) }
+    requires kept { IfOk first (λ kept. AllKeep J.book J.number J.group
+        (contents_of (messages_in messages.now)) kept.items) }
     requires shown { IfOk first (λ kept. AllShown (contents_of (messages_in messages.now)) kept.items) }
     requires more { IfOk second (λ more. AllKeep J.book J.number J.group (contents_of []) more.items) }
     requires first_ends { IfErr first (EndsWhere (G.may_hold gate.now)) }
     requires second_ends { IfErr second (EndsWhere (G.may_hold gate.now)) }
-    ensures kept { IfOk result (λ kept. AllKeep J.book J.number J.group (contents_of (messages_in messages.now)) kept.items) }
+    ensures kept { IfOk result (λ kept. AllKeep J.book J.number J.group
+        (contents_of (messages_in messages.now)) kept.items) }
     ensures shown { IfOk result (λ kept. AllShown (contents_of (messages_in messages.now)) kept.items) }
     ensures ends { IfErr result (EndsWhere (G.may_hold gate.now)) }
 {
@@ -125,7 +129,8 @@ pub(crate) fn workers<
     post: Post,
 ) -> Result<Vec<Receipt>, WorkFault>
     requires { query.book ≡ J.book }
-    ensures kept { IfOk result (λ kept. AllKeep J.book J.number J.group (contents_of (messages_in messages.now)) kept.items) }
+    ensures kept { IfOk result (λ kept. AllKeep J.book J.number J.group
+        (contents_of (messages_in messages.now)) kept.items) }
     ensures shown { IfOk result (λ kept. AllShown (contents_of (messages_in messages.now)) kept.items) }
     ensures ends { IfErr result (EndsWhere (G.may_hold gate.now)) }
 {
@@ -137,7 +142,8 @@ pub(crate) fn workers<
         rt,
         move |scope| -> Result<Vec<Receipt>, WorkFault>
             requires { query.book ≡ J.book }
-            ensures { IfOk result (λ kept. AllKeep J.book J.number J.group (contents_of (messages_in messages.entry.now)) kept.items
+            ensures { IfOk result (λ kept. AllKeep J.book J.number J.group
+                (contents_of (messages_in messages.entry.now)) kept.items
                 × AllShown (contents_of (messages_in messages.entry.now)) kept.items)
                 × IfErr result (EndsWhere (G.may_hold gate.entry.now)) }
         {

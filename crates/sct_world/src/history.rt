@@ -80,9 +80,12 @@ pub fn answers_after(
     events: &[Event],
     site: u16,
 ) -> Result<Answers, WorldFault>
-    ensures archive { IfOk result (λ answers. answers.archive.items ≡ archive_text_of (taken_in sites events.now site)) }
-    ensures statuses { IfOk result (λ answers. answers.statuses.items ≡ status_text_of (taken_in sites events.now site)) }
-    ensures totals { IfOk result (λ answers. answers.totals.items ≡ totals_text_of (taken_in sites events.now site)) }
+    ensures archive { IfOk result (λ answers. answers.archive.items
+        ≡ archive_text_of (taken_in sites events.now site)) }
+    ensures statuses { IfOk result (λ answers. answers.statuses.items
+        ≡ status_text_of (taken_in sites events.now site)) }
+    ensures totals { IfOk result (λ answers. answers.totals.items
+        ≡ totals_text_of (taken_in sites events.now site)) }
     ensures there { OnOk result (is_no_site (history sites events.now) site ≡ false) }
     ensures err { IfErr result (λ refusal. refusal ≢ fault.Delta delta.Memory
         → (refusal ≡ fault.BadSite) × IsNoPlace sites events.now site) }

@@ -53,7 +53,8 @@ fn hand(cores: &mut [SiteCore], whole: &Delta, to: usize) -> Result<(), DeltaFau
     requires group { OfOneGroup cores.old }
     ensures kept { OnOk result (AreKept cores.old cores.new) }
     ensures handed { OnOk result (HasEach whole.now (core_in cores.new to)) }
-    ensures others { OnOk result ((place : ℕ) → place ≢ to → core_in cores.new place ≡ core_in cores.old place) }
+    ensures others { OnOk result ((place : ℕ) → place ≢ to
+        → core_in cores.new place ≡ core_in cores.old place) }
     ensures why { IfErr result (λ refusal. IsWhy cores.old refusal) }
     ensures unchanged { OnErr result (cores.new ≡ cores.old) }
 {
@@ -66,7 +67,8 @@ fn gather(cores: &mut [SiteCore], empty: &Vector) -> Result<(), DeltaFault>
     requires group { OfOneGroup cores.old }
     requires empty { (origin : ℕ) → count_in empty.now origin ≡ 0 }
     ensures kept { AreKept cores.old cores.new }
-    ensures ok { OnOk result ((place : ℕ) → place < length cores.old → HasAll (core_in cores.old place) (core_in cores.new 0)) }
+    ensures ok { OnOk result ((place : ℕ) → place < length cores.old
+        → HasAll (core_in cores.old place) (core_in cores.new 0)) }
     ensures why { IfErr result (λ refusal. IsWhy cores.old refusal) }
 {
     for place in 1..cores.len() {
@@ -82,7 +84,8 @@ fn hand_on(cores: &mut [SiteCore], whole: &Delta) -> Result<(), DeltaFault>
     requires whole { IsWhole whole.now (core_in cores.old 0) }
     requires group { OfOneGroup cores.old }
     ensures kept { AreKept cores.old cores.new }
-    ensures ok { OnOk result ((place : ℕ) → place < length cores.old → HasAll (core_in cores.old 0) (core_in cores.new place)) }
+    ensures ok { OnOk result ((place : ℕ) → place < length cores.old
+        → HasAll (core_in cores.old 0) (core_in cores.new place)) }
     ensures why { IfErr result (λ refusal. IsWhy cores.old refusal) }
 {
     for place in 1..cores.len() {
@@ -96,7 +99,8 @@ fn spread(cores: &mut [SiteCore], empty: &Vector) -> Result<(), DeltaFault>
     requires group { OfOneGroup cores.old }
     requires empty { (origin : ℕ) → count_in empty.now origin ≡ 0 }
     ensures kept { AreKept cores.old cores.new }
-    ensures ok { OnOk result ((place : ℕ) → place < length cores.old → HasAll (core_in cores.old 0) (core_in cores.new place)) }
+    ensures ok { OnOk result ((place : ℕ) → place < length cores.old
+        → HasAll (core_in cores.old 0) (core_in cores.new place)) }
     ensures why { IfErr result (λ refusal. IsWhy cores.old refusal) }
 {
     if cores.is_empty() {

@@ -92,7 +92,8 @@ impl World {
     pub fn open(alloc: Global, sites: u16) -> Result<World, WorldFault>
         ensures ok { IfOk result (λ world. world ≡ opened sites) }
         ensures size { OnOk result (is_size sites ≡ true) }
-        ensures err { IfErr result (λ refusal. refusal ≢ fault.Delta delta.Memory → (refusal ≡ fault.BadSite) × (is_size sites ≡ false)) }
+        ensures err { IfErr result (λ refusal. refusal ≢ fault.Delta delta.Memory
+            → (refusal ≡ fault.BadSite) × (is_size sites ≡ false)) }
     {
         if sites == 0 || sites > MOST_SITES {
             return Err(WorldFault::BadSite);
@@ -131,11 +132,15 @@ impl World {
     /// What a site answers of the messages that it holds. 44 `BadSite` where there is no such site, and else nothing but
     /// want of memory (40) refuses it.
     pub fn answers(&self, site: u16) -> Result<Answers, WorldFault>
-        ensures archive { IfOk result (λ answers. answers.archive.items ≡ archive_text_of (messages_of (held_at self.now site))) }
-        ensures statuses { IfOk result (λ answers. answers.statuses.items ≡ status_text_of (messages_of (held_at self.now site))) }
-        ensures totals { IfOk result (λ answers. answers.totals.items ≡ totals_text_of (messages_of (held_at self.now site))) }
+        ensures archive { IfOk result (λ answers. answers.archive.items
+            ≡ archive_text_of (messages_of (held_at self.now site))) }
+        ensures statuses { IfOk result (λ answers. answers.statuses.items
+            ≡ status_text_of (messages_of (held_at self.now site))) }
+        ensures totals { IfOk result (λ answers. answers.totals.items
+            ≡ totals_text_of (messages_of (held_at self.now site))) }
         ensures there { OnOk result (is_no_site self.now site ≡ false) }
-        ensures err { IfErr result (λ refusal. refusal ≡ (if is_no_site self.now site then fault.BadSite else fault.Delta delta.Memory)) }
+        ensures err { IfErr result (λ refusal. refusal
+            ≡ (if is_no_site self.now site then fault.BadSite else fault.Delta delta.Memory)) }
     {
         let Ok(archive) = self.archive(site) else {
             return Err(WorldFault::BadSite);

@@ -14,7 +14,8 @@ pub fn lines_make_the_text()
 
 /// A text is read as a delta exactly where it is a form of it.
 pub fn a_text_is_read_where_it_is_a_form()
-    ensures { (bytes : List ℕ) (entries : List Placed) → (delta_in bytes ≡ Ok entries) ↔ IsDeltaText bytes entries }
+    ensures { (bytes : List ℕ) (entries : List Placed)
+        → (delta_in bytes ≡ Ok entries) ↔ IsDeltaText bytes entries }
 {}
 
 /// A text is a form of one delta at most.

@@ -80,7 +80,8 @@ fn ended(
     after: &[u8],
 ) -> Result<Vec<Entry>, DeltaFault>
     requires { place < 2 ^ 64 - 1 }
-    ensures read { IfOk result (λ read. entries_ended place entries.items line.now (lines_of after.now) ≡ Ok read.items) }
+    ensures read { IfOk result (λ read. entries_ended place entries.items line.now (lines_of after.now)
+        ≡ Ok read.items) }
     ensures wrong { IfErr result (λ refusal.
         Reads (Err refusal) (entries_ended place entries.items line.now (lines_of after.now))) }
 {
