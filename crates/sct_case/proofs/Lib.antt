@@ -1,3 +1,4 @@
+-- The proofs of findings and statuses.
 pub mod AnyOrder
 pub mod Exact
 pub mod InOrder

@@ -1,3 +1,4 @@
+-- The definitions of findings and of where transfers and recalls stand.
 pub mod AnyOrder
 pub mod Findings
 pub mod Laws

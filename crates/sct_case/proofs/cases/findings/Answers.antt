@@ -1,3 +1,4 @@
+-- Where nothing clean is on the transfer, what its asides say is all that is found.
 use Rattle.std.proofs.Common.{◌∙◌}
 use Rattle.sct_message.specs.Sets.{messages_in}
 use Rattle.sct_case.proofs.Judged.{found_of_asides}

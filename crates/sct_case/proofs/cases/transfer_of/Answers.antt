@@ -1,3 +1,4 @@
+-- The transfer of the first clean message is that of all of them.
 use Rattle.std.proofs.Common.{◌∙◌, ap}
 use Rattle.sct_message.specs.Keys.{transfer_of}
 use Rattle.sct_case.proofs.Judged.{is_the_transfer, is_some_message}

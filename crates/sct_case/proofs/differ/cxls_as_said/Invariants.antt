@@ -1,3 +1,4 @@
+-- So far, the recalls that the first things said are about.
 use Rattle.std.proofs.Common.{◌≡◌, map, take}
 use Rattle.sct_case.proofs.differ.cxls_as_said.Given as goal
 

@@ -1,3 +1,4 @@
+-- So far, a finding for each of the first contradicted identities.
 use Rattle.std.proofs.Common.{◌≡◌, map, take}
 use Rattle.sct_case.specs.declared.finding.Finding.TheVariants as finding
 use Rattle.sct_case.proofs.found.contradictions.Given as goal

@@ -1,3 +1,4 @@
+-- So far, a finding for each of the first refused recalls that something was returned for.
 use Rattle.std.proofs.Common.{◌≡◌, ◌++◌, map, filter, take}
 use Rattle.std.specs.List.{list_any}
 use Rattle.sct_case.specs.declared.finding.Finding.TheVariants as finding

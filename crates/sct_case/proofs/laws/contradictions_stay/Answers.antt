@@ -1,3 +1,4 @@
+-- A transfer that is contradicted in a set is so in every larger one.
 use Rattle.sct_case.proofs.Stays.{contradictions_stay}
 use Rattle.sct_case.proofs.laws.contradictions_stay.Goals as goal
 

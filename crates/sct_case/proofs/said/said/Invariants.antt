@@ -1,3 +1,4 @@
+-- So far, what the first messages say of the transfer.
 use Rattle.std.proofs.Common.{◌≡◌, take}
 use Rattle.std.specs.List.{flat_map}
 use Rattle.sct_message.specs.Sets.{messages_in}

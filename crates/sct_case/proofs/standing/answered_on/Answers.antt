@@ -1,3 +1,4 @@
+-- How a recall was answered, by what was returned, refused and asked again for it.
 use Rattle.std.proofs.Common.{◌∙◌, ap}
 use Rattle.std.specs.List.{list_any}
 use Rattle.sct_case.specs.Statuses.{amount_returned, reason_refused, answered, request_of_it}

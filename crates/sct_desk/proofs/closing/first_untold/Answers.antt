@@ -1,3 +1,4 @@
+-- The first place that is not marked once is the first position that is not told once.
 use Rattle.std.proofs.Common.{◌∙◌, sym, length}
 use Rattle.sct_desk.proofs.Tellings.{untold_is}
 use Rattle.sct_desk.proofs.closing.first_untold.Goals as goal

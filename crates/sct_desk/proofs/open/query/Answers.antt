@@ -1,3 +1,4 @@
+-- A query that is opened may read, tell and learn what the writer shows.
 use Rattle.std.proofs.Common.{rules}
 use Rattle.sct_desk.proofs.Showing.{admits, learns, tells}
 use Rattle.sct_desk.proofs.open.query.Goals as goal

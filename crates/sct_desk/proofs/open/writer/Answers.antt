@@ -1,3 +1,4 @@
+-- A desk that opens publishes the view of no message.
 use Rattle.std.proofs.Common.{◌∙◌}
 use Rattle.sct_desk.specs.Rules.{GoesOn}
 use Rattle.sct_desk.proofs.Batches.{nothing_goes_on}

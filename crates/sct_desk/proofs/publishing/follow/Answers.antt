@@ -1,3 +1,4 @@
+-- The history gets the arrivals one by one; where one cannot be added, it stays shorter than they are.
 use Rattle.std.proofs.Common.{◌∙◌, ap, sym, subst, length, length-take-le, List, arith}
 use mathlib.Core.List.{IsPrefix}
 use Rattle.sct_delta.specs.Entries.{Placed}

@@ -1,3 +1,4 @@
+-- What is published is what was handed over.
 use Rattle.std.proofs.Common.{subst, sym}
 use Rattle.sct_desk.specs.declared.shown.Shown.{Shown}
 use Rattle.sct_desk.specs.Rules.{GoesOn}

@@ -1,3 +1,4 @@
+-- The queries that are opened are of the site, and have seen its history so far.
 use Rattle.std.proofs.Common.{◌≡◌, subst}
 use Rattle.std.specs.List.{All}
 use Rattle.sct_desk.specs.Passes.{Asked}

@@ -1,3 +1,4 @@
+-- What is held after a delta begins with what was held, and its receipt tells what came.
 use Rattle.std.proofs.Common.{◌∙◌, refl, ap, sym, subst, List, length, arith}
 use mathlib.Core.List.{IsPrefix}
 use Rattle.sct_delta.specs.Entries.{Placed}

@@ -1,3 +1,4 @@
+-- A cut that cannot publish leaves what is published.
 use Rattle.std.proofs.Common.{subst}
 use mathlib.Core.List.{IsPrefix}
 use Rattle.sct_desk.specs.Locked.{Locked}

@@ -1,3 +1,4 @@
+-- What is handed over is the view of all arrivals, and what is published goes on to it.
 use Rattle.std.proofs.Common.{◌≡◌, ◌∙◌, ap, sym, subst, drop, length}
 use Rattle.sct_desk.specs.declared.shown.Shown.{Shown}
 use Rattle.sct_desk.specs.Rules.{GoesOn, handed_over, view_of}

@@ -1,3 +1,4 @@
+-- What is held after a take begins with what was held, and its receipt tells what came.
 use Rattle.std.proofs.Common.{◌≡◌, ◌∙◌, refl, ap, sym, subst, List, length, arith}
 use Rattle.std.specs.Arc.{arc_value}
 use mathlib.Core.List.{IsPrefix}

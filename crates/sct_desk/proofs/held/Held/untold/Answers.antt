@@ -1,3 +1,4 @@
+-- Where no position is untold, the receipts tile the arrivals.
 use Rattle.std.proofs.Common.{◌≡◌, ◌∙◌, inl, inr, ℕ, refl, ap, sym, subst, length, arith}
 use mathlib.Core.List.{IsPrefix}
 use Rattle.sct_desk.specs.declared.shown.Shown.{Shown}

@@ -1,3 +1,4 @@
+-- A query sees no less than it has seen.
 use Rattle.std.proofs.Common.{ap, subst, List}
 use mathlib.Core.List.{IsPrefix}
 use Rattle.sct_delta.specs.Entries.{Placed}

@@ -1,3 +1,4 @@
+-- A query that is taken out of the new ones is a new one.
 use Rattle.std.proofs.lemmas.List.Elements.{All-pop}
 use Rattle.sct_desk.specs.Openings.{IsNewQuery}
 use Rattle.sct_desk_trials.proofs.tests.scenes.one_of.Goals as goal

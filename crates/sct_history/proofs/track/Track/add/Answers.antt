@@ -1,3 +1,4 @@
+-- An entry is added where no other came in between, and where the history has none there yet.
 use Rattle.std.proofs.Common.{◌≡◌, sym, ◌∙◌, ap, length}
 use Rattle.sct_history.proofs.Adding.{adds_moves}
 use Rattle.sct_history.proofs.track.Track.add.Goals as goal

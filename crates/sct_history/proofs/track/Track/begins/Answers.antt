@@ -1,3 +1,4 @@
+-- Of two beginnings of one history the shorter begins the longer.
 use Rattle.std.proofs.Common.{◌≤◌, ap, subst, arith, length, List}
 use mathlib.Core.List.{IsPrefix}
 use Rattle.sct_delta.specs.Entries.{Placed}
