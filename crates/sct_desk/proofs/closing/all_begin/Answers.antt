@@ -1,4 +1,4 @@
--- Each receipt of the site begins the arrivals once the last of them was looked at.
+-- What each receipt of the site shows begins the arrivals, once the last of them was looked at.
 use Rattle.std.proofs.Common.{◌≡◌, subst, sym, List, arith}
 use Rattle.std.proofs.lemmas.List.{take_all}
 use Rattle.std.proofs.lemmas.List.Elements.{All-more}

@@ -1,4 +1,4 @@
--- What is published is what was handed over.
+-- What was handed over may be published, as it goes on from what is shown.
 use Rattle.std.proofs.Common.{subst, sym}
 use Rattle.sct_desk.specs.declared.shown.Shown.{Shown}
 use Rattle.sct_desk.specs.Rules.{GoesOn}
