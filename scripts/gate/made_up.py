@@ -1,13 +1,14 @@
-"""made_up.py: tries the program crates/sct_trials on what is made up, and fails where it does not print what it must.
+"""made_up.py: tries the program crates/sct_test_driver on what is made up, and fails where it does not print what it must.
 
 It goes through made-up sets of messages in batches (made_up_views.py), worlds (made_up_worlds.py) and groups of sites that are
 settled (made_up_groups.py). What must be printed is told by independent programs of the definitions. The seeds are fixed, so it
 is the same each time. Of each kind it prints what was met; what has to be met and was not counts as failed. The last line is
 'N passed, M failed', and the exit status is 0 where none has failed.
 """
-import sys
-import made_up_groups, made_up_views, made_up_worlds
-from trials import passed, printed, runs
+import pathlib, sys
+sys.path.insert(0, str(pathlib.Path(__file__).resolve().parents[1]))  # scripts/
+from gate import made_up_groups, made_up_views, made_up_worlds
+from gate.test_driver import passed, printed, runs
 
 KINDS = {"views": made_up_views, "worlds": made_up_worlds, "groups": made_up_groups}
 
