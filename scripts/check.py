@@ -21,7 +21,7 @@ CHECKS = {
 
 def ran(name):
     """How much of a check passed, how much failed, and what it printed."""
-    words = [sys.executable, "-u", pathlib.Path(__file__).with_name("gate") / f"{name}.py"]
+    words = [sys.executable, "-u", pathlib.Path(__file__).with_name("gate") / (name + ".py")]
     done = subprocess.run(words, stdout=subprocess.PIPE, stderr=subprocess.STDOUT)
     text = done.stdout.decode(errors="replace")
     numbers = re.search(r"^(\d+) passed, (\d+) failed\n\Z", text, re.M)

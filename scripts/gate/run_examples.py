@@ -16,7 +16,8 @@ line twice: the answer must be the same.
 
 A file of examples/command-lines/ has one command line after another: a line `== TITLE`, a line `$ WORDS`, the lines of standard
 input, behind `-- out` and `-- err` what must be written to the two outputs, and a line `-- exit STATUS`. The other files there are
-those that the words name.
+those that the words name. examples/test-driver/ has the same for the program crates/sct_test_driver, as `rt run` and the gate leave it
+there.
 
 The list of 5,000 rows has a row for each of as many instructions, which is MATCHED, and one that is ONLY_IN_LIST. The longer input is of made-up
 messages, blank lines and refused ones, and is read and written in threads; what must be answered is told by
@@ -93,9 +94,8 @@ def cases():
                 yield [case(name, [command], data.encode(), text.encode(), refused.encode()) for data in alike(lines, refused)]
 
 
-def command_lines():
-    """Each command line of examples/command-lines/, run there."""
-    folder = EXAMPLES / "command-lines"
+def command_lines(folder):
+    """Each command line of a folder of examples, run there."""
     for path in sorted(folder.glob("*.txt")):
         for title, rest in titled(path.read_text(), "=="):
             words, rest = rest[len("$ "):].split("\n", 1)
@@ -229,25 +229,32 @@ def failing_streams(program):
         yield reported(f"{name}, in {len(right)} ways", all(right))
 
 
-def is_shared_alike():
+def is_shared_alike(tests):
     """Whether the test of a desk that three threads share passes each time, with one output."""
-    tests = crates.tests("sct_run_tests")
     runner = pathlib.Path(os.path.realpath(verdict.command("rt"))).with_name("rattle-test")
     runs = [ran([runner, "--filter", "desk_shared", tests]) for _ in range(DESKS)]
     right = all(status == 0 and b"1 passed" in text for text, _, status in runs) and len({text for text, _, _ in runs}) == 1
     return reported(f"three threads at a desk, {DESKS} times", right)
 
 
+def alone(program, driver, folder):
+    """Whether the programs answer each case that is run once as they must."""
+    for one in [*examples(), *command_lines(EXAMPLES / "command-lines"), *bad_lists(folder), long_list(folder)]:
+        yield fits(program, one, PROCESSORS[-1])
+    for one in command_lines(EXAMPLES / "test-driver"):
+        yield fits(driver, one, PROCESSORS[-1])
+
+
 def main():
-    program = asked()
+    program, driver, tests = asked(), crates.program("sct_test_driver"), crates.tests("sct_run_tests")
     with tempfile.TemporaryDirectory() as folder:
-        right = [fits(program, one, PROCESSORS[-1]) for one in [*examples(), *command_lines(), *bad_lists(folder), long_list(folder)]]
+        right = [*alone(program, driver, folder)]
         right += [all_fit(program, ones) for ones in [*cases(), *blank_inputs()]]
         right += failing_streams(program)
         right.append(fits(program, two_files(folder), PROCESSORS[-1], TIMES))
         long = [*long_cases(), sixteen_files(folder)]
         right += [fits(program, one, processors) for processors in PROCESSORS for one in long]
-    right.append(is_shared_alike())
+    right.append(is_shared_alike(tests))
     verdict.end(sum(right), len(right) - sum(right))
 
 
