@@ -79,6 +79,27 @@ def add_all():
     return sum(told.count(LIST) for told in seen.values()), sum(len(failures(told)) for told in seen.values())
 
 
+# ---- the test driver, with one allocation refused in each case
+
+def marks_of(number, cases, mark_of):
+    """What each case met where the allocation with this number is refused, or None where its answer is wrong, which is printed.
+
+    A case stands behind what tells it apart, and has words and lines.
+    """
+    inputs = {f"case{place:03d}": (words, ("\n".join(lines) + "\n").encode()) for place, (words, lines) in enumerate(cases.values())}
+    found = {}
+    for case, (text, status) in zip(cases, test_driver.ended(inputs, "--fail-alloc", str(number)).values()):
+        found[case] = mark_of(case, text, status)
+        if found[case] is None:
+            print(f"with --fail-alloc {number}, case {case}: {text!r}, status {status}")
+    return found
+
+
+def is_whole(refused, most):
+    """Whether the growths are refused one behind the other, and the cases go from behind the last to before the first."""
+    return 0 < refused[0] and refused[-1] < most and len(refused) == refused[-1] - refused[0] + 1
+
+
 # ---- View::apply
 
 LINES = 70  # with so many lines first, an allocation is refused before the batch is applied
@@ -127,27 +148,11 @@ def mark_of(text, status):
     return None
 
 
-def refused_in(cases, number):
-    """What each case prints and ends with where the allocation with this number is refused. A case has a name, words and lines."""
-    cases = {name: (words, ("\n".join(lines) + "\n").encode()) for name, (words, lines) in cases.items()}
-    return test_driver.ended(cases, "--fail-alloc", str(number))
-
-
 def marks(number, lines):
     """Where the allocation with this number was refused, by how many lines stand first."""
     # a view of no message has empty texts
-    ends = refused_in({f"after{many:03d}": (["views"], ["tell"] * many + TRIAL) for many in lines}, number)
-    found = {}
-    for many, (text, status) in zip(lines, ends.values()):
-        found[many] = mark_of(text, status)
-        if found[many] is None:
-            print(f"with --fail-alloc {number} and {many} lines first: {text!r}, status {status}")
-    return found
-
-
-def is_whole(refused, most):
-    """Whether the growths are refused one behind the other, and the cases go from behind the last to before the first."""
-    return 0 < refused[0] and refused[-1] < most and len(refused) == refused[-1] - refused[0] + 1
+    cases = {many: (["views"], ["tell"] * many + TRIAL) for many in lines}
+    return marks_of(number, cases, lambda many, text, status: mark_of(text, status))
 
 
 def apply():
@@ -184,8 +189,9 @@ NEXT = {
 IN_TURN = ["close", "again", "another"]
 
 
-def desk_mark_of(way, text, status):
+def desk_mark_of(case, text, status):
     """What a case met: 50, 51, or that the refused allocation is no growth of the take; None where its answer is wrong."""
+    _, way = case
     _, ample, behind_50, behind_51 = NEXT[way]
     ample = "read\ntaken 1 1 1 0\n" + ample
     if status == 0:
@@ -197,13 +203,7 @@ def desk_marks():
     """What each case met, by how many allocations come first and what stands behind the take."""
     ways = [(many, way) for many in range(ALLOCATIONS + 1) for way in ["publish", IN_TURN[many % len(IN_TURN)]]]
     lines = [instruction("M1", "T1", "1.00"), "take"]
-    cases = {f"{way}{many:03d}": (["calls", str(many)], lines + NEXT[way][0]) for many, way in ways}
-    found = {}
-    for (many, way), (text, status) in zip(ways, refused_in(cases, REFUSED_ONE).values()):
-        found[many, way] = desk_mark_of(way, text, status)
-        if found[many, way] is None:
-            print(f"with --fail-alloc {REFUSED_ONE}, {many} allocations first and {way}: {text!r}, status {status}")
-    return found
+    return marks_of(REFUSED_ONE, {(many, way): (["calls", str(many)], lines + NEXT[way][0]) for many, way in ways}, desk_mark_of)
 
 
 def take():
