@@ -1,8 +1,8 @@
 """check.py: runs the checks of the gate that stand behind `rt ci`, one after the other.
 
 Each check is a program of gate/ that prints 'N passed, M failed' last. A line says of each check what it does, its numbers and how
-many seconds it took. What a failed check printed stands behind its line, each line of it after two spaces. A check that ends with
-another status than 0, or prints no numbers, has failed once at least. The last line is 'N passed, M failed' of all checks, and the
+many seconds it took. What a failed check printed, and the status that it ended with, stand behind its line, each line after two
+spaces. A check that ends with another status than 0, or prints no numbers, has failed once at least. The last line is 'N passed, M failed' of all checks, and the
 exit status is 0 where none has failed.
 """
 import pathlib, re, subprocess, sys, time
@@ -20,23 +20,25 @@ CHECKS = {
 
 
 def ran(name):
-    """How much of a check passed, how much failed, and what it printed."""
+    """How much of a check passed, how much failed, and the lines that say what it printed and how it ended."""
     words = [sys.executable, "-u", pathlib.Path(__file__).with_name("gate") / (name + ".py")]
     done = subprocess.run(words, stdout=subprocess.PIPE, stderr=subprocess.STDOUT)
     text = done.stdout.decode(errors="replace")
     numbers = re.search(r"^(\d+) passed, (\d+) failed\n\Z", text, re.M)
     passed, failed = map(int, numbers.groups()) if numbers else (0, 0)
-    return passed, failed or int(done.returncode != 0 or not numbers), text
+    if done.returncode or not numbers:
+        failed = max(failed, 1)
+    return passed, failed, text.splitlines() + [f"ended with status {done.returncode}"]
 
 
 def checked(name, does):
     """How much of a check passed and how much failed, which is printed too."""
     print(f"{name} {does}: ", end="", flush=True)
     began = time.monotonic()
-    passed, failed, text = ran(name)
+    passed, failed, lines = ran(name)
     print(f"{passed} passed, {failed} failed, {time.monotonic() - began:.0f} seconds", flush=True)
-    if failed:
-        print("".join(f"  {line}\n" for line in text.splitlines()), end="", flush=True)
+    for line in lines if failed else []:
+        print(f"  {line}", flush=True)
     return passed, failed
 
 
