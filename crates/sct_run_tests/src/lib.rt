@@ -1,0 +1,5 @@
+//! Tests of desks, with threads and ample memory.
+#![tactic(auto)]
+
+#[cfg(test)]
+mod desks;
