@@ -1,4 +1,4 @@
-"""made_up.py: tries the program crates/sct_trials on what is made up, and fails where it does not print what it must.
+"""made_up.py: tries the program crates/sct_test_driver on what is made up, and fails where it does not print what it must.
 
 It goes through made-up sets of messages in batches (made_up_views.py), worlds (made_up_worlds.py) and groups of sites that are
 settled (made_up_groups.py). What must be printed is told by independent programs of the definitions. The seeds are fixed, so it

@@ -7,7 +7,7 @@ an earlier one where it is reached sooner, up to the first in which a test had n
 is refused in one of them. A refusal has passed that was answered by 39 and had changed nothing. The other tests have no room
 under N, and do not count.
 
-Of `View::apply`: the program crates/sct_trials applies a confirmation whose identity is one of a view of two accepted
+Of `View::apply`: the program crates/sct_test_driver applies a confirmation whose identity is one of a view of two accepted
 transfers, so that both are contradicted. `rt try --cases` builds it once, and refuses the allocation of one number in each
 case; the cases differ in how many lines stand first, each of which makes one allocation (a second run, two numbers on, must
 find everything two lines on). A refusal of a growth of `apply` has passed that was answered by 39, with both texts of the
@@ -15,7 +15,7 @@ view as before (which has its keys, statuses, findings and totals), where the sa
 should; any other answer but that of ample memory has failed. The growths are seen to begin behind one that is refused while
 the messages are read, and to end before one that is refused while the answer is told.
 
-Of `Desk::take`: the program crates/sct_desk_trials takes a message at a new desk, after 0, 1, 2 and more other allocations, and
+Of `Desk::take`: the program crates/sct_test_driver takes a message at a new desk, after 0, 1, 2 and more other allocations, and
 `rt try --cases` refuses the allocation of one number in each case. A refusal of a growth of `take` has passed that was answered
 by 50, where the desk then did all that it does at first; or by 51 with position 1, where a query then saw nothing and the next
 publication told of one arrival, which an earlier call had brought. In a second case that growth is refused again, and then, in
@@ -148,7 +148,7 @@ def runs(crate, number, cases):
 def marks(number, lines):
     """Where the allocation with this number was refused, by how many lines stand first."""
     # a view of no message has empty texts
-    ends = runs("sct_trials", number, {f"after{many:03d}": (["tell"] * many + TRIAL, ["views"]) for many in lines})
+    ends = runs("sct_test_driver", number, {f"after{many:03d}": (["tell"] * many + TRIAL, ["views"]) for many in lines})
     found = {}
     for many, (text, status) in zip(lines, ends.values()):
         found[many] = mark_of(text, status)
@@ -210,7 +210,7 @@ def desk_marks():
     ways = [(many, way) for many in range(ALLOCATIONS + 1) for way in ["publish", IN_TURN[many % len(IN_TURN)]]]
     cases = {f"{way}{many:03d}": ([instruction("M1", "T1", "1.00"), "take"] + NEXT[way][0], ["calls", str(many)]) for many, way in ways}
     found = {}
-    for (many, way), (text, status) in zip(ways, runs("sct_desk_trials", REFUSED_ONE, cases).values()):
+    for (many, way), (text, status) in zip(ways, runs("sct_test_driver", REFUSED_ONE, cases).values()):
         found[many, way] = desk_mark_of(way, text, status)
         if found[many, way] is None:
             print(f"with --fail-alloc {REFUSED_ONE}, {many} allocations first and {way}: {text!r}, status {status}")

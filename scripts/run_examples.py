@@ -16,7 +16,8 @@ line twice: the answer must be the same.
 
 A file of examples/command-lines/ has one command line after another: a line `== TITLE`, a line `$ WORDS`, the lines of standard
 input, behind `-- out` and `-- err` what must be written to the two outputs, and a line `-- exit STATUS`. The other files there are
-those that the words name.
+those that the words name. examples/test-driver/ has the same for the program crates/sct_test_driver, as `rt run` and the gate leave
+it in out/.
 
 The list of 5,000 rows has a row for each of as many instructions, which is MATCHED, and one that is ONLY_IN_LIST. The longer input is of made-up
 messages, blank lines and refused ones, and is read and written in threads; what must be answered is told by
@@ -24,7 +25,7 @@ scripts/reference_status.py, from the definitions alone, and is the same on any 
 as many as there are). Its lines in turn are sixteen files, of which `run` must answer the same status text, again on any number of
 processors. The two small files are taken at two sites side by side: the answer must be one, however these are scheduled.
 
-The test `desk_shared` of crates/sct_desk_trials, as `rt test` and the gate leave it there, must pass each time and say the same.
+The test `desk_shared` of crates/sct_run_tests, as `rt test` and the gate leave it there, must pass each time and say the same.
 
 Usage: run_examples.py [PROGRAM]   (else the program that `rt run` and the gate leave in crates/sct_sites/out)
 """
@@ -33,6 +34,7 @@ import reference_status
 
 TOP = pathlib.Path(__file__).resolve().parent.parent
 EXAMPLES = TOP / "examples"
+DRIVER = TOP / "crates" / "sct_test_driver" / "out" / "sct_test_driver"
 COMMANDS = {".jsonl": ["status", "archive", "totals"], ".script": ["replay"]}
 REPORTS = {"bank-day": ["LUTEFRPP", "2025-03-10"], "settlement-day": ["BANKDEFF", "2024-05-02"]}  # the bank of each list, and the day
 PROCESSORS = [1, 2, 4, 8]
@@ -95,17 +97,16 @@ def cases():
                 yield [case(name, [command], data.encode(), text.encode(), refused.encode()) for data in alike(lines, refused)]
 
 
-def command_lines():
-    """Each command line of examples/command-lines/, run there."""
-    folder = EXAMPLES / "command-lines"
+def command_lines(name):
+    """Each command line of a folder of examples, run there."""
+    folder = EXAMPLES / name
     for path in sorted(folder.glob("*.txt")):
         for title, rest in titled(path.read_text(), "=="):
             words, rest = rest.removeprefix("$ ").split("\n", 1)
             data = re.split(r"^-- ", rest, maxsplit=1, flags=re.MULTILINE)[0]
             texts = dict(titled(rest, "--"))
             [status] = [int(mark.removeprefix("exit ")) for mark in texts if mark.startswith("exit ")]
-            name = f"{path.stem}, {title}"
-            yield Case(name, words.split(), data.encode(), texts["out"].encode(), texts["err"].encode(), status, folder)
+            yield Case(f"{path.stem}, {title}", words.split(), data.encode(), texts["out"].encode(), texts["err"].encode(), status, folder)
 
 
 def blank_inputs():
@@ -269,9 +270,9 @@ def failing_streams(program):
 
 def is_shared_alike():
     """Whether the test of a desk that three threads share passes each time, with one output."""
-    tests = TOP / "crates" / "sct_desk_trials" / "out" / "sct_desk_trials_tests"
+    tests = TOP / "crates" / "sct_run_tests" / "out" / "sct_run_tests_tests"
     if not tests.is_file():
-        sys.exit(f"run_examples: there are no tests {tests}; `rt test` in crates/sct_desk_trials makes them")
+        sys.exit(f"run_examples: there are no tests {tests}; `rt test` in crates/sct_run_tests makes them")
     runner = pathlib.Path(os.path.realpath(shutil.which("rt"))).with_name("rattle-test")
     told = [subprocess.run([runner, "--filter", "desk_shared", tests], capture_output=True, text=True) for _ in range(DESKS)]
     right = all(it.returncode == 0 and "1 passed" in it.stdout for it in told) and len({it.stdout for it in told}) == 1
@@ -283,13 +284,16 @@ def main():
     program = os.path.abspath(sys.argv[1] if len(sys.argv) > 1 else TOP / "crates" / "sct_sites" / "out" / "sct_sites")
     if not os.path.isfile(program):
         sys.exit(f"run_examples: there is no program {program}; `rt run` in crates/sct_sites makes it")
+    if not DRIVER.is_file():
+        sys.exit(f"run_examples: there is no program {DRIVER}; `rt run` in crates/sct_test_driver makes it")
     with tempfile.TemporaryDirectory() as folder:
-        right = [fits(program, one, PROCESSORS[-1]) for one in [*examples(), *command_lines(), *bad_lists(folder), long_list(folder)]]
+        right = [fits(program, one, PROCESSORS[-1]) for one in [*examples(), *command_lines("command-lines"), *bad_lists(folder), long_list(folder)]]
         right += [all_fit(program, ones) for ones in [*cases(), *blank_inputs()]]
         right += failing_streams(program)
         right.append(fits(program, two_files(folder), PROCESSORS[-1], TIMES))
         long = [*long_cases(), sixteen_files(folder)]
         right += [fits(program, one, processors) for processors in PROCESSORS for one in long]
+    right += [fits(DRIVER, one, PROCESSORS[-1]) for one in command_lines("test-driver")]
     right.append(is_shared_alike())
     print(f"examples: {sum(right)} passed, {len(right) - sum(right)} failed")
     sys.exit(0 if all(right) else 1)

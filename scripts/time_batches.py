@@ -1,6 +1,6 @@
 """time_batches.py: what batches cost the processor, on small and on large views.
 
-It hands lines to the program crates/sct_trials, as `rt run` leaves it in out/, and reads from /proc how much processor time
+It hands lines to the program crates/sct_test_driver, as `rt run` leaves it in out/, and reads from /proc how much processor time
 the process took for each part of them; so what else runs on the machine matters little.
 
 - Batches of ten fresh messages, on a view of 2,000 to 3,000 messages (begun anew each time) and on one of 200,000 and more, the
@@ -13,7 +13,7 @@ Usage: time_batches.py [PARTS]   (40; the large view grows by 2,000 messages in 
 import fcntl, os, pathlib, statistics, struct, subprocess, sys, termios, time
 
 HERE = pathlib.Path(__file__).resolve().parent
-PROGRAM = HERE.parent / "crates" / "sct_trials" / "out" / "sct_trials"
+PROGRAM = HERE.parent / "crates" / "sct_test_driver" / "out" / "sct_test_driver"
 SMALL, LARGE, PART, SET_PIPE_SIZE = 2_000, 200_000, 1_000, 1031
 
 

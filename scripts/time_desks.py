@@ -1,6 +1,6 @@
 """time_desks.py: how long takes and answers last at a desk that two threads share.
 
-It runs the program crates/sct_desk_trials, as `rt run` leaves it in out/: one thread takes messages, each of a transfer of its own,
+It runs the program crates/sct_test_driver, as `rt run` leaves it in out/: one thread takes messages, each of a transfer of its own,
 and another asks for the last of them meanwhile, and as often again once all are taken. It prints the median time of a take for
 each tenth of the messages, and of an answer while messages are taken and afterwards: of each the least median of the runs, since
 what else is run on the machine only adds to it.
@@ -9,7 +9,7 @@ Usage: time_desks.py [MESSAGES [RUNS]]   (20000, 5)
 """
 import collections, pathlib, statistics, subprocess, sys
 
-PROGRAM = pathlib.Path(__file__).resolve().parent.parent / "crates" / "sct_desk_trials" / "out" / "sct_desk_trials"
+PROGRAM = pathlib.Path(__file__).resolve().parent.parent / "crates" / "sct_test_driver" / "out" / "sct_test_driver"
 PARTS = 10
 
 

@@ -1,4 +1,4 @@
-"""trials.py: tries of the program crates/sct_trials, which is built once for all of them.
+"""trials.py: tries of the program crates/sct_test_driver, which is built once for all of them.
 
 The program is built by `rt try`, which proves nothing (that is the gate's work). A try asks the program something, in the form
 that the program's word says, and names what it must print. Tries of one word go through one run after the other, as many in a
@@ -6,7 +6,7 @@ run as it has room and time for.
 """
 import collections, pathlib, re, subprocess, sys, tempfile
 
-PROGRAM = pathlib.Path(__file__).resolve().parent.parent / "crates" / "sct_trials"
+PROGRAM = pathlib.Path(__file__).resolve().parent.parent / "crates" / "sct_test_driver"
 MOST_BYTES, MOST_TRIES = 900000, 100  # `rt try` shows no output past 1 MiB
 SECONDS = "600"  # a run takes a few seconds of a processor, and the machine may have other work
 

@@ -1,6 +1,8 @@
-//! Tests of receipts, workers, runs, streams and the program's engine: what no clause says is that memory is there.
+//! Tests of desks, receipts, workers, runs, streams and the program's engine: what no clause says is that memory is there.
 #![tactic(auto)]
 
+#[cfg(test)]
+mod desks;
 #[cfg(test)]
 mod program;
 #[cfg(test)]
