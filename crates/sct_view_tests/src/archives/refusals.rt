@@ -1,4 +1,4 @@
-//! Growths that are refused. `scripts/refuse_growths.py` has the toolchain refuse one allocation of each test,
+//! Growths that are refused. `scripts/gate/refuse_growths.py` has the toolchain refuse one allocation of each test,
 //! always the one of the same number; the tests differ in how many allocations they make first, so that each
 //! meets another refusal.
 

@@ -1,6 +1,6 @@
 """What the program must answer for an input, by the definitions alone: text, refused lines, exit status.
 
-Usage: reference_status.py [status|archive|totals] INPUT TEXT REFUSED   (writes the last two)
+Usage: status.py [status|archive|totals] INPUT TEXT REFUSED   (writes the last two)
 
 TEXT gets the status text, with `archive` the archive text, and with `totals` the totals text.
 """

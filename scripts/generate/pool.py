@@ -1,4 +1,4 @@
-"""made_up_messages.py: messages that meet one another, for tries of any kind.
+"""pool.py: messages that meet one another, for tries of any kind.
 
 A few banks, transfers, recalls and identifications stand in each pool, so that messages confirm, recall, return and contradict
 one another.

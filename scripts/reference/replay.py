@@ -1,12 +1,13 @@
 """What `replay` must answer for a script, by the definitions alone: text, refused lines, exit status.
 
-Usage: reference_replay.py SCRIPT TEXT REFUSED   (writes the last two)
+Usage: replay.py SCRIPT TEXT REFUSED   (writes the last two)
 
 A site is a set of entries, each an origin, a number and a message, and nothing else: no log, no archive, no view. What it
-answers is asked of the set of its messages (reference_status.py).
+answers is asked of the set of its messages (status.py).
 """
-import re, sys
-from reference_status import Refused, archive_text, read_message, status_text, totals_text
+import pathlib, re, sys
+sys.path.insert(0, str(pathlib.Path(__file__).resolve().parents[1]))  # scripts/
+from reference.status import Refused, archive_text, read_message, status_text, totals_text
 
 MOST_SITES = 64
 

@@ -21,7 +21,7 @@ it in out/.
 
 The list of 5,000 rows has a row for each of as many instructions, which is MATCHED, and one that is ONLY_IN_LIST. The longer input is of made-up
 messages, blank lines and refused ones, and is read and written in threads; what must be answered is told by
-scripts/reference_status.py, from the definitions alone, and is the same on any number of processors (where there are fewer, on
+scripts/reference/status.py, from the definitions alone, and is the same on any number of processors (where there are fewer, on
 as many as there are). Its lines in turn are sixteen files, of which `run` must answer the same status text, again on any number of
 processors. The two small files are taken at two sites side by side: the answer must be one, however these are scheduled.
 
@@ -30,9 +30,10 @@ The test `desk_shared` of crates/sct_run_tests, as `rt test` and the gate leave 
 Usage: run_examples.py [PROGRAM]   (else the program that `rt run` and the gate leave in crates/sct_sites/out)
 """
 import collections, os, pathlib, pty, re, resource, shutil, subprocess, sys, tempfile, tty
-import reference_status
+sys.path.insert(0, str(pathlib.Path(__file__).resolve().parents[1]))  # scripts/
+from reference import status as definitions
 
-TOP = pathlib.Path(__file__).resolve().parent.parent
+TOP = pathlib.Path(__file__).resolve().parents[2]
 EXAMPLES = TOP / "examples"
 DRIVER = TOP / "crates" / "sct_test_driver" / "out" / "sct_test_driver"
 COMMANDS = {".jsonl": ["status", "archive", "totals"], ".script": ["replay"]}
@@ -151,7 +152,7 @@ def long_list(folder):
 
 def long_input(messages=LONG):
     """So many made-up messages, with blank lines and refused ones between them."""
-    words = [sys.executable, TOP / "scripts" / "generate_messages.py", str(messages)]
+    words = [sys.executable, TOP / "scripts" / "generate" / "messages.py", str(messages)]
     lines = subprocess.run(words, capture_output=True, text=True, check=True).stdout.splitlines()
     for place in range(0, len(lines), 37):
         lines[place] += ["\nfoo", "\r\n", "\n \t\r\n{}"][place % 3]
@@ -162,7 +163,7 @@ def long_cases():
     """The longer input with each command."""
     data = long_input()
     for command in COMMANDS[".jsonl"]:
-        text, refused, _ = reference_status.answer(command, data)
+        text, refused, _ = definitions.answer(command, data)
         yield case(f"{LONG} messages {command}", [command], data, text.encode(), refused.encode())
 
 
@@ -179,10 +180,10 @@ def sixteen_files(folder):
     data = long_input()
     lines = data.splitlines(keepends=True)
     texts = [b"".join(lines[place::FILES]) for place in range(FILES)]
-    text, _, _ = reference_status.answer("status", data)
+    text, _, _ = definitions.answer("status", data)
     told = ""
     for file, part in enumerate(texts, start=1):
-        _, refused, _ = reference_status.answer("status", part)
+        _, refused, _ = definitions.answer("status", part)
         told += "".join(f"file {file} {line}" for line in refused.splitlines(keepends=True))
     return case(f"run of {FILES} files", ["run", *files_of(folder, "part", texts)], b"", text.encode(), told.encode())
 

@@ -5,9 +5,10 @@ settled (made_up_groups.py). What must be printed is told by independent program
 is the same each time. Of each kind it prints what was met; what has to be met and was not counts as failed. The last line is
 'N passed, M failed', and the exit status is 0 where none has failed.
 """
-import sys
-import made_up_groups, made_up_views, made_up_worlds
-from trials import passed, printed, runs
+import pathlib, sys
+sys.path.insert(0, str(pathlib.Path(__file__).resolve().parents[1]))  # scripts/
+from gate import made_up_groups, made_up_views, made_up_worlds
+from gate.test_driver import passed, printed, runs
 
 KINDS = {"views": made_up_views, "worlds": made_up_worlds, "groups": made_up_groups}
 

@@ -3,12 +3,12 @@
 Each of 300 sets is cut into batches in three ways: one batch, one message a batch, and at random. Messages confirm, recall,
 return and contradict one another, also after they were counted. Of each batch the program must tell how many messages are fresh
 and how many transfers they touch; at the end, and after each batch of the random cut, both texts must be those of
-reference_status.py, an independent program of the definitions. At the end they must be those of the view built in one batch.
+reference/status.py, an independent program of the definitions. At the end they must be those of the view built in one batch.
 """
 import json, random
-from made_up_messages import Pool, written_out
-from reference_status import contradicted, identity, read_message, standing, by_transfer, status_text, totals_text, transfer
-from trials import Try
+from generate.pool import Pool, written_out
+from reference.status import contradicted, identity, read_message, standing, by_transfer, status_text, totals_text, transfer
+from gate.test_driver import Try
 
 SETS, SEED = 300, 20240502
 TAKEN_BACK = "a batch took back what was counted as sent"

@@ -1,4 +1,4 @@
-"""time_batches.py: what batches cost the processor, on small and on large views.
+"""batches.py: what batches cost the processor, on small and on large views.
 
 It hands lines to the program crates/sct_test_driver, as `rt run` leaves it in out/, and reads from /proc how much processor time
 the process took for each part of them; so what else runs on the machine matters little.
@@ -8,12 +8,12 @@ the process took for each part of them; so what else runs on the machine matters
   prints the medians.
 - The same 200,000 messages one by one, in batches of ten, and in one batch, each in a process of its own, with reading.
 
-Usage: time_batches.py [PARTS]   (40; the large view grows by 2,000 messages in each)
+Usage: batches.py [PARTS]   (40; the large view grows by 2,000 messages in each)
 """
 import fcntl, os, pathlib, statistics, struct, subprocess, sys, termios, time
 
-HERE = pathlib.Path(__file__).resolve().parent
-PROGRAM = HERE.parent / "crates" / "sct_test_driver" / "out" / "sct_test_driver"
+SCRIPTS = pathlib.Path(__file__).resolve().parents[1]
+PROGRAM = SCRIPTS.parent / "crates" / "sct_test_driver" / "out" / "sct_test_driver"
 SMALL, LARGE, PART, SET_PIPE_SIZE = 2_000, 200_000, 1_000, 1031
 
 
@@ -53,7 +53,7 @@ class Trial:
     def end(self):
         os.close(self.pipe)
         if self.process.wait():
-            sys.exit("time_batches: the program did not end well")
+            sys.exit("batches: the program did not end well")
 
 
 def batches(lines, size):
@@ -71,7 +71,7 @@ def time_of_ten(trial, lines):
 def main():
     parts = int((sys.argv[1:] or ["40"])[0])
     most = LARGE + 2 * PART * parts
-    made = subprocess.run([sys.executable, HERE / "generate_messages.py", str(most)], capture_output=True, text=True, check=True)
+    made = subprocess.run([sys.executable, SCRIPTS / "generate" / "messages.py", str(most)], capture_output=True, text=True, check=True)
     lines = made.stdout.splitlines()
     on_small, on_large, small, large = Trial(), Trial(), [], []
     on_large.take(batches(lines[:LARGE], LARGE))

@@ -1,4 +1,4 @@
-/* refuse_nth.c: refuses one allocation of a program, and counts all of them. scripts/refuse_allocations.py preloads it.
+/* refuse_nth.c: refuses one allocation of a program, and counts all of them. scripts/gate/refuse_allocations.py preloads it.
  *
  * It stands before malloc, calloc and realloc of the GNU C library, in all threads. The allocation whose number REFUSE_NUMBER
  * tells, from 1 in the order in which they come, is answered NULL; where the number is 0, none is. The file REFUSE_COUNTS has room

@@ -1,4 +1,4 @@
-"""trials.py: tries of the program crates/sct_test_driver, which is built once for all of them.
+"""test_driver.py: tries of the program crates/sct_test_driver, which is built once for all of them.
 
 The program is built by `rt try`, which proves nothing (that is the gate's work). A try asks the program something, in the form
 that the program's word says, and names what it must print. Tries of one word go through one run after the other, as many in a
@@ -6,7 +6,7 @@ run as it has room and time for.
 """
 import collections, pathlib, re, subprocess, sys, tempfile
 
-PROGRAM = pathlib.Path(__file__).resolve().parent.parent / "crates" / "sct_test_driver"
+PROGRAM = pathlib.Path(__file__).resolve().parents[2] / "crates" / "sct_test_driver"
 MOST_BYTES, MOST_TRIES = 900000, 100  # `rt try` shows no output past 1 MiB
 SECONDS = "600"  # a run takes a few seconds of a processor, and the machine may have other work
 
@@ -35,7 +35,7 @@ def printed(asked):
     out, err = done.stdout.decode(), done.stderr.decode()
     texts = re.findall(r"^== run\d+\n(.*?)(?=^== run|\Z)", out, re.M | re.S)
     if len(re.findall(r"^case=run\d+ run=ended status=0 ", err, re.M)) != len(asked) or len(texts) != len(asked):
-        sys.exit(f"trials: the program did not end well:\n{out[-2000:]}{err[-2000:]}")
+        sys.exit(f"test_driver: the program did not end well:\n{out[-2000:]}{err[-2000:]}")
     return texts
 
 

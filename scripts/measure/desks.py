@@ -1,15 +1,15 @@
-"""time_desks.py: how long takes and answers last at a desk that two threads share.
+"""desks.py: how long takes and answers last at a desk that two threads share.
 
 It runs the program crates/sct_test_driver, as `rt run` leaves it in out/: one thread takes messages, each of a transfer of its own,
 and another asks for the last of them meanwhile, and as often again once all are taken. It prints the median time of a take for
 each tenth of the messages, and of an answer while messages are taken and afterwards: of each the least median of the runs, since
 what else is run on the machine only adds to it.
 
-Usage: time_desks.py [MESSAGES [RUNS]]   (20000, 5)
+Usage: desks.py [MESSAGES [RUNS]]   (20000, 5)
 """
 import collections, pathlib, statistics, subprocess, sys
 
-PROGRAM = pathlib.Path(__file__).resolve().parent.parent / "crates" / "sct_test_driver" / "out" / "sct_test_driver"
+PROGRAM = pathlib.Path(__file__).resolve().parents[2] / "crates" / "sct_test_driver" / "out" / "sct_test_driver"
 PARTS = 10
 
 
@@ -27,7 +27,7 @@ def medians(many):
     """The median time of the takes of each tenth, and of the answers while messages are taken and afterwards."""
     found = times(many)
     if len(found["take"]) != many or not found["busy"]:
-        sys.exit("time_desks: the program did not time what it should")
+        sys.exit("desks: the program did not time what it should")
     size = many // PARTS
     parts = [statistics.median(found["take"][part * size:(part + 1) * size]) for part in range(PARTS)]
     return parts + [statistics.median(found["busy"]), statistics.median(found["quiet"])], len(found["busy"])

@@ -2,12 +2,12 @@
 right text or what tells that memory, a thread or a place is wanting.
 
 `status` and `archive` run on an example, which has messages of all six kinds and refused lines, and on messages about TRANSFERS
-made-up transfers: enough that threads read, evaluate and write. `run` takes the two small files of scripts/run_examples.py, in
-ROUNDS rounds. scripts/refuse_nth.c, which is preloaded, refuses the allocation of one number, whichever thread makes it, and
+made-up transfers: enough that threads read, evaluate and write. `run` takes the two small files of scripts/gate/run_examples.py, in
+ROUNDS rounds. scripts/gate/refuse_nth.c, which is preloaded, refuses the allocation of one number, whichever thread makes it, and
 counts all. The first run of a round has none refused; then each number has a run of its own, up to the greatest count that was
 seen. What is allocated to start a thread counts too, also by the C library: where that is refused, the thread is not started.
 
-A run must write the right text with its refused lines, which scripts/reference_status.py tells from the definitions alone. Where an
+A run must write the right text with its refused lines, which scripts/reference/status.py tells from the definitions alone. Where an
 allocation was refused it may instead write nothing but `fault 65`, and end with 3; of `run` it may be `fault 67`, where there is no
 thread for a worker, or `fault 66 52`, where a desk has no place for its query, each with 2. A run that lasts SECONDS is stopped and
 has failed. With several threads the allocation of a number is another one from run to run, and there are not always as many: a
@@ -20,9 +20,10 @@ Usage: refuse_allocations.py [PROGRAM]   (else the program that `rt run` and the
 """
 import collections, os, pathlib, struct, subprocess, sys, tempfile
 from concurrent.futures import ThreadPoolExecutor
-import reference_status
-import run_examples
-from refuse_memory import NO_PLACE, NO_WORKER, TOP, WANTING
+sys.path.insert(0, str(pathlib.Path(__file__).resolve().parents[1]))  # scripts/
+from gate import run_examples
+from gate.refuse_memory import NO_PLACE, NO_WORKER, TOP, WANTING
+from reference import status as definitions
 
 EXAMPLE = run_examples.EXAMPLES / "hub-morning.jsonl"
 TRANSFERS = 256  # fewer are evaluated and written in one part, as fewer bytes than 65,536 are read in one
@@ -48,7 +49,7 @@ def commands(folder):
     """What is run; the two small files go into the folder."""
     data = small_input()
     for word in ["status", "archive"]:
-        text, refused, status = reference_status.answer(word, data)
+        text, refused, status = definitions.answer(word, data)
         yield Command([word], data, 1, (text.encode(), refused.encode(), status), [WANTING])
     run = run_examples.two_files(folder)
     yield Command(run.words, b"", ROUNDS, (run.text, run.refused, run.status), [WANTING, NO_WORKER, NO_PLACE])
@@ -57,7 +58,7 @@ def commands(folder):
 def refuser(folder):
     """The library that is preloaded, made in the folder."""
     path = pathlib.Path(folder, "refuse_nth.so")
-    subprocess.run(["cc", "-O2", "-shared", "-fPIC", "-o", path, TOP / "scripts" / "refuse_nth.c"], check=True)
+    subprocess.run(["cc", "-O2", "-shared", "-fPIC", "-o", path, TOP / "scripts" / "gate" / "refuse_nth.c"], check=True)
     return str(path)
 
 

@@ -2,13 +2,13 @@
 
 Each of 1,000 worlds has 3 to 5 sites and up to 60 events: takes of a few messages that repeat and contradict each other, cuts
 for vectors of all kinds, and hands that come late, again, in any order, to no site and of no delta. Between them stand blank
-lines and lines that are refused, and some inputs are no script. What must be answered is told by reference_replay.py, an
+lines and lines that are refused, and some inputs are no script. What must be answered is told by reference/replay.py, an
 independent program of the definitions. Each outcome and each reason to refuse an event, a line or an input has to be met.
 """
 import random, re
-from made_up_messages import Pool, shuffled, written_out
-from reference_replay import answer
-from trials import Try
+from generate.pool import Pool, shuffled, written_out
+from reference.replay import answer
+from gate.test_driver import Try
 
 WORLDS, SEED = 1000, 20261123
 SEPARATOR = "\x1e"

@@ -6,8 +6,8 @@ MOST. The first thread's own stack is not counted: a process whose first stack m
 nothing. `status` and `archive` run on made-up messages, blank lines and refused ones, which threads read, evaluate and write. With
 the small limits no thread has room for its stack, with the others some thread, or some allocation in one of several, is refused,
 and which one is theirs to settle; with the largest there is room for all. A run must write the right text, which
-scripts/reference_status.py tells from the definitions alone, or nothing but `fault 65`, and then end with 3. The two small files of
-scripts/run_examples.py are taken by `run` in the same way: here `fault 67` may come too, where there is no thread for a worker, and
+scripts/reference/status.py tells from the definitions alone, or nothing but `fault 65`, and then end with 3. The two small files of
+scripts/gate/run_examples.py are taken by `run` in the same way: here `fault 67` may come too, where there is no thread for a worker, and
 `fault 66 52` where a desk has no place for its query, each with 2.
 
 The last line is 'N passed, M failed', and the exit status is 0 where runs of each command wrote the right text, others did not, and
@@ -16,10 +16,11 @@ none ended in another way.
 Usage: refuse_memory.py [PROGRAM]   (else the program that `rt run` and the gate leave in crates/sct_sites/out)
 """
 import collections, os, pathlib, resource, subprocess, sys, tempfile
-import reference_status
-import run_examples
+sys.path.insert(0, str(pathlib.Path(__file__).resolve().parents[1]))  # scripts/
+from gate import run_examples
+from reference import status as definitions
 
-TOP = pathlib.Path(__file__).resolve().parent.parent
+TOP = pathlib.Path(__file__).resolve().parents[2]
 MESSAGES = 8_000
 STEP = 1 << 20
 MOST = 96 << 20
@@ -50,7 +51,7 @@ def tries(program):
     """The numbers of each command."""
     data = run_examples.long_input(MESSAGES)
     for command in ["status", "archive"]:
-        text, refused, _ = reference_status.answer(command, data)
+        text, refused, _ = definitions.answer(command, data)
         right = (text.encode(), refused.encode(), 1)
         yield tried(program, [command], data, right, [WANTING])
     with tempfile.TemporaryDirectory() as folder:

@@ -29,7 +29,7 @@ Usage: refuse_growths.py [add_all|apply|take]   (all three, where none is named)
 """
 import json, os, pathlib, re, subprocess, sys, tempfile
 
-CRATES = pathlib.Path(__file__).resolve().parent.parent / "crates"
+CRATES = pathlib.Path(__file__).resolve().parents[2] / "crates"
 
 
 # ---- Archive::add_all

@@ -1,10 +1,11 @@
-"""generate_messages.py N [SEED]: prints N valid messages for measuring, pacs.008 and a pacs.002 for most of them.
+"""messages.py N [SEED]: prints N valid messages for measuring, pacs.008 and a pacs.002 for most of them.
 
 The same N and SEED print the same bytes. Each transfer stands for itself: nothing is repeated and nothing contradicts.
 About nine in ten instructions are confirmed, a few places later; of these one in twenty is rejected.
 """
-import random, sys
-from parties import account
+import pathlib, random, sys
+sys.path.insert(0, str(pathlib.Path(__file__).resolve().parents[1]))  # scripts/
+from generate.parties import account
 
 COUNTRIES = [("DE", 20099700), ("FR", 30997), ("BE", 979), ("AT", 99200), ("IT", 9931), ("ES", 9962), ("FI", 799971), ("NL", 0)]
 NAMES = ["Anna Weber", "Bo Maes", "Jürgen Größler", "Amélie Dubois", "María Núñez", "Päivi Virtanen", "Katharina Höfer",

@@ -3,14 +3,14 @@
 Each of 300 groups has up to 5 sites, which take messages and then hold beginnings of one another's entries, and of those of
 sites that are not there. Into two of three groups something wrong is made: a fork, where two sites hold different messages under
 one number; entries ahead of the site that they come from; two sites of one number; sites of two groups. What must be told is the
-work of a program of the definitions, over sites as sets of entries (reference_replay.py): whole sets are handed to the first site
+work of a program of the definitions, over sites as sets of entries (reference/replay.py): whole sets are handed to the first site
 and then from it to each. Of what it tells is then asked, by the sets alone, whether settling may end so (judged).
 """
 import random
-from made_up_messages import Pool, shuffled
-from reference_replay import counted, place, refusal
-from reference_status import archive_text, read_message, written
-from trials import Try
+from generate.pool import Pool, shuffled
+from reference.replay import counted, place, refusal
+from reference.status import archive_text, read_message, written
+from gate.test_driver import Try
 
 GROUPS, SEED = 300, 20261124
 TO_MEET = ["SETTLED", "REFUSED|42", "REFUSED|43", "REFUSED|44", "no site", "one site", "two sites of one number",

@@ -1,0 +1,1 @@
+"""What the gate runs behind `rt ci`."""

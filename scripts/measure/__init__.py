@@ -1,0 +1,1 @@
+"""What measures how long things take. The gate does not run it."""
