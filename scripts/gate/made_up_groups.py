@@ -6,13 +6,12 @@ one number; entries ahead of the site that they come from; two sites of one numb
 work of a program of the definitions, over sites as sets of entries (reference/replay.py): whole sets are handed to the first site
 and then from it to each. Of what it tells is then asked, by the sets alone, whether settling may end so (judged).
 """
-import random
 from generate.pool import Pool, shuffled
 from reference.replay import counted, place, refusal
 from reference.status import archive_text, read_message, written
 from gate.test_driver import Try
 
-GROUPS, SEED = 300, 20261124
+MANY, SEED = 300, 20261124
 TO_MEET = ["SETTLED", "REFUSED|42", "REFUSED|43", "REFUSED|44", "no site", "one site", "two sites of one number",
            "sites of two groups", "a fork in what is not settled", "entries handed over before a refusal"]
 
@@ -168,17 +167,12 @@ def met_in(sites, before, refused):
         yield "entries handed over before a refusal"
 
 
-def tries():
-    """The tries, and how often each thing was met that has to be met."""
-    r, made, met = random.Random(SEED), [], dict.fromkeys(TO_MEET, 0)
-    for number in range(1, GROUPS + 1):
-        sites = made_up_group(r)
-        before = [site.held for site in sites]
-        refused = settled(sites)
-        judged(sites, before, refused)
-        asked = b"\n".join([line for site in sites for line in site.lines] + [b"settle\n"])
-        ended = "|".join(map(str, ["REFUSED", *refused])) if refused else "SETTLED"
-        made.append(Try(f"group {number}", asked, ended + "\n" + "".join(map(held_text, sites))))
-        for thing in met_in(sites, before, refused):
-            met[thing] += 1
-    return made, met
+def tries(r, number):
+    """The try of the group with this number, with what it meets."""
+    sites = made_up_group(r)
+    before = [site.held for site in sites]
+    refused = settled(sites)
+    judged(sites, before, refused)
+    asked = b"\n".join([line for site in sites for line in site.lines] + [b"settle\n"])
+    ended = "|".join(map(str, ["REFUSED", *refused])) if refused else "SETTLED"
+    yield Try(f"group {number}", asked, ended + "\n" + "".join(map(held_text, sites))), met_in(sites, before, refused)

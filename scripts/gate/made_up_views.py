@@ -5,13 +5,14 @@ return and contradict one another, also after they were counted. Of each batch t
 and how many transfers they touch; at the end, and after each batch of the random cut, both texts must be those of
 reference/status.py, an independent program of the definitions. At the end they must be those of the view built in one batch.
 """
-import json, random
+import json
 from generate.pool import Pool, written_out
 from reference.status import contradicted, identity, read_message, standing, by_transfer, status_text, totals_text, transfer
 from gate.test_driver import Try
 
-SETS, SEED = 300, 20240502
+MANY, SEED = 300, 20240502
 TAKEN_BACK = "a batch took back what was counted as sent"
+TO_MEET = [TAKEN_BACK]
 
 
 # ---- made-up sets
@@ -66,12 +67,8 @@ def trial(batches, often):
     return "\n".join(asked) + "\n", "".join(told), lost
 
 
-def tries():
-    """The tries, and how often each thing was met that has to be met."""
-    r, made, met = random.Random(SEED), [], {TAKEN_BACK: 0}
-    for number in range(1, SETS + 1):
-        for way, batches in cuts(r, made_up_set(r)).items():
-            asked, told, lost = trial(batches, way == "cut at random")
-            made.append(Try(f"set {number}, {way}", asked.encode(), told))
-            met[TAKEN_BACK] += lost
-    return made, met
+def tries(r, number):
+    """The tries of the set with this number, each with what it meets."""
+    for way, batches in cuts(r, made_up_set(r)).items():
+        asked, told, lost = trial(batches, way == "cut at random")
+        yield Try(f"set {number}, {way}", asked.encode(), told), [TAKEN_BACK] * lost

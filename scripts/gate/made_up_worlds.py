@@ -5,12 +5,12 @@ for vectors of all kinds, and hands that come late, again, in any order, to no s
 lines and lines that are refused, and some inputs are no script. What must be answered is told by reference/replay.py, an
 independent program of the definitions. Each outcome and each reason to refuse an event, a line or an input has to be met.
 """
-import random, re
+import re
 from generate.pool import Pool, shuffled, written_out
 from reference.replay import answer
 from gate.test_driver import Try
 
-WORLDS, SEED = 1000, 20261123
+MANY, SEED = 1000, 20261123
 SEPARATOR = "\x1e"
 TO_MEET = ["TAKEN", "REPEAT", "CUT", "ACCEPTED", "REFUSED|41", "REFUSED|44", "REFUSED|47", "line 64", "line 31", "line 32",
            "line 33", "line 34", "line 35", "line 36", "line 37", "line 38", "fault 64", "contradicted"]
@@ -32,8 +32,8 @@ def refused_text(r, message):
     """A text that is no form of a message: one for each reason."""
     without = {key: value for key, value in message.items() if key != "DbtrAgt"}
     rule = {"SvcLvl": "URGP"} if message["MsgNmId"] == "pacs.008" else {"OrgnlMsgNmId": "pacs.009"}
-    wrong = [without, message | {"Purp": "SALA"}, message | rule, message | {"DbtrAgt": None},
-             message | {"DbtrAgt": "bankdeff"}, message | {"InstgAgt": 1}, message | {"MsgNmId": "pain.001"}]
+    others = [{"Purp": "SALA"}, rule, {"DbtrAgt": None}, {"DbtrAgt": "bankdeff"}, {"InstgAgt": 1}, {"MsgNmId": "pain.001"}]
+    wrong = [without] + [{**message, **other} for other in others]
     return r.choice([b"", b"{", b"[]", b"{}", b"foo"] + [shuffled(r, one) for one in wrong])
 
 
@@ -91,14 +91,9 @@ def met_in(text, told):
         yield "contradicted"
 
 
-def tries():
-    """The tries, and how often each thing was met that has to be met."""
-    r, made, met = random.Random(SEED), [], dict.fromkeys(TO_MEET, 0)
-    for number in range(1, WORLDS + 1):
-        data = script(r)
-        text, told, _ = answer(data)
-        wanted = told + SEPARATOR + "\n" + text + SEPARATOR + "\n"
-        made.append(Try(f"world {number}", data + SEPARATOR.encode(), wanted))
-        for thing in met_in(text, told):
-            met[thing] += 1
-    return made, met
+def tries(r, number):
+    """The try of the world with this number, with what it meets."""
+    data = script(r)
+    text, told, _ = answer(data)
+    wanted = told + SEPARATOR + "\n" + text + SEPARATOR + "\n"
+    yield Try(f"world {number}", data + SEPARATOR.encode(), wanted), met_in(text, told)

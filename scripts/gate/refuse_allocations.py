@@ -2,7 +2,7 @@
 right text or what tells that memory, a thread or a place is wanting.
 
 `status` and `archive` run on an example, which has messages of all six kinds and refused lines, and on messages about TRANSFERS
-made-up transfers: enough that threads read, evaluate and write. `run` takes the two small files of scripts/gate/run_examples.py, in
+made-up transfers: enough that threads read, evaluate and write. `run` takes the two small files of scripts/gate/inputs.py, in
 ROUNDS rounds. scripts/gate/refuse_nth.c, which is preloaded, refuses the allocation of one number, whichever thread makes it, and
 counts all. The first run of a round has none refused; then each number has a run of its own, up to the greatest count that was
 seen. What is allocated to start a thread counts too, also by the C library: where that is refused, the thread is not started.
@@ -21,11 +21,12 @@ Usage: refuse_allocations.py [PROGRAM]   (else the program that `rt run` and the
 import collections, os, pathlib, struct, subprocess, sys, tempfile
 from concurrent.futures import ThreadPoolExecutor
 sys.path.insert(0, str(pathlib.Path(__file__).resolve().parents[1]))  # scripts/
-from gate import run_examples
-from gate.refuse_memory import NO_PLACE, NO_WORKER, TOP, WANTING
+from gate import verdict
+from gate.inputs import EXAMPLES, confirmation, instruction, two_files
+from gate.program import NO_PLACE, NO_WORKER, WANTING, asked, ran
 from reference import status as definitions
 
-EXAMPLE = run_examples.EXAMPLES / "hub-morning.jsonl"
+EXAMPLE = EXAMPLES / "hub-morning.jsonl"
 TRANSFERS = 256  # fewer are evaluated and written in one part, as fewer bytes than 65,536 are read in one
 ROUNDS = 8
 SECONDS = 20
@@ -41,7 +42,7 @@ Run = collections.namedtuple("Run", "number answer allocations threads")
 
 def small_input():
     """An example, and an instruction or a confirmation about each of the made-up transfers."""
-    made_up = [run_examples.instruction(it) if it % 2 else run_examples.confirmation(it) for it in range(TRANSFERS)]
+    made_up = [instruction(it) if it % 2 else confirmation(it) for it in range(TRANSFERS)]
     return EXAMPLE.read_bytes() + "".join(made_up).encode()
 
 
@@ -51,26 +52,25 @@ def commands(folder):
     for word in ["status", "archive"]:
         text, refused, status = definitions.answer(word, data)
         yield Command([word], data, 1, (text.encode(), refused.encode(), status), [WANTING])
-    run = run_examples.two_files(folder)
+    run = two_files(folder)
     yield Command(run.words, b"", ROUNDS, (run.text, run.refused, run.status), [WANTING, NO_WORKER, NO_PLACE])
 
 
 def refuser(folder):
     """The library that is preloaded, made in the folder."""
     path = pathlib.Path(folder, "refuse_nth.so")
-    subprocess.run(["cc", "-O2", "-shared", "-fPIC", "-o", path, TOP / "scripts" / "gate" / "refuse_nth.c"], check=True)
+    source = pathlib.Path(__file__).with_name("refuse_nth.c")
+    subprocess.run([verdict.command("cc"), "-O2", "-shared", "-fPIC", "-o", path, source], check=True)
     return str(path)
 
 
-def ran(program, preloaded, command, number):
+def run_with(program, preloaded, command, number):
     """A run in which the allocation with this number is refused; with 0, none."""
     with tempfile.NamedTemporaryFile() as counts:
         os.truncate(counts.name, COUNTS.size)
         words = {"LD_PRELOAD": preloaded, "REFUSE_NUMBER": str(number), "REFUSE_COUNTS": counts.name}
         try:
-            done = subprocess.run([program, *command.words], input=command.input, capture_output=True, timeout=SECONDS,
-                                  env={**os.environ, **words})
-            answer = (done.stdout, done.stderr, done.returncode)
+            answer = ran([program, *command.words], input=command.input, timeout=SECONDS, env={**os.environ, **words})
         except subprocess.TimeoutExpired:
             answer = LATE
         return Run(number, answer, *COUNTS.unpack(counts.read()))
@@ -81,7 +81,7 @@ def one_round(program, preloaded, command):
     runs, most = [], 0
     with ThreadPoolExecutor(len(os.sched_getaffinity(0))) as pool:
         while len(runs) <= most:
-            runs += pool.map(lambda number: ran(program, preloaded, command, number), range(len(runs), most + 1))
+            runs += pool.map(lambda number: run_with(program, preloaded, command, number), range(len(runs), most + 1))
             most = max(run.allocations for run in runs)
     return runs
 
@@ -124,15 +124,10 @@ def tried(program, preloaded, command):
 
 
 def main():
-    program = os.path.abspath(sys.argv[1] if len(sys.argv) > 1 else TOP / "crates" / "sct_sites" / "out" / "sct_sites")
-    if not os.path.isfile(program):
-        sys.exit(f"refuse_allocations: there is no program {program}; `rt run` in crates/sct_sites makes it")
+    program = asked()
     with tempfile.TemporaryDirectory() as folder:
         preloaded = refuser(folder)
-        numbers = [tried(program, preloaded, command) for command in commands(folder)]
-    passed, failed = sum(ended for ended, _ in numbers), sum(others for _, others in numbers)
-    print(f"{passed} passed, {failed} failed")
-    sys.exit(1 if failed else 0)
+        verdict.end_with(tried(program, preloaded, command) for command in commands(folder))
 
 
 if __name__ == "__main__":

@@ -27,9 +27,11 @@ The last line is 'N passed, M failed', and the exit status is 0 where growths of
 
 Usage: refuse_growths.py [add_all|apply|take]   (all three, where none is named)
 """
-import json, os, pathlib, re, subprocess, sys, tempfile
-
-CRATES = pathlib.Path(__file__).resolve().parents[2] / "crates"
+import json, pathlib, re, subprocess, sys
+sys.path.insert(0, str(pathlib.Path(__file__).resolve().parents[1]))  # scripts/
+import crates
+from gate import test_driver, verdict
+from generate import samples
 
 
 # ---- Archive::add_all
@@ -44,10 +46,11 @@ LIST = "no room for the list: 39, and nothing has changed: Memory"
 def ends(run):
     """How each of the tests ended in the run with this number: ok, or what it said."""
     number = str(run * TOGETHER)
-    done = subprocess.run(["rt", "try", "--test", "--fail-alloc", number], cwd=CRATES / "sct_set", capture_output=True, text=True)
+    words = [verdict.command("rt"), "try", "--test", "--fail-alloc", number]
+    done = subprocess.run(words, cwd=crates.CRATES / "sct_set", capture_output=True, text=True)
     told = re.findall(r"^test tests::refusals::after_\d+ \.\.\. (?:(ok)|FAILED\n\s+(.*))$", done.stdout + done.stderr, re.M)
     if len(told) != TOGETHER:
-        sys.exit(f"refuse_growths: {len(told)} tests answered:\n{done.stdout}{done.stderr}")
+        crates.stop(f"{len(told)} tests answered:\n{done.stdout}{done.stderr}")
     told = [ok or said for ok, said in told]
     first = (run - 1) * TOGETHER + 1
     print(f"add_all, allocations {first} to {number}: {told.count(SCENE)} before the list, {told.count(LIST)} refused to the list, "
@@ -71,7 +74,7 @@ def add_all():
     # up to a run in which a test had nothing refused, as every later one has then
     while "ok" not in seen[max(seen)]:
         if max(seen) == MOST_RUNS:
-            sys.exit(f"refuse_growths: the list goes on after {MOST_RUNS} runs")
+            crates.stop(f"the list goes on after {MOST_RUNS} runs")
         seen[max(seen) + 1] = ends(max(seen) + 1)
     return sum(told.count(LIST) for told in seen.values()), sum(len(failures(told)) for told in seen.values())
 
@@ -98,17 +101,11 @@ APPLIED = f"4 2\n1 2\n{NEW}0 0\n{NEW}"
 
 
 def instruction(number, transfer, amount):
-    return json.dumps({
-        "MsgNmId": "pacs.008", "MsgId": number, "CreDtTm": "2024-05-02T10:00:00Z", "InstgAgt": "BANKDEFF",
-        "IntrBkSttlmDt": "2024-05-02", "SvcLvl": "SEPA", "LclInstrm": "INST", "EndToEndId": "E1", "TxId": transfer,
-        "IntrBkSttlmAmt": amount, "Ccy": "EUR", "ChrgBr": "SLEV", "Dbtr": "Anna Weber", "DbtrAcct": "DE89370400440532013000",
-        "DbtrAgt": "BANKDEFF", "CdtrAgt": "BANQFRPP", "Cdtr": "Bo Maes", "CdtrAcct": "BE68539007547034"})
+    return json.dumps(samples.instruction(MsgId=number, TxId=transfer, IntrBkSttlmAmt=amount))
 
 
 def acceptance(number, transfer):
-    return json.dumps({
-        "MsgNmId": "pacs.002", "MsgId": number, "CreDtTm": "2024-05-02T10:00:02Z", "InstgAgt": "BANQFRPP", "OrgnlMsgId": "M1",
-        "OrgnlMsgNmId": "pacs.008", "OrgnlTxId": transfer, "TxSts": "ACCP", "DbtrAgt": "BANKDEFF"})
+    return json.dumps(samples.confirmation(MsgId=number, OrgnlTxId=transfer))
 
 
 # A view of two accepted transfers, and then a batch that contradicts both, tried twice.
@@ -121,34 +118,25 @@ def mark_of(text, status):
 
     Beside the growths of `apply` are those by which its batch is read, and those by which it is told what the batch brought.
     """
-    if (text, status) == (REFUSED, "0"):
+    if (text, status) == (REFUSED, 0):
         return "refused"
-    if (text, status) == (APPLIED, "0"):
+    if (text, status) == (APPLIED, 0):
         return "after"
-    if status == "1" and APPLIED.startswith(text):
+    if status == 1 and APPLIED.startswith(text):
         return {"": "before", "4 2\n": "beside"}.get(text, "after")
     return None
 
 
-def runs(crate, number, cases):
-    """What each case prints and ends with where the allocation with this number is refused. A case has a name, lines and words."""
-    with tempfile.TemporaryDirectory() as folder:
-        for name, (lines, words) in cases.items():
-            pathlib.Path(folder, name).write_text("\n".join(lines) + "\n")
-            pathlib.Path(folder, name + ".args").write_text("\n".join(words) + "\n")
-        done = subprocess.run(["rt", "try", "--fail-alloc", str(number), "--cases", folder], cwd=CRATES / crate,
-                              capture_output=True, text=True)
-    told = dict(re.findall(r"^== (\w+)\n(.*?)(?=^== |\Z)", done.stdout, re.M | re.S))
-    ended = dict(re.findall(r"^case=(\w+) run=ended status=(\d+) ", done.stderr, re.M))
-    if not set(cases) == set(told) == set(ended):
-        sys.exit(f"refuse_growths: {len(ended)} cases ended:\n{done.stdout[-2000:]}{done.stderr[-2000:]}")
-    return {name: (told[name], ended[name]) for name in cases}
+def refused_in(cases, number):
+    """What each case prints and ends with where the allocation with this number is refused. A case has a name, words and lines."""
+    cases = {name: (words, ("\n".join(lines) + "\n").encode()) for name, (words, lines) in cases.items()}
+    return test_driver.ended(cases, "--fail-alloc", str(number))
 
 
 def marks(number, lines):
     """Where the allocation with this number was refused, by how many lines stand first."""
     # a view of no message has empty texts
-    ends = runs("sct_test_driver", number, {f"after{many:03d}": (["tell"] * many + TRIAL, ["views"]) for many in lines})
+    ends = refused_in({f"after{many:03d}": (["views"], ["tell"] * many + TRIAL) for many in lines}, number)
     found = {}
     for many, (text, status) in zip(lines, ends.values()):
         found[many] = mark_of(text, status)
@@ -172,11 +160,11 @@ def apply():
     if failed or not refused:
         return len(refused), failed
     if not is_whole(refused, LINES):
-        sys.exit("refuse_growths: the cases do not go from behind the growths to before them")
+        crates.stop("the cases do not go from behind the growths to before them")
     first, last = refused[0], refused[-1]
     wanted = {first + 1: False, first + 2: True, last + 2: True, last + 3: False}
     if {many: mark == "refused" for many, mark in marks(NUMBER + 2, list(wanted)).items()} != wanted:
-        sys.exit("refuse_growths: a line first does not make one allocation")
+        crates.stop("a line first does not make one allocation")
     return len(refused), 0
 
 
@@ -200,17 +188,18 @@ def desk_mark_of(way, text, status):
     """What a case met: 50, 51, or that the refused allocation is no growth of the take; None where its answer is wrong."""
     _, ample, behind_50, behind_51 = NEXT[way]
     ample = "read\ntaken 1 1 1 0\n" + ample
-    if status == "0":
+    if status == 0:
         return {ample: "beside", "read\n50\n" + behind_50: "50", "read\n51 1\n" + behind_51: "51"}.get(text)
-    return "beside" if status == "1" and ample.startswith(text) else None
+    return "beside" if status == 1 and ample.startswith(text) else None
 
 
 def desk_marks():
     """What each case met, by how many allocations come first and what stands behind the take."""
     ways = [(many, way) for many in range(ALLOCATIONS + 1) for way in ["publish", IN_TURN[many % len(IN_TURN)]]]
-    cases = {f"{way}{many:03d}": ([instruction("M1", "T1", "1.00"), "take"] + NEXT[way][0], ["calls", str(many)]) for many, way in ways}
+    lines = [instruction("M1", "T1", "1.00"), "take"]
+    cases = {f"{way}{many:03d}": (["calls", str(many)], lines + NEXT[way][0]) for many, way in ways}
     found = {}
-    for (many, way), (text, status) in zip(ways, runs("sct_test_driver", REFUSED_ONE, cases).values()):
+    for (many, way), (text, status) in zip(ways, refused_in(cases, REFUSED_ONE).values()):
         found[many, way] = desk_mark_of(way, text, status)
         if found[many, way] is None:
             print(f"with --fail-alloc {REFUSED_ONE}, {many} allocations first and {way}: {text!r}, status {status}")
@@ -228,7 +217,7 @@ def take():
     if failed or not refused:
         return len(right), failed
     if not is_whole(refused, ALLOCATIONS):
-        sys.exit("refuse_growths: the cases do not go from behind the growths to before them")
+        crates.stop("the cases do not go from behind the growths to before them")
     unlike = [many for (many, way), mark in found.items() if mark != found[many, "publish"]]
     missed = [(way, mark) for way in NEXT for mark in ("50", "51") if mark not in [it for case, it in found.items() if case[1] == way]]
     for it in missed:
@@ -254,8 +243,7 @@ def main():
         missed += [name] * (not right)
     for name in missed:
         print(f"no growth of {name} was refused")
-    print(f"{passed} passed, {failed + len(missed)} failed")
-    sys.exit(1 if failed or missed else 0)
+    verdict.end(passed, failed + len(missed))
 
 
 if __name__ == "__main__":

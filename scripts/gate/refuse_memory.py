@@ -7,7 +7,7 @@ nothing. `status` and `archive` run on made-up messages, blank lines and refused
 the small limits no thread has room for its stack, with the others some thread, or some allocation in one of several, is refused,
 and which one is theirs to settle; with the largest there is room for all. A run must write the right text, which
 scripts/reference/status.py tells from the definitions alone, or nothing but `fault 65`, and then end with 3. The two small files of
-scripts/gate/run_examples.py are taken by `run` in the same way: here `fault 67` may come too, where there is no thread for a worker, and
+scripts/gate/inputs.py are taken by `run` in the same way: here `fault 67` may come too, where there is no thread for a worker, and
 `fault 66 52` where a desk has no place for its query, each with 2.
 
 The last line is 'N passed, M failed', and the exit status is 0 where runs of each command wrote the right text, others did not, and
@@ -15,30 +15,26 @@ none ended in another way.
 
 Usage: refuse_memory.py [PROGRAM]   (else the program that `rt run` and the gate leave in crates/sct_sites/out)
 """
-import collections, os, pathlib, resource, subprocess, sys, tempfile
+import collections, pathlib, resource, sys, tempfile
 sys.path.insert(0, str(pathlib.Path(__file__).resolve().parents[1]))  # scripts/
-from gate import run_examples
+from gate import verdict
+from gate.inputs import long_input, two_files
+from gate.program import NO_PLACE, NO_WORKER, WANTING, asked, ran
 from reference import status as definitions
 
-TOP = pathlib.Path(__file__).resolve().parents[2]
 MESSAGES = 8_000
 STEP = 1 << 20
 MOST = 96 << 20
-WANTING = (b"", b"fault 65\n", 3)
-NO_WORKER = (b"", b"fault 67\n", 2)
-NO_PLACE = (b"", b"fault 66 52\n", 2)
 
 
-def ran(program, words, data, room):
+def answer(program, words, data, room):
     """What the program writes and ends with where it may map so many bytes to write in."""
-    limit = lambda: resource.setrlimit(resource.RLIMIT_DATA, (room, room))
-    done = subprocess.run([program, *words], input=data, capture_output=True, preexec_fn=limit)
-    return done.stdout, done.stderr, done.returncode
+    return ran([program, *words], input=data, preexec_fn=lambda: resource.setrlimit(resource.RLIMIT_DATA, (room, room)))
 
 
 def tried(program, words, data, right, wanting):
     """How many runs with these limits ended as they may, and how many failed: the right text must come, and come not always."""
-    counts = collections.Counter(ran(program, words, data, room) for room in range(STEP, MOST + STEP, STEP))
+    counts = collections.Counter(answer(program, words, data, room) for room in range(STEP, MOST + STEP, STEP))
     others = {answer: count for answer, count in counts.items() if answer not in (right, *wanting)}
     for text, told, status in others:
         print(f"{words[0]}: {text[:80]!r}, {told[-80:]!r}, status {status}")
@@ -49,24 +45,18 @@ def tried(program, words, data, right, wanting):
 
 def tries(program):
     """The numbers of each command."""
-    data = run_examples.long_input(MESSAGES)
+    data = long_input(MESSAGES)
     for command in ["status", "archive"]:
         text, refused, _ = definitions.answer(command, data)
         right = (text.encode(), refused.encode(), 1)
         yield tried(program, [command], data, right, [WANTING])
     with tempfile.TemporaryDirectory() as folder:
-        run = run_examples.two_files(folder)
+        run = two_files(folder)
         yield tried(program, run.words, b"", (run.text, b"", 0), [WANTING, NO_WORKER, NO_PLACE])
 
 
 def main():
-    program = os.path.abspath(sys.argv[1] if len(sys.argv) > 1 else TOP / "crates" / "sct_sites" / "out" / "sct_sites")
-    if not os.path.isfile(program):
-        sys.exit(f"refuse_memory: there is no program {program}; `rt run` in crates/sct_sites makes it")
-    numbers = list(tries(program))
-    passed, failed = sum(ended for ended, _ in numbers), sum(others for _, others in numbers)
-    print(f"{passed} passed, {failed} failed")
-    sys.exit(1 if failed else 0)
+    verdict.end_with(tries(asked()))
 
 
 if __name__ == "__main__":

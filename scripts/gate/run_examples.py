@@ -16,8 +16,8 @@ line twice: the answer must be the same.
 
 A file of examples/command-lines/ has one command line after another: a line `== TITLE`, a line `$ WORDS`, the lines of standard
 input, behind `-- out` and `-- err` what must be written to the two outputs, and a line `-- exit STATUS`. The other files there are
-those that the words name. examples/test-driver/ has the same for the program crates/sct_test_driver, as `rt run` and the gate leave
-it in out/.
+those that the words name. examples/test-driver/ has the same for the program crates/sct_test_driver, as `rt run` and the gate leave it
+there.
 
 The list of 5,000 rows has a row for each of as many instructions, which is MATCHED, and one that is ONLY_IN_LIST. The longer input is of made-up
 messages, blank lines and refused ones, and is read and written in threads; what must be answered is told by
@@ -27,15 +27,18 @@ processors. The two small files are taken at two sites side by side: the answer 
 
 The test `desk_shared` of crates/sct_run_tests, as `rt test` and the gate leave it there, must pass each time and say the same.
 
+The last line is 'N passed, M failed', and the exit status is 0 where none has failed.
+
 Usage: run_examples.py [PROGRAM]   (else the program that `rt run` and the gate leave in crates/sct_sites/out)
 """
-import collections, os, pathlib, pty, re, resource, shutil, subprocess, sys, tempfile, tty
+import os, pathlib, pty, re, resource, sys, tempfile, tty
 sys.path.insert(0, str(pathlib.Path(__file__).resolve().parents[1]))  # scripts/
+import crates
+from gate import verdict
+from gate.inputs import EXAMPLES, Case, case, files_of, instruction, long_input, two_files
+from gate.program import asked, ran
 from reference import status as definitions
 
-TOP = pathlib.Path(__file__).resolve().parents[2]
-EXAMPLES = TOP / "examples"
-DRIVER = TOP / "crates" / "sct_test_driver" / "out" / "sct_test_driver"
 COMMANDS = {".jsonl": ["status", "archive", "totals"], ".script": ["replay"]}
 REPORTS = {"bank-day": ["LUTEFRPP", "2025-03-10"], "settlement-day": ["BANKDEFF", "2024-05-02"]}  # the bank of each list, and the day
 PROCESSORS = [1, 2, 4, 8]
@@ -51,13 +54,6 @@ BAD_LISTS = [('BANKDEFF,"T""1",10,ACCEPTED\n', 2), ('BANKDEFF,T1,10,PENDING\nBAN
 
 # inputs that have no message and no refused line
 BLANK = [b"", b"\n", b"\r\n \t\r\n\r"]
-
-# what is run, where and on what, and what the program must write and end with
-Case = collections.namedtuple("Case", "name words input text refused status folder", defaults=[EXAMPLES])
-
-
-def case(name, words, data, text, refused):
-    return Case(name, words, data, text, refused, 1 if refused else 0)
 
 
 def examples():
@@ -83,14 +79,14 @@ def titled(text, mark):
 def alike(lines, refused):
     """The inputs that must be answered as these lines are."""
     data = "".join(lines)
-    return [data, data.removesuffix("\n")] + ([] if refused else ["".join(reversed(lines)), "".join(line + line for line in lines)])
+    return [data, data[:-1]] + ([] if refused else ["".join(reversed(lines)), "".join(line + line for line in lines)])
 
 
 def cases():
     """Of each case of examples/cases/ and each of its commands the inputs that must be answered alike."""
     for path in sorted((EXAMPLES / "cases").glob("*.txt")):
         for title, rest in titled(path.read_bytes().decode(), "=="):
-            texts = dict(titled(rest.removesuffix("\n") if rest.endswith("\n\n") else rest, "--"))
+            texts = dict(titled(rest[:-1] if rest.endswith("\n\n") else rest, "--"))
             refused = texts.pop("refused", "")
             lines = re.findall(r".*\n", re.split(r"^--", rest, maxsplit=1, flags=re.MULTILINE)[0])
             for command, text in texts.items():
@@ -98,33 +94,21 @@ def cases():
                 yield [case(name, [command], data.encode(), text.encode(), refused.encode()) for data in alike(lines, refused)]
 
 
-def command_lines(name):
+def command_lines(folder):
     """Each command line of a folder of examples, run there."""
-    folder = EXAMPLES / name
     for path in sorted(folder.glob("*.txt")):
         for title, rest in titled(path.read_text(), "=="):
-            words, rest = rest.removeprefix("$ ").split("\n", 1)
+            words, rest = rest[len("$ "):].split("\n", 1)
             data = re.split(r"^-- ", rest, maxsplit=1, flags=re.MULTILINE)[0]
             texts = dict(titled(rest, "--"))
-            [status] = [int(mark.removeprefix("exit ")) for mark in texts if mark.startswith("exit ")]
-            yield Case(f"{path.stem}, {title}", words.split(), data.encode(), texts["out"].encode(), texts["err"].encode(), status, folder)
+            [status] = [int(mark[len("exit "):]) for mark in texts if mark.startswith("exit ")]
+            name = f"{path.stem}, {title}"
+            yield Case(name, words.split(), data.encode(), texts["out"].encode(), texts["err"].encode(), status, folder)
 
 
 def blank_inputs():
     """Inputs without a line, and with blank ones alone."""
     yield [case("blank inputs", ["status"], data, b"", b"") for data in BLANK]
-
-
-def instruction(number):
-    return (f'{{"MsgNmId":"pacs.008","MsgId":"M{number}","CreDtTm":"2024-05-02T10:00:00Z","InstgAgt":"BANKDEFF",'
-            f'"IntrBkSttlmDt":"2024-05-02","SvcLvl":"SEPA","LclInstrm":"INST","EndToEndId":"E1","TxId":"T{number}",'
-            '"IntrBkSttlmAmt":"1.00","Ccy":"EUR","ChrgBr":"SLEV","Dbtr":"Anna Weber","DbtrAcct":"DE89370400440532013000",'
-            '"DbtrAgt":"BANKDEFF","CdtrAgt":"BANQFRPP","Cdtr":"Bo Maes","CdtrAcct":"BE68539007547034"}\n')
-
-
-def confirmation(number):
-    return (f'{{"MsgNmId":"pacs.002","MsgId":"C{number}","CreDtTm":"2024-05-02T10:00:02Z","InstgAgt":"BANQFRPP","OrgnlMsgId":"M{number}",'
-            f'"OrgnlMsgNmId":"pacs.008","OrgnlTxId":"T{number}","TxSts":"ACCP","DbtrAgt":"BANKDEFF"}}\n')
 
 
 def bad_lists(folder):
@@ -150,34 +134,17 @@ def long_list(folder):
     return case(f"report on {ROWS} rows", ["report", "BANKDEFF", "2024-05-02", str(path)], data.encode(), text.encode(), b"")
 
 
-def long_input(messages=LONG):
-    """So many made-up messages, with blank lines and refused ones between them."""
-    words = [sys.executable, TOP / "scripts" / "generate" / "messages.py", str(messages)]
-    lines = subprocess.run(words, capture_output=True, text=True, check=True).stdout.splitlines()
-    for place in range(0, len(lines), 37):
-        lines[place] += ["\nfoo", "\r\n", "\n \t\r\n{}"][place % 3]
-    return "\n".join(lines).encode()
-
-
 def long_cases():
     """The longer input with each command."""
-    data = long_input()
+    data = long_input(LONG)
     for command in COMMANDS[".jsonl"]:
         text, refused, _ = definitions.answer(command, data)
         yield case(f"{LONG} messages {command}", [command], data, text.encode(), refused.encode())
 
 
-def files_of(folder, name, texts):
-    """The paths of new files with these texts."""
-    paths = [pathlib.Path(folder, f"{name}{place}") for place in range(1, len(texts) + 1)]
-    for path, text in zip(paths, texts):
-        path.write_bytes(text)
-    return [str(path) for path in paths]
-
-
 def sixteen_files(folder):
     """The lines of the longer input in turn to as many files as a run can have: each tells its own refused lines."""
-    data = long_input()
+    data = long_input(LONG)
     lines = data.splitlines(keepends=True)
     texts = [b"".join(lines[place::FILES]) for place in range(FILES)]
     text, _, _ = definitions.answer("status", data)
@@ -188,13 +155,6 @@ def sixteen_files(folder):
     return case(f"run of {FILES} files", ["run", *files_of(folder, "part", texts)], b"", text.encode(), told.encode())
 
 
-def two_files(folder):
-    """A transfer and its confirmation in one file, another transfer in the other."""
-    texts = [(instruction(1) + confirmation(1)).encode(), instruction(2).encode()]
-    text = b"T|BANKDEFFXXX|T1|ACCEPTED\nT|BANKDEFFXXX|T2|PENDING\n"
-    return case("run of two files", ["run", *files_of(folder, "small", texts)], b"", text, b"")
-
-
 def on(processors):
     """Lets what is started run on so many processors, or on all where there are fewer."""
     return lambda: os.sched_setaffinity(0, sorted(os.sched_getaffinity(0))[:processors])
@@ -202,23 +162,26 @@ def on(processors):
 
 def answers(program, one, processors):
     """Whether the program answers a case as it must."""
-    done = subprocess.run([program, *one.words], input=one.input, capture_output=True, cwd=one.folder, preexec_fn=on(processors))
-    return (done.stdout, done.stderr, done.returncode) == (one.text, one.refused, one.status)
+    answer = ran([program, *one.words], input=one.input, cwd=one.folder, preexec_fn=on(processors))
+    return answer == (one.text, one.refused, one.status)
+
+
+def reported(name, right):
+    """Prints whether something was answered as it must be."""
+    print(f"{name}: {'ok' if right else 'DIFFERS'}", flush=True)
+    return right
 
 
 def fits(program, one, processors, times=1):
     """Whether the program answers a case as it must, so many times in a row."""
-    right = all(answers(program, one, processors) for _ in range(times))
     again = f", {times} times" if times > 1 else ""
-    print(f"{one.name}, on {processors} processors{again}: {'ok' if right else 'DIFFERS'}", flush=True)
-    return right
+    right = all(answers(program, one, processors) for _ in range(times))
+    return reported(f"{one.name}, on {processors} processors{again}", right)
 
 
 def all_fit(program, ones):
     """Whether the program answers each of some cases of one name as it must."""
-    right = all(answers(program, one, PROCESSORS[-1]) for one in ones)
-    print(f"{ones[0].name}, in {len(ones)} ways: {'ok' if right else 'DIFFERS'}", flush=True)
-    return right
+    return reported(f"{ones[0].name}, in {len(ones)} ways", all(answers(program, one, PROCESSORS[-1]) for one in ones))
 
 
 def front_then_failure(front):
@@ -233,71 +196,66 @@ def front_then_failure(front):
 def after_failing_read(program, front):
     """What `status` writes where a read fails behind these bytes, and how it ends."""
     end = front_then_failure(front)
-    done = subprocess.run([program, "status"], stdin=end, capture_output=True)
+    answer = ran([program, "status"], stdin=end)
     os.close(end)
-    return done.stdout, done.stderr, done.returncode
+    return answer
 
 
 def into_little_room(program, data, room, full):
-    """What `status` writes where one output, 1 or 2, has room for so many bytes, and how it ends."""
-    outputs = {"stdout": subprocess.PIPE, "stderr": subprocess.PIPE}
+    """What `status` writes where one output, stdout or stderr, has room for so many bytes, and how it ends."""
     limit = lambda: resource.setrlimit(resource.RLIMIT_FSIZE, (room, room))
     with tempfile.TemporaryFile() as file:
-        outputs["stdout" if full == 1 else "stderr"] = file
-        done = subprocess.run([program, "status"], input=data, preexec_fn=limit, restore_signals=False, **outputs)
+        text, errors, status = ran([program, "status"], input=data, preexec_fn=limit, restore_signals=False, **{full: file})
         file.seek(0)
         held = file.read()
-    return (held, done.stderr, done.returncode) if full == 1 else (done.stdout, held, done.returncode)
+    return (held, errors, status) if full == "stdout" else (text, held, status)
 
 
 def failing_streams(program):
     """A read that fails behind any number of bytes is 62, and nothing is written. A write that fails behind any number of bytes is
     63, and what was written is a prefix; where that cannot be told, the exit status tells of it. No bytes are written of an empty text."""
     data = b"foo\n" + instruction(1).encode()
-    text, told = b"T|BANKDEFFXXX|T1|PENDING\n", b"line 1: 31\n"
+    text, refused = b"T|BANKDEFFXXX|T1|PENDING\n", b"line 1: 31\n"
     runs = {
         "an input of which a read fails": [
             after_failing_read(program, data[:length]) == (b"", b"fault 62\n", 2) for length in range(len(data) + 1)],
         "an output that is full": [
-            into_little_room(program, data, room, 1) == (text[:room], told + b"fault 63\n", 2) for room in range(len(text))],
+            into_little_room(program, data, room, "stdout") == (text[:room], refused + b"fault 63\n", 2) for room in range(len(text))],
         "an error output that is full": [
-            into_little_room(program, data, room, 2) == (b"", told[:room], 2) for room in range(len(told))],
-        "an empty text": [into_little_room(program, b"\n", 0, full) == (b"", b"", 0) for full in (1, 2)],
+            into_little_room(program, data, room, "stderr") == (b"", refused[:room], 2) for room in range(len(refused))],
+        "an empty text": [into_little_room(program, b"\n", 0, full) == (b"", b"", 0) for full in ("stdout", "stderr")],
     }
     for name, right in runs.items():
-        print(f"{name}, in {len(right)} ways: {'ok' if all(right) else 'DIFFERS'}", flush=True)
-        yield all(right)
+        yield reported(f"{name}, in {len(right)} ways", all(right))
 
 
-def is_shared_alike():
+def is_shared_alike(tests):
     """Whether the test of a desk that three threads share passes each time, with one output."""
-    tests = TOP / "crates" / "sct_run_tests" / "out" / "sct_run_tests_tests"
-    if not tests.is_file():
-        sys.exit(f"run_examples: there are no tests {tests}; `rt test` in crates/sct_run_tests makes them")
-    runner = pathlib.Path(os.path.realpath(shutil.which("rt"))).with_name("rattle-test")
-    told = [subprocess.run([runner, "--filter", "desk_shared", tests], capture_output=True, text=True) for _ in range(DESKS)]
-    right = all(it.returncode == 0 and "1 passed" in it.stdout for it in told) and len({it.stdout for it in told}) == 1
-    print(f"three threads at a desk, {DESKS} times: {'ok' if right else 'DIFFERS'}", flush=True)
-    return right
+    runner = pathlib.Path(os.path.realpath(verdict.command("rt"))).with_name("rattle-test")
+    runs = [ran([runner, "--filter", "desk_shared", tests]) for _ in range(DESKS)]
+    right = all(status == 0 and b"1 passed" in text for text, _, status in runs) and len({text for text, _, _ in runs}) == 1
+    return reported(f"three threads at a desk, {DESKS} times", right)
+
+
+def alone(program, driver, folder):
+    """Whether the programs answer each case that is run once as they must."""
+    for one in [*examples(), *command_lines(EXAMPLES / "command-lines"), *bad_lists(folder), long_list(folder)]:
+        yield fits(program, one, PROCESSORS[-1])
+    for one in command_lines(EXAMPLES / "test-driver"):
+        yield fits(driver, one, PROCESSORS[-1])
 
 
 def main():
-    program = os.path.abspath(sys.argv[1] if len(sys.argv) > 1 else TOP / "crates" / "sct_sites" / "out" / "sct_sites")
-    if not os.path.isfile(program):
-        sys.exit(f"run_examples: there is no program {program}; `rt run` in crates/sct_sites makes it")
-    if not DRIVER.is_file():
-        sys.exit(f"run_examples: there is no program {DRIVER}; `rt run` in crates/sct_test_driver makes it")
+    program, driver, tests = asked(), crates.program("sct_test_driver"), crates.tests("sct_run_tests")
     with tempfile.TemporaryDirectory() as folder:
-        right = [fits(program, one, PROCESSORS[-1]) for one in [*examples(), *command_lines("command-lines"), *bad_lists(folder), long_list(folder)]]
+        right = [*alone(program, driver, folder)]
         right += [all_fit(program, ones) for ones in [*cases(), *blank_inputs()]]
         right += failing_streams(program)
         right.append(fits(program, two_files(folder), PROCESSORS[-1], TIMES))
         long = [*long_cases(), sixteen_files(folder)]
         right += [fits(program, one, processors) for processors in PROCESSORS for one in long]
-    right += [fits(DRIVER, one, PROCESSORS[-1]) for one in command_lines("test-driver")]
-    right.append(is_shared_alike())
-    print(f"examples: {sum(right)} passed, {len(right) - sum(right)} failed")
-    sys.exit(0 if all(right) else 1)
+    right.append(is_shared_alike(tests))
+    verdict.end(sum(right), len(right) - sum(right))
 
 
 if __name__ == "__main__":

@@ -5,6 +5,7 @@ About nine in ten instructions are confirmed, a few places later; of these one i
 """
 import pathlib, random, sys
 sys.path.insert(0, str(pathlib.Path(__file__).resolve().parents[1]))  # scripts/
+from generate import samples
 from generate.parties import account
 
 COUNTRIES = [("DE", 20099700), ("FR", 30997), ("BE", 979), ("AT", 99200), ("IT", 9931), ("ES", 9962), ("FI", 799971), ("NL", 0)]
@@ -27,41 +28,48 @@ def banks(r):
 
 def time_of(i):
     s = 6 * 3600 + i // 40
-    return f"2025-03-{10 + s // 86400 % 20:02d}", f"2025-03-{10 + s // 86400 % 20:02d}T{s // 3600 % 24:02d}:{s // 60 % 60:02d}:{s % 60:02d}Z"
+    day = f"2025-03-{10 + s // 86400 % 20:02d}"
+    return day, f"{day}T{s // 3600 % 24:02d}:{s // 60 % 60:02d}:{s % 60:02d}Z"
 
 
-def main():
-    n = int(sys.argv[1])
-    r = random.Random(int(sys.argv[2]) if len(sys.argv) > 2 else 1)
-    pool = banks(r)
-    waiting, out, number = [], [], 0
-    for i in range(n):
-        day, at = time_of(i)
+def instruction(r, pool, i, number):
+    """The instruction with this number, in the place i."""
+    debtor, debtor_accounts = pool[r.randrange(48)]
+    creditor, creditor_accounts = pool[r.randrange(48)]
+    day, at = time_of(i)
+    cents = min(99999999999, int(r.lognormvariate(8.5, 1.6)) + 1)
+    more = {"Ustrd": f"Invoice {r.randrange(10 ** 7)}"} if r.random() < 0.2 else {}
+    return samples.instruction(
+        MsgId=f"M{number:09d}", CreDtTm=at, InstgAgt=debtor, IntrBkSttlmDt=day, EndToEndId=f"E{number:09d}",
+        TxId=f"T{number:09d}", IntrBkSttlmAmt=f"{cents // 100}.{cents % 100:02d}", Dbtr=r.choice(NAMES),
+        DbtrAcct=r.choice(debtor_accounts), DbtrAgt=debtor, CdtrAgt=creditor, Cdtr=r.choice(NAMES),
+        CdtrAcct=r.choice(creditor_accounts), **more)
+
+
+def confirmation(r, i, instructed):
+    """The confirmation or rejection of an instruction, in the place i."""
+    rejected = r.random() < 0.05
+    status = {"TxSts": "RJCT", "Rsn": r.choice(REASONS)} if rejected else samples.ACCEPTED
+    return samples.confirmation(
+        status, MsgId=f"C{i:09d}", CreDtTm=time_of(i)[1], InstgAgt=instructed["CdtrAgt"], OrgnlMsgId=instructed["MsgId"],
+        OrgnlTxId=instructed["TxId"], DbtrAgt=instructed["DbtrAgt"])
+
+
+def lines(many, seed=1):
+    """So many messages, each a line."""
+    r = random.Random(seed)
+    pool, waiting, number = banks(r), [], 0
+    for i in range(many):
         if len(waiting) > 8 and r.random() < 0.65 or len(waiting) > 60:
-            tx, msg, debtor, creditor = waiting.pop(r.randrange(len(waiting)))
-            rejected = r.random() < 0.05
-            status = f'"RJCT","Rsn":"{r.choice(REASONS)}"' if rejected else '"ACCP"'
-            out.append(f'{{"MsgNmId":"pacs.002","MsgId":"C{i:09d}","CreDtTm":"{at}","InstgAgt":"{creditor}",'
-                       f'"OrgnlMsgId":"{msg}","OrgnlMsgNmId":"pacs.008","OrgnlTxId":"{tx}","TxSts":{status},"DbtrAgt":"{debtor}"}}\n')
+            message = confirmation(r, i, waiting.pop(r.randrange(len(waiting))))
         else:
             number += 1
-            debtor, debtor_accounts = pool[r.randrange(48)]
-            creditor, creditor_accounts = pool[r.randrange(48)]
-            tx, msg = f"T{number:09d}", f"M{number:09d}"
-            cents = min(99999999999, int(r.lognormvariate(8.5, 1.6)) + 1)
-            more = f',"Ustrd":"Invoice {r.randrange(10 ** 7)}"' if r.random() < 0.2 else ""
-            out.append(f'{{"MsgNmId":"pacs.008","MsgId":"{msg}","CreDtTm":"{at}","InstgAgt":"{debtor}","IntrBkSttlmDt":"{day}",'
-                       f'"SvcLvl":"SEPA","LclInstrm":"INST","EndToEndId":"E{number:09d}","TxId":"{tx}",'
-                       f'"IntrBkSttlmAmt":"{cents // 100}.{cents % 100:02d}","Ccy":"EUR","ChrgBr":"SLEV","Dbtr":"{r.choice(NAMES)}",'
-                       f'"DbtrAcct":"{r.choice(debtor_accounts)}","DbtrAgt":"{debtor}","CdtrAgt":"{creditor}",'
-                       f'"Cdtr":"{r.choice(NAMES)}","CdtrAcct":"{r.choice(creditor_accounts)}"{more}}}\n')
+            message = instruction(r, pool, i, number)
             if r.random() < 0.92:
-                waiting.append((tx, msg, debtor, creditor))
-        if len(out) >= 10000:
-            sys.stdout.buffer.write("".join(out).encode())
-            out.clear()
-    sys.stdout.buffer.write("".join(out).encode())
+                waiting.append(message)
+        yield samples.line(message)
 
 
 if __name__ == "__main__":
-    main()
+    for text in lines(*map(int, sys.argv[1:])):
+        sys.stdout.buffer.write(text.encode())

@@ -4,9 +4,10 @@ A few banks, transfers, recalls and identifications stand in each pool, so that 
 one another.
 """
 import json
+from generate import samples
 
 BANKS = ["BANKDEFF", "BANQFRPP", "BANKBEBB"]
-ACCOUNTS = ["DE89370400440532013000", "BE68539007547034", "NL91ABNA0417164300"]
+CREDITOR_ACCOUNTS = ["BE68539007547034", "NL91ABNA0417164300"]
 AMOUNTS = ["0.01", "1.00", "100.00", "999999999.99"]
 REASONS = ["AC04", "AM04", "ZZ9"]
 
@@ -25,49 +26,50 @@ class Pool:
         self.amounts = r.sample(AMOUNTS, r.choice([1, 1, 2, 4]))
         self.reasons = REASONS[:r.randint(1, 3)]
 
+    def debtor_bank(self):
+        return self.banks[0] if self.r.random() < 0.9 else self.r.choice(self.banks)
+
     def head(self, kind, letter):
         return {"MsgNmId": kind, "MsgId": f"{letter}{self.r.randint(1, self.numbers)}", "CreDtTm": "2024-05-02T10:00:00Z",
                 "InstgAgt": self.r.choice(self.banks)}
 
-    def original(self, about="pacs.008"):
-        return {"OrgnlMsgId": "M1", "OrgnlMsgNmId": about, "OrgnlTxId": self.r.choice(self.transfers),
-                "DbtrAgt": self.banks[0] if self.r.random() < 0.9 else self.r.choice(self.banks)}
+    def later(self, kind, letter, about="pacs.008"):
+        """The elements that each message about an earlier one has."""
+        return {**self.head(kind, letter), "OrgnlMsgId": "M1", "OrgnlMsgNmId": about, "OrgnlTxId": self.r.choice(self.transfers),
+                "DbtrAgt": self.debtor_bank()}
 
     def instruction(self):
         waiting = [t for t in self.transfers if t not in self.instructed]
         self.instructed.append(self.r.choice(waiting if waiting and self.r.random() < 0.9 else self.transfers))
-        bank = self.banks[0] if self.r.random() < 0.9 else self.r.choice(self.banks)
-        return self.head("pacs.008", "M") | {
-            "IntrBkSttlmDt": "2024-05-02", "SvcLvl": "SEPA", "LclInstrm": "INST", "EndToEndId": "E1",
-            "TxId": self.instructed[-1], "IntrBkSttlmAmt": self.r.choice(self.amounts), "Ccy": "EUR",
-            "ChrgBr": "SLEV", "Dbtr": "Anna Weber", "DbtrAcct": ACCOUNTS[0], "DbtrAgt": bank,
-            "CdtrAgt": self.r.choice(self.banks), "Cdtr": "Bo Maes", "CdtrAcct": self.r.choice(ACCOUNTS[1:])}
+        bank = self.debtor_bank()
+        return samples.instruction(
+            **self.head("pacs.008", "M"), TxId=self.instructed[-1], IntrBkSttlmAmt=self.r.choice(self.amounts), DbtrAgt=bank,
+            CdtrAgt=self.r.choice(self.banks), CdtrAcct=self.r.choice(CREDITOR_ACCOUNTS))
 
     def confirmation(self):
         accepts = self.r.random() < 0.9
-        status = {"TxSts": "ACCP"} if accepts else {"TxSts": "RJCT", "Rsn": self.r.choice(self.reasons)}
-        return self.head("pacs.002", "C") | self.original() | status
+        status = samples.ACCEPTED if accepts else {"TxSts": "RJCT", "Rsn": self.r.choice(self.reasons)}
+        return {**self.later("pacs.002", "C"), **status}
 
     def request(self):
         if self.r.random() < 0.5:
-            return self.head("pacs.028", "Q") | self.original()
-        return self.head("pacs.028", "Q") | self.original("camt.056") | {"OrgnlCxlId": self.r.choice(self.recalls)}
+            return self.later("pacs.028", "Q")
+        return {**self.later("pacs.028", "Q", "camt.056"), "OrgnlCxlId": self.r.choice(self.recalls)}
 
     def recall(self):
-        return self.head("camt.056", "K") | self.original() | {
-            "CxlId": self.r.choice(self.recalls), "OrgnlIntrBkSttlmAmt": self.r.choice(self.amounts), "Ccy": "EUR",
-            "Rsn": self.r.choice(["FRAD", "DUPL"])}
+        return {**self.later("camt.056", "K"), "CxlId": self.r.choice(self.recalls),
+                "OrgnlIntrBkSttlmAmt": self.r.choice(self.amounts), "Ccy": "EUR", "Rsn": self.r.choice(["FRAD", "DUPL"])}
 
     def payback(self):
         original = self.r.choice(self.amounts)
         returned = self.r.choice(AMOUNTS[:AMOUNTS.index(original) + 1])
-        return self.head("pacs.004", "P") | self.original() | {
-            "RtrId": f"X{self.r.randint(1, 3)}", "OrgnlCxlId": self.r.choice(self.recalls), "OrgnlIntrBkSttlmAmt": original,
-            "RtrdIntrBkSttlmAmt": returned, "Ccy": "EUR", "IntrBkSttlmDt": "2024-05-04", "Rsn": "FOCR"}
+        return {**self.later("pacs.004", "P"), "RtrId": f"X{self.r.randint(1, 3)}", "OrgnlCxlId": self.r.choice(self.recalls),
+                "OrgnlIntrBkSttlmAmt": original, "RtrdIntrBkSttlmAmt": returned, "Ccy": "EUR", "IntrBkSttlmDt": "2024-05-04",
+                "Rsn": "FOCR"}
 
     def refusal(self):
-        return self.head("camt.029", "N") | self.original() | {
-            "CxlStsId": "S1", "OrgnlCxlId": self.r.choice(self.recalls), "Conf": "RJCR", "Rsn": self.r.choice(["CUST", "LEGL"])}
+        return {**self.later("camt.029", "N"), "CxlStsId": "S1", "OrgnlCxlId": self.r.choice(self.recalls), "Conf": "RJCR",
+                "Rsn": self.r.choice(["CUST", "LEGL"])}
 
     def message(self):
         makers = [self.instruction, self.confirmation, self.request, self.recall, self.payback, self.refusal]

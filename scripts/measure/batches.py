@@ -11,9 +11,10 @@ the process took for each part of them; so what else runs on the machine matters
 Usage: batches.py [PARTS]   (40; the large view grows by 2,000 messages in each)
 """
 import fcntl, os, pathlib, statistics, struct, subprocess, sys, termios, time
+sys.path.insert(0, str(pathlib.Path(__file__).resolve().parents[1]))  # scripts/
+import crates
+from generate import messages
 
-SCRIPTS = pathlib.Path(__file__).resolve().parents[1]
-PROGRAM = SCRIPTS.parent / "crates" / "sct_test_driver" / "out" / "sct_test_driver"
 SMALL, LARGE, PART, SET_PIPE_SIZE = 2_000, 200_000, 1_000, 1031
 
 
@@ -23,7 +24,7 @@ class Trial:
     def __init__(self):
         end, self.pipe = os.pipe()
         fcntl.fcntl(self.pipe, SET_PIPE_SIZE, 1 << 20)
-        self.process = subprocess.Popen([PROGRAM, "views"], stdin=end, stdout=subprocess.DEVNULL)
+        self.process = subprocess.Popen([crates.program("sct_test_driver"), "views"], stdin=end, stdout=subprocess.DEVNULL)
         os.close(end)
 
     def spent(self):
@@ -53,7 +54,7 @@ class Trial:
     def end(self):
         os.close(self.pipe)
         if self.process.wait():
-            sys.exit("batches: the program did not end well")
+            crates.stop("the program did not end well")
 
 
 def batches(lines, size):
@@ -71,8 +72,7 @@ def time_of_ten(trial, lines):
 def main():
     parts = int((sys.argv[1:] or ["40"])[0])
     most = LARGE + 2 * PART * parts
-    made = subprocess.run([sys.executable, SCRIPTS / "generate" / "messages.py", str(most)], capture_output=True, text=True, check=True)
-    lines = made.stdout.splitlines()
+    lines = [line[:-1] for line in messages.lines(most)]
     on_small, on_large, small, large = Trial(), Trial(), [], []
     on_large.take(batches(lines[:LARGE], LARGE))
     for part in range(parts):

@@ -8,14 +8,15 @@ what else is run on the machine only adds to it.
 Usage: desks.py [MESSAGES [RUNS]]   (20000, 5)
 """
 import collections, pathlib, statistics, subprocess, sys
+sys.path.insert(0, str(pathlib.Path(__file__).resolve().parents[1]))  # scripts/
+import crates
 
-PROGRAM = pathlib.Path(__file__).resolve().parents[2] / "crates" / "sct_test_driver" / "out" / "sct_test_driver"
 PARTS = 10
 
 
 def times(many):
     """The nanoseconds that each take and each answer lasted, by the word that stands before them."""
-    done = subprocess.run([PROGRAM, "times", str(many)], capture_output=True, text=True, check=True)
+    done = subprocess.run([crates.program("sct_test_driver"), "times", str(many)], capture_output=True, text=True, check=True)
     found = collections.defaultdict(list)
     for line in done.stdout.splitlines():
         word, time = line.split()
@@ -27,7 +28,7 @@ def medians(many):
     """The median time of the takes of each tenth, and of the answers while messages are taken and afterwards."""
     found = times(many)
     if len(found["take"]) != many or not found["busy"]:
-        sys.exit("desks: the program did not time what it should")
+        crates.stop("the program did not time what it should")
     size = many // PARTS
     parts = [statistics.median(found["take"][part * size:(part + 1) * size]) for part in range(PARTS)]
     return parts + [statistics.median(found["busy"]), statistics.median(found["quiet"])], len(found["busy"])

@@ -7,7 +7,7 @@ answers is asked of the set of its messages (status.py).
 """
 import pathlib, re, sys
 sys.path.insert(0, str(pathlib.Path(__file__).resolve().parents[1]))  # scripts/
-from reference.status import Refused, archive_text, read_message, status_text, totals_text
+from reference.status import Refused, archive_text, lines_of, read_message, status_text, totals_text, write_answer
 
 MOST_SITES = 64
 
@@ -75,14 +75,6 @@ def size(line):
     except NoEvent:
         return None
     return sites if word == b"sites" and 1 <= sites <= MOST_SITES else None
-
-
-def lines_of(data):
-    """The lines that are not blank, each with its number."""
-    lines = data.split(b"\n")
-    if lines[-1] == b"":
-        lines.pop()
-    return [(n, line) for n, line in enumerate(lines, 1) if line.strip(b" \t\r")]
 
 
 # ---- worlds: what a site holds is a set of (origin, number, message)
@@ -171,9 +163,4 @@ def answer(data):
 
 
 if __name__ == "__main__":
-    if len(sys.argv) != 4:
-        sys.exit(__doc__)
-    text, told, status = answer(open(sys.argv[1], "rb").read())
-    open(sys.argv[2], "w", encoding="utf-8", newline="").write(text)
-    open(sys.argv[3], "w", encoding="utf-8", newline="").write(told)
-    print("exit", status)
+    write_answer(answer, sys.argv[1:], __doc__)

@@ -4,7 +4,7 @@ Usage: status.py [status|archive|totals] INPUT TEXT REFUSED   (writes the last t
 
 TEXT gets the status text, with `archive` the archive text, and with `totals` the totals text.
 """
-import json, re, sys
+import json, pathlib, re, sys
 
 IDSET = r"[A-Za-z0-9/\-?:().,'+ ]"
 
@@ -368,14 +368,17 @@ def totals_text(messages):
 TEXT = {"status": status_text, "archive": archive_text, "totals": totals_text}
 
 
-def answer(job, data):
+def lines_of(data):
+    """The lines that are not blank, each with its number."""
     lines = data.split(b"\n")
     if lines[-1] == b"":
         lines.pop()
+    return [(n, line) for n, line in enumerate(lines, 1) if line.strip(b" \t\r")]
+
+
+def answer(job, data):
     messages, told = set(), []
-    for n, line in enumerate(lines, 1):
-        if line.strip(b" \t\r") == b"":
-            continue
+    for n, line in lines_of(data):
         try:
             messages.add(read_message(line))
         except Refused as e:
@@ -383,12 +386,18 @@ def answer(job, data):
     return TEXT[job](messages), "".join(told), 1 if told else 0
 
 
+def write_answer(answer, words, usage):
+    """Writes the text and the refused lines of an input to files, and prints the exit status. The words name the three files."""
+    if len(words) != 3:
+        sys.exit(usage)
+    source, *files = map(pathlib.Path, words)
+    *texts, status = answer(source.read_bytes())
+    for file, text in zip(files, texts):
+        file.write_bytes(text.encode())
+    print("exit", status)
+
+
 if __name__ == "__main__":
     words = sys.argv[1:]
     job = words.pop(0) if words and words[0] in TEXT else "status"
-    if len(words) != 3:
-        sys.exit(__doc__)
-    text, told, status = answer(job, open(words[0], "rb").read())
-    open(words[1], "w", encoding="utf-8", newline="").write(text)
-    open(words[2], "w", encoding="utf-8", newline="").write(told)
-    print("exit", status)
+    write_answer(lambda data: answer(job, data), words, __doc__)

@@ -1,0 +1,50 @@
+"""check.py: runs the checks of the gate that stand behind `rt ci`, one after the other.
+
+Each check is a program of gate/ that prints 'N passed, M failed' last. A line says of each check what it does, its numbers and how
+many seconds it took. What a failed check printed stands behind its line, each line of it after two spaces. A check that ends with
+another status than 0, or prints no numbers, has failed once at least. The last line is 'N passed, M failed' of all checks, and the
+exit status is 0 where none has failed.
+"""
+import pathlib, re, subprocess, sys, time
+if sys.version_info < (3, 8):
+    sys.exit("check: this wants Python 3.8 or later")
+from gate import verdict
+
+CHECKS = {
+    "refuse_growths": "refuses each growth of an archive, of a view and of a take at a desk",
+    "run_examples": "runs the program on the examples",
+    "refuse_memory": "runs the program in too little memory",
+    "refuse_allocations": "refuses each allocation of the program",
+    "made_up": "compares made-up sets, worlds and groups with the definitions",
+}
+
+
+def ran(name):
+    """How much of a check passed, how much failed, and what it printed."""
+    words = [sys.executable, "-u", pathlib.Path(__file__).with_name("gate") / (name + ".py")]
+    done = subprocess.run(words, stdout=subprocess.PIPE, stderr=subprocess.STDOUT)
+    text = done.stdout.decode(errors="replace")
+    numbers = re.search(r"^(\d+) passed, (\d+) failed\n\Z", text, re.M)
+    passed, failed = map(int, numbers.groups()) if numbers else (0, 0)
+    return passed, failed or int(done.returncode != 0 or not numbers), text
+
+
+def checked(name, does):
+    """How much of a check passed and how much failed, which is printed too."""
+    print(f"{name} {does}: ", end="", flush=True)
+    began = time.monotonic()
+    passed, failed, text = ran(name)
+    print(f"{passed} passed, {failed} failed, {time.monotonic() - began:.0f} seconds", flush=True)
+    if failed:
+        print("".join(f"  {line}\n" for line in text.splitlines()), end="", flush=True)
+    return passed, failed
+
+
+def main():
+    for name in ("rt", "cc"):
+        verdict.command(name)
+    verdict.end_with([checked(name, does) for name, does in CHECKS.items()])
+
+
+if __name__ == "__main__":
+    main()

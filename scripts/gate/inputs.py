@@ -1,0 +1,45 @@
+"""inputs.py: what the program is run on, where more than one check of the gate runs it on that."""
+import collections, pathlib
+from generate import messages, samples
+
+EXAMPLES = pathlib.Path(__file__).resolve().parents[2] / "examples"
+
+# what is run, where and on what, and what the program must write and end with
+Case = collections.namedtuple("Case", "name words input text refused status folder", defaults=[EXAMPLES])
+
+
+def case(name, words, data, text, refused):
+    return Case(name, words, data, text, refused, 1 if refused else 0)
+
+
+def instruction(number):
+    """The line of an instruction."""
+    return samples.line(samples.instruction(MsgId=f"M{number}", TxId=f"T{number}"))
+
+
+def confirmation(number):
+    """The line of the confirmation of the instruction with this number."""
+    return samples.line(samples.confirmation(MsgId=f"C{number}", OrgnlMsgId=f"M{number}", OrgnlTxId=f"T{number}"))
+
+
+def long_input(many):
+    """So many made-up messages, with blank lines and refused ones between them."""
+    lines = [line[:-1] for line in messages.lines(many)]
+    for place in range(0, len(lines), 37):
+        lines[place] += ["\nfoo", "\r\n", "\n \t\r\n{}"][place % 3]
+    return "\n".join(lines).encode()
+
+
+def files_of(folder, name, texts):
+    """The paths of new files with these texts."""
+    paths = [pathlib.Path(folder, f"{name}{place}") for place in range(1, len(texts) + 1)]
+    for path, text in zip(paths, texts):
+        path.write_bytes(text)
+    return [str(path) for path in paths]
+
+
+def two_files(folder):
+    """A transfer and its confirmation in one file, another transfer in the other."""
+    texts = [(instruction(1) + confirmation(1)).encode(), instruction(2).encode()]
+    text = b"T|BANKDEFFXXX|T1|ACCEPTED\nT|BANKDEFFXXX|T2|PENDING\n"
+    return case("run of two files", ["run", *files_of(folder, "small", texts)], b"", text, b"")
