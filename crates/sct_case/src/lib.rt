@@ -18,6 +18,3 @@ pub use fault::CaseFault;
 pub use finding::Finding;
 pub use recalls::recall_status_by;
 pub use status::{RecallStatus, Status};
-
-#[cfg(test)]
-mod tests;

@@ -31,6 +31,3 @@ pub use text::numbers::number_of;
 pub use text::reading::read_delta;
 pub use text::writing::write_delta;
 pub use vector::{Vector, vectors_are_equal_by_their_counts};
-
-#[cfg(test)]
-mod tests;

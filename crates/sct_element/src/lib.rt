@@ -14,8 +14,6 @@ mod faults;
 mod identification;
 mod money;
 mod party;
-#[cfg(test)]
-mod tests;
 
 pub use account::{Iban, IbanRule, read_iban};
 pub use bank::{Bic, BicRule, read_bic};

@@ -8,6 +8,3 @@ mod track;
 
 pub use history::History;
 pub use track::Track;
-
-#[cfg(test)]
-mod tests;

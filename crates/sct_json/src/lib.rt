@@ -20,8 +20,6 @@ mod resolution;
 mod status_report;
 mod status_request;
 mod tables;
-#[cfg(test)]
-mod tests;
 mod writing;
 
 pub use faults::{ExtraKey, JsonFault};

@@ -14,6 +14,9 @@ use std::thread::{Threads, available_parallelism, join};
 // An input of fewer bytes is read in one part.
 const WORTH_A_THREAD: usize = 65_536;
 
+// An input is cut in halves at most so often.
+const MOST_HALVINGS: u32 = 16;
+
 // How many line feeds a text has.
 #[tactic(auto, using(crate::proofs::PartLemmas::feeds_counted))]
 fn count_feeds(text: &[u8]) -> u64
@@ -73,7 +76,7 @@ pub(crate) fn cut_from(text: &[u8], place: usize) -> Option<(&[u8], &[u8])>
 
 // Reads a part of an input, before which so many lines stand, by halves of halves.
 #[cycle(halves)]
-pub(crate) fn read_by_halves<R: Threads + Sync>(
+fn read_by_halves<R: Threads + Sync>(
     rt: &R,
     alloc: Global,
     before: u64,
@@ -117,9 +120,24 @@ fn halvings<R: Threads>(rt: &R, input: &[u8]) -> u32 {
     }
 }
 
+/// Reads the lines of an input, which count from 1, in parts: with 0 halvings in one part, with 3 in eight. At most 16
+/// halvings are made. Out of memory is the only error: if no thread can be made, one does the work of several.
+#[tactic(auto, using(crate::proofs::LineLemmas::told_plainly))]
+pub fn read_lines_by_halves<R: Threads + Sync>(
+    rt: &R,
+    alloc: Global,
+    input: &[u8],
+    halvings: u32,
+) -> Result<Intake, AllocError>
+    ensures messages { IfOk result (λ intake. messages_in intake.messages.items ≡ messages_read input.now) }
+    ensures told { IfOk result (λ intake. string_bytes intake.told ≡ told_text_of (refusals_told input.now)) }
+    ensures refused { IfOk result (λ intake. intake.refused ≡ length (refusals_told input.now)) }
+{
+    read_by_halves(rt, alloc, 0, input, halvings.min(MOST_HALVINGS))
+}
+
 /// Goes over the lines of an input once, which count from 1, in as many threads as there are processors. Only want of
 /// memory is an error: where no thread can be made, one does the work of several.
-#[tactic(auto, using(crate::proofs::LineLemmas::told_plainly))]
 pub fn read_lines<R: Threads + Sync>(
     rt: &R,
     alloc: Global,
@@ -129,5 +147,5 @@ pub fn read_lines<R: Threads + Sync>(
     ensures told { IfOk result (λ intake. string_bytes intake.told ≡ told_text_of (refusals_told input.now)) }
     ensures refused { IfOk result (λ intake. intake.refused ≡ length (refusals_told input.now)) }
 {
-    read_by_halves(rt, alloc, 0, input, halvings(rt, input))
+    read_lines_by_halves(rt, alloc, input, halvings(rt, input))
 }

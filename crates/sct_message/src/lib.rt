@@ -18,6 +18,3 @@ pub use kinds::Kind;
 pub use messages::Message;
 pub use order::{keys_are_ordered, order_is_total};
 pub use rules::{RuleFault, all_rules_hold_where_none_is_broken, first_broken_rule_is_told};
-
-#[cfg(test)]
-mod tests;

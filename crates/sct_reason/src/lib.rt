@@ -10,6 +10,3 @@ pub use order::reasons_are_exact;
 pub use other::OtherCode;
 pub use reasons::Reason;
 pub use uses::{RecallClass, Use};
-
-#[cfg(test)]
-mod tests;

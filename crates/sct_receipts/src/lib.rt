@@ -9,6 +9,3 @@ mod keeping;
 pub use closing::closed;
 pub use fault::WorkFault;
 pub use keeping::{accepted, keep, published, taken};
-
-#[cfg(test)]
-mod tests;

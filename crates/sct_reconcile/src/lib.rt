@@ -19,6 +19,3 @@ pub use lists::List;
 pub use reports::{Report, reconcile};
 pub use rows::{Listed, ListedRow, ReportRow};
 pub use words::{ListStatus, StatusWord, Verdict};
-
-#[cfg(test)]
-mod tests;

@@ -6,8 +6,6 @@ mod answer;
 mod fault;
 mod sites;
 mod status;
-#[cfg(test)]
-mod tests;
 
 pub use answer::RunAnswer;
 pub use fault::RunFault;

@@ -19,6 +19,3 @@ pub use fields::{behind, site_before_space, site_of};
 pub use outcomes::push_delta_fault;
 pub use replays::replay;
 pub use script::{Script, read_script};
-
-#[cfg(test)]
-mod tests;

@@ -21,6 +21,3 @@ pub use added::Added;
 pub use archive::Archive;
 pub use fault::SetFault;
 pub use ordered::Ordered;
-
-#[cfg(test)]
-mod tests;

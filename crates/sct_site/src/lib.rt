@@ -7,6 +7,3 @@ mod site;
 
 pub use answers::{Accepted, Took};
 pub use site::SiteCore;
-
-#[cfg(test)]
-mod tests;

@@ -18,6 +18,3 @@ fn main(rt: HostRuntime) -> ExitCode {
         (rt.stderr(), Blank::new(1)),
     ))
 }
-
-#[cfg(test)]
-mod tests;

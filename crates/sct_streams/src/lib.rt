@@ -14,6 +14,3 @@ pub use failures::Failures;
 pub use sink::{Sink, Writing};
 pub use source::{Failed, Reading, Source};
 pub use whole::{ReadFault, read_all, write_all};
-
-#[cfg(test)]
-mod tests;

@@ -30,6 +30,3 @@ mod words;
 
 pub use totals::Totals;
 pub use view::{Applied, View};
-
-#[cfg(test)]
-mod tests;

@@ -19,6 +19,3 @@ mod workers;
 pub use filled::Sites;
 pub use gate::{FreeGate, Gate, Held, Point};
 pub use gathering::fill_sites;
-
-#[cfg(test)]
-mod tests;

@@ -16,6 +16,3 @@ pub use fault::WorldFault;
 pub use history::{Ran, answers_after, report_after, run};
 pub use settling::settle;
 pub use world::World;
-
-#[cfg(test)]
-mod tests;

@@ -1,1 +1,0 @@
--- The proofs of the program for tries of desks.

@@ -1,5 +1,0 @@
--- The desk is of site 1 of the group, and of the history that was opened.
-use Rattle.sct_desk_trials.proofs.calls.try_calls.Given as goal
-
-abbrev pub ghosts-try_lines : goal.ghosts-try_lines
-ghosts-try_lines g a = record { book = a.history; number = 1; group = a.group }

@@ -1,5 +1,0 @@
--- The desk is of site 1, alone in its group, and of the history that was opened.
-use Rattle.sct_desk_trials.proofs.times.try_times.Given as goal
-
-abbrev pub ghosts-time_desk : goal.ghosts-time_desk
-ghosts-time_desk g a = record { book = a.history; number = 1; group = 1 }

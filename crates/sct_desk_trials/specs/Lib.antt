@@ -1,2 +1,0 @@
--- The definitions of the program for tries of desks.
-pub mod Texts

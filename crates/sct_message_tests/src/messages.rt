@@ -1,0 +1,205 @@
+//! Messages made of the elements of worked examples. The rules of each kind are tried on JSON texts,
+//! in sct_json.
+
+mod order;
+mod texts;
+
+use sct_message::*;
+use std::process::Abort;
+use std::test::Fail;
+use texts::{REQUEST, RequestTexts, broken, requests};
+
+static FAULTS: [(RuleFault, u8, &str); 12] = [
+    (
+        RuleFault::WrongName,
+        10,
+        "the message name is of another kind",
+    ),
+    (RuleFault::WrongCurrency, 11, "the currency is not EUR"),
+    (RuleFault::WrongService, 12, "the service level is not SEPA"),
+    (
+        RuleFault::WrongInstrument,
+        13,
+        "the local instrument is not INST",
+    ),
+    (RuleFault::WrongCharge, 14, "the charge bearer is not SLEV"),
+    (
+        RuleFault::WrongStatus,
+        15,
+        "the status is neither ACCP nor RJCT",
+    ),
+    (RuleFault::ReasonMissing, 16, "a rejection has no reason"),
+    (
+        RuleFault::ReasonUnasked,
+        17,
+        "a positive confirmation has a reason",
+    ),
+    (
+        RuleFault::ReturnAboveOriginal,
+        18,
+        "the returned amount is above the original amount",
+    ),
+    (
+        RuleFault::WrongReturnReason,
+        19,
+        "the reason of the return is not FOCR",
+    ),
+    (RuleFault::WrongAnswer, 20, "the confirmation is not RJCR"),
+    (
+        RuleFault::WrongOriginalName,
+        21,
+        "the original message name is of a wrong kind",
+    ),
+];
+
+#[test]
+fn rules_have_their_numbers_and_texts(rt: HostRuntime) -> Result<(), Fail> {
+    for (fault, number, text) in &FAULTS {
+        assert_eq!(rt; fault.number(), *number, "{fault:?}");
+        let told = format!(in rt.alloc(); "{fault}")?;
+        assert_eq!(rt; told.as_str(), *text);
+    }
+    Ok(())
+}
+
+static REQUEST_RULES: [(&str, &str, Option<&str>, u8); 9] = [
+    ("pacs.028", "pacs.008", None, 0),
+    ("pacs.028.001.03", "pacs.008.001.08", None, 0),
+    ("pacs.028", "camt.056", Some("R1"), 0),
+    ("pacs.028", "camt.056.001.08", Some("R1"), 0),
+    ("pacs.002", "pacs.008", None, 10),
+    ("pacs.002", "pacs.002", None, 10),
+    ("pacs.028", "camt.056", None, 21),
+    ("pacs.028", "pacs.008", Some("R1"), 21),
+    ("pacs.028", "pacs.028", None, 21),
+];
+
+#[test]
+fn tells_the_first_rule_that_a_status_request_breaks(rt: HostRuntime) -> Result<(), Fail> {
+    for (name, original, recall, number) in &REQUEST_RULES {
+        let texts = RequestTexts {
+            name: *name,
+            original: *original,
+            recall: *recall,
+            ..REQUEST
+        };
+        assert_eq!(rt; broken(&texts)?, *number, "at {name} {original} {recall:?}");
+    }
+    Ok(())
+}
+
+static NAMES: [(&str, Option<Kind>); 29] = [
+    ("camt.029", Some(Kind::Camt029)),
+    ("camt.056", Some(Kind::Camt056)),
+    ("pacs.002", Some(Kind::Pacs002)),
+    ("pacs.004", Some(Kind::Pacs004)),
+    ("pacs.008", Some(Kind::Pacs008)),
+    ("pacs.028", Some(Kind::Pacs028)),
+    ("camt.029.001.09", Some(Kind::Camt029)),
+    ("pacs.002.001.10", Some(Kind::Pacs002)),
+    ("pacs.008.001.08", Some(Kind::Pacs008)),
+    ("pacs.008.999.99", Some(Kind::Pacs008)),
+    ("", None),
+    ("pacs.00", None),
+    ("pacs.0080", None),
+    ("pacs.008.", None),
+    ("pacs.008.001", None),
+    ("pacs.008.001.8", None),
+    ("pacs.008.01.08", None),
+    ("pacs.008.1.008", None),
+    ("pacs.008.001.080", None),
+    ("pacs.008.001.08x", None),
+    ("pacs.008.001.0x", None),
+    ("pacs.008.001-08", None),
+    ("pacs.008-001.08", None),
+    ("pacs.008.001.0٨", None),
+    ("PACS.008", None),
+    (" pacs.008", None),
+    ("pacs.008 ", None),
+    ("pacs.009", None),
+    ("camt.008", None),
+];
+
+#[test]
+fn knows_the_names_of_kinds(rt: HostRuntime) {
+    for (name, kind) in &NAMES {
+        assert_eq!(rt; Kind::of_name(name), *kind, "at {name}");
+        assert!(rt; Kind::Pacs008.is_named(name) == (*kind == Some(Kind::Pacs008)));
+    }
+}
+
+static TEXTS: [&str; 6] = [
+    "camt.029", "camt.056", "pacs.002", "pacs.004", "pacs.008", "pacs.028",
+];
+
+#[test]
+fn lists_kinds_by_their_text(rt: HostRuntime) {
+    for (kind, text) in Kind::ALL.iter().zip(&TEXTS) {
+        assert_eq!(rt; kind.text(), *text);
+    }
+}
+
+/// A request about a transfer, and one about a recall.
+static FILED: [RequestTexts; 2] = [
+    REQUEST,
+    RequestTexts {
+        original: "camt.056",
+        recall: Some("R1"),
+        ..REQUEST
+    },
+];
+
+fn assert_identity(rt: &impl Abort, identity: &Identity) {
+    assert_eq!(rt; identity.sender.text(), "BANKDEFFXXX");
+    assert_eq!(rt; identity.kind, Kind::Pacs028);
+    assert_eq!(rt; identity.msg_id.text(), "S1");
+}
+
+fn assert_transfer(rt: &impl Abort, transfer: &TransferKey) {
+    assert_eq!(rt; transfer.debtor_agent.text(), "BANKNL2AXXX");
+    assert_eq!(rt; transfer.tx.text(), "T1");
+}
+
+/// That a message is filed by these keys, the last one the identification of its recall.
+fn assert_filed(rt: &impl Abort, message: &Message, recall: Option<&str>) {
+    assert_identity(rt, &message.identity().copy());
+    assert_transfer(rt, &message.transfer().copy());
+    let key = message.recall();
+    assert!(rt; key.as_ref().map(|key| key.cxl.text()) == recall);
+}
+
+#[test]
+fn files_status_requests(rt: HostRuntime) -> Result<(), Fail> {
+    let messages = requests(rt.alloc(), &FILED)?;
+    assert_eq!(rt; messages.len(), 2);
+    for (message, recall) in messages.iter().zip([None, Some("R1")]) {
+        assert_filed(&rt, message, recall);
+    }
+    Ok(())
+}
+
+fn assert_kept(rt: &impl Abort, draft: &Draft) {
+    assert_eq!(rt; draft.kind(), Kind::Pacs028);
+    assert_eq!(rt; draft.head().message_name.text(), "pacs.028");
+    assert_eq!(rt; draft.debtor_agent().text(), "BANKNL2AXXX");
+    assert_eq!(rt; draft.transaction_id().text(), "T1");
+    assert!(rt;
+        draft
+            .original()
+            .is_some_and(|original| original.message_id.text() == "M1")
+    );
+    assert!(rt;
+        draft
+            .cancellation_id()
+            .is_none_or(|recall| recall.text() == "R1")
+    );
+}
+
+#[test]
+fn keeps_the_elements(rt: HostRuntime) -> Result<(), Fail> {
+    for message in &requests(rt.alloc(), &FILED)? {
+        assert_eq!(rt; message.kind(), Kind::Pacs028);
+        assert_kept(&rt, message.draft());
+    }
+    Ok(())
+}

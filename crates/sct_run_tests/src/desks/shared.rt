@@ -1,0 +1,126 @@
+//! A desk that three threads share.
+
+ghost use Rattle.std.specs.Prelude.{◌≡◌, [], IfSome};
+ghost use Rattle.sct_desk.specs.Tilings.{AreOurs};
+
+use super::scenes::{first_transfer, open_one, sizes_closed, take_some};
+use sct_case::Status;
+use sct_desk::{Desk, Query, Receipt, Site};
+use sct_history::{History, Track};
+use sct_message::TransferKey;
+use std::alloc::Global;
+use std::marker::Brand;
+use std::process::Abort;
+use std::sync::Wait;
+use std::thread;
+use std::thread::Threads;
+
+/// A taker takes so many messages, every other one.
+const TAKEN: u64 = 50;
+
+// All receipts of the two.
+fn joined<J: Site>(one: Option<Vec<Receipt>>, other: Option<Vec<Receipt>>) -> Option<Vec<Receipt>>
+    requires one { IfSome one (λ kept. AreOurs J.book J.number kept.items) }
+    requires other { IfSome other (λ kept. AreOurs J.book J.number kept.items) }
+    ensures { IfSome result (λ kept. AreOurs J.book J.number kept.items) }
+{
+    let mut kept = one?;
+    let mut rest = other?;
+    kept.append(&mut rest).ok()?;
+    Some(kept)
+}
+
+fn two_takers<J: Site + Send + Sync, H: Wait + Drop + Send + Sync, R: Threads + Wait + Sync>(
+    rt: &R,
+    alloc: Global,
+    desk: &Desk<J, H>,
+) -> Option<Vec<Receipt>>
+    ensures { IfSome result (λ kept. AreOurs J.book J.number kept.items) }
+{
+    let (odd, even) = thread::join(
+        rt,
+        || -> Option<Vec<Receipt>>
+            ensures { IfSome result (λ kept. AreOurs J.book J.number kept.items) }
+        { take_some(rt, alloc, desk, 1, TAKEN) },
+        || -> Option<Vec<Receipt>>
+            ensures { IfSome result (λ kept. AreOurs J.book J.number kept.items) }
+        { take_some(rt, alloc, desk, 2, TAKEN) },
+    );
+    joined::<J>(odd, even)
+}
+
+// On how many arrivals an answer stands, and whether the transfer is pending and no more unknown. There is nothing where it
+// stands otherwise.
+fn seen(query: &mut Query, alloc: Global, transfer: &TransferKey) -> Option<(u64, bool)> {
+    let answer = query.status(alloc, transfer).ok()?;
+    match answer.value {
+        Status::Unknown => Some((answer.front, false)),
+        Status::Pending => Some((answer.front, true)),
+        _ => None,
+    }
+}
+
+// Asks for the transfer until it is pending, and tells whether no answer stood on less than the one before.
+fn look(mut query: Query, alloc: Global, transfer: &TransferKey) -> bool {
+    let mut last = 0;
+    for _ in 0..20_000_000 {
+        let Some((front, pending)) = seen(&mut query, alloc, transfer) else {
+            return false;
+        };
+        if front < last {
+            return false;
+        }
+        if pending {
+            return true;
+        }
+        last = front;
+        thread::yield_now();
+    }
+    false
+}
+
+// The query looks on while two threads take messages.
+fn three_threads<J: Site + Send + Sync, H: Wait + Drop + Send + Sync, R: Threads + Wait + Sync>(
+    rt: &R,
+    alloc: Global,
+    desk: &Desk<J, H>,
+    query: Query,
+    transfer: TransferKey,
+) -> (bool, Option<Vec<Receipt>>)
+    ensures { IfSome result.1 (λ kept. AreOurs J.book J.number kept.items) }
+{
+    thread::join(
+        rt,
+        move || look(query, alloc, &transfer),
+        || -> Option<Vec<Receipt>>
+            ensures { IfSome result (λ kept. AreOurs J.book J.number kept.items) }
+        { two_takers(rt, alloc, desk) },
+    )
+}
+
+fn expect_shared<J: Site + Send + Sync, R: Threads + Wait + Abort + Sync>(
+    rt: &R,
+    alloc: Global,
+    history: History,
+    track: Track,
+)
+    requires history { history ≡ J.book }
+    requires track { (track.book ≡ J.book) × (track.log ≡ []) }
+    requires site { (1 ≡ J.number) × (1 ≡ J.group) }
+{
+    let (desk, query) = open_one::<J, R>(rt, alloc, history, track, 1, 1);
+    let transfer = first_transfer().expect(rt, "a transfer");
+    let (rose, kept) = three_threads(rt, alloc, &desk, query, transfer);
+    assert!(rt; rose, "a front fell, or T1 was not seen");
+    let receipts = kept.expect(rt, "receipts of all calls");
+    let Ok(sizes) = sizes_closed(desk, receipts) else {
+        panic!(rt; "a desk that is not closed");
+    };
+    assert!(rt; sizes == (100, 100));
+}
+
+#[test]
+fn desk_shared(rt: HostRuntime) {
+    let (history, track) = History::open();
+    expect_shared::<Brand, HostRuntime>(&rt, rt.alloc(), history, track);
+}

@@ -1,0 +1,15 @@
+//! Tests of desks, receipts, workers, runs, streams and the program's engine: what no clause says is that memory is there.
+#![tactic(auto)]
+
+#[cfg(test)]
+mod desks;
+#[cfg(test)]
+mod program;
+#[cfg(test)]
+mod receipts;
+#[cfg(test)]
+mod runs;
+#[cfg(test)]
+mod streams;
+#[cfg(test)]
+mod workers;

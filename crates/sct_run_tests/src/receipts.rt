@@ -1,0 +1,113 @@
+//! Desks of one thread, with ample memory.
+
+ghost use Rattle.std.specs.Arc.{arc_value};
+ghost use Rattle.std.specs.Prelude.{◌≡◌, ◌∷◌, [], true};
+ghost use Rattle.sct_set.specs.Contents.{contents_of};
+ghost use Rattle.sct_receipts.specs.Kept.{Keeps, shows};
+
+use sct_desk::{Desk, Receipt, Site};
+use sct_history::{History, Track};
+use sct_json::read_message;
+use sct_message::Message;
+use sct_receipts::*;
+use sct_site::{SiteCore, Took};
+use std::alloc::Global;
+use std::marker::Brand;
+use std::process::Abort;
+use std::sync::{Arc, Wait};
+
+// The confirmation of a transfer.
+static CONFIRMED: &[u8] =
+    b"{\"MsgNmId\":\"pacs.002\",\"MsgId\":\"C1\",\"CreDtTm\":\"2024-05-02T10:00:02Z\",\"InstgAgt\":\"BANQFRPP\",\"OrgnlMsgId\":\"M1\",\"OrgnlMsgNmId\":\"pacs.008\",\"OrgnlTxId\":\"T1\",\"TxSts\":\"ACCP\",\"DbtrAgt\":\"BANKDEFF\"}";
+
+fn confirmation(alloc: Global) -> Option<Arc<Message>> {
+    let message = read_message(alloc, CONFIRMED).ok()?;
+    Arc::new(alloc, message).ok()
+}
+
+// The desk takes the message so.
+fn expect_taken<J: Site, H: Wait + Drop, W: Wait + Abort>(
+    rt: &W,
+    alloc: Global,
+    desk: &Desk<J, H>,
+    message: &Arc<Message>,
+    wanted: Took,
+) -> Receipt
+    ensures keeps { Keeps J.book J.number J.group (contents_of (arc_value message.now ∷ [])) result }
+    ensures shown { shows (arc_value message.now) result ≡ true }
+{
+    let Ok(shared) = message.clone() else {
+        panic!(rt; "memory is wanting");
+    };
+    let Ok((took, receipt)) = taken(rt, alloc, desk, shared) else {
+        panic!(rt; "the message is not taken");
+    };
+    assert_eq!(rt; took, wanted);
+    receipt
+}
+
+// The desk of a site that took the message, closed with this receipt alone.
+fn closed_with<J: Site, H: Wait + Drop>(
+    alloc: Global,
+    desk: Desk<J, H>,
+    message: Arc<Message>,
+    receipt: Receipt,
+) -> Result<SiteCore, WorkFault>
+    requires keeps { Keeps J.book J.number J.group (contents_of (arc_value message ∷ [])) receipt }
+    requires shown { shows (arc_value message) receipt ≡ true }
+{
+    let messages = [message];
+    let mut kept = Vec::new(alloc);
+    keep::<J>(&mut kept, &messages, receipt)?;
+    closed(desk, &messages, kept)
+}
+
+// The desk takes the message twice and is closed with one of the receipts: that of the message, or that of its repetition.
+fn close<J: Site, W: Wait + Abort>(
+    rt: &W,
+    alloc: Global,
+    history: History,
+    track: Track,
+    lost: bool,
+) -> Result<SiteCore, WorkFault>
+    requires history { history ≡ J.book }
+    requires track { (track.book ≡ J.book) × (track.log ≡ []) }
+    requires site { (1 ≡ J.number) × (1 ≡ J.group) }
+{
+    let message = confirmation(alloc).expect(rt, "a message");
+    let (desk, _) = Desk::<J, &W>::open(rt, alloc, history, track, 1, 1, 1)
+        .ok()
+        .expect(rt, "a desk");
+    let first = expect_taken(rt, alloc, &desk, &message, Took::Taken { n: 1 });
+    let second = expect_taken(rt, alloc, &desk, &message, Took::Repeat);
+    if lost {
+        closed_with(alloc, desk, message, second)
+    } else {
+        closed_with(alloc, desk, message, first)
+    }
+}
+
+fn close_one<W: Wait + Abort>(rt: &W, alloc: Global, lost: bool) -> Result<SiteCore, WorkFault> {
+    let (history, track) = History::open();
+    close::<Brand, W>(rt, alloc, history, track, lost)
+}
+
+#[test]
+fn a_desk_gives_its_core(rt: HostRuntime) {
+    let core = close_one(&rt, rt.alloc(), false).ok().expect(&rt, "a core");
+    assert_eq!(rt; core.arrivals().len(), 1);
+}
+
+#[test]
+fn a_lost_receipt_is_refused(rt: HostRuntime) {
+    let refusal = close_one(&rt, rt.alloc(), true).err();
+    assert_eq!(rt; refusal, Some(WorkFault::Refused { number: 54 }));
+}
+
+#[test]
+fn faults_have_numbers(rt: HostRuntime) {
+    assert_eq!(rt; WorkFault::Held.number(), 61);
+    assert_eq!(rt; WorkFault::Memory.number(), 65);
+    assert_eq!(rt; WorkFault::Refused { number: 54 }.number(), 66);
+    assert_eq!(rt; WorkFault::NoWorker.number(), 67);
+}

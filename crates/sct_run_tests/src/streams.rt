@@ -1,0 +1,191 @@
+//! Whole reads and writes over streams that are slow, and fail behind a known byte.
+
+ghost use Rattle.std.specs.Prelude.{◌≡◌};
+
+use sct_streams::{Failed, ReadFault, Reading, Writing, read_all, write_all};
+use std::alloc::Global;
+use std::io;
+use std::marker::Brand;
+use std::sync::ledger::{Blank, Ledger};
+
+// Gives its bytes one at a time, and then ends or fails.
+#[derive(Drop)]
+struct Giving {
+    left: &'static [u8],
+    fails: bool,
+}
+
+impl io::Read for Giving {
+    fn read(&mut self, piece: &mut [u8]) -> io::Result<usize> {
+        if piece.is_empty() {
+            return Ok(0);
+        }
+        match self.left.split_first() {
+            Some((first, rest)) => {
+                piece[0] = *first;
+                self.left = rest;
+                Ok(1)
+            }
+            None if self.fails => Err(io::Error::from(io::ErrorKind::Unsupported)),
+            None => Ok(0),
+        }
+    }
+}
+
+// Takes one byte at a time, as many as there is room for.
+#[derive(Drop)]
+struct Taking {
+    held: Vec<u8>,
+    room: usize,
+}
+
+impl io::Write for Taking {
+    fn write(&mut self, piece: &[u8]) -> io::Result<usize> {
+        let Some(first) = piece.first().copied() else {
+            return Ok(0);
+        };
+        if self.held.len() >= self.room || self.held.push(first).is_err() {
+            return Err(io::Error::from(io::ErrorKind::StorageFull));
+        }
+        Ok(1)
+    }
+
+    fn flush(&mut self) -> io::Result<()> {
+        Ok(())
+    }
+}
+
+// The bytes that a read fails after or not, and what comes of them under a limit: what is read, and how many are left.
+struct Limited {
+    bytes: &'static [u8],
+    fails: bool,
+    limit: u64,
+    read: Result<&'static [u8], ReadFault>,
+    left: usize,
+}
+
+static LIMITED: [Limited; 8] = [
+    Limited {
+        bytes: b"ten bytes.",
+        fails: false,
+        limit: 10,
+        read: Ok(b"ten bytes."),
+        left: 0,
+    },
+    Limited {
+        bytes: b"ten bytes.!",
+        fails: false,
+        limit: 10,
+        read: Err(ReadFault::TooLong),
+        left: 0,
+    },
+    Limited {
+        bytes: b"ten bytes.!?",
+        fails: false,
+        limit: 10,
+        read: Err(ReadFault::TooLong),
+        left: 1,
+    },
+    Limited {
+        bytes: b"ten bytes.!",
+        fails: true,
+        limit: 10,
+        read: Err(ReadFault::TooLong),
+        left: 0,
+    },
+    Limited {
+        bytes: b"ten bytes.",
+        fails: true,
+        limit: 10,
+        read: Err(ReadFault::Failed),
+        left: 0,
+    },
+    Limited {
+        bytes: b"",
+        fails: false,
+        limit: 0,
+        read: Ok(b""),
+        left: 0,
+    },
+    Limited {
+        bytes: b"ten bytes.",
+        fails: false,
+        limit: 0,
+        read: Err(ReadFault::TooLong),
+        left: 9,
+    },
+    Limited {
+        bytes: b"ten bytes.",
+        fails: false,
+        limit: 1_073_741_824,
+        read: Ok(b"ten bytes."),
+        left: 0,
+    },
+];
+
+// What is read of these bytes.
+fn read_over<L: Ledger>(
+    alloc: Global,
+    giving: &mut Giving,
+    limit: u64,
+    blank: Blank,
+) -> Result<Vec<u8>, ReadFault>
+    requires name { blank.name ≡ L.name }
+    requires parts { blank.parts ≡ L.parts }
+    requires one_part { blank.parts ≡ 1 }
+{
+    let mut source = Reading::<_, L>::new(giving, blank);
+    read_all(alloc, &mut source, limit)
+}
+
+// A row's bytes are read as it says.
+fn are_read(alloc: Global, row: &Limited) -> bool {
+    let mut giving = Giving {
+        left: row.bytes,
+        fails: row.fails,
+    };
+    let read = read_over::<Brand>(alloc, &mut giving, row.limit, Blank::new(1));
+    let told = match &read {
+        Ok(bytes) => Ok(bytes.as_slice()),
+        Err(fault) => Err(*fault),
+    };
+    told == row.read && giving.left.len() == row.left
+}
+
+#[test]
+fn reads_up_to_a_limit(rt: HostRuntime) {
+    for row in &LIMITED {
+        assert!(rt; are_read(rt.alloc(), row));
+    }
+}
+
+// How a text is written.
+fn write_over<L: Ledger>(taking: &mut Taking, text: &[u8], blank: Blank) -> Result<(), Failed>
+    requires name { blank.name ≡ L.name }
+    requires parts { blank.parts ≡ L.parts }
+    requires one_part { blank.parts ≡ 1 }
+{
+    let mut sink = Writing::<_, L>::new(taking, blank);
+    write_all(&mut sink, text)
+}
+
+// Of a text so much is written where there is room for so many bytes: all of it, or what comes before a write that fails.
+fn is_written(alloc: Global, text: &[u8], room: usize, told: Result<(), Failed>) -> bool {
+    let mut taking = Taking {
+        held: Vec::new(alloc),
+        room,
+    };
+    let (front, _) = text.split_at(room.min(text.len()));
+    write_over::<Brand>(&mut taking, text, Blank::new(1)) == told && taking.held.as_slice() == front
+}
+
+static TEXT: &[u8] = b"T|BANKDEFFXXX|T1|PENDING\n";
+
+#[test]
+fn writes_all_or_a_prefix(rt: HostRuntime) {
+    for room in 0..TEXT.len() {
+        assert!(rt; is_written(rt.alloc(), TEXT, room, Err(Failed)));
+    }
+    assert!(rt; is_written(rt.alloc(), TEXT, TEXT.len(), Ok(())));
+    assert!(rt; is_written(rt.alloc(), b"", 0, Ok(())));
+}

@@ -1,0 +1,103 @@
+//! Sites on threads, with ample memory: what each comes to, under gates that hold and gates that let pass.
+
+mod gates;
+mod inputs;
+
+use gates::{InStep, Meeting, Shut};
+use inputs::{ONE_SITE, Row, TWO_SITES, WITH_REFUSED};
+use sct_receipts::WorkFault;
+use sct_set::Archive;
+use sct_site::SiteCore;
+use sct_view::View;
+use sct_workers::*;
+use std::alloc::{AllocError, Global};
+use std::process::Abort;
+use std::sync::{Arc, Wait};
+use std::thread::Threads;
+
+// The inputs, each as bytes of its own.
+fn owned(alloc: Global, inputs: &[&[u8]]) -> Result<Vec<Vec<u8>>, AllocError> {
+    let mut texts = Vec::new(alloc);
+    for input in inputs {
+        texts.push(Vec::from_slice(alloc, input)?)?;
+    }
+    Ok(texts)
+}
+
+// The sites of at most 64 inputs.
+fn filled<G: Gate + Sync, R: Threads + Wait + Sync>(
+    rt: &R,
+    alloc: Global,
+    gate: &G,
+    inputs: &[&[u8]],
+) -> Result<Sites, WorkFault> {
+    let inputs = owned(alloc, inputs)?;
+    if inputs.len() > 64 {
+        return Err(WorkFault::NoWorker);
+    }
+    fill_sites(rt, alloc, gate, &inputs)
+}
+
+// The view of an archive.
+fn view_of(alloc: Global, archive: &Archive) -> Option<Arc<View>> {
+    let mut copy = Archive::new(alloc);
+    copy.merge(archive).ok()?;
+    let view = View::of(alloc, copy).ok()?;
+    Arc::new(alloc, view).ok()
+}
+
+// The status text of an archive.
+fn status_of(alloc: Global, archive: &Archive) -> Option<Vec<u8>> {
+    let view = view_of(alloc, archive)?;
+    view.status_text().ok()
+}
+
+// Whether a site comes to what the row says. There is nothing only where memory is wanting.
+fn is_filled(alloc: Global, core: &SiteCore, row: &Row) -> Option<bool> {
+    let status = status_of(alloc, core.archive())?;
+    Some(core.arrivals().len() == row.arrivals && status.as_slice() == row.status)
+}
+
+// Whether there is a site for each input, and the refused lines are told, as the row says.
+fn are_told(sites: &Sites, row: &Row) -> bool {
+    sites.cores.len() == row.inputs.len()
+        && sites.told.as_str() == row.told
+        && sites.refused == row.refused
+}
+
+// Under the gate each site comes to what the row says: all that the channels carried was accepted, too.
+fn expect_row<G: Gate + Sync, R: Threads + Wait + Abort + Sync>(
+    rt: &R,
+    alloc: Global,
+    gate: &G,
+    row: &Row,
+) {
+    let sites = filled(rt, alloc, gate, row.inputs).expect(rt, "sites");
+    assert!(rt; are_told(&sites, row));
+    for core in &sites.cores {
+        assert!(rt; is_filled(alloc, core, row) == Some(true));
+    }
+}
+
+#[test]
+fn all_pass(rt: HostRuntime) {
+    expect_row(&rt, rt.alloc(), &FreeGate, &ONE_SITE);
+    expect_row(&rt, rt.alloc(), &FreeGate, &TWO_SITES);
+    expect_row(&rt, rt.alloc(), &FreeGate, &WITH_REFUSED);
+}
+
+#[test]
+fn workers_in_step(rt: HostRuntime) {
+    expect_row(&rt, rt.alloc(), &InStep::new(), &TWO_SITES);
+}
+
+#[test]
+fn meeting_gate(rt: HostRuntime) {
+    expect_row(&rt, rt.alloc(), &Meeting::new(), &TWO_SITES);
+}
+
+#[test]
+fn shut_gate(rt: HostRuntime) {
+    let held = filled(&rt, rt.alloc(), &Shut, TWO_SITES.inputs);
+    assert_eq!(rt; held.err(), Some(WorkFault::Held));
+}

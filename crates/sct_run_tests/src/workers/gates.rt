@@ -1,0 +1,95 @@
+//! Gates that hold workers until others have come so far, which workers that run one after the other never do.
+
+use sct_workers::*;
+use std::sync::Wait;
+use std::sync::atomic::{AtomicU64, Ordering};
+use std::thread;
+
+/// A gate looks at most so often, and gives way between two looks.
+const LOOKS: u64 = 20_000_000;
+
+// Waits until all of the bits are set.
+fn wait_for(seen: &AtomicU64, all: u64) -> Result<(), Held> {
+    for _ in 0..LOOKS {
+        if seen.load(Ordering::SeqCst) & all == all {
+            return Ok(());
+        }
+        thread::yield_now();
+    }
+    Err(Held)
+}
+
+/// Holds the second message of site 1 until its query was answered and site 2 has accepted a delta.
+#[derive(Drop)]
+pub(crate) struct InStep {
+    seen: AtomicU64,
+}
+
+impl InStep {
+    pub(crate) fn new() -> InStep {
+        InStep {
+            seen: AtomicU64::new(0),
+        }
+    }
+}
+
+impl Gate for InStep {
+    ghost use Rattle.std.specs.Prelude.{◌≡◌};
+    ghost use Rattle.sct_workers.specs.declared.gate.Point.TheVariants as point;
+
+    ghost may_hold = { λ gate at. at ≡ point.Take 1 2 };
+
+    fn pass<R: Wait>(&self, _rt: &R, point: Point) -> Result<(), Held> {
+        match point {
+            Point::Answered { site: 1 } => {
+                self.seen.fetch_or(1, Ordering::SeqCst);
+                Ok(())
+            }
+            Point::Accepted { site: 2 } => {
+                self.seen.fetch_or(2, Ordering::SeqCst);
+                Ok(())
+            }
+            Point::Take { site: 1, k: 2 } => wait_for(&self.seen, 3),
+            _ => Ok(()),
+        }
+    }
+}
+
+/// Holds the first messages of the sites 1 and 2, each until the other is reached.
+#[derive(Drop)]
+pub(crate) struct Meeting {
+    seen: AtomicU64,
+}
+
+impl Meeting {
+    pub(crate) fn new() -> Meeting {
+        Meeting {
+            seen: AtomicU64::new(0),
+        }
+    }
+}
+
+impl Gate for Meeting {
+    ghost may_hold = { λ gate at. Unit {0} };
+
+    fn pass<R: Wait>(&self, _rt: &R, point: Point) -> Result<(), Held> {
+        let bit = match point {
+            Point::Take { site: 1, k: 1 } => 1,
+            Point::Take { site: 2, k: 1 } => 2,
+            _ => return Ok(()),
+        };
+        self.seen.fetch_or(bit, Ordering::SeqCst);
+        wait_for(&self.seen, 3)
+    }
+}
+
+/// Lets none pass.
+pub(crate) struct Shut;
+
+impl Gate for Shut {
+    ghost may_hold = { λ gate at. Unit {0} };
+
+    fn pass<R: Wait>(&self, _rt: &R, _point: Point) -> Result<(), Held> {
+        Err(Held)
+    }
+}

@@ -1,0 +1,122 @@
+//! What a site takes, accepts, refuses and cuts, with ample memory.
+
+mod scenes;
+
+use scenes::{Row, expect_accepted, expect_held, expect_refused, expect_taken, site_of};
+use sct_delta::DeltaFault;
+use sct_site::*;
+use std::alloc::Global;
+
+static NONE: [Row; 0] = [];
+
+// One message three times.
+static THRICE: [Row; 3] = [Row(1, 1, "C1"), Row(1, 1, "C1"), Row(1, 1, "C1")];
+
+static THRICE_ANSWERS: [Took; 3] = [Took::Taken { n: 1 }, Took::Repeat, Took::Repeat];
+
+static ONE: [Row; 1] = [Row(1, 1, "C1")];
+
+static REPEAT: [Took; 1] = [Took::Repeat];
+
+// Two entries and three of site 1, and numbers and origins that are too far.
+static TWO: [Row; 2] = [Row(1, 1, "C1"), Row(1, 2, "C2")];
+
+static THREE: [Row; 3] = [Row(1, 1, "C1"), Row(1, 2, "C2"), Row(1, 3, "C3")];
+
+static OTHER_SECOND: [Row; 1] = [Row(1, 2, "C9")];
+
+static NINTH: [Row; 1] = [Row(1, 9, "C9")];
+
+static OF_SITE_4: [Row; 1] = [Row(4, 1, "C4")];
+
+// One message that two sites took.
+static TAKEN_TWICE: [Row; 2] = [Row(1, 1, "C1"), Row(2, 1, "C1")];
+
+// What comes to site 2 by and by: from site 1, its own, from site 1 again.
+static OWN: [Row; 1] = [Row(2, 1, "C5")];
+
+static OWN_ANSWERS: [Took; 1] = [Took::Taken { n: 1 }];
+
+static BY_AND_BY: [Row; 4] = [
+    Row(1, 1, "C1"),
+    Row(1, 2, "C2"),
+    Row(2, 1, "C5"),
+    Row(1, 3, "C3"),
+];
+
+static ABOVE: [Row; 3] = [Row(1, 2, "C2"), Row(1, 3, "C3"), Row(2, 1, "C5")];
+
+// Numbers and groups that are none.
+static NO_SITES: [(u16, u16); 5] = [(0, 3), (4, 3), (1, 0), (1, 65), (65, 65)];
+
+// The number and the group of a new site, and how many entries it has of its own.
+fn opened(alloc: Global, number: u16, group: u16) -> Result<(u16, u16, u64), DeltaFault> {
+    let site = SiteCore::open(alloc, number, group)?;
+    Ok((site.number(), site.group(), site.vector().get(number)))
+}
+
+#[test]
+fn sites_are_numbered_within_their_group(rt: HostRuntime) {
+    for (number, group) in &NO_SITES {
+        let refused = opened(rt.alloc(), *number, *group);
+        assert!(rt; refused == Err(DeltaFault::BadSite));
+    }
+    assert!(rt; opened(rt.alloc(), 64, 64) == Ok((64, 64, 0)));
+}
+
+// How many arrivals the site has, and how many messages.
+fn counted(site: &SiteCore) -> (usize, usize) {
+    (site.arrivals().len(), site.archive().len())
+}
+
+#[test]
+fn takes_a_message_once(rt: HostRuntime) {
+    let mut site = site_of(rt.alloc(), 1, &NONE).expect(&rt, "a site");
+    expect_taken(&rt, rt.alloc(), &mut site, &THRICE, &THRICE_ANSWERS);
+    expect_held(&rt, rt.alloc(), &site, &ONE, &[], &ONE);
+    assert_eq!(rt; site.archive().len(), 1);
+}
+
+#[test]
+fn a_message_of_two_sites_is_two_entries(rt: HostRuntime) {
+    let mut site = site_of(rt.alloc(), 3, &NONE).expect(&rt, "a site");
+    expect_accepted(&rt, rt.alloc(), &mut site, &TAKEN_TWICE, 2);
+    assert_eq!(rt; counted(&site), (2, 1));
+    expect_taken(&rt, rt.alloc(), &mut site, &ONE, &REPEAT);
+    expect_held(&rt, rt.alloc(), &site, &TAKEN_TWICE, &[], &TAKEN_TWICE);
+}
+
+#[test]
+fn refuses_a_fork_and_changes_nothing(rt: HostRuntime) {
+    let mut site = site_of(rt.alloc(), 2, &NONE).expect(&rt, "a site");
+    expect_accepted(&rt, rt.alloc(), &mut site, &TWO, 2);
+    let fork = DeltaFault::Fork { origin: 1, n: 2 };
+    expect_refused(&rt, rt.alloc(), &mut site, &OTHER_SECOND, &fork);
+    expect_held(&rt, rt.alloc(), &site, &TWO, &[], &TWO);
+    assert_eq!(rt; site.archive().len(), 2);
+}
+
+#[test]
+fn refuses_own_entries_ahead_and_strange_origins(rt: HostRuntime) {
+    let mut site = site_of(rt.alloc(), 1, &THREE).expect(&rt, "a site");
+    expect_refused(
+        &rt,
+        rt.alloc(),
+        &mut site,
+        &NINTH,
+        &DeltaFault::OwnAhead { n: 9 },
+    );
+    expect_refused(&rt, rt.alloc(), &mut site, &OF_SITE_4, &DeltaFault::BadSite);
+    expect_held(&rt, rt.alloc(), &site, &THREE, &[], &THREE);
+}
+
+#[test]
+fn cuts_what_came_from_others(rt: HostRuntime) {
+    let mut site = site_of(rt.alloc(), 2, &NONE).expect(&rt, "a site");
+    expect_accepted(&rt, rt.alloc(), &mut site, &TWO, 2);
+    expect_taken(&rt, rt.alloc(), &mut site, &OWN, &OWN_ANSWERS);
+    expect_accepted(&rt, rt.alloc(), &mut site, &THREE, 1);
+    expect_accepted(&rt, rt.alloc(), &mut site, &THREE, 0);
+    expect_held(&rt, rt.alloc(), &site, &BY_AND_BY, &[(1, 1)], &ABOVE);
+    assert_eq!(rt; site.vector().get(1), 3);
+}

@@ -1,0 +1,195 @@
+//! Events to try worlds on.
+
+use sct_delta::{Delta, DeltaFault, Entry, Vector};
+use sct_json::read_message;
+use sct_message::Message;
+use sct_site::SiteCore;
+use sct_world::*;
+use std::alloc::{AllocError, Global};
+use std::process::Abort;
+use std::sync::Arc;
+
+/// An event, by what it varies in.
+#[derive(Clone, Copy)]
+pub(crate) enum Line {
+    /// The site takes the credit transfer T1.
+    Transfer(u16),
+    /// The site takes the confirmation of T1.
+    Confirmation(u16),
+    /// The site cuts above so many entries of site 1, and above none of the others.
+    Cut(u16, u64),
+    /// The delta comes to the site.
+    Hand(u64, u16),
+    /// The site takes a credit transfer: its identification, its transfer, its amount and its settlement day.
+    Instructed(u16, &'static str, &'static str, &'static str, &'static str),
+    /// The site takes a status report: its identification, its transfer, and its status as JSON members.
+    Reported(u16, &'static str, &'static str, &'static str),
+}
+
+static TRANSFER: &str =
+    r#"{"MsgNmId":"pacs.008","MsgId":"M1","CreDtTm":"2024-05-02T10:00:00Z","InstgAgt":"BANKDEFF","IntrBkSttlmDt":"2024-05-02","SvcLvl":"SEPA","LclInstrm":"INST","EndToEndId":"E1","TxId":"T1","IntrBkSttlmAmt":"1.00","Ccy":"EUR","ChrgBr":"SLEV","Dbtr":"Anna Weber","DbtrAcct":"DE89370400440532013000","DbtrAgt":"BANKDEFF","CdtrAgt":"BANQFRPP","Cdtr":"Bo Maes","CdtrAcct":"BE68539007547034"}"#;
+
+static CONFIRMATION: &str =
+    r#"{"MsgNmId":"pacs.002","MsgId":"C1","CreDtTm":"2024-05-02T10:00:02Z","InstgAgt":"BANQFRPP","OrgnlMsgId":"M1","OrgnlMsgNmId":"pacs.008","OrgnlTxId":"T1","TxSts":"ACCP","DbtrAgt":"BANKDEFF"}"#;
+
+// The message of a text. There is none only where memory is wanting.
+fn message_of(alloc: Global, text: &str) -> Option<Arc<Message>> {
+    let message = read_message(alloc, text.as_bytes()).ok()?;
+    Arc::new(alloc, message).ok()
+}
+
+// The event in which a site takes the message of a text.
+fn take_of(alloc: Global, site: u16, text: &str) -> Option<Event> {
+    let message = message_of(alloc, text)?;
+    Some(Event::Take { site, message })
+}
+
+fn instruction(
+    alloc: Global,
+    id: &str,
+    tx: &str,
+    amount: &str,
+    day: &str,
+) -> Result<String, AllocError> {
+    format!(in alloc;
+        r#"{{"MsgNmId":"pacs.008","MsgId":"{id}","CreDtTm":"2024-05-02T10:00:00Z","InstgAgt":"BANKDEFF","IntrBkSttlmDt":"{day}","SvcLvl":"SEPA","LclInstrm":"INST","EndToEndId":"E1","TxId":"{tx}","IntrBkSttlmAmt":"{amount}","Ccy":"EUR","ChrgBr":"SLEV","Dbtr":"Anna Weber","DbtrAcct":"DE89370400440532013000","DbtrAgt":"BANKDEFF","CdtrAgt":"BANQFRPP","Cdtr":"Bo Maes","CdtrAcct":"BE68539007547034"}}"#
+    )
+}
+
+fn status_report(alloc: Global, id: &str, tx: &str, status: &str) -> Result<String, AllocError> {
+    format!(in alloc;
+        r#"{{"MsgNmId":"pacs.002","MsgId":"{id}","CreDtTm":"2024-05-02T10:00:02Z","InstgAgt":"BANQFRPP","OrgnlMsgId":"M1","OrgnlMsgNmId":"pacs.008","OrgnlTxId":"{tx}",{status},"DbtrAgt":"BANKDEFF"}}"#
+    )
+}
+
+fn event_of(alloc: Global, line: Line) -> Option<Event> {
+    match line {
+        Line::Transfer(site) => take_of(alloc, site, TRANSFER),
+        Line::Confirmation(site) => take_of(alloc, site, CONFIRMATION),
+        Line::Cut(site, count) => Some(Event::Cut {
+            site,
+            vector: Vector::of(alloc, &[(1, count)]).ok()?,
+        }),
+        Line::Hand(delta, site) => Some(Event::Hand { delta, site }),
+        Line::Instructed(site, id, tx, amount, day) => {
+            take_of(alloc, site, &instruction(alloc, id, tx, amount, day).ok()?)
+        }
+        Line::Reported(site, id, tx, status) => {
+            take_of(alloc, site, &status_report(alloc, id, tx, status).ok()?)
+        }
+    }
+}
+
+/// The events of some lines.
+pub(crate) fn events_of(alloc: Global, lines: &[Line]) -> Option<Vec<Event>> {
+    let mut events = Vec::new(alloc);
+    for line in lines {
+        events.push(event_of(alloc, *line)?).ok()?;
+    }
+    Some(events)
+}
+
+/// A site: its number, its group, the identifications of the confirmations that it took, and the one that it accepted as
+/// the first entry of site 1, where there is one.
+#[derive(Clone, Copy)]
+pub(crate) struct Life(
+    pub u16,
+    pub u16,
+    pub &'static [&'static str],
+    pub Option<&'static str>,
+);
+
+// A confirmation of that identification.
+fn confirmation_of(alloc: Global, id: &str) -> Option<Arc<Message>> {
+    let text = status_report(alloc, id, "T1", r#""TxSts":"ACCP""#).ok()?;
+    message_of(alloc, &text)
+}
+
+// The confirmation as the first entry of site 1.
+fn delta_of(alloc: Global, id: &str) -> Option<Delta> {
+    let mut entries = Vec::new(alloc);
+    let entry = Entry {
+        origin: 1,
+        n: 1,
+        message: confirmation_of(alloc, id)?,
+    };
+    entries.push(entry).ok()?;
+    Delta::of(entries).ok()
+}
+
+// The site takes the confirmations of these identifications.
+fn take_all(alloc: Global, site: &mut SiteCore, ids: &[&str]) -> Option<()> {
+    for id in ids {
+        site.take(confirmation_of(alloc, id)?).ok()?;
+    }
+    Some(())
+}
+
+// The site accepts the confirmation as the first entry of site 1, where there is one.
+fn accept_first(alloc: Global, site: &mut SiteCore, id: Option<&str>) -> Option<()> {
+    if let Some(id) = id {
+        site.accept(&delta_of(alloc, id)?).ok()?;
+    }
+    Some(())
+}
+
+fn site_of(alloc: Global, life: Life) -> Option<SiteCore> {
+    let mut site = SiteCore::open(alloc, life.0, life.1).ok()?;
+    take_all(alloc, &mut site, life.2)?;
+    accept_first(alloc, &mut site, life.3)?;
+    Some(site)
+}
+
+// The sites of some lives. There are none only where memory is wanting.
+fn sites_of(alloc: Global, lives: &[Life]) -> Option<Vec<SiteCore>> {
+    let mut sites = Vec::new(alloc);
+    for life in lives {
+        sites.push(site_of(alloc, *life)?).ok()?;
+    }
+    Some(sites)
+}
+
+// The site holds so many entries of the sites 1, 2 and 3, and its archive has the text.
+fn expect_site(rt: &impl Abort, site: &SiteCore, counts: &[u64; 3], text: &[u8]) {
+    let vector = site.vector();
+    assert_eq!(rt; vector.get(1), counts[0]);
+    assert_eq!(rt; vector.get(2), counts[1]);
+    assert_eq!(rt; vector.get(3), counts[2]);
+    let own = site.archive().text().expect(rt, "a text");
+    assert_eq!(rt; own.as_slice(), text);
+}
+
+// Each site holds so many entries of the sites 1, 2 and 3, and all archives have the text of the first.
+fn expect_alike(rt: &impl Abort, sites: &[SiteCore], counts: &[u64; 3]) {
+    let first = sites.first().expect(rt, "a site");
+    let text = first.archive().text().expect(rt, "a text");
+    for site in sites {
+        expect_site(rt, site, counts, &text);
+    }
+}
+
+/// The sites are settled, and settled again, and each holds so many entries of the sites 1, 2 and 3.
+pub(crate) fn expect_settled(rt: &impl Abort, alloc: Global, lives: &[Life], counts: &[u64; 3]) {
+    let mut sites = sites_of(alloc, lives).expect(rt, "sites");
+    settle(alloc, &mut sites).expect(rt, "memory");
+    expect_alike(rt, &sites, counts);
+    settle(alloc, &mut sites).expect(rt, "memory");
+    expect_alike(rt, &sites, counts);
+}
+
+/// Settling the sites is refused, and each has so many arrivals afterwards.
+pub(crate) fn expect_unsettled(
+    rt: &impl Abort,
+    alloc: Global,
+    lives: &[Life],
+    wanted: &DeltaFault,
+    arrivals: &[usize],
+) {
+    let mut sites = sites_of(alloc, lives).expect(rt, "sites");
+    let refusal = settle(alloc, &mut sites).err().expect(rt, "a refusal");
+    assert_eq!(rt; refusal, *wanted);
+    assert_eq!(rt; sites.len(), arrivals.len());
+    for (site, count) in sites.iter().zip(arrivals) {
+        assert_eq!(rt; site.arrivals().len(), *count);
+    }
+}

@@ -1,0 +1,66 @@
+//! Sites that filled up apart are settled, or are not, with ample memory.
+
+use super::scenes::{Life, expect_settled, expect_unsettled};
+use sct_delta::DeltaFault;
+use sct_world::settle;
+
+// Two sites that took a confirmation each.
+static TWO: [Life; 2] = [Life(1, 2, &["C1"], None), Life(2, 2, &["C2"], None)];
+
+// Three sites: the second has the first's first entry, the third took a message that the first took, too.
+static THREE: [Life; 3] = [
+    Life(1, 3, &["C1", "C2"], None),
+    Life(2, 3, &["C3"], Some("C1")),
+    Life(3, 3, &["C2", "C4", "C5"], None),
+];
+
+// The same, the last one first.
+static THREE_TURNED: [Life; 3] = [
+    Life(3, 3, &["C2", "C4", "C5"], None),
+    Life(2, 3, &["C3"], Some("C1")),
+    Life(1, 3, &["C1", "C2"], None),
+];
+
+static SAME_NUMBER: [Life; 2] = [Life(1, 2, &["C1"], None), Life(1, 2, &["C2"], None)];
+
+static OTHER_GROUP: [Life; 2] = [Life(1, 2, &["C1"], None), Life(2, 3, &["C2"], None)];
+
+// What the second holds of the first is another message than the first has, or one that the first does not have.
+static FORK: [Life; 2] = [Life(1, 2, &["C1"], None), Life(2, 2, &[], Some("C9"))];
+
+static AHEAD: [Life; 2] = [Life(1, 2, &[], None), Life(2, 2, &[], Some("C9"))];
+
+#[test]
+fn two_sites_are_settled(rt: HostRuntime) {
+    expect_settled(&rt, rt.alloc(), &TWO, &[1, 1, 0]);
+}
+
+#[test]
+fn three_sites_are_settled_in_any_order(rt: HostRuntime) {
+    expect_settled(&rt, rt.alloc(), &THREE, &[2, 1, 3]);
+    expect_settled(&rt, rt.alloc(), &THREE_TURNED, &[2, 1, 3]);
+}
+
+#[test]
+fn no_site_is_settled(rt: HostRuntime) {
+    assert!(rt; settle(rt.alloc(), &mut []).is_ok());
+}
+
+#[test]
+fn sites_of_two_groups_or_of_one_number_stay_apart(rt: HostRuntime) {
+    let bad = DeltaFault::BadSite;
+    expect_unsettled(&rt, rt.alloc(), &SAME_NUMBER, &bad, &[1, 1]);
+    expect_unsettled(&rt, rt.alloc(), &OTHER_GROUP, &bad, &[1, 1]);
+}
+
+#[test]
+fn a_fork_is_told(rt: HostRuntime) {
+    let fork = DeltaFault::Fork { origin: 1, n: 1 };
+    expect_unsettled(&rt, rt.alloc(), &FORK, &fork, &[1, 1]);
+}
+
+#[test]
+fn an_entry_ahead_of_its_owner_is_told(rt: HostRuntime) {
+    let ahead = DeltaFault::OwnAhead { n: 1 };
+    expect_unsettled(&rt, rt.alloc(), &AHEAD, &ahead, &[0, 1]);
+}

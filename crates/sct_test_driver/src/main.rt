@@ -1,0 +1,79 @@
+//! A test program: it does what standard input says at views, worlds, groups of sites and desks, and prints what is answered. Its
+//! first word says at which.
+//!
+//! `views`: lines. A message, in its JSON form, goes into the batch. An empty line applies the batch to the view, and prints
+//! how many of its messages were fresh and how many transfers it touched. `try` does the same, but where memory is wanting
+//! for the batch it prints the number of the fault, and the batch stays. `tell` prints the status text and the totals text of
+//! the view. `new` begins with a view of no message and an empty batch, and prints `new`.
+//!
+//! `worlds`: scripts, which a record separator (the byte 30) parts. Of each it prints the lines that tell the refused ones,
+//! or `fault 64` where it is no script, and then its replay, with a line of a record separator behind each of the two.
+//!
+//! `groups`: lines. `site <number> <group>` begins a site. `take <JSON text>` has the last site take a message, and
+//! `hold <origin> <number> <JSON text>` has it accept that one entry. `settle` settles the sites, prints how it ended and
+//! what each site holds then, as a delta text and as an archive text, and begins with no site.
+//!
+//! `calls N`: lines, which are done at one desk of site 1, alone in its group, after N allocations. `group N`: the same in a
+//! group of N sites. A JSON text is read as the message, and `read` is printed. `take` takes the message, and prints `taken` and
+//! its number or `repeat`, and the receipt's from, count and carried; `accept N` hands it over as entry N of site 2, and prints
+//! `accepted` and how many were fresh or `refused` and the number of the fault, and the receipt; `cut` cuts all, and prints each
+//! entry as its origin and number, and the receipt; `publish` publishes, and prints the receipt. `learn` has the query learn the
+//! last receipt, and prints `learned`; `other` has it learn the receipt of a new desk of site 2 that takes the message, which it
+//! prints. `ask` prints where the transfer T1 of BANKDEFF stands, `findings` how many findings there are on it, `recall ID` where
+//! its recall ID stands, `totals` how many transfers BANKDEFF sent and how many cents, each with the number of arrivals on which
+//! the answer stands. `open GROUP PLACES` opens another desk, and prints `opened` and how many queries it has. An empty line does
+//! nothing. At the end the desk is closed with all receipts, and `closed` is printed with the number of arrivals. Where a desk
+//! refuses, the number of the fault is printed in place of an answer, and the position that it tells.
+//!
+//! `times N`: one thread takes N credit transfers, each of a transfer of its own, while another asks for the last of them until
+//! it is known. The nanoseconds of each take are printed, of each of these answers, and of as many more once nothing is taken.
+//!
+//! What it cannot read ends the program.
+#![tactic(auto)]
+
+mod desks;
+mod groups;
+mod views;
+mod worlds;
+
+use anyhow::{Result, bail};
+use desks::try_desks;
+use groups::try_groups;
+use std::alloc::Global;
+use std::env;
+use std::io::{BufRead, BufReader, BufWriter, Write};
+use std::sync::Wait;
+use std::thread::Threads;
+use std::time::Clock;
+use views::try_views;
+use worlds::try_worlds;
+
+// Tries what the words say.
+fn try_words<R: Threads + Wait + Clock + Sync, B: BufRead + Drop, W: Write>(
+    rt: &R,
+    alloc: Global,
+    words: &[String],
+    reader: B,
+    out: &mut W,
+) -> Result<()> {
+    match words {
+        [_, word] => match word.as_str() {
+            "views" => try_views(alloc, reader, out),
+            "worlds" => try_worlds(alloc, reader, out),
+            "groups" => try_groups(alloc, reader, out),
+            _ => bail!("no trial of that name"),
+        },
+        [_, word, number] => try_desks(rt, alloc, word.as_str(), number.parse()?, reader, out),
+        _ => bail!("a word says what is tried, and a number stands behind it where it is desks"),
+    }
+}
+
+fn main(rt: HostRuntime) -> Result<()> {
+    let alloc = rt.alloc();
+    let words: Vec<String> = env::args(&rt)?.collect(alloc)?;
+    let reader = BufReader::new(alloc, rt.reader())?;
+    let mut out = BufWriter::new(alloc, rt.stdout())?;
+    try_words(&rt, alloc, &words, reader, &mut out)?;
+    out.flush()?;
+    Ok(())
+}

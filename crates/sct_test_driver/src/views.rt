@@ -1,0 +1,88 @@
+//! A view that is tried, line by line.
+
+use anyhow::Result;
+use sct_json::read_message;
+use sct_message::Message;
+use sct_view::{Applied, View};
+use std::alloc::Global;
+use std::io::{BufRead, Write};
+use std::sync::Arc;
+
+/// A view, and the messages of the batch that is being read.
+#[derive(Drop)]
+struct ViewTrial {
+    alloc: Global,
+    view: View,
+    batch: Vec<Arc<Message>>,
+}
+
+impl ViewTrial {
+    // A view of no message, and no batch begun.
+    fn new(alloc: Global) -> ViewTrial {
+        ViewTrial {
+            alloc,
+            view: View::new(alloc),
+            batch: Vec::new(alloc),
+        }
+    }
+
+    // Begins anew.
+    fn begin(&mut self) -> Result<Vec<u8>> {
+        *self = ViewTrial::new(self.alloc);
+        Ok(format!(in self.alloc; "new\n")?.into_bytes())
+    }
+
+    // Begins a batch, and tells what the one before brought.
+    fn next(&mut self, applied: &Applied) -> Result<Vec<u8>> {
+        self.batch = Vec::new(self.alloc);
+        Ok(format!(in self.alloc; "{} {}\n", applied.fresh, applied.touched)?.into_bytes())
+    }
+
+    // Applies the batch, and tells what it brought.
+    fn apply(&mut self) -> Result<Vec<u8>> {
+        let applied = self.view.apply(&self.batch)?;
+        self.next(&applied)
+    }
+
+    // Applies the batch, and tells what it brought, or the number of the fault where memory is wanting for it.
+    fn attempt(&mut self) -> Result<Vec<u8>> {
+        match self.view.apply(&self.batch) {
+            Ok(applied) => self.next(&applied),
+            Err(fault) => Ok(format!(in self.alloc; "{}\n", fault.number())?.into_bytes()),
+        }
+    }
+
+    // Tells both texts of the view.
+    fn tell(&self) -> Result<Vec<u8>> {
+        let mut told = self.view.status_text()?;
+        told.extend_from_slice(&self.view.totals_text()?)?;
+        Ok(told)
+    }
+
+    // Puts a message behind those of the batch.
+    fn push(&mut self, line: &str) -> Result<Vec<u8>> {
+        let message = read_message(self.alloc, line.as_bytes())?;
+        self.batch.push(Arc::new(self.alloc, message)?)?;
+        Ok(Vec::new(self.alloc))
+    }
+
+    // Does what a line says, and answers what is to be printed of it.
+    fn answer(&mut self, line: &str) -> Result<Vec<u8>> {
+        match line {
+            "" => self.apply(),
+            "try" => self.attempt(),
+            "new" => self.begin(),
+            "tell" => self.tell(),
+            _ => self.push(line),
+        }
+    }
+}
+
+/// Prints what is answered of each line on a view.
+pub fn try_views<B: BufRead + Drop, W: Write>(alloc: Global, reader: B, out: &mut W) -> Result<()> {
+    let mut trial = ViewTrial::new(alloc);
+    for line in reader.lines(alloc) {
+        out.write_all(&trial.answer(&line?)?)?;
+    }
+    Ok(())
+}

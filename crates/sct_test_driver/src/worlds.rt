@@ -1,0 +1,40 @@
+//! Inputs that are tried as scripts.
+
+use anyhow::Result;
+use sct_script::{ScriptFault, read_script, replay};
+use std::alloc::Global;
+use std::io::{BufRead, Write};
+
+// What is told, and the replay, with a line of a record separator behind each.
+fn parted(alloc: Global, told: &[u8], replay: &[u8]) -> Result<Vec<u8>> {
+    let mut text = Vec::new(alloc);
+    text.extend_from_slice(told)?;
+    text.extend_from_slice(b"\x1e\n")?;
+    text.extend_from_slice(replay)?;
+    text.extend_from_slice(b"\x1e\n")?;
+    Ok(text)
+}
+
+// What an input is answered: the lines that tell the refused ones, or `fault 64` where it is no script, and its replay.
+fn answer(alloc: Global, input: &[u8]) -> Result<Vec<u8>> {
+    match read_script(alloc, input) {
+        Ok(script) => {
+            let text = replay(alloc, script.sites, &script.events)?;
+            parted(alloc, script.told.as_bytes(), &text)
+        }
+        Err(ScriptFault::NoScript) => parted(alloc, b"fault 64\n", b""),
+        Err(fault) => Err(fault.into()),
+    }
+}
+
+/// Prints what is answered of each script.
+pub fn try_worlds<B: BufRead + Drop, W: Write>(
+    alloc: Global,
+    reader: B,
+    out: &mut W,
+) -> Result<()> {
+    for script in reader.split(alloc, b'\x1e') {
+        out.write_all(&answer(alloc, &script?)?)?;
+    }
+    Ok(())
+}

@@ -1,3 +1,0 @@
--- The lemmas of the program for tries.
-mod BroughtLemmas
-mod GroupLemmas

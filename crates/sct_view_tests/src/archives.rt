@@ -1,0 +1,216 @@
+//! Archives of the messages of worked examples, with ample memory.
+
+mod refusals;
+mod scenes;
+
+use indexmap::IndexMap;
+use scenes::{Row, answers_to, archive_of, messages_of};
+use sct_message::Kind;
+use sct_set::buckets::{file, unfile};
+use sct_set::*;
+use std::alloc::Global;
+use std::process::Abort;
+use std::thread::Threads;
+
+// A credit transfer with banks of 8 characters, with banks of 11, and again with banks of 8.
+static SPELLED: [Row; 3] = [
+    Row::CreditTransfer("M1", "T1", "0.01"),
+    Row::Text(
+        r#"{"MsgNmId":"pacs.008","MsgId":"M1","CreDtTm":"2024-05-02T10:00:00Z","InstgAgt":"BANKDEFFXXX","IntrBkSttlmDt":"2024-05-02","SvcLvl":"SEPA","LclInstrm":"INST","EndToEndId":"E1","TxId":"T1","IntrBkSttlmAmt":"0.01","Ccy":"EUR","ChrgBr":"SLEV","Dbtr":"Anna Weber","DbtrAcct":"DE89370400440532013000","DbtrAgt":"BANKDEFFXXX","CdtrAgt":"BANQFRPPXXX","Cdtr":"Bo Maes","CdtrAcct":"BE68539007547034"}"#,
+    ),
+    Row::CreditTransfer("M1", "T1", "0.01"),
+];
+
+static SPELLED_ANSWERS: [Added; 3] = [Added::Fresh, Added::Repeat, Added::Repeat];
+
+// What is written for all three.
+static WRITTEN: &str =
+    r#"{"Ccy":"EUR","Cdtr":"Bo Maes","CdtrAcct":"BE68539007547034","CdtrAgt":"BANQFRPPXXX","ChrgBr":"SLEV","CreDtTm":"2024-05-02T10:00:00Z","Dbtr":"Anna Weber","DbtrAcct":"DE89370400440532013000","DbtrAgt":"BANKDEFFXXX","EndToEndId":"E1","InstgAgt":"BANKDEFFXXX","IntrBkSttlmAmt":"0.01","IntrBkSttlmDt":"2024-05-02","LclInstrm":"INST","MsgId":"M1","MsgNmId":"pacs.008","SvcLvl":"SEPA","TxId":"T1"}
+"#;
+
+// Two confirmations of one identity, and another: what is written goes by identity and then by text, whatever the
+// order of the elements.
+static CONFIRMED: [Row; 3] = [
+    Row::Text(
+        r#"{"MsgNmId":"pacs.002","MsgId":"C1","CreDtTm":"2024-05-02T10:00:02Z","InstgAgt":"BANQFRPP","OrgnlMsgId":"M1","OrgnlMsgNmId":"pacs.008","OrgnlTxId":"T1","TxSts":"ACCP","DbtrAgt":"BANKDEFF"}"#,
+    ),
+    Row::Text(
+        r#"{"MsgNmId":"pacs.002","MsgId":"B9","CreDtTm":"2024-05-02T10:00:02Z","InstgAgt":"BANQFRPP","OrgnlMsgId":"M1","OrgnlMsgNmId":"pacs.008","OrgnlTxId":"T1","TxSts":"ACCP","DbtrAgt":"BANKDEFF"}"#,
+    ),
+    Row::Text(
+        r#"{"MsgNmId":"pacs.002.001.10","MsgId":"C1","CreDtTm":"2024-05-02T09:00:02Z","InstgAgt":"BANQFRPP","OrgnlMsgId":"M1","OrgnlMsgNmId":"pacs.008","OrgnlTxId":"T1","TxSts":"ACCP","DbtrAgt":"BANKDEFF"}"#,
+    ),
+];
+
+static CONFIRMED_WRITTEN: &str =
+    r#"{"CreDtTm":"2024-05-02T10:00:02Z","DbtrAgt":"BANKDEFFXXX","InstgAgt":"BANQFRPPXXX","MsgId":"B9","MsgNmId":"pacs.002","OrgnlMsgId":"M1","OrgnlMsgNmId":"pacs.008","OrgnlTxId":"T1","TxSts":"ACCP"}
+{"CreDtTm":"2024-05-02T09:00:02Z","DbtrAgt":"BANKDEFFXXX","InstgAgt":"BANQFRPPXXX","MsgId":"C1","MsgNmId":"pacs.002.001.10","OrgnlMsgId":"M1","OrgnlMsgNmId":"pacs.008","OrgnlTxId":"T1","TxSts":"ACCP"}
+{"CreDtTm":"2024-05-02T10:00:02Z","DbtrAgt":"BANKDEFFXXX","InstgAgt":"BANQFRPPXXX","MsgId":"C1","MsgNmId":"pacs.002","OrgnlMsgId":"M1","OrgnlMsgNmId":"pacs.008","OrgnlTxId":"T1","TxSts":"ACCP"}
+"#;
+
+// Messages one after another, and what the archive answers to each.
+static COMING: [Row; 9] = [
+    Row::CreditTransfer("M1", "T1", "100.00"),
+    Row::StatusReport("C1", "T1"),
+    Row::CreditTransfer("M2", "T2", "50.00"),
+    Row::StatusReport("C2", "T2"),
+    Row::StatusReport("C2", "T2"),
+    Row::StatusReport("C1", "T2"),
+    Row::StatusReport("C1", "T1"),
+    Row::StatusReport("C1", "T2"),
+    Row::StatusReport("C1", "T3"),
+];
+
+static COMING_ANSWERS: [Added; 9] = [
+    Added::Fresh,
+    Added::Fresh,
+    Added::Fresh,
+    Added::Fresh,
+    Added::Repeat,
+    Added::Against,
+    Added::Repeat,
+    Added::Repeat,
+    Added::Against,
+];
+
+// Three sites: the second holds what the first does and a message more, the third contradicts that one.
+static FIRST: [Row; 1] = [Row::CreditTransfer("M1", "T1", "1.00")];
+
+static SECOND: [Row; 2] = [
+    Row::CreditTransfer("M1", "T1", "1.00"),
+    Row::StatusReport("C1", "T1"),
+];
+
+static THIRD: [Row; 1] = [Row::StatusReport("C1", "T2")];
+
+// Adds messages to an empty archive, and compares the answers.
+fn add_each(rt: &impl Abort, alloc: Global, rows: &[Row], wanted: &[Added]) -> Archive {
+    let mut archive = Archive::new(alloc);
+    let list = messages_of(alloc, rows).expect(rt, "a list");
+    let answers = answers_to(alloc, &mut archive, &list).expect(rt, "answers");
+    assert_eq!(rt; answers.as_slice(), wanted);
+    archive
+}
+
+// Compares the archive text.
+fn expect_text(rt: &impl Abort, archive: &Archive, wanted: &str) {
+    let text = archive.text().expect(rt, "a text");
+    assert_eq!(rt; text.as_slice(), wanted.as_bytes());
+}
+
+// One identity is contradicted, that of the confirmations C1.
+fn expect_contradicted(rt: &impl Abort, archive: &Archive) {
+    let found = archive.contradictions().expect(rt, "contradictions");
+    assert_eq!(rt; found.len(), 1);
+    assert_eq!(rt; found[0].sender.text(), "BANQFRPPXXX");
+    assert_eq!(rt; found[0].kind, Kind::Pacs002);
+    assert_eq!(rt; found[0].msg_id.text(), "C1");
+}
+
+// Merges an archive of the messages of some rows, and compares how many were new.
+fn merge_rows(rt: &impl Abort, alloc: Global, archive: &mut Archive, rows: &[Row], wanted: u64) {
+    let other = archive_of(alloc, rows).expect(rt, "another archive");
+    let new = archive.merge(&other).expect(rt, "memory");
+    assert_eq!(rt; new, wanted);
+}
+
+// The archive text of two sites that are merged.
+fn text_of_both(
+    rt: &impl Abort,
+    alloc: Global,
+    one: &[Row],
+    other: &[Row],
+    wanted: u64,
+) -> Vec<u8> {
+    let mut archive = archive_of(alloc, one).expect(rt, "an archive");
+    merge_rows(rt, alloc, &mut archive, other, wanted);
+    archive.text().expect(rt, "a text")
+}
+
+#[test]
+fn an_empty_archive_says_nothing(rt: HostRuntime) {
+    let archive = Archive::new(rt.alloc());
+    assert_eq!(rt; archive.len(), 0);
+    expect_text(&rt, &archive, "");
+    let found = archive.contradictions().expect(&rt, "contradictions");
+    assert!(rt; found.is_empty());
+}
+
+#[test]
+fn takes_a_message_once_however_its_banks_are_written(rt: HostRuntime) {
+    let archive = add_each(&rt, rt.alloc(), &SPELLED, &SPELLED_ANSWERS);
+    expect_text(&rt, &archive, WRITTEN);
+}
+
+#[test]
+fn tells_how_each_message_comes(rt: HostRuntime) {
+    let archive = add_each(&rt, rt.alloc(), &COMING, &COMING_ANSWERS);
+    assert_eq!(rt; archive.len(), 6);
+    expect_contradicted(&rt, &archive);
+}
+
+#[test]
+fn writes_by_identity_and_then_by_text(rt: HostRuntime) {
+    let archive = archive_of(rt.alloc(), &CONFIRMED).expect(&rt, "an archive");
+    expect_text(&rt, &archive, CONFIRMED_WRITTEN);
+}
+
+// The pieces of the archive text of the messages of some rows, one after another.
+fn text_in_pieces_of(rt: &(impl Threads + Sync), alloc: Global, rows: &[Row]) -> Option<Vec<u8>> {
+    let messages = messages_of(alloc, rows)?;
+    let pieces = Ordered::of(rt, alloc, &messages)
+        .ok()?
+        .text_in_pieces(rt)
+        .ok()?;
+    let mut text = Vec::new(alloc);
+    for piece in &pieces {
+        text.extend_from_slice(piece).ok()?;
+    }
+    Some(text)
+}
+
+#[test]
+fn writes_the_same_in_pieces(rt: HostRuntime) {
+    let text = text_in_pieces_of(&rt, rt.alloc(), &CONFIRMED).expect(&rt, "a text");
+    assert_eq!(rt; text.as_slice(), CONFIRMED_WRITTEN.as_bytes());
+    let text = text_in_pieces_of(&rt, rt.alloc(), &SPELLED).expect(&rt, "a text");
+    assert_eq!(rt; text.as_slice(), WRITTEN.as_bytes());
+}
+
+#[test]
+fn merges_count_what_is_new(rt: HostRuntime) {
+    let mut archive = Archive::new(rt.alloc());
+    merge_rows(&rt, rt.alloc(), &mut archive, &FIRST, 1);
+    merge_rows(&rt, rt.alloc(), &mut archive, &SECOND, 1);
+    merge_rows(&rt, rt.alloc(), &mut archive, &SECOND, 0);
+    merge_rows(&rt, rt.alloc(), &mut archive, &THIRD, 1);
+    assert_eq!(rt; archive.len(), 3);
+    expect_contradicted(&rt, &archive);
+}
+
+#[test]
+fn merges_in_another_order_write_the_same(rt: HostRuntime) {
+    let text = text_of_both(&rt, rt.alloc(), &SECOND, &THIRD, 1);
+    let same = text_of_both(&rt, rt.alloc(), &THIRD, &SECOND, 2);
+    assert_eq!(rt; text.as_slice(), same.as_slice());
+}
+
+#[test]
+fn adds_what_is_new_of_a_list(rt: HostRuntime) {
+    let mut archive = archive_of(rt.alloc(), &FIRST).expect(&rt, "an archive");
+    let list = messages_of(rt.alloc(), &SECOND).expect(&rt, "a list");
+    let new = archive.add_all(&list).expect(&rt, "memory");
+    assert_eq!(rt; new, 1);
+    assert_eq!(rt; archive.len(), 2);
+}
+
+#[test]
+fn a_key_goes_with_its_last_item(rt: HostRuntime) {
+    let mut index = IndexMap::new(rt.alloc());
+    assert!(rt; file(rt.alloc(), &mut index, 7u32, 'a').is_ok());
+    assert!(rt; file(rt.alloc(), &mut index, 7u32, 'b').is_ok());
+    unfile(&mut index, &7u32);
+    assert_eq!(rt; index.len(), 1);
+    unfile(&mut index, &7u32);
+    assert_eq!(rt; index.len(), 0);
+}

@@ -1,0 +1,471 @@
+//! Worked examples of one transfer, with ample memory.
+
+mod scenes;
+
+use scenes::{Row, asides, messages};
+use sct_case::*;
+use sct_element::Id35;
+use sct_message::Message;
+use std::alloc::Global;
+use std::process::Abort;
+use std::sync::Arc;
+use std::test::Fail;
+
+/// The word of a finding, and its recall or its message where it has one.
+fn words(finding: &Finding) -> (&'static str, &str) {
+    match finding {
+        Finding::Identity(identity) => ("Identity", identity.msg_id.text()),
+        Finding::TwoInstructions => ("TwoInstructions", ""),
+        Finding::BothConfirmed => ("BothConfirmed", ""),
+        Finding::ReasonsDiffer => ("ReasonsDiffer", ""),
+        Finding::AmountDiffers => ("AmountDiffers", ""),
+        Finding::RecallsDiffer(cxl) => ("RecallsDiffer", cxl.text()),
+        Finding::BothAnswers(cxl) => ("BothAnswers", cxl.text()),
+        Finding::RefusalsDiffer(cxl) => ("RefusalsDiffer", cxl.text()),
+        Finding::TwoReturns => ("TwoReturns", ""),
+        Finding::ReturnOfRejected => ("ReturnOfRejected", ""),
+    }
+}
+
+/// The word of a status; its reason and its cents follow in calls of their own.
+fn word(status: &Status) -> &'static str {
+    match status {
+        Status::Contradicted(_) => "CONTRADICTED",
+        Status::Unknown => "UNKNOWN",
+        Status::Missing => "MISSING",
+        Status::Rejected(_) => "REJECTED",
+        Status::Returned(_) => "RETURNED",
+        Status::Accepted => "ACCEPTED",
+        Status::Investigated => "INVESTIGATED",
+        Status::Pending => "PENDING",
+    }
+}
+
+fn recall_word(status: &RecallStatus) -> &'static str {
+    match status {
+        RecallStatus::Contradicted => "CONTRADICTED",
+        RecallStatus::Unknown => "UNKNOWN",
+        RecallStatus::Unasked => "UNASKED",
+        RecallStatus::Returned(_) => "RETURNED",
+        RecallStatus::Refused(_) => "REFUSED",
+        RecallStatus::Chased => "CHASED",
+        RecallStatus::Open => "OPEN",
+    }
+}
+
+/// What a status tells beside its word: cents, or the code of a reason.
+fn argument(status: &Status) -> (u64, &str) {
+    match status {
+        Status::Rejected(reason) => (0, reason.text()),
+        Status::Returned(amount) => (amount.cents(), ""),
+        _ => (0, ""),
+    }
+}
+
+fn recall_argument(status: &RecallStatus) -> (u64, &str) {
+    match status {
+        RecallStatus::Refused(reason) => (0, reason.text()),
+        RecallStatus::Returned(amount) => (amount.cents(), ""),
+        _ => (0, ""),
+    }
+}
+
+/// Whether these are the findings.
+fn assert_findings(rt: &impl Abort, found: &[Finding], wanted: &[(&str, &str)]) {
+    assert_eq!(rt; found.len(), wanted.len());
+    for (finding, wanted) in found.iter().zip(wanted) {
+        assert_eq!(rt; words(finding), *wanted);
+    }
+}
+
+/// Whether these messages and asides give these findings, and so a contradicted transfer and recall.
+fn assert_found(rt: &impl Abort, alloc: Global, case: &Contradicted) -> Result<(), Fail> {
+    let clean = messages(alloc, case.rows)?;
+    let asides = asides(alloc, case.asides)?;
+    assert_findings(rt, &findings(alloc, &clean, &asides)?, case.found);
+    let status = transfer_status(alloc, &clean, &asides)?;
+    assert_eq!(rt; word(&status), "CONTRADICTED");
+    let recall = recall_status(alloc, &clean, &asides, &Id35::read("R9")?)?;
+    assert_eq!(rt; recall_word(&recall), "CONTRADICTED");
+    Ok(())
+}
+
+/// Whether the recall of these messages stands so.
+fn assert_recall(
+    rt: &impl Abort,
+    alloc: Global,
+    clean: &[Arc<Message>],
+    wanted: &(&str, &str, u64, &str),
+) -> Result<(), Fail> {
+    let status = recall_status(alloc, clean, &[], &Id35::read(wanted.0)?)?;
+    assert_eq!(rt; recall_word(&status), wanted.1);
+    assert_eq!(rt; recall_argument(&status), (wanted.2, wanted.3));
+    Ok(())
+}
+
+/// Whether the transfer of these messages and its recalls stand so.
+fn assert_standing(rt: &impl Abort, alloc: Global, case: &Standing) -> Result<(), Fail> {
+    let clean = messages(alloc, case.rows)?;
+    let status = transfer_status(alloc, &clean, &[])?;
+    assert_eq!(rt; word(&status), case.status.0);
+    assert_eq!(rt; argument(&status), (case.status.1, case.status.2));
+    for wanted in case.recalls {
+        assert_recall(rt, alloc, &clean, wanted)?;
+    }
+    Ok(())
+}
+
+/// What contradicts itself on a transfer: its messages, its asides, and the findings.
+struct Contradicted {
+    rows: &'static [Row],
+    asides: &'static [&'static str],
+    found: &'static [(&'static str, &'static str)],
+}
+
+/// Where a transfer and its recalls stand: its messages, the status, and each recall with its status. A status is its
+/// word, its cents and the code of its reason.
+struct Standing {
+    rows: &'static [Row],
+    status: (&'static str, u64, &'static str),
+    recalls: &'static [(&'static str, &'static str, u64, &'static str)],
+}
+
+static CONTRADICTED: [Contradicted; 15] = [
+    // an identity
+    Contradicted {
+        rows: &[Row::Instructed("M1", "100.00")],
+        asides: &["C1", "C2"],
+        found: &[("Identity", "C1"), ("Identity", "C2")],
+    },
+    // two instructions
+    Contradicted {
+        rows: &[
+            Row::Instructed("M1", "100.00"),
+            Row::Instructed("M2", "100.00"),
+            Row::Accepted("C1"),
+        ],
+        asides: &[],
+        found: &[("TwoInstructions", "")],
+    },
+    // both confirmations
+    Contradicted {
+        rows: &[
+            Row::Instructed("M1", "1.00"),
+            Row::Accepted("C1"),
+            Row::Rejected("C2", "AC04"),
+        ],
+        asides: &[],
+        found: &[("BothConfirmed", "")],
+    },
+    // differing reasons
+    Contradicted {
+        rows: &[
+            Row::Instructed("M1", "100.00"),
+            Row::Rejected("C1", "AC04"),
+            Row::Rejected("C2", "AM04"),
+        ],
+        asides: &[],
+        found: &[("ReasonsDiffer", "")],
+    },
+    // a differing amount of a return
+    Contradicted {
+        rows: &[
+            Row::Instructed("M1", "100.00"),
+            Row::Accepted("C1"),
+            Row::Recalled("K1", "R1", "100.00", "FRAD"),
+            Row::Returned("P1", "XP1", "R1", "100.01", "99.00"),
+        ],
+        asides: &[],
+        found: &[("AmountDiffers", "")],
+    },
+    // no differing amount of two
+    Contradicted {
+        rows: &[
+            Row::Instructed("M1", "100.00"),
+            Row::Instructed("M2", "100.00"),
+            Row::Recalled("K1", "R1", "90.00", "FRAD"),
+        ],
+        asides: &[],
+        found: &[("TwoInstructions", "")],
+    },
+    // differing recalls
+    Contradicted {
+        rows: &[
+            Row::Accepted("C1"),
+            Row::Recalled("K1", "R1", "100.00", "FRAD"),
+            Row::Recalled("K2", "R1", "100.00", "DUPL"),
+            Row::Recalled("K3", "R2", "1.00", "DUPL"),
+        ],
+        asides: &[],
+        found: &[("RecallsDiffer", "R1")],
+    },
+    // both answers
+    Contradicted {
+        rows: &[
+            Row::Instructed("M1", "100.00"),
+            Row::Accepted("C1"),
+            Row::Recalled("K1", "R1", "100.00", "FRAD"),
+            Row::Chased("Q1", "R1"),
+            Row::Refused("N1", "R1", "CUST"),
+            Row::Returned("P1", "XP1", "R1", "100.00", "99.00"),
+        ],
+        asides: &[],
+        found: &[("BothAnswers", "R1")],
+    },
+    // differing refusals
+    Contradicted {
+        rows: &[
+            Row::Instructed("M1", "100.00"),
+            Row::Recalled("K1", "R1", "100.00", "FRAD"),
+            Row::Refused("N1", "R2", "CUST"),
+            Row::Refused("N2", "R2", "LEGL"),
+            Row::Refused("N3", "R1", "CUST"),
+            Row::Refused("N4", "R1", "LEGL"),
+        ],
+        asides: &[],
+        found: &[("RefusalsDiffer", "R1"), ("RefusalsDiffer", "R2")],
+    },
+    // two returns
+    Contradicted {
+        rows: &[
+            Row::Instructed("M1", "100.00"),
+            Row::Accepted("C1"),
+            Row::Recalled("K1", "R1", "100.00", "FRAD"),
+            Row::Returned("P1", "XP1", "R1", "100.00", "99.00"),
+            Row::Returned("P2", "XP1", "R1", "100.00", "98.00"),
+        ],
+        asides: &[],
+        found: &[("TwoReturns", "")],
+    },
+    // a return of a rejected transfer
+    Contradicted {
+        rows: &[
+            Row::Instructed("M1", "100.00"),
+            Row::Rejected("C1", "AC04"),
+            Row::Returned("P1", "XP1", "R1", "100.00", "99.00"),
+        ],
+        asides: &[],
+        found: &[("ReturnOfRejected", "")],
+    },
+    // three at once
+    Contradicted {
+        rows: &[
+            Row::Instructed("M1", "1.00"),
+            Row::Rejected("C1", "AC04"),
+            Row::Rejected("C2", "AM04"),
+            Row::Returned("P1", "XP1", "R1", "1.00", "1.00"),
+            Row::Refused("N1", "R1", "CUST"),
+        ],
+        asides: &[],
+        found: &[
+            ("ReasonsDiffer", ""),
+            ("BothAnswers", "R1"),
+            ("ReturnOfRejected", ""),
+        ],
+    },
+    // four at once
+    Contradicted {
+        rows: &[
+            Row::Instructed("M1", "100.00"),
+            Row::Recalled("K1", "R1", "100.00", "FRAD"),
+            Row::Recalled("K2", "R1", "90.00", "FRAD"),
+            Row::Returned("P1", "XP1", "R1", "100.00", "99.00"),
+            Row::Returned("P2", "XP2", "R1", "100.00", "98.00"),
+            Row::Refused("N1", "R2", "CUST"),
+            Row::Refused("N2", "R2", "LEGL"),
+        ],
+        asides: &[],
+        found: &[
+            ("AmountDiffers", ""),
+            ("RecallsDiffer", "R1"),
+            ("RefusalsDiffer", "R2"),
+            ("TwoReturns", ""),
+        ],
+    },
+    // all that two instructions allow
+    Contradicted {
+        rows: &[
+            Row::Instructed("M1", "100.00"),
+            Row::Instructed("M2", "100.00"),
+            Row::Accepted("C1"),
+            Row::Rejected("C2", "AC04"),
+            Row::Rejected("C3", "AM04"),
+            Row::Recalled("K1", "R1", "100.00", "FRAD"),
+            Row::Recalled("K2", "R1", "90.00", "FRAD"),
+            Row::Returned("P1", "XP1", "R1", "100.00", "99.00"),
+            Row::Returned("P2", "XP2", "R2", "100.00", "98.00"),
+            Row::Refused("N1", "R1", "CUST"),
+            Row::Refused("N2", "R1", "LEGL"),
+        ],
+        asides: &["C9"],
+        found: &[
+            ("Identity", "C9"),
+            ("TwoInstructions", ""),
+            ("BothConfirmed", ""),
+            ("ReasonsDiffer", ""),
+            ("RecallsDiffer", "R1"),
+            ("BothAnswers", "R1"),
+            ("RefusalsDiffer", "R1"),
+            ("TwoReturns", ""),
+            ("ReturnOfRejected", ""),
+        ],
+    },
+    // all that one instruction allows
+    Contradicted {
+        rows: &[
+            Row::Instructed("M1", "100.00"),
+            Row::Accepted("C1"),
+            Row::Rejected("C2", "AC04"),
+            Row::Rejected("C3", "AM04"),
+            Row::Recalled("K1", "R1", "100.00", "FRAD"),
+            Row::Recalled("K2", "R1", "90.00", "FRAD"),
+            Row::Returned("P1", "XP1", "R1", "100.00", "99.00"),
+            Row::Returned("P2", "XP2", "R2", "100.00", "98.00"),
+            Row::Refused("N1", "R1", "CUST"),
+            Row::Refused("N2", "R1", "LEGL"),
+        ],
+        asides: &["C9"],
+        found: &[
+            ("Identity", "C9"),
+            ("BothConfirmed", ""),
+            ("ReasonsDiffer", ""),
+            ("AmountDiffers", ""),
+            ("RecallsDiffer", "R1"),
+            ("BothAnswers", "R1"),
+            ("RefusalsDiffer", "R1"),
+            ("TwoReturns", ""),
+            ("ReturnOfRejected", ""),
+        ],
+    },
+];
+
+static STANDING: [Standing; 12] = [
+    // unknown
+    Standing {
+        rows: &[],
+        status: ("UNKNOWN", 0, ""),
+        recalls: &[("R1", "UNKNOWN", 0, "")],
+    },
+    // a missing instruction
+    Standing {
+        rows: &[Row::Refused("N1", "R1", "CUST")],
+        status: ("MISSING", 0, ""),
+        recalls: &[("R1", "UNASKED", 0, ""), ("R2", "UNKNOWN", 0, "")],
+    },
+    // a rejection
+    Standing {
+        rows: &[
+            Row::Instructed("M1", "1.00"),
+            Row::Investigated("Q1"),
+            Row::Rejected("C1", "AG09"),
+        ],
+        status: ("REJECTED", 0, "AG09"),
+        recalls: &[],
+    },
+    // a return
+    Standing {
+        rows: &[
+            Row::Instructed("M1", "100.00"),
+            Row::Accepted("C1"),
+            Row::Recalled("K1", "R1", "100.00", "FRAD"),
+            Row::Returned("P1", "XP1", "R1", "100.00", "99.00"),
+        ],
+        status: ("RETURNED", 9900, ""),
+        recalls: &[("R1", "RETURNED", 9900, "")],
+    },
+    // no return without acceptance
+    Standing {
+        rows: &[
+            Row::Instructed("M1", "100.00"),
+            Row::Recalled("K1", "R1", "100.00", "FRAD"),
+            Row::Returned("P1", "XP1", "R1", "100.00", "99.00"),
+        ],
+        status: ("PENDING", 0, ""),
+        recalls: &[("R1", "RETURNED", 9900, "")],
+    },
+    // equal returns as one
+    Standing {
+        rows: &[
+            Row::Instructed("M1", "100.00"),
+            Row::Accepted("C1"),
+            Row::Recalled("K1", "R1", "100.00", "FRAD"),
+            Row::Returned("P1", "XP1", "R1", "100.00", "99.00"),
+            Row::Returned("P2", "XP1", "R1", "100.00", "99.00"),
+        ],
+        status: ("RETURNED", 9900, ""),
+        recalls: &[("R1", "RETURNED", 9900, "")],
+    },
+    // an acceptance
+    Standing {
+        rows: &[
+            Row::Instructed("M1", "100.00"),
+            Row::Accepted("C1"),
+            Row::Recalled("K1", "R1", "100.00", "FRAD"),
+        ],
+        status: ("ACCEPTED", 0, ""),
+        recalls: &[("R1", "OPEN", 0, "")],
+    },
+    // an investigation
+    Standing {
+        rows: &[Row::Instructed("M1", "1.00"), Row::Investigated("Q1")],
+        status: ("INVESTIGATED", 0, ""),
+        recalls: &[],
+    },
+    // a chased recall
+    Standing {
+        rows: &[
+            Row::Instructed("M1", "100.00"),
+            Row::Recalled("K1", "R1", "100.00", "FRAD"),
+            Row::Chased("Q1", "R1"),
+        ],
+        status: ("PENDING", 0, ""),
+        recalls: &[("R1", "CHASED", 0, ""), ("R2", "UNKNOWN", 0, "")],
+    },
+    // a refused recall
+    Standing {
+        rows: &[
+            Row::Instructed("M1", "100.00"),
+            Row::Accepted("C1"),
+            Row::Recalled("K1", "R1", "100.00", "FRAD"),
+            Row::Chased("Q1", "R1"),
+            Row::Refused("N1", "R1", "CUST"),
+        ],
+        status: ("ACCEPTED", 0, ""),
+        recalls: &[("R1", "REFUSED", 0, "CUST")],
+    },
+    // a chase of an unmade recall
+    Standing {
+        rows: &[Row::Instructed("M1", "100.00"), Row::Chased("Q1", "R2")],
+        status: ("PENDING", 0, ""),
+        recalls: &[("R2", "UNASKED", 0, "")],
+    },
+    // answers to two recalls
+    Standing {
+        rows: &[
+            Row::Instructed("M1", "100.00"),
+            Row::Accepted("C1"),
+            Row::Recalled("K1", "R1", "100.00", "FRAD"),
+            Row::Recalled("K2", "R2", "100.00", "DUPL"),
+            Row::Refused("N1", "R2", "LEGL"),
+            Row::Returned("P1", "XP1", "R1", "100.00", "99.00"),
+        ],
+        status: ("RETURNED", 9900, ""),
+        recalls: &[("R1", "RETURNED", 9900, ""), ("R2", "REFUSED", 0, "LEGL")],
+    },
+];
+
+#[test]
+fn finds_what_contradicts_itself(rt: HostRuntime) -> Result<(), Fail> {
+    for case in &CONTRADICTED {
+        assert_found(&rt, rt.alloc(), case)?;
+    }
+    Ok(())
+}
+
+#[test]
+fn tells_where_transfers_and_recalls_stand(rt: HostRuntime) -> Result<(), Fail> {
+    for case in &STANDING {
+        assert_standing(&rt, rt.alloc(), case)?;
+    }
+    Ok(())
+}

@@ -1,0 +1,240 @@
+//! Two batches that come to a view of no message, and all that it answers afterwards, with ample memory.
+
+mod scenes;
+
+use scenes::{apply_texts, recall};
+use sct_case::{Finding, RecallStatus, Status};
+use sct_element::Bic;
+use sct_message::TransferKey;
+use sct_view::*;
+use std::alloc::Global;
+use std::process::Abort;
+use std::test::Fail;
+
+/// A transfer and a recall of it, and where both stand.
+type Standing = (&'static str, &'static str, &'static str, &'static str);
+
+// Messages of all six kinds, with which seven transfers stand in as many ways.
+static FIRST: [&str; 17] = [
+    r#"{"MsgNmId":"pacs.002","CreDtTm":"2024-05-02T10:00:02Z","InstgAgt":"BANQFRPP","OrgnlMsgId":"M1","OrgnlMsgNmId":"pacs.008","TxSts":"RJCT","DbtrAgt":"BANKDEFF","MsgId":"C7","OrgnlTxId":"T6","Rsn":"AC04"}"#,
+    r#"{"MsgNmId":"pacs.002","CreDtTm":"2024-05-02T10:00:02Z","InstgAgt":"BANQFRPP","OrgnlMsgId":"M1","OrgnlMsgNmId":"pacs.008","TxSts":"ACCP","DbtrAgt":"BANKDEFF","MsgId":"C6","OrgnlTxId":"T6"}"#,
+    r#"{"MsgNmId":"pacs.008","CreDtTm":"2024-05-02T10:00:00Z","InstgAgt":"BANKDEFF","IntrBkSttlmDt":"2024-05-02","SvcLvl":"SEPA","LclInstrm":"INST","EndToEndId":"E1","Ccy":"EUR","ChrgBr":"SLEV","Dbtr":"Anna Weber","DbtrAcct":"DE89370400440532013000","DbtrAgt":"BANKDEFF","Cdtr":"Bo Maes","CdtrAcct":"BE68539007547034","MsgId":"M6","TxId":"T6","IntrBkSttlmAmt":"1.00","CdtrAgt":"BANQFRPP"}"#,
+    r#"{"MsgNmId":"pacs.008","CreDtTm":"2024-05-02T10:00:00Z","InstgAgt":"BANKDEFF","IntrBkSttlmDt":"2024-05-02","SvcLvl":"SEPA","LclInstrm":"INST","EndToEndId":"E1","Ccy":"EUR","ChrgBr":"SLEV","Dbtr":"Anna Weber","DbtrAcct":"DE89370400440532013000","DbtrAgt":"BANKDEFF","Cdtr":"Bo Maes","CdtrAcct":"BE68539007547034","MsgId":"M1","TxId":"T1","IntrBkSttlmAmt":"100.00","CdtrAgt":"BANQFRPP"}"#,
+    r#"{"MsgNmId":"pacs.002","CreDtTm":"2024-05-02T10:00:02Z","InstgAgt":"BANQFRPP","OrgnlMsgId":"M1","OrgnlMsgNmId":"pacs.008","TxSts":"ACCP","DbtrAgt":"BANKDEFF","MsgId":"C1","OrgnlTxId":"T1"}"#,
+    r#"{"MsgNmId":"camt.056","CreDtTm":"2024-05-03T09:00:00Z","InstgAgt":"BANKDEFF","OrgnlMsgId":"M1","OrgnlMsgNmId":"pacs.008","Ccy":"EUR","DbtrAgt":"BANKDEFF","MsgId":"K1","OrgnlTxId":"T1","CxlId":"R1","OrgnlIntrBkSttlmAmt":"100.00","Rsn":"FRAD"}"#,
+    r#"{"MsgNmId":"pacs.004","CreDtTm":"2024-05-04T09:00:00Z","InstgAgt":"BANQFRPP","RtrId":"X1","OrgnlMsgId":"M1","OrgnlMsgNmId":"pacs.008","Ccy":"EUR","IntrBkSttlmDt":"2024-05-04","Rsn":"FOCR","DbtrAgt":"BANKDEFF","MsgId":"P1","OrgnlTxId":"T1","OrgnlCxlId":"R1","OrgnlIntrBkSttlmAmt":"100.00","RtrdIntrBkSttlmAmt":"99.00"}"#,
+    r#"{"MsgNmId":"pacs.008","CreDtTm":"2024-05-02T10:00:00Z","InstgAgt":"BANKDEFF","IntrBkSttlmDt":"2024-05-02","SvcLvl":"SEPA","LclInstrm":"INST","EndToEndId":"E1","Ccy":"EUR","ChrgBr":"SLEV","Dbtr":"Anna Weber","DbtrAcct":"DE89370400440532013000","DbtrAgt":"BANKDEFF","Cdtr":"Bo Maes","CdtrAcct":"BE68539007547034","MsgId":"M2","TxId":"T2","IntrBkSttlmAmt":"50.00","CdtrAgt":"BANQFRPP"}"#,
+    r#"{"MsgNmId":"pacs.028","CreDtTm":"2024-05-02T10:00:30Z","InstgAgt":"BANKDEFF","OrgnlMsgId":"M1","OrgnlMsgNmId":"pacs.008","DbtrAgt":"BANKDEFF","MsgId":"Q1","OrgnlTxId":"T2"}"#,
+    r#"{"MsgNmId":"camt.029","CreDtTm":"2024-05-04T09:00:00Z","InstgAgt":"BANQFRPP","CxlStsId":"S1","OrgnlMsgId":"M1","OrgnlMsgNmId":"pacs.008","Conf":"RJCR","DbtrAgt":"BANKDEFF","MsgId":"N1","OrgnlTxId":"T3","OrgnlCxlId":"R9","Rsn":"CUST"}"#,
+    r#"{"MsgNmId":"pacs.008","CreDtTm":"2024-05-02T10:00:00Z","InstgAgt":"BANKDEFF","IntrBkSttlmDt":"2024-05-02","SvcLvl":"SEPA","LclInstrm":"INST","EndToEndId":"E1","Ccy":"EUR","ChrgBr":"SLEV","Dbtr":"Anna Weber","DbtrAcct":"DE89370400440532013000","DbtrAgt":"BANKDEFF","Cdtr":"Bo Maes","CdtrAcct":"BE68539007547034","MsgId":"M4","TxId":"T4","IntrBkSttlmAmt":"7.00","CdtrAgt":"BANQFRPP"}"#,
+    r#"{"MsgNmId":"pacs.002","CreDtTm":"2024-05-02T10:00:02Z","InstgAgt":"BANQFRPP","OrgnlMsgId":"M1","OrgnlMsgNmId":"pacs.008","TxSts":"RJCT","DbtrAgt":"BANKDEFF","MsgId":"C4","OrgnlTxId":"T4","Rsn":"AC04"}"#,
+    r#"{"MsgNmId":"pacs.028","CreDtTm":"2024-05-02T10:00:30Z","InstgAgt":"BANKDEFF","OrgnlMsgId":"M1","OrgnlMsgNmId":"camt.056","DbtrAgt":"BANKDEFF","MsgId":"Q5","OrgnlTxId":"T5","OrgnlCxlId":"R5"}"#,
+    r#"{"MsgNmId":"camt.056","CreDtTm":"2024-05-03T09:00:00Z","InstgAgt":"BANKDEFF","OrgnlMsgId":"M1","OrgnlMsgNmId":"pacs.008","Ccy":"EUR","DbtrAgt":"BANKDEFF","MsgId":"K6","OrgnlTxId":"T5","CxlId":"R4","OrgnlIntrBkSttlmAmt":"1.00","Rsn":"DUPL"}"#,
+    r#"{"MsgNmId":"camt.056","CreDtTm":"2024-05-03T09:00:00Z","InstgAgt":"BANKDEFF","OrgnlMsgId":"M1","OrgnlMsgNmId":"pacs.008","Ccy":"EUR","DbtrAgt":"BANKDEFF","MsgId":"K5","OrgnlTxId":"T5","CxlId":"R5","OrgnlIntrBkSttlmAmt":"1.00","Rsn":"DUPL"}"#,
+    r#"{"MsgNmId":"pacs.008","CreDtTm":"2024-05-02T10:00:00Z","InstgAgt":"BANKDEFF","IntrBkSttlmDt":"2024-05-02","SvcLvl":"SEPA","LclInstrm":"INST","EndToEndId":"E1","Ccy":"EUR","ChrgBr":"SLEV","Dbtr":"Anna Weber","DbtrAcct":"DE89370400440532013000","DbtrAgt":"BANKDEFF","Cdtr":"Bo Maes","CdtrAcct":"BE68539007547034","MsgId":"M5","TxId":"T5","IntrBkSttlmAmt":"1.00","CdtrAgt":"BANQFRPP"}"#,
+    r#"{"MsgNmId":"pacs.002","CreDtTm":"2024-05-02T10:00:02Z","InstgAgt":"BANQFRPP","OrgnlMsgId":"M1","OrgnlMsgNmId":"pacs.008","TxSts":"ACCP","DbtrAgt":"BANKDEFF","MsgId":"C8","OrgnlTxId":"T8"}"#,
+];
+
+// One of them again, and a late message under the identity of the last of them.
+static LATER: [&str; 2] = [
+    r#"{"MsgNmId":"pacs.002","CreDtTm":"2024-05-02T10:00:02Z","InstgAgt":"BANQFRPP","OrgnlMsgId":"M1","OrgnlMsgNmId":"pacs.008","TxSts":"ACCP","DbtrAgt":"BANKDEFF","MsgId":"C1","OrgnlTxId":"T1"}"#,
+    r#"{"MsgNmId":"pacs.002","CreDtTm":"2024-05-02T10:00:02Z","InstgAgt":"BANQFRPP","OrgnlMsgId":"M1","OrgnlMsgNmId":"pacs.008","TxSts":"RJCT","DbtrAgt":"BANKDEFF","MsgId":"C8","OrgnlTxId":"T8","Rsn":"AC04"}"#,
+];
+
+const STATUS: &str =
+    "T|BANKDEFFXXX|T1|RETURNED|99.00\nR|BANKDEFFXXX|T1|R1|RETURNED|99.00\nT|BANKDEFFXXX|T2|INVESTIGATED\nT|BANKDEFFXXX|T3|MISSING\nR|BANKDEFFXXX|T3|R9|UNASKED\nT|BANKDEFFXXX|T4|REJECTED|AC04\nT|BANKDEFFXXX|T5|PENDING\nR|BANKDEFFXXX|T5|R4|OPEN\nR|BANKDEFFXXX|T5|R5|CHASED\nT|BANKDEFFXXX|T6|CONTRADICTED\nF|BANKDEFFXXX|T6|BothConfirmed\nT|BANKDEFFXXX|T8|CONTRADICTED\nF|BANKDEFFXXX|T8|Identity|BANQFRPPXXX|pacs.002|C8\n";
+
+const TOTALS: &str =
+    "BANKDEFFXXX|1|100.00|99.00|1|2|1|2|0|0.00|0.00\nBANQFRPPXXX|0|0.00|0.00|0|0|0|0|1|100.00|99.00\n";
+
+// A line for each transfer, with the message that instructs it and its recalls; for each bank that has totals, with its
+// transfers; and for each finding.
+const LISTED: &str =
+    " BANKDEFFXXX T1 M1 R1\n BANKDEFFXXX T2 M2\n BANKDEFFXXX T3 R9\n BANKDEFFXXX T4 M4\n BANKDEFFXXX T5 M5 R4 R5\n BANKDEFFXXX T6 M6\n BANKDEFFXXX T8\n BANKDEFFXXX T1 T2 T3 T4 T5 T6 T8\n BANQFRPPXXX T1 T2 T4 T5 T6\n T6 BothConfirmed\n T8 C8\n";
+
+// Transfers and recalls that messages name, and two that none names.
+static STANDING: [Standing; 7] = [
+    ("T2", "R1", "INVESTIGATED", "UNKNOWN"),
+    ("T3", "R9", "MISSING", "UNASKED"),
+    ("T5", "R4", "PENDING", "OPEN"),
+    ("T5", "R5", "PENDING", "CHASED"),
+    ("T5", "R1", "PENDING", "UNKNOWN"),
+    ("T6", "R1", "CONTRADICTED", "CONTRADICTED"),
+    ("T7", "R1", "UNKNOWN", "UNKNOWN"),
+];
+
+// What the originator bank of all transfers sent.
+const SENT: Totals = Totals {
+    sent: 1,
+    sent_cents: 10000,
+    returned_in: 9900,
+    rejected: 1,
+    waiting: 2,
+    missing: 1,
+    contradicted: 2,
+    received: 0,
+    received_cents: 0,
+    returned_out: 0,
+};
+
+// The word of a status of the scenes that has no amount and no reason behind it.
+fn word(status: &Status) -> &'static str {
+    match status {
+        Status::Unknown => "UNKNOWN",
+        Status::Missing => "MISSING",
+        Status::Investigated => "INVESTIGATED",
+        Status::Pending => "PENDING",
+        Status::Contradicted(_) => "CONTRADICTED",
+        _ => "",
+    }
+}
+
+fn recall_word(status: &RecallStatus) -> &'static str {
+    match status {
+        RecallStatus::Contradicted => "CONTRADICTED",
+        RecallStatus::Unknown => "UNKNOWN",
+        RecallStatus::Unasked => "UNASKED",
+        RecallStatus::Chased => "CHASED",
+        RecallStatus::Open => "OPEN",
+        _ => "",
+    }
+}
+
+// A batch of messages brings so many fresh ones, and touches so many transfers.
+fn assert_applied(
+    rt: &impl Abort,
+    alloc: Global,
+    view: &mut View,
+    texts: &[&str],
+    wanted: (u64, u64),
+) -> Result<(), Fail> {
+    let applied = apply_texts(alloc, view, texts)?;
+    assert!(rt; (applied.fresh, applied.touched) == wanted);
+    Ok(())
+}
+
+fn assert_status_text(rt: &impl Abort, view: &View, wanted: &str) -> Result<(), Fail> {
+    assert!(rt; view.status_text()?.as_slice() == wanted.as_bytes());
+    Ok(())
+}
+
+fn assert_totals_text(rt: &impl Abort, view: &View, wanted: &str) -> Result<(), Fail> {
+    assert!(rt; view.totals_text()?.as_slice() == wanted.as_bytes());
+    Ok(())
+}
+
+// Adds a word, behind a space.
+fn push_word(text: &mut Vec<u8>, word: &str) -> Result<(), Fail> {
+    text.push(b' ')?;
+    text.extend_from_slice(word.as_bytes())?;
+    Ok(())
+}
+
+// The message of a contradicted identity, or the name of another finding of the scenes.
+fn name_of(finding: &Finding) -> &str {
+    match finding {
+        Finding::Identity(identity) => identity.msg_id.text(),
+        Finding::BothConfirmed => "BothConfirmed",
+        _ => "",
+    }
+}
+
+fn push_transfer(text: &mut Vec<u8>, view: &View, transfer: &TransferKey) -> Result<(), Fail> {
+    push_word(text, transfer.debtor_agent.text())?;
+    push_word(text, transfer.tx.text())?;
+    if let Some(message) = view.instruction(transfer) {
+        push_word(text, message.identity().msg_id.text())?;
+    }
+    for recall in &view.recalls_of(transfer)? {
+        push_word(text, recall.text())?;
+    }
+    text.push(b'\n')?;
+    Ok(())
+}
+
+fn push_bank(text: &mut Vec<u8>, view: &View, bank: &Bic) -> Result<(), Fail> {
+    push_word(text, bank.text())?;
+    for transfer in &view.transfers_of(bank)? {
+        push_word(text, transfer.tx.text())?;
+    }
+    text.push(b'\n')?;
+    Ok(())
+}
+
+fn push_transfers(text: &mut Vec<u8>, view: &View) -> Result<(), Fail> {
+    for transfer in &view.keys()? {
+        push_transfer(text, view, transfer)?;
+    }
+    Ok(())
+}
+
+fn push_banks(text: &mut Vec<u8>, view: &View) -> Result<(), Fail> {
+    for bank in &view.banks()? {
+        push_bank(text, view, bank)?;
+    }
+    Ok(())
+}
+
+fn push_findings(text: &mut Vec<u8>, view: &View) -> Result<(), Fail> {
+    for (transfer, finding) in &view.all_findings()? {
+        push_word(text, transfer.tx.text())?;
+        push_word(text, name_of(finding))?;
+        text.push(b'\n')?;
+    }
+    Ok(())
+}
+
+// What the view lists.
+fn listed(alloc: Global, view: &View) -> Result<Vec<u8>, Fail> {
+    let mut text = Vec::new(alloc);
+    push_transfers(&mut text, view)?;
+    push_banks(&mut text, view)?;
+    push_findings(&mut text, view)?;
+    Ok(text)
+}
+
+fn assert_listed(rt: &impl Abort, alloc: Global, view: &View, wanted: &str) -> Result<(), Fail> {
+    assert!(rt; listed(alloc, view)?.as_slice() == wanted.as_bytes());
+    Ok(())
+}
+
+fn assert_at(rt: &impl Abort, view: &View, wanted: &Standing) -> Result<(), Fail> {
+    let key = recall(wanted.0, wanted.1)?;
+    assert!(rt; word(view.status(&key.transfer)) == wanted.2);
+    assert!(rt; recall_word(&view.recall(&key)) == wanted.3);
+    Ok(())
+}
+
+fn assert_standing(rt: &impl Abort, view: &View) -> Result<(), Fail> {
+    for wanted in &STANDING {
+        assert_at(rt, view, wanted)?;
+    }
+    Ok(())
+}
+
+// What one bank sent, and nothing of a bank that no message names.
+fn assert_sums(rt: &impl Abort, view: &View) -> Result<(), Fail> {
+    assert!(rt; view.totals(&Bic::read("BANKDEFF")?) == SENT);
+    assert!(rt; view.totals(&Bic::read("BANKBEBB")?) == Totals::nothing());
+    Ok(())
+}
+
+fn assert_answers(rt: &impl Abort, alloc: Global, view: &View) -> Result<(), Fail> {
+    assert_status_text(rt, view, STATUS)?;
+    assert_totals_text(rt, view, TOTALS)?;
+    assert_listed(rt, alloc, view, LISTED)?;
+    assert_standing(rt, view)?;
+    assert_sums(rt, view)
+}
+
+fn assert_scene(rt: &impl Abort, alloc: Global, view: &mut View) -> Result<(), Fail> {
+    assert_applied(rt, alloc, view, &FIRST, (17, 7))?;
+    assert_applied(rt, alloc, view, &LATER, (1, 1))?;
+    assert_answers(rt, alloc, view)
+}
+
+#[test]
+fn answers_on_messages_of_all_kinds(rt: HostRuntime) -> Result<(), Fail> {
+    let mut view = View::new(rt.alloc());
+    assert_scene(&rt, rt.alloc(), &mut view)
+}
