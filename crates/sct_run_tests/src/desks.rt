@@ -1,9 +1,10 @@
-//! Desks with ample memory: a refused closing, and three threads at one.
+//! Desks with ample memory: what one answers, a refused closing, and three threads at one.
 
 ghost use Rattle.std.specs.Prelude.{◌≡◌, [], IfSome};
 ghost use Rattle.sct_desk.specs.Passes.{IsOf};
 ghost use Rattle.sct_desk.specs.Tilings.{AreOurs};
 
+mod answers;
 mod scenes;
 mod shared;
 
