@@ -1,7 +1,7 @@
 """refuse_growths.py: has each growth of three calls refused once, and says what became of it.
 
 Of `Archive::add_all`: `rt try --test --fail-alloc N` refuses the Nth allocation of each test. The tests of
-crates/sct_set/src/tests/refusals.rt do the same after 0, 1, .. 15 other allocations, so one run refuses 16 allocations in a
+crates/sct_view_tests/src/archives/refusals.rt do the same after 0, 1, .. 15 other allocations, so one run refuses 16 allocations in a
 row; each run builds the tests anew. The runs go on from the one in which the list was reached when this was written, or from
 an earlier one where it is reached sooner, up to the first in which a test had nothing refused. So each allocation of the list
 is refused in one of them. A refusal has passed that was answered by 39 and had changed nothing. The other tests have no room
@@ -47,8 +47,8 @@ def ends(run):
     """How each of the tests ended in the run with this number: ok, or what it said."""
     number = str(run * TOGETHER)
     words = [verdict.command("rt"), "try", "--test", "--fail-alloc", number]
-    done = subprocess.run(words, cwd=crates.CRATES / "sct_set", capture_output=True, text=True)
-    told = re.findall(r"^test tests::refusals::after_\d+ \.\.\. (?:(ok)|FAILED\n\s+(.*))$", done.stdout + done.stderr, re.M)
+    done = subprocess.run(words, cwd=crates.CRATES / "sct_view_tests", capture_output=True, text=True)
+    told = re.findall(r"^test archives::refusals::after_\d+ \.\.\. (?:(ok)|FAILED\n\s+(.*))$", done.stdout + done.stderr, re.M)
     if len(told) != TOGETHER:
         crates.stop(f"{len(told)} tests answered:\n{done.stdout}{done.stderr}")
     told = [ok or said for ok, said in told]
