@@ -5,6 +5,7 @@ ghost use Rattle.sct_desk.specs.Passes.{IsOf};
 ghost use Rattle.sct_desk.specs.Tilings.{AreOurs};
 
 use super::scenes::{first_transfer, open_one, sizes_closed};
+use super::with;
 use sct_case::{RecallStatus, Status};
 use sct_delta::{Delta, Entry, Vector};
 use sct_desk::{Desk, Query, Receipt, Site};
@@ -152,11 +153,23 @@ fn answers(alloc: Global, query: &mut Query) -> Option<bool> {
 }
 
 // The receipts, in one list.
-fn listed<J: Site>(alloc: Global, receipts: [Receipt; 4]) -> Option<Vec<Receipt>>
-    requires { AreOurs J.book J.number receipts.items }
+fn listed<J: Site>(
+    alloc: Global,
+    taken: Receipt,
+    accepted: Receipt,
+    cut: Receipt,
+    more: Receipt,
+) -> Option<Vec<Receipt>>
+    requires taken { IsOf J.book J.number taken }
+    requires accepted { IsOf J.book J.number accepted }
+    requires cut { IsOf J.book J.number cut }
+    requires more { IsOf J.book J.number more }
     ensures { IfSome result (λ all. AreOurs J.book J.number all.items) }
 {
-    Vec::from_array(alloc, receipts).ok()
+    let kept = with::<J>(Vec::new(alloc), taken)?;
+    let kept = with::<J>(kept, accepted)?;
+    let kept = with::<J>(kept, cut)?;
+    with::<J>(kept, more)
 }
 
 fn expect_answers<J: Site, R: Wait + Abort>(
@@ -179,7 +192,7 @@ fn expect_answers<J: Site, R: Wait + Abort>(
     assert!(rt; answers(alloc, &mut query) == Some(true));
     let other = delta_of(alloc, 2, OTHER_INSTRUCTION).expect(rt, "another delta");
     let more = accept_at(rt, alloc, &desk, &other, 3).expect(rt, "another delta accepted");
-    let kept = listed::<J>(alloc, [taken, accepted, cut, more]).expect(rt, "receipts");
+    let kept = listed::<J>(alloc, taken, accepted, cut, more).expect(rt, "receipts");
     assert!(rt; sizes_closed(desk, kept).ok() == Some((3, 3)));
 }
 
