@@ -1,11 +1,13 @@
 -- No rule is broken exactly where all rules hold.
-use Rattle.std.proofs.Common.{◌≡◌, ap, sym, subst, refl, inl, inr, ℕ, Bool, true, false, List, Option, Some, None, if◌then◌else◌}
-use Rattle.std.specs.Prelude.{◌&&◌, ◌⊎◌, ◌↔◌, not, is_some, is_none, IsSome, IsNone, codes}
+use Rattle.std.proofs.Common.{arith, ◌≡◌, ap, sym, subst, refl, inl, inr, ℕ, ◌≤◌, Bool, true, false, List, [], ◌∷◌, length, Option, Some, None, if◌then◌else◌}
+use Rattle.std.specs.Prelude.{◌&&◌, ◌⊎◌, ◌↔◌, not, is_some, is_none, nat_le, IsSome, IsNone, codes}
 use Rattle.std.specs.Cmp.Lexicographic.{bytes_decides}
-use Rattle.std.proofs.lemmas.Bool.{leb-true, le-leb}
+use Rattle.std.specs.List.{list_all, AllByRecursion}
+use Rattle.std.proofs.lemmas.Bool.{leb-true, le-leb, and_parts, and_from}
+use Rattle.std.proofs.lemmas.List.{length-map}
 use Rattle.sct_message.specs.declared.draft.CreditTransfer.{CreditTransfer}
 use Rattle.sct_message.specs.declared.draft.StatusReport.{StatusReport}
-use Rattle.sct_message.specs.declared.draft.CancellationRequest.{CancellationRequest}
+use Rattle.sct_message.specs.declared.draft.RecallTx.{RecallTx}
 use Rattle.sct_message.specs.declared.draft.PaymentReturn.{PaymentReturn}
 use Rattle.sct_message.specs.declared.draft.Resolution.{Resolution}
 use Rattle.sct_message.specs.declared.draft.Draft.{Draft}
@@ -16,7 +18,10 @@ use Rattle.sct_reason.specs.declared.reasons.Reason.TheVariants.{FOCR}
 use Rattle.sct_reason.specs.Codes.{reason_text}
 use Rattle.sct_reason.specs.ReasonLaws.{same_text as same_reason}
 use Rattle.sct_element.specs.Text.{is_text}
-use Rattle.sct_message.specs.Rules.{FollowsRules, FollowsRulesOfKind, CreditTransferFollowsRules, StatusReportFollowsRules, CancellationRequestFollowsRules, PaymentReturnFollowsRules, ResolutionFollowsRules, broken_in_credit_transfer, broken_in_status_report, broken_in_cancellation_request, broken_in_payment_return, broken_in_resolution, broken_in_kind, broken_first, first_broken_rule}
+use Rattle.sct_message.specs.Rules.{FollowsRules, FollowsRulesOfKind, CreditTransferFollowsRules, StatusReportFollowsRules, CancellationRequestFollowsRules, PaymentReturnFollowsRules, ResolutionFollowsRules, broken_in_credit_transfer, broken_in_status_report, broken_in_cancellation_request, broken_in_payment_return, broken_in_resolution, broken_in_kind, broken_by_transactions, broken_in_list, broken_first, first_broken_rule}
+use Rattle.sct_message.specs.Recalls.{Recalls, transfer_in}
+use Rattle.sct_message.specs.Keys.{transfers_of}
+use Rattle.sct_message.proofs.LongLists.{apart_where_none, none_where_apart}
 
 -- a rule that is kept is passed over
 kept_then : (b : Bool) (f : RuleFault) (rest : Option RuleFault) → ((if not b then Some f else rest) ≡ None) ↔ ((b ≡ true) × (rest ≡ None))
@@ -87,11 +92,33 @@ status_report_rules d = (
       (unmet_then _ _ _).1 (passed.0, (unmet_then _ _ _).1 (passed.1, (unmet_then _ _ _).1 (passed.2, refl))),
 )
 
-cancellation_request_rules : (d : CancellationRequest) → (broken_in_cancellation_request d ≡ None) ↔ CancellationRequestFollowsRules d
-unfolding broken_in_cancellation_request
+euro_each : (txs : List RecallTx) → list_all (λ tx. is_text tx.currency (codes "EUR")) txs ≡ true → AllByRecursion (λ tx. tx.currency ≡ codes "EUR") txs
+euro_each [] e = tt
+euro_each (tx ∷ txs) e = let parts = and_parts _ _ e in (same_text _ _ parts.0, euro_each txs parts.1)
+
+each_euro : (txs : List RecallTx) → AllByRecursion (λ tx. tx.currency ≡ codes "EUR") txs → list_all (λ tx. is_text tx.currency (codes "EUR")) txs ≡ true
+each_euro [] h = refl
+each_euro (tx ∷ txs) h = and_from _ _ (text_same _ _ h.0) (each_euro txs h.1)
+
+-- of a recall message the rule on its currencies and those on its list are kept together
+cancellation_request_rules : (d : Recalls) → ((broken_in_cancellation_request d ≡ None) × (broken_by_transactions d.txs ≡ None)) ↔ CancellationRequestFollowsRules d
+unfolding broken_in_cancellation_request broken_by_transactions
 cancellation_request_rules d = (
-  λ e. record { currency = same_text _ _ ((kept_then _ _ _).0 e).0 },
-  λ r. (kept_then _ _ _).1 (text_same _ _ r.currency, refl),
+  λ p.
+      let currency = (kept_then _ _ _).0 p.0 in
+      let recalls = (unmet_then _ _ _).0 p.1 in
+      let count = (kept_then _ _ _).0 recalls.1 in
+      let bounds = and_parts (nat_le 1 (length d.txs)) (nat_le (length d.txs) 100) count.0 in
+      record {
+        currency = euro_each d.txs currency.0;
+        recalls = apart_where_none d.txs recalls.0;
+        some = leb-true _ _ bounds.0;
+        most = leb-true _ _ bounds.1;
+      },
+  λ r. (
+    (kept_then _ _ _).1 (each_euro d.txs r.currency, refl),
+    (unmet_then _ _ _).1 (none_where_apart d.txs r.recalls, (kept_then _ _ _).1 (and_from _ _ (le-leb _ _ r.some) (le-leb _ _ r.most), refl)),
+  ),
 )
 
 payment_return_rules : (d : PaymentReturn) → (broken_in_payment_return d ≡ None) ↔ PaymentReturnFollowsRules d
@@ -116,13 +143,20 @@ resolution_rules d = (
   λ r. (kept_then _ _ _).1 (text_same _ _ r.answer, refl),
 )
 
-kind_rules : (d : Draft) → (broken_in_kind d ≡ None) ↔ FollowsRulesOfKind d
-kind_rules (draft.CreditTransfer d) = credit_transfer_rules d
-kind_rules (draft.StatusReport d) = status_report_rules d
-kind_rules (draft.StatusRequest d) = (λ e. tt, λ r. refl)
+abbrev none_broken : Option RuleFault
+none_broken = None
+
+-- where nothing is asked of the list
+with_none : {P Q : Type 0} → P ↔ Q → (P × (none_broken ≡ None)) ↔ Q
+with_none both = (λ p. both.0 p.0, λ q. (both.1 q, refl))
+
+kind_rules : (d : Draft) → ((broken_in_kind d ≡ None) × (broken_in_list d ≡ None)) ↔ FollowsRulesOfKind d
+kind_rules (draft.CreditTransfer d) = with_none (credit_transfer_rules d)
+kind_rules (draft.StatusReport d) = with_none (status_report_rules d)
+kind_rules (draft.StatusRequest d) = (λ e. tt, λ r. (refl, refl))
 kind_rules (draft.CancellationRequest d) = cancellation_request_rules d
-kind_rules (draft.PaymentReturn d) = payment_return_rules d
-kind_rules (draft.Resolution d) = resolution_rules d
+kind_rules (draft.PaymentReturn d) = with_none (payment_return_rules d)
+kind_rules (draft.Resolution d) = with_none (resolution_rules d)
 
 none_first : (a b : Option RuleFault) → (broken_first a b ≡ None) ↔ ((a ≡ None) × (b ≡ None))
 none_first None b = (λ e. (refl, e), λ p. p.1)
@@ -134,6 +168,21 @@ all_rules d = (
   λ e.
       let named = (kept_then _ _ _).0 e in
       let both = (none_first _ _).0 named.1 in
-      record { name = named.0; kind = (kind_rules d).0 both.0; original = ((kept_then _ _ _).0 both.1).0 },
-  λ r. (kept_then _ _ _).1 (r.name, (none_first _ _).1 ((kind_rules d).1 r.kind, (kept_then _ _ _).1 (r.original, refl))),
+      let last = (kept_then _ _ _).0 both.1 in
+      record { name = named.0; kind = (kind_rules d).0 (both.0, last.1); original = last.0 },
+  λ r.
+      let kind = (kind_rules d).1 r.kind in
+      (kept_then _ _ _).1 (r.name, (none_first _ _).1 (kind.0, (kept_then _ _ _).1 (r.original, kind.1))),
 )
+
+few_by : (d : Draft) → FollowsRulesOfKind d → (1 ≤ length (transfers_of d)) × (length (transfers_of d) ≤ 100)
+few_by (draft.CreditTransfer d) r = (omega arith, omega arith)
+few_by (draft.StatusReport d) r = (omega arith, omega arith)
+few_by (draft.StatusRequest d) r = (omega arith, omega arith)
+few_by (draft.CancellationRequest d) r = rw (length-map d.txs transfer_in) (r.some, r.most)
+few_by (draft.PaymentReturn d) r = (omega arith, omega arith)
+few_by (draft.Resolution d) r = (omega arith, omega arith)
+
+-- a draft that breaks no rule is, or is about, 1 to 100 transfers
+pub few_transfers : (d : Draft) → first_broken_rule d ≡ None → (1 ≤ length (transfers_of d)) × (length (transfers_of d) ≤ 100)
+few_transfers d e = few_by d ((all_rules d).0 e).kind

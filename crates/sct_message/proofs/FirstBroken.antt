@@ -1,10 +1,11 @@
 -- The rule that is told is the first by number of those that a draft breaks.
-use Rattle.std.proofs.Common.{arith, ◌≡◌, ◌≢◌, ◌∙◌, ap, sym, subst, refl, ℕ, ◌≤◌, Bool, true, false, cond, List, [], ◌∷◌, Option, Some, None}
-use Rattle.std.specs.Prelude.{◌&&◌, ◌↔◌, ◌==◌, ◌<◌, not, is_some, is_none, IsFalse, IsSomeAnd, codes, nat_le}
+use Rattle.std.proofs.Common.{arith, ◌≡◌, ◌≢◌, ◌∙◌, ap, sym, subst, refl, ℕ, ◌≤◌, Bool, true, false, cond, List, [], ◌∷◌, length, inl, inr, Option, Some, None}
+use Rattle.std.specs.Prelude.{◌&&◌, ◌||◌, ◌⊎◌, ◌↔◌, ◌==◌, ◌<◌, not, is_some, is_none, IsFalse, IsSomeAnd, codes, nat_le}
 use Rattle.std.specs.Bool.{Decides}
-use Rattle.std.specs.List.{find, list_all, AllByRecursion}
+use Rattle.std.specs.List.{find, list_all, list_any, AllByRecursion, Any, IsDistinct}
 use Rattle.std.specs.Cmp.Lexicographic.{bytes_decides}
-use Rattle.std.proofs.lemmas.Bool.{leb-true, leb-false, and_parts, false≢true}
+use Rattle.std.proofs.lemmas.Bool.{leb-true, leb-false, lt-leb, and_parts, and_left, and_right, false≢true}
+use Rattle.std.proofs.lemmas.List.Folds.{Any-from_list_any, list_any-from_Any}
 use Rattle.std.proofs.lemmas.Bool.Decides.{nat_tests}
 use Rattle.sct_reason.specs.declared.reasons.Reason.{Reason}
 use Rattle.sct_reason.specs.declared.reasons.Reason.TheVariants.{FOCR}
@@ -13,11 +14,15 @@ use Rattle.sct_reason.specs.ReasonLaws.{same_text as same_reason}
 use Rattle.sct_message.specs.declared.draft.Draft.{Draft}
 use Rattle.sct_message.specs.declared.draft.Draft.TheVariants as draft
 use Rattle.sct_message.specs.declared.rules.RuleFault.{RuleFault}
-use Rattle.sct_message.specs.declared.rules.RuleFault.TheVariants.{WrongName, WrongCurrency, WrongService, WrongInstrument, WrongCharge, WrongStatus, ReasonMissing, ReasonUnasked, ReturnAboveOriginal, WrongReturnReason, WrongAnswer, WrongOriginalName}
+use Rattle.sct_message.specs.declared.rules.RuleFault.TheVariants.{WrongName, WrongCurrency, WrongService, WrongInstrument, WrongCharge, WrongStatus, ReasonMissing, ReasonUnasked, ReturnAboveOriginal, WrongReturnReason, WrongAnswer, WrongOriginalName, RepeatedRecall, WrongCount}
 use Rattle.sct_element.specs.Text.{is_text}
 use Rattle.sct_message.specs.Kinds.{is_name_of}
-use Rattle.sct_message.specs.Drafts.{kind_of, head_of, original_of, currency_of, credit_transfer_of, status_report_of, payment_return_of, resolution_of}
-use Rattle.sct_message.specs.Rules.{rule_number, kind_it_is_about, Breaks, IsFirstBroken, broken_in_credit_transfer, broken_in_status_report, broken_in_cancellation_request, broken_in_payment_return, broken_in_resolution, broken_first, first_broken_rule}
+use Rattle.sct_message.specs.Drafts.{kind_of, head_of, originals_of, currencies_of, credit_transfer_of, status_report_of, recalls_in, payment_return_of, resolution_of}
+use Rattle.sct_message.specs.Recalls.{have_same_recall}
+use Rattle.sct_message.specs.declared.draft.RecallTx.{RecallTx}
+use Rattle.sct_message.proofs.LastRules.{all_of_map}
+use Rattle.sct_message.proofs.LongLists.{apart_where_none, none_where_apart}
+use Rattle.sct_message.specs.Rules.{rule_number, Breaks, IsFirstBroken, broken_in_credit_transfer, broken_in_status_report, broken_in_cancellation_request, broken_in_payment_return, broken_in_resolution, broken_by_transactions, broken_in_list, broken_first, first_broken_rule, names_its_original, repeats, is_right_count}
 
 -- ---- a test of each rule
 
@@ -30,7 +35,7 @@ is_not s t = not (is_text s t)
 
 abbrev breaks : RuleFault → Draft → Bool
 breaks WrongName d = not (is_name_of (kind_of d) (head_of d).message_name)
-breaks WrongCurrency d = some_and (currency_of d) (λ currency. is_not currency (codes "EUR"))
+breaks WrongCurrency d = not (list_all (λ currency. is_text currency (codes "EUR")) (currencies_of d))
 breaks WrongService d = some_and (credit_transfer_of d) (λ m. is_not m.service_level (codes "SEPA"))
 breaks WrongInstrument d = some_and (credit_transfer_of d) (λ m. is_not m.local_instrument (codes "INST"))
 breaks WrongCharge d = some_and (credit_transfer_of d) (λ m. is_not m.charge_bearer (codes "SLEV"))
@@ -41,7 +46,9 @@ breaks ReasonUnasked d = some_and (status_report_of d) (λ m. is_text m.status (
 breaks ReturnAboveOriginal d = some_and (payment_return_of d) (λ m. not (nat_le m.returned_amount m.original_amount))
 breaks WrongReturnReason d = some_and (payment_return_of d) (λ m. is_not (reason_text m.reason) (codes "FOCR"))
 breaks WrongAnswer d = some_and (resolution_of d) (λ m. is_not m.confirmation (codes "RJCR"))
-breaks WrongOriginalName d = some_and (original_of d) (λ o. not (is_name_of (kind_it_is_about d) o.message_name))
+breaks WrongOriginalName d = not (names_its_original d)
+breaks RepeatedRecall d = some_and (recalls_in d) (λ m. repeats m.txs)
+breaks WrongCount d = some_and (recalls_in d) (λ m. not (is_right_count (length m.txs)))
 
 -- ---- each test decides whether the rule is broken
 
@@ -79,9 +86,50 @@ reason_decides r =
     (λ e. same_reason r FOCR ((text_decides _ _).0 e), λ e. (text_decides _ _).1 (ap reason_text e)) in
     not_decides _ _ same
 
+not_and : (a b : Bool) → not (a && b) ≡ (not a || not b)
+not_and true b = refl
+not_and false b = refl
+
+some_item : {A : Type 0} (P Q : A → Type 0) → ((a : A) → P a → Q a) → (xs : List A) → Any P xs → Any Q xs
+some_item P Q each xs some = (some.0, some.1, some.2, some.3, each some.1 some.4)
+
+not_all_any : {A : Type 0} (test : A → Bool) (xs : List A) → not (list_all test xs) ≡ list_any (λ a. not (test a)) xs
+not_all_any test [] = refl
+not_all_any test (x ∷ xs) = not_and (test x) (list_all test xs) ∙ ap (λ (b : Bool). not (test x) || b) (not_all_any test xs)
+
+-- a test fails of some item where it does not pass of all
+fails_decides : {A : Type 0} (test : A → Bool) (P : A → Type 0)
+    → ((a : A) → Decides (not (test a)) (P a))
+    → (xs : List A) → Decides (not (list_all test xs)) (Any P xs)
+fails_decides test P each xs = (
+  λ e. some_item _ _ (λ a. (each a).0) xs (Any-from_list_any (λ a. not (test a)) xs (sym (not_all_any test xs) ∙ e)),
+  λ some. not_all_any test xs ∙ list_any-from_Any (λ a. not (test a)) xs (some_item _ _ (λ a. (each a).1) xs some),
+)
+
+repeats_decides : (txs : List RecallTx) → Decides (repeats txs) (¬ IsDistinct have_same_recall txs)
+repeats_decides txs = (
+  λ e apart. false≢true (sym (none_where_apart txs apart) ∙ e),
+  λ twice. elim (repeats txs) as (λ b. repeats txs ≡ b → b ≡ true) [
+    | true ↦ λ _. refl
+    | false ↦ λ none. absurd (twice (apart_where_none txs none))
+  ] refl,
+)
+
+wrong_by : (n : ℕ) (some most : Bool) → nat_le 1 n ≡ some → nat_le n 100 ≡ most → not (some && most) ≡ true → (n ≡ 0) ⊎ (100 < n)
+wrong_by n true true s m e = absurd (false≢true e)
+wrong_by n true false s m e = inr (leb-false _ _ m)
+wrong_by n false most s m e = inl (let none = leb-false _ _ s in omega (arith, none))
+
+by_wrong : (n : ℕ) → (n ≡ 0) ⊎ (100 < n) → not (is_right_count n) ≡ true
+by_wrong n (inl none) = ap not (and_left _ _ (lt-leb 1 n (omega (arith, none))))
+by_wrong n (inr many) = ap not (and_right _ _ (lt-leb n 100 many))
+
+count_decides : (n : ℕ) → Decides (not (is_right_count n)) ((n ≡ 0) ⊎ (100 < n))
+count_decides n = (λ e. wrong_by n _ _ refl refl e, λ wrong. by_wrong n wrong)
+
 breaks_decides : (f : RuleFault) (d : Draft) → Decides (breaks f d) (Breaks f d)
 breaks_decides WrongName d = false_decides _
-breaks_decides WrongCurrency d = some_decides (currency_of d) _ _ (λ s. not_text_decides s _)
+breaks_decides WrongCurrency d = fails_decides _ _ (λ s. not_text_decides s _) (currencies_of d)
 breaks_decides WrongService d = some_decides (credit_transfer_of d) _ _ (λ m. not_text_decides m.service_level _)
 breaks_decides WrongInstrument d = some_decides (credit_transfer_of d) _ _ (λ m. not_text_decides m.local_instrument _)
 breaks_decides WrongCharge d = some_decides (credit_transfer_of d) _ _ (λ m. not_text_decides m.charge_bearer _)
@@ -95,7 +143,9 @@ breaks_decides ReturnAboveOriginal d = some_decides (payment_return_of d) _ _
     (λ m. above_decides m.returned_amount m.original_amount)
 breaks_decides WrongReturnReason d = some_decides (payment_return_of d) _ _ (λ m. reason_decides m.reason)
 breaks_decides WrongAnswer d = some_decides (resolution_of d) _ _ (λ m. not_text_decides m.confirmation _)
-breaks_decides WrongOriginalName d = some_decides (original_of d) _ _ (λ o. false_decides _)
+breaks_decides WrongOriginalName d = fails_decides _ _ (λ o. false_decides _) (originals_of d)
+breaks_decides RepeatedRecall d = some_decides (recalls_in d) _ _ (λ m. repeats_decides m.txs)
+breaks_decides WrongCount d = some_decides (recalls_in d) _ _ (λ m. count_decides (length m.txs))
 
 -- ---- the rule that is told is the first of the list that is broken
 
@@ -113,6 +163,8 @@ all_rules =
     ∷ WrongReturnReason
     ∷ WrongAnswer
     ∷ WrongOriginalName
+    ∷ RepeatedRecall
+    ∷ WrongCount
     ∷ []
 
 first_alone : (o : Option RuleFault) → broken_first o None ≡ o
@@ -139,14 +191,27 @@ named b e = ap (λ (o : Option RuleFault). cond b (Some WrongName) o) e
 abbrev name_wrong : Draft → Bool
 name_wrong d = breaks WrongName d
 
--- the rule on the original message, which comes last
+-- the rule on the original message, and behind it those on the list of a recall message
 abbrev original_wrong : Draft → Option RuleFault
-original_wrong d = cond (breaks WrongOriginalName d) (Some WrongOriginalName) None
+original_wrong d = cond (breaks WrongOriginalName d) (Some WrongOriginalName) (broken_in_list d)
+
+-- of a list of one, the test of all is the test of it
+alone : (b : Bool) → not b ≡ not (b && true)
+alone true = refl
+alone false = refl
+
+-- a test in the place of one that answers alike
+tested : (a b : Bool) (f : RuleFault) (later : Option RuleFault) → a ≡ b → cond a (Some f) later ≡ cond b (Some f) later
+tested a b f later e = ap (λ (t : Bool). cond t (Some f) later) e
+
+abbrev euro : List ℕ → Bool
+euro currency = is_text currency (codes "EUR")
 
 first_is_found : (d : Draft) → first_broken_rule d ≡ find (λ f. breaks f d) all_rules
-unfolding first_broken_rule broken_in_credit_transfer broken_in_status_report broken_in_cancellation_request broken_in_payment_return broken_in_resolution
+unfolding first_broken_rule broken_in_credit_transfer broken_in_status_report broken_in_cancellation_request broken_in_payment_return broken_in_resolution broken_by_transactions
 first_is_found (draft.CreditTransfer d) =
-    named (name_wrong (draft.CreditTransfer d)) (first_alone (broken_in_credit_transfer d))
+    named (name_wrong (draft.CreditTransfer d))
+    (first_alone (broken_in_credit_transfer d) ∙ tested _ _ WrongCurrency _ (alone (euro d.currency)))
 first_is_found (draft.StatusReport d) =
     let m : Draft = draft.StatusReport d in
     named (name_wrong m) (after_three (breaks WrongStatus m) (breaks ReasonMissing m) (breaks ReasonUnasked m)
@@ -154,11 +219,15 @@ first_is_found (draft.StatusReport d) =
 first_is_found (draft.StatusRequest d) = refl
 first_is_found (draft.CancellationRequest d) =
     let m : Draft = draft.CancellationRequest d in
-    named (name_wrong m) (after_one (breaks WrongCurrency m) WrongCurrency (original_wrong m))
+    named (name_wrong m)
+    (after_one (not (list_all (λ tx. euro tx.currency) d.txs)) WrongCurrency (original_wrong m)
+    ∙ tested _ _ WrongCurrency _ (ap not (all_of_map euro (λ tx. tx.currency) d.txs)))
 first_is_found (draft.PaymentReturn d) =
     let m : Draft = draft.PaymentReturn d in
-    named (name_wrong m) (after_three (breaks WrongCurrency m) (breaks ReturnAboveOriginal m) (breaks WrongReturnReason m)
-    WrongCurrency ReturnAboveOriginal WrongReturnReason (original_wrong m))
+    named (name_wrong m)
+    (after_three (not (euro d.currency)) (breaks ReturnAboveOriginal m) (breaks WrongReturnReason m)
+    WrongCurrency ReturnAboveOriginal WrongReturnReason (original_wrong m)
+    ∙ tested _ _ WrongCurrency _ (alone (euro d.currency)))
 first_is_found (draft.Resolution d) =
     let m : Draft = draft.Resolution d in
     named (name_wrong m) (after_one (breaks WrongAnswer m) WrongAnswer (original_wrong m))
@@ -224,6 +293,8 @@ among P ReturnAboveOriginal h = h.1.1.1.1.1.1.1.1.0
 among P WrongReturnReason h = h.1.1.1.1.1.1.1.1.1.0
 among P WrongAnswer h = h.1.1.1.1.1.1.1.1.1.1.0
 among P WrongOriginalName h = h.1.1.1.1.1.1.1.1.1.1.1.0
+among P RepeatedRecall h = h.1.1.1.1.1.1.1.1.1.1.1.1.0
+among P WrongCount h = h.1.1.1.1.1.1.1.1.1.1.1.1.1.0
 
 -- rules of one number are one rule
 by_number : (f : RuleFault) → find (λ k. rule_number k == rule_number f) all_rules ≡ Some f
@@ -239,6 +310,8 @@ by_number ReturnAboveOriginal = refl
 by_number WrongReturnReason = refl
 by_number WrongAnswer = refl
 by_number WrongOriginalName = refl
+by_number RepeatedRecall = refl
+by_number WrongCount = refl
 
 numbers_same : (f g : RuleFault) → rule_number f ≡ rule_number g → f ≡ g
 numbers_same f g e =

@@ -2,6 +2,9 @@
 mod AllRules
 mod FirstBroken
 mod KindTable
+mod LastRules
+mod LongLists
 mod Names
+mod RecallRows
 pub mod AscendingLemmas
 pub mod Members

@@ -1,5 +1,5 @@
 -- Read by an auditor: what a message's elements say of it, whatever its kind.
-use Rattle.std.specs.Prelude.{ℕ, List, Option, Some, None}
+use Rattle.std.specs.Prelude.{ℕ, List, [], ◌∷◌, map, Option, Some, None}
 use Rattle.sct_message.specs.declared.kinds.Kind.{Kind}
 use Rattle.sct_message.specs.declared.kinds.Kind.TheVariants.{Camt029, Camt056, Pacs002, Pacs004, Pacs008, Pacs028}
 use Rattle.sct_message.specs.declared.draft.Head.{Head}
@@ -10,6 +10,7 @@ use Rattle.sct_message.specs.declared.draft.StatusReport.{StatusReport}
 use Rattle.sct_message.specs.declared.draft.PaymentReturn.{PaymentReturn}
 use Rattle.sct_message.specs.declared.draft.Resolution.{Resolution}
 use Rattle.sct_message.specs.declared.draft.Draft.TheVariants as draft
+use Rattle.sct_message.specs.Recalls.{Recalls}
 
 -- the kind
 abbrev pub kind_of : Draft → Kind
@@ -29,50 +30,23 @@ head_of (draft.CancellationRequest d) = d.head
 head_of (draft.PaymentReturn d) = d.head
 head_of (draft.Resolution d) = d.head
 
--- the originator bank of the transfer that the message is, or is about
-abbrev pub debtor_agent_of : Draft → List ℕ
-debtor_agent_of (draft.CreditTransfer d) = d.debtor_agent
-debtor_agent_of (draft.StatusReport d) = d.debtor_agent
-debtor_agent_of (draft.StatusRequest d) = d.debtor_agent
-debtor_agent_of (draft.CancellationRequest d) = d.debtor_agent
-debtor_agent_of (draft.PaymentReturn d) = d.debtor_agent
-debtor_agent_of (draft.Resolution d) = d.debtor_agent
+-- what a later message says of its original message, once for each transaction of a recall message
+abbrev pub originals_of : Draft → List Original
+originals_of (draft.CreditTransfer d) = []
+originals_of (draft.StatusReport d) = d.original ∷ []
+originals_of (draft.StatusRequest d) = d.original ∷ []
+originals_of (draft.CancellationRequest d) = map (λ tx. tx.original) d.txs
+originals_of (draft.PaymentReturn d) = d.original ∷ []
+originals_of (draft.Resolution d) = d.original ∷ []
 
--- the identification of that transfer
-abbrev pub transaction_of : Draft → List ℕ
-transaction_of (draft.CreditTransfer d) = d.transaction_id
-transaction_of (draft.StatusReport d) = d.original.transaction_id
-transaction_of (draft.StatusRequest d) = d.original.transaction_id
-transaction_of (draft.CancellationRequest d) = d.original.transaction_id
-transaction_of (draft.PaymentReturn d) = d.original.transaction_id
-transaction_of (draft.Resolution d) = d.original.transaction_id
-
--- the identification of the recall that the message is, or is about
-abbrev pub cancellation_of : Draft → Option (List ℕ)
-cancellation_of (draft.CreditTransfer d) = None
-cancellation_of (draft.StatusReport d) = None
-cancellation_of (draft.StatusRequest d) = d.cancellation_id
-cancellation_of (draft.CancellationRequest d) = Some d.cancellation_id
-cancellation_of (draft.PaymentReturn d) = Some d.cancellation_id
-cancellation_of (draft.Resolution d) = Some d.cancellation_id
-
--- what a later message says of its original message
-abbrev pub original_of : Draft → Option Original
-original_of (draft.CreditTransfer d) = None
-original_of (draft.StatusReport d) = Some d.original
-original_of (draft.StatusRequest d) = Some d.original
-original_of (draft.CancellationRequest d) = Some d.original
-original_of (draft.PaymentReturn d) = Some d.original
-original_of (draft.Resolution d) = Some d.original
-
--- the currency of the amounts, in the kinds that have one
-abbrev pub currency_of : Draft → Option (List ℕ)
-currency_of (draft.CreditTransfer d) = Some d.currency
-currency_of (draft.StatusReport d) = None
-currency_of (draft.StatusRequest d) = None
-currency_of (draft.CancellationRequest d) = Some d.currency
-currency_of (draft.PaymentReturn d) = Some d.currency
-currency_of (draft.Resolution d) = None
+-- the currency of the amounts, once for each transaction of a recall message; none in the kinds without an amount
+abbrev pub currencies_of : Draft → List (List ℕ)
+currencies_of (draft.CreditTransfer d) = d.currency ∷ []
+currencies_of (draft.StatusReport d) = []
+currencies_of (draft.StatusRequest d) = []
+currencies_of (draft.CancellationRequest d) = map (λ tx. tx.currency) d.txs
+currencies_of (draft.PaymentReturn d) = d.currency ∷ []
+currencies_of (draft.Resolution d) = []
 
 -- ---- the elements of one kind, and none in a message of another kind
 
@@ -83,6 +57,10 @@ credit_transfer_of other = None
 abbrev pub status_report_of : Draft → Option StatusReport
 status_report_of (draft.StatusReport d) = Some d
 status_report_of other = None
+
+abbrev pub recalls_in : Draft → Option Recalls
+recalls_in (draft.CancellationRequest d) = Some d
+recalls_in other = None
 
 abbrev pub payment_return_of : Draft → Option PaymentReturn
 payment_return_of (draft.PaymentReturn d) = Some d

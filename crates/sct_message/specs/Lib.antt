@@ -1,11 +1,17 @@
 -- The definitions that contracts cite, and what their proofs stand on.
 pub mod Ascending
+pub mod Cells
+pub mod CellsBack
 pub mod Drafts
+pub mod KeyOrders
 pub mod Keys
 pub mod Kinds
+pub mod Neighbours
 pub mod Order
 pub mod OrderLaws
 pub mod Ranks
+pub mod RecallOrders
+pub mod Recalls
 pub mod Rules
 pub mod Sets
 pub mod Transfers

@@ -1,12 +1,12 @@
 -- Proof plumbing: the orders of messages and of keys are total, and tell apart whatever differs.
-use Rattle.std.proofs.Common.{◌≡◌, ◌∙◌, refl, ap, sym, subst, ℕ, List, Option, Some, None, option_map, ◌&&◌, Bool, true, nat_eq}
+use Rattle.std.proofs.Common.{◌≡◌, ◌∙◌, refl, ap, sym, subst, Option, Some, None, option_map, ◌&&◌, Bool, true, nat_eq}
 use Rattle.std.specs.Ordering.{ordering_then, is_eq, eq_by_cmp}
 use Rattle.std.specs.declared.cmp.Ordering.{Ordering}
 use Rattle.std.specs.declared.cmp.Ordering.TheVariants.{Less, Equal, Greater}
 use Rattle.std.specs.Option.{option_cmp}
 use Rattle.std.specs.Cmp.{IsTotalOrder, on_total, then_total}
 use Rattle.std.specs.Cmp.Lexicographic.{nat_list_cmp_total, options_total, lists_total, pointwise, texts_ties}
-use Rattle.std.specs.FinSet.{IsAntisymmetric, nat_cmp-IsAntisymmetric, slice_cmp-IsAntisymmetric}
+use Rattle.std.specs.FinSet.{IsAntisymmetric}
 use Rattle.std.proofs.lemmas.Cmp.{tied_itself}
 use Rattle.sct_reason.specs.declared.reasons.Reason.{Reason}
 use Rattle.sct_reason.specs.Codes.{reason_text}
@@ -15,11 +15,13 @@ use Rattle.sct_message.specs.declared.draft.Draft.{Draft}
 use Rattle.sct_message.specs.declared.kinds.Kind.{Kind}
 use Rattle.sct_message.specs.declared.kinds.Kind.TheVariants.{Camt029, Camt056, Pacs002, Pacs004, Pacs008, Pacs028}
 use Rattle.sct_message.specs.Kinds.{kind_text, kind_named}
+use Rattle.sct_message.specs.CellsBack.{texts_same, elements_same}
+use Rattle.sct_message.specs.RecallOrders.{is_eq_Equal}
 use Rattle.sct_message.specs.Ranks.{message_from, message_back}
 use Rattle.sct_message.specs.declared.keys.Identity.{Identity}
 use Rattle.sct_message.specs.declared.keys.TransferKey.{TransferKey}
 use Rattle.sct_message.specs.declared.keys.RecallKey.{RecallKey}
-use Rattle.sct_message.specs.Order.{text_order, elements_order, ranks_of, message_order, kind_order, identity_order, transfer_order, recall_order, same_identity, same_transfer, same_message}
+use Rattle.sct_message.specs.Order.{text_order, ranks_of, message_order, kind_order, identity_order, transfer_order, recall_order, same_identity, same_transfer, same_message}
 
 pub then_assoc : (a b c : Ordering) → ordering_then (ordering_then a b) c ≡ ordering_then a (ordering_then b c)
 then_assoc Less b c = refl
@@ -38,18 +40,6 @@ reasons_by_code None None = refl
 reasons_by_code None (Some s) = refl
 reasons_by_code (Some r) None = refl
 reasons_by_code (Some r) (Some s) = refl
-
-texts_same : IsAntisymmetric text_order
-texts_same = slice_cmp-IsAntisymmetric nat_cmp-IsAntisymmetric
-
-options_same : IsAntisymmetric (option_cmp text_order)
-options_same None None e = refl
-options_same None (Some t) e = cc
-options_same (Some s) None e = cc
-options_same (Some s) (Some t) e = ap (λ (u : List ℕ). Some u) (texts_same s t e)
-
-elements_same : IsAntisymmetric elements_order
-elements_same = slice_cmp-IsAntisymmetric options_same
 
 named_by_text : (k : Kind) → kind_named (kind_text k) ≡ Some k
 named_by_text Camt029 = refl
@@ -83,11 +73,6 @@ message_same a b e = ranks_same a b (elements_same (ranks_of a) (ranks_of b) e)
 
 pub message_itself : (a b : Draft) → a ≡ b → message_order a b ≡ Equal
 message_itself a b e = subst (λ (d : Draft). message_order a d ≡ Equal) e (tied_itself message_total a)
-
-is_eq_Equal : (r : Ordering) → is_eq r ≡ true → r ≡ Equal
-is_eq_Equal Less e = cc
-is_eq_Equal Equal e = refl
-is_eq_Equal Greater e = cc
 
 -- what is told of a message by its elements is told alike of two that are the same
 pub same_input : {X : Type 0} (told : Draft → X) (a b : Draft) → same_message a b ≡ true → told a ≡ told b

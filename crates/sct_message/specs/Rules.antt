@@ -1,22 +1,23 @@
 -- Read by an auditor: the rules of each kind (EPC004-16), when a draft breaks one, and the first broken one.
-use Rattle.std.specs.Prelude.{◌≡◌, ◌≢◌, ℕ, ◌<◌, ◌≤◌, ◌&&◌, ◌⊎◌, List, not, nat_le, Bool, true, Option, Some, None, is_some, is_none, if◌then◌else◌, IsTrue, IsFalse, IsSome, IsSomeAnd, IsNone, codes, ⊤}
+use Rattle.std.specs.Prelude.{◌≡◌, ◌≢◌, ℕ, ◌<◌, ◌≤◌, ◌&&◌, ◌||◌, ◌⊎◌, List, [], ◌∷◌, length, not, nat_le, Bool, false, Option, Some, None, is_some, is_none, if◌then◌else◌, IsTrue, IsFalse, IsSome, IsSomeAnd, IsNone, codes, ⊤}
+use Rattle.std.specs.List.{AllByRecursion, Any, IsDistinct, list_all, list_any}
 use Rattle.sct_reason.specs.declared.reasons.Reason.TheVariants.{FOCR}
 use Rattle.sct_reason.specs.Codes.{reason_text}
 use Rattle.sct_message.specs.declared.draft.CreditTransfer.{CreditTransfer}
 use Rattle.sct_message.specs.declared.draft.StatusReport.{StatusReport}
-use Rattle.sct_message.specs.declared.draft.CancellationRequest.{CancellationRequest}
+use Rattle.sct_message.specs.declared.draft.RecallTx.{RecallTx}
 use Rattle.sct_message.specs.declared.draft.PaymentReturn.{PaymentReturn}
 use Rattle.sct_message.specs.declared.draft.Resolution.{Resolution}
-use Rattle.sct_message.specs.declared.draft.Original.{Original}
 use Rattle.sct_message.specs.declared.draft.Draft.{Draft}
 use Rattle.sct_message.specs.declared.draft.Draft.TheVariants as draft
 use Rattle.sct_message.specs.declared.kinds.Kind.{Kind}
 use Rattle.sct_message.specs.declared.kinds.Kind.TheVariants.{Camt056, Pacs008}
 use Rattle.sct_message.specs.declared.rules.RuleFault.{RuleFault}
-use Rattle.sct_message.specs.declared.rules.RuleFault.TheVariants.{WrongName, WrongCurrency, WrongService, WrongInstrument, WrongCharge, WrongStatus, ReasonMissing, ReasonUnasked, ReturnAboveOriginal, WrongReturnReason, WrongAnswer, WrongOriginalName}
+use Rattle.sct_message.specs.declared.rules.RuleFault.TheVariants.{WrongName, WrongCurrency, WrongService, WrongInstrument, WrongCharge, WrongStatus, ReasonMissing, ReasonUnasked, ReturnAboveOriginal, WrongReturnReason, WrongAnswer, WrongOriginalName, RepeatedRecall, WrongCount}
 use Rattle.sct_element.specs.Text.{is_text}
 use Rattle.sct_message.specs.Kinds.{is_name_of}
-use Rattle.sct_message.specs.Drafts.{kind_of, head_of, original_of, currency_of, credit_transfer_of, status_report_of, payment_return_of, resolution_of}
+use Rattle.sct_message.specs.Drafts.{kind_of, head_of, originals_of, currencies_of, credit_transfer_of, status_report_of, recalls_in, payment_return_of, resolution_of}
+use Rattle.sct_message.specs.Recalls.{Recalls, have_same_recall}
 
 abbrev pub rule_number : RuleFault → ℕ
 rule_number WrongName = 10
@@ -31,6 +32,8 @@ rule_number ReturnAboveOriginal = 18
 rule_number WrongReturnReason = 19
 rule_number WrongAnswer = 20
 rule_number WrongOriginalName = 21
+rule_number RepeatedRecall = 22
+rule_number WrongCount = 23
 
 -- ---- the rules
 
@@ -45,9 +48,12 @@ pub record CreditTransferFollowsRules (d : CreditTransfer) : Type 0 where
 pub record StatusReportFollowsRules (d : StatusReport) : Type 0 where
   pub confirms : ((d.status ≡ codes "ACCP") × IsNone d.reason) ⊎ ((d.status ≡ codes "RJCT") × IsSome d.reason)
 
--- A recall is in euro.
-pub record CancellationRequestFollowsRules (d : CancellationRequest) : Type 0 where
-  pub currency : d.currency ≡ codes "EUR"
+-- A recall message has 1 to 100 transactions, each in euro, and no two of them are one recall of one transfer.
+pub record CancellationRequestFollowsRules (d : Recalls) : Type 0 where
+  pub currency : AllByRecursion (λ tx. tx.currency ≡ codes "EUR") d.txs
+  pub recalls : IsDistinct have_same_recall d.txs
+  pub some : 1 ≤ length d.txs
+  pub most : length d.txs ≤ 100
 
 -- A return is in euro, of at most the original amount, and follows a recall.
 pub record PaymentReturnFollowsRules (d : PaymentReturn) : Type 0 where
@@ -80,13 +86,9 @@ kind_it_is_about (draft.CancellationRequest d) = Pacs008
 kind_it_is_about (draft.PaymentReturn d) = Pacs008
 kind_it_is_about (draft.Resolution d) = Pacs008
 
--- the original message's name is a name of that kind; nothing is asked of a message with no original
-abbrev pub is_original_of : Kind → Option Original → Bool
-is_original_of kind None = true
-is_original_of kind (Some o) = is_name_of kind o.message_name
-
+-- each original message's name is a name of that kind; nothing is asked of a message with no original
 abbrev pub names_its_original : Draft → Bool
-names_its_original d = is_original_of (kind_it_is_about d) (original_of d)
+names_its_original d = list_all (λ o. is_name_of (kind_it_is_about d) o.message_name) (originals_of d)
 
 -- A message names its own kind, follows the rules of it, and names the kind of the message that it is about.
 pub record FollowsRules (d : Draft) : Type 0 where
@@ -106,7 +108,7 @@ IsNeither s t u = (s ≢ t) × (s ≢ u)
 -- One line a rule. Of a kind without the element the rule asks nothing.
 abbrev pub Breaks : RuleFault → Draft → Type 0
 Breaks WrongName d = IsNoName (kind_of d) (head_of d).message_name
-Breaks WrongCurrency d = IsSomeAnd (currency_of d) (λ currency. currency ≢ codes "EUR")
+Breaks WrongCurrency d = Any (λ currency. currency ≢ codes "EUR") (currencies_of d)
 Breaks WrongService d = IsSomeAnd (credit_transfer_of d) (λ m. m.service_level ≢ codes "SEPA")
 Breaks WrongInstrument d = IsSomeAnd (credit_transfer_of d) (λ m. m.local_instrument ≢ codes "INST")
 Breaks WrongCharge d = IsSomeAnd (credit_transfer_of d) (λ m. m.charge_bearer ≢ codes "SLEV")
@@ -116,7 +118,9 @@ Breaks ReasonUnasked d = IsSomeAnd (status_report_of d) (λ m. (m.status ≡ cod
 Breaks ReturnAboveOriginal d = IsSomeAnd (payment_return_of d) (λ m. m.original_amount < m.returned_amount)
 Breaks WrongReturnReason d = IsSomeAnd (payment_return_of d) (λ m. m.reason ≢ FOCR)
 Breaks WrongAnswer d = IsSomeAnd (resolution_of d) (λ m. m.confirmation ≢ codes "RJCR")
-Breaks WrongOriginalName d = IsSomeAnd (original_of d) (λ o. IsNoName (kind_it_is_about d) o.message_name)
+Breaks WrongOriginalName d = Any (λ o. IsNoName (kind_it_is_about d) o.message_name) (originals_of d)
+Breaks RepeatedRecall d = IsSomeAnd (recalls_in d) (λ m. ¬ IsDistinct have_same_recall m.txs)
+Breaks WrongCount d = IsSomeAnd (recalls_in d) (λ m. (length m.txs ≡ 0) ⊎ (100 < length m.txs))
 
 -- the rule is broken, and no broken rule has a smaller number
 pub record IsFirstBroken (f : RuleFault) (d : Draft) : Type 0 where
@@ -140,8 +144,9 @@ broken_in_status_report d =
     else (if is_text d.status (codes "ACCP") && is_some d.reason then Some ReasonUnasked
     else None))
 
-unfoldable pub broken_in_cancellation_request : CancellationRequest → Option RuleFault
-broken_in_cancellation_request d = if not (is_text d.currency (codes "EUR")) then Some WrongCurrency else None
+unfoldable pub broken_in_cancellation_request : Recalls → Option RuleFault
+broken_in_cancellation_request d =
+    if not (list_all (λ tx. is_text tx.currency (codes "EUR")) d.txs) then Some WrongCurrency else None
 
 unfoldable pub broken_in_payment_return : PaymentReturn → Option RuleFault
 broken_in_payment_return d =
@@ -161,6 +166,26 @@ broken_in_kind (draft.CancellationRequest d) = broken_in_cancellation_request d
 broken_in_kind (draft.PaymentReturn d) = broken_in_payment_return d
 broken_in_kind (draft.Resolution d) = broken_in_resolution d
 
+-- a transaction is one recall of one transfer with a later one
+abbrev pub repeats : List RecallTx → Bool
+repeats [] = false
+repeats (tx ∷ txs) = list_any (have_same_recall tx) txs || repeats txs
+
+-- a recall message may have so many transactions
+abbrev pub is_right_count : ℕ → Bool
+is_right_count n = nat_le 1 n && nat_le n 100
+
+unfoldable pub broken_by_transactions : List RecallTx → Option RuleFault
+broken_by_transactions txs =
+    if repeats txs then Some RepeatedRecall
+    else (if not (is_right_count (length txs)) then Some WrongCount
+    else None)
+
+-- the rules on the list of a recall message, which come last
+abbrev pub broken_in_list : Draft → Option RuleFault
+broken_in_list (draft.CancellationRequest d) = broken_by_transactions d.txs
+broken_in_list other = None
+
 -- the first of two
 abbrev pub broken_first : Option RuleFault → Option RuleFault → Option RuleFault
 broken_first None later = later
@@ -169,4 +194,15 @@ broken_first (Some broken) later = Some broken
 -- the first by number of the rules that a draft breaks
 unfoldable pub first_broken_rule : Draft → Option RuleFault
 first_broken_rule d = if not (is_name_of (kind_of d) (head_of d).message_name) then Some WrongName
+    else broken_first (broken_in_kind d)
+    (if not (names_its_original d) then Some WrongOriginalName else broken_in_list d)
+
+-- the same but for the rules on the list of a recall message
+unfoldable pub broken_before_list : Draft → Option RuleFault
+broken_before_list d = if not (is_name_of (kind_of d) (head_of d).message_name) then Some WrongName
     else broken_first (broken_in_kind d) (if not (names_its_original d) then Some WrongOriginalName else None)
+
+-- a recall message of more transactions than are right
+abbrev pub is_long : Draft → Bool
+is_long (draft.CancellationRequest d) = not (nat_le (length d.txs) 100)
+is_long other = false

@@ -1,8 +1,9 @@
 -- The messages on one transfer, for auditors: what a set of messages holds of each transfer.
 use Rattle.std.specs.FinSet as set
 use Rattle.std.specs.Prelude.{Bool, true, false, List, [], ◌∷◌, map, filter, Option, None, Some}
+use Rattle.std.specs.List.{list_any, flat_map}
 use Rattle.sct_message.specs.Ascending.{ascending}
-use Rattle.sct_message.specs.Keys.{identity_of, transfer_of}
+use Rattle.sct_message.specs.Keys.{identity_of, transfers_of}
 use Rattle.sct_message.specs.Order.{identity_order, transfer_order, same_transfer}
 use Rattle.sct_message.specs.Sets.{MessageSet, clean_messages, contradicted_messages}
 use Rattle.sct_message.specs.declared.draft.Draft.{Draft}
@@ -10,9 +11,9 @@ use Rattle.sct_message.specs.declared.draft.Draft.TheVariants.{CreditTransfer}
 use Rattle.sct_message.specs.declared.keys.Identity.{Identity}
 use Rattle.sct_message.specs.declared.keys.TransferKey.{TransferKey}
 
--- the message is, or is about, the transfer
+-- the message is, or is about, the transfer: it is one of its keys
 abbrev pub is_on : TransferKey → Draft → Bool
-is_on transfer m = same_transfer (transfer_of m) transfer
+is_on transfer m = list_any (λ key. same_transfer key transfer) (transfers_of m)
 
 -- the clean messages on a transfer, in the order of messages
 abbrev pub messages_on : MessageSet → TransferKey → List Draft
@@ -25,7 +26,7 @@ asides_of held transfer =
 
 -- the transfers of which the set has a message, ascending: its keys
 abbrev pub keys_of : MessageSet → List TransferKey
-keys_of held = ascending transfer_order (map transfer_of (set.items held))
+keys_of held = ascending transfer_order (flat_map transfers_of (set.items held))
 
 abbrev pub is_instruction : Draft → Bool
 is_instruction (CreditTransfer d) = true

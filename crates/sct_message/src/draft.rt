@@ -1,10 +1,15 @@
 //! The elements of a message, kind by kind, each in the order of its key table.
 ghost use Rattle.std.specs.Prelude.{◌≡◌};
-ghost use Rattle.std.specs.Option.{option_copied};
+ghost use Rattle.std.specs.Ordering.{eq_by_cmp};
+ghost use Rattle.std.specs.Cmp.{partial_equiv_from_equiv, eq_by_cmp_equiv};
 
+use crate::keys::{RecallKey, TransferKey};
 use crate::kinds::Kind;
+use crate::order::cancellation_request_order;
 use sct_element::{Amount, Bic, Code4, Day, Iban, Id35, Name, Remittance, Stamp};
 use sct_reason::Reason;
+use std::hash::{Hash, Hasher};
+use std::marker::Model;
 
 /// What every message begins with (GroupHeader of ISO 20022).
 #[derive(Debug, Drop, PartialEq, Eq, PartialOrd, Ord, Hash)]
@@ -104,11 +109,9 @@ pub struct StatusRequest {
     pub debtor_agent: Bic,
 }
 
-/// camt.056: the recall of a transfer, with a reason.
+/// One transaction of a camt.056: the recall of a transfer, with a reason.
 #[derive(Debug, Drop, PartialEq, Eq, PartialOrd, Ord, Hash)]
-pub struct CancellationRequest {
-    /// MsgNmId, MsgId (of the assignment), CreDtTm, InstgAgt (the assigner), InstdAgt (the assignee).
-    pub head: Head,
+pub struct RecallTx {
     /// CxlId: the identification of the recall.
     pub cancellation_id: Id35,
     /// OrgnlMsgId, OrgnlMsgNmId, OrgnlEndToEndId, OrgnlTxId.
@@ -123,6 +126,84 @@ pub struct CancellationRequest {
     pub reason: Reason,
     /// DbtrAgt: the originator bank of the transfer.
     pub debtor_agent: Bic,
+}
+
+impl RecallTx {
+    ghost use Rattle.sct_message.specs.Recalls.{transfer_in, recall_in};
+
+    /// The transfer that is recalled. It takes no memory.
+    pub fn transfer(&self) -> TransferKey
+        ensures { result ≡ transfer_in self.now }
+    {
+        TransferKey {
+            debtor_agent: self.debtor_agent.copy(),
+            tx: self.original.transaction_id.copy(),
+        }
+    }
+
+    /// The recall that the transaction is. It takes no memory.
+    pub fn recall(&self) -> RecallKey
+        ensures { result ≡ recall_in self.now }
+    {
+        RecallKey {
+            transfer: self.transfer(),
+            cxl: self.cancellation_id.copy(),
+        }
+    }
+}
+
+/// camt.056: the recall of 1 to 100 transfers.
+/// A contract sees the transactions as a list, whatever memory they stand in.
+#[derive(Debug, Drop)]
+pub struct CancellationRequest {
+    /// MsgNmId, MsgId (of the assignment), CreDtTm, InstgAgt (the assigner), InstdAgt (the assignee).
+    pub head: Head,
+    /// CxlId to DbtrAgt, once for each transfer that is recalled.
+    pub txs: Vec<RecallTx>,
+}
+
+impl Model for CancellationRequest {
+    ghost use Rattle.sct_message.specs.Recalls.{Recalls};
+
+    ghost Value = { Recalls };
+
+    ghost view = { λ r. record { head = r.head; txs = r.txs.items } };
+}
+
+impl PartialEq for CancellationRequest {
+    ghost use Rattle.sct_message.specs.Recalls.{recalls_order};
+    ghost use Rattle.sct_message.specs.RecallOrders.{recalls_total};
+
+    ghost eq = { eq_by_cmp recalls_order };
+
+    ghost laws = { partial_equiv_from_equiv (eq_by_cmp_equiv recalls_total) };
+
+    fn eq(&self, other: &Self) -> bool {
+        cancellation_request_order(self, other).is_eq()
+    }
+}
+
+impl Eq for CancellationRequest {
+    ghost use Rattle.sct_message.specs.RecallOrders.{recalls_total};
+
+    ghost laws = { eq_by_cmp_equiv recalls_total };
+}
+
+impl Hash for CancellationRequest {
+    ghost use Rattle.std.specs.Prelude.{◌++◌};
+    ghost use Rattle.std.specs.Hash as fed;
+    ghost use Rattle.sct_message.specs.contracts.draft.HeadHash.TheImpl as head;
+    ghost use Rattle.sct_message.specs.contracts.draft.RecallTxHash.TheImpl as tx;
+    ghost use Rattle.sct_message.specs.RecallOrders.{same_recalls_input};
+
+    ghost hash_input = { λ r. head.ghosts.hash_input r.head ++ fed.slice tx.ghosts.hash_input r.txs };
+
+    ghost respects_eq = { same_recalls_input (λ r. head.ghosts.hash_input r.head ++ fed.slice tx.ghosts.hash_input r.txs) };
+
+    fn hash<H: Hasher>(&self, state: &mut H) {
+        self.head.hash(state);
+        self.txs.hash(state);
+    }
 }
 
 /// pacs.004: the positive answer to a recall, which returns the money.
@@ -187,8 +268,7 @@ pub enum Draft {
 }
 
 impl Draft {
-    ghost use Rattle.sct_message.specs.Drafts.{kind_of, head_of, debtor_agent_of};
-    ghost use Rattle.sct_message.specs.Drafts.{transaction_of, cancellation_of, original_of};
+    ghost use Rattle.sct_message.specs.Drafts.{kind_of, head_of};
 
     /// The kind.
     pub fn kind(&self) -> Kind
@@ -215,68 +295,6 @@ impl Draft {
             Draft::CancellationRequest(cancellation_request) => &cancellation_request.head,
             Draft::PaymentReturn(payment_return) => &payment_return.head,
             Draft::Resolution(resolution) => &resolution.head,
-        }
-    }
-
-    /// DbtrAgt: the originator bank of the transfer that the message is, or is about.
-    pub fn debtor_agent(&self) -> &Bic
-        ensures { result.now ≡ debtor_agent_of self.now }
-    {
-        match self {
-            Draft::CreditTransfer(credit_transfer) => &credit_transfer.debtor_agent,
-            Draft::StatusReport(status_report) => &status_report.debtor_agent,
-            Draft::StatusRequest(status_request) => &status_request.debtor_agent,
-            Draft::CancellationRequest(cancellation_request) => &cancellation_request.debtor_agent,
-            Draft::PaymentReturn(payment_return) => &payment_return.debtor_agent,
-            Draft::Resolution(resolution) => &resolution.debtor_agent,
-        }
-    }
-
-    /// TxId, in the other kinds OrgnlTxId: the identification of that transfer.
-    pub fn transaction_id(&self) -> &Id35
-        ensures { result.now ≡ transaction_of self.now }
-    {
-        match self {
-            Draft::CreditTransfer(credit_transfer) => &credit_transfer.transaction_id,
-            Draft::StatusReport(status_report) => &status_report.original.transaction_id,
-            Draft::StatusRequest(status_request) => &status_request.original.transaction_id,
-            Draft::CancellationRequest(cancellation_request) => &cancellation_request
-                .original
-                .transaction_id,
-            Draft::PaymentReturn(payment_return) => &payment_return.original.transaction_id,
-            Draft::Resolution(resolution) => &resolution.original.transaction_id,
-        }
-    }
-
-    /// CxlId of a camt.056, in the other kinds OrgnlCxlId: the recall that the message is, or is about. None for a
-    /// pacs.008, a pacs.002, and a pacs.028 about a transfer.
-    pub fn cancellation_id(&self) -> Option<&Id35>
-        ensures { option_copied result ≡ cancellation_of self.now }
-    {
-        match self {
-            Draft::CreditTransfer(_) | Draft::StatusReport(_) => None,
-            Draft::StatusRequest(status_request) => status_request.cancellation_id.as_ref(),
-            Draft::CancellationRequest(cancellation_request) => Some(
-                &cancellation_request.cancellation_id,
-            ),
-            Draft::PaymentReturn(payment_return) => Some(&payment_return.cancellation_id),
-            Draft::Resolution(resolution) => Some(&resolution.cancellation_id),
-        }
-    }
-
-    /// What a later message says of its original message; none for a pacs.008.
-    pub fn original(&self) -> Option<&Original>
-        ensures { option_copied result ≡ original_of self.now }
-    {
-        match self {
-            Draft::CreditTransfer(_) => None,
-            Draft::StatusReport(status_report) => Some(&status_report.original),
-            Draft::StatusRequest(status_request) => Some(&status_request.original),
-            Draft::CancellationRequest(cancellation_request) => Some(
-                &cancellation_request.original,
-            ),
-            Draft::PaymentReturn(payment_return) => Some(&payment_return.original),
-            Draft::Resolution(resolution) => Some(&resolution.original),
         }
     }
 }

@@ -3,18 +3,21 @@
 #![tactic(auto)]
 
 mod draft;
+mod filing;
 mod keys;
 mod kinds;
 mod messages;
 mod order;
+mod recall_list;
 mod rules;
 
 pub use draft::{
-    CancellationRequest, CreditTransfer, Draft, Head, Original, PaymentReturn, Resolution,
-    StatusReport, StatusRequest,
+    CancellationRequest, CreditTransfer, Draft, Head, Original, PaymentReturn, RecallTx,
+    Resolution, StatusReport, StatusRequest,
 };
 pub use keys::{Identity, RecallKey, TransferKey};
 pub use kinds::Kind;
 pub use messages::Message;
 pub use order::{keys_are_ordered, order_is_total};
+pub use recall_list::is_right_count;
 pub use rules::{RuleFault, all_rules_hold_where_none_is_broken, first_broken_rule_is_told};

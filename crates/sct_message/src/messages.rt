@@ -1,14 +1,16 @@
 //! A message: elements for which the rules of its kind hold.
-ghost use Rattle.std.specs.Prelude.{◌≡◌, ◌↔◌, Option, Some, None, Ok, Err, IsTrue, MatchOption, refl};
+ghost use Rattle.std.specs.Prelude.{◌≡◌, ◌≤◌, ◌↔◌, Option, Some, None, Ok, Err, IsTrue, MatchOption, length, refl};
+ghost use Rattle.std.specs.List.{slice_get};
 ghost use Rattle.std.specs.Ordering.{eq_by_cmp};
 ghost use Rattle.std.specs.Cmp.{partial_equiv_from_equiv, eq_by_cmp_equiv, po};
 ghost use Rattle.sct_message.specs.Drafts.{kind_of};
 
 use crate::draft::Draft;
+use crate::filing::{recall, transfer, transfer_count};
 use crate::keys::{Identity, RecallKey, TransferKey};
 use crate::kinds::Kind;
 use crate::order::order;
-use crate::rules::{RuleFault, first_broken_rule};
+use crate::rules::{RuleFault, broken_before_list, broken_in_list, broken_in_long, is_long};
 use std::cmp::Ordering;
 use std::hash::{Hash, Hasher};
 use std::marker::Model;
@@ -36,14 +38,21 @@ impl Model for Message {
 
 impl Message {
     ghost use Rattle.sct_message.specs.Rules.{first_broken_rule};
-    ghost use Rattle.sct_message.specs.Keys.{identity_of, transfer_of, recall_of};
+    ghost use Rattle.sct_message.specs.Keys.{identity_of, transfers_of, recalls_of};
 
     /// A message of these elements. Where they break a rule of their kind it answers the first such rule by number, 10
-    /// `WrongName` to 21 `WrongOriginalName`, and drops the elements.
+    /// `WrongName` to 23 `WrongCount`, and drops the elements.
+    #[tactic(auto, using(crate::proofs::LastRules::list_last))]
     pub fn of(draft: Draft) -> Result<Message, RuleFault>
         ensures { MatchOption (first_broken_rule draft) (result ≡ Ok draft) (λ fault. result ≡ Err fault) }
     {
-        match first_broken_rule(&draft) {
+        if let Some(fault) = broken_before_list(&draft) {
+            return Err(fault);
+        }
+        if is_long(&draft) {
+            return Err(broken_in_long(draft));
+        }
+        match broken_in_list(&draft) {
             Some(fault) => Err(fault),
             None => Ok(Message { draft }),
         }
@@ -76,26 +85,29 @@ impl Message {
         }
     }
 
-    /// The transfer that the message is, or is about: DbtrAgt with TxId, in the other kinds with OrgnlTxId.
-    pub fn transfer(&self) -> TransferKey
-        ensures { result ≡ transfer_of self.now }
+    /// How many transfers the message is, or is about: the number of its transactions for a camt.056, else 1.
+    pub fn transfer_count(&self) -> usize
+        ensures transfers { result ≡ length (transfers_of self.now) }
+        ensures some { 1 ≤ result }
+        ensures few { result ≤ 100 }
     {
-        TransferKey {
-            debtor_agent: self.draft.debtor_agent().copy(),
-            tx: self.draft.transaction_id().copy(),
-        }
+        transfer_count(&self.draft)
     }
 
-    /// The recall that the message is, or is about: its transfer with CxlId, in the other kinds with OrgnlCxlId. None
-    /// for a pacs.008, a pacs.002, and a pacs.028 about a transfer.
-    pub fn recall(&self) -> Option<RecallKey>
-        ensures { result ≡ recall_of self.now }
+    /// The transfer of transaction `i`, from 0: DbtrAgt with OrgnlTxId, in a pacs.008 with TxId. None past the last.
+    /// A message of another kind than camt.056 is, or is about, one transfer, which is that of 0.
+    pub fn transfer(&self, i: usize) -> Option<TransferKey>
+        ensures { result ≡ slice_get (transfers_of self.now) i }
     {
-        let cxl = self.draft.cancellation_id()?;
-        Some(RecallKey {
-            transfer: self.transfer(),
-            cxl: cxl.copy(),
-        })
+        transfer(&self.draft, i)
+    }
+
+    /// The recall of transaction `i`, from 0: its transfer with CxlId, in the other kinds with OrgnlCxlId. None past the
+    /// last, and for a pacs.008, a pacs.002, and a pacs.028 about a transfer.
+    pub fn recall(&self, i: usize) -> Option<RecallKey>
+        ensures { result ≡ slice_get (recalls_of self.now) i }
+    {
+        recall(&self.draft, i)
     }
 }
 

@@ -4,6 +4,7 @@ ghost use Rattle.std.specs.Cmp.{IsTotalOrder};
 ghost use Rattle.sct_message.specs.Drafts.{kind_of};
 ghost use Rattle.sct_message.specs.Kinds.{kind_text};
 ghost use Rattle.sct_message.specs.Order.{text_order, by_elements, message_order, kind_order, identity_order, transfer_order, recall_order, same_identity, same_transfer};
+ghost use Rattle.sct_message.specs.Recalls.{recalls_order};
 ghost use Rattle.std.specs.Ordering.{eq_by_cmp};
 ghost use Rattle.std.specs.FinSet.{IsAntisymmetric};
 ghost use Rattle.sct_message.specs.declared.kinds.Kind.{Kind as KindOf};
@@ -42,11 +43,19 @@ fn status_request_order(left: &StatusRequest, right: &StatusRequest) -> Ordering
     left.cmp(right)
 }
 
-/// The order of two camt.056 by their elements in the order of its key table.
-fn cancellation_request_order(left: &CancellationRequest, right: &CancellationRequest) -> Ordering
-    ensures { result ≡ by_elements (draft.CancellationRequest left.now) (draft.CancellationRequest right.now) }
+/// The order of two camt.056 by their elements in the order of its key table, and their transactions one after the
+/// other: a list comes before each that it begins.
+pub(crate) fn cancellation_request_order(
+    left: &CancellationRequest,
+    right: &CancellationRequest,
+) -> Ordering
+    ensures { result ≡ recalls_order left.now right.now }
 {
-    left.cmp(right)
+    let by_head = left.head.cmp(&right.head);
+    if by_head != Ordering::Equal {
+        return by_head;
+    }
+    left.txs.cmp(&right.txs)
 }
 
 /// The order of two pacs.004 by their elements in the order of its key table.

@@ -1,11 +1,14 @@
 //! The rules of each kind.
 ghost use Rattle.std.specs.Prelude.{◌≡◌, ◌↔◌, Option, Some, None, IsTrue};
-ghost use Rattle.sct_message.specs.Rules.{rule_number, first_broken_rule, broken_in_credit_transfer, broken_in_status_report, broken_in_cancellation_request, broken_in_payment_return, broken_in_resolution, broken_in_kind, kind_it_is_about, names_its_original, FollowsRules, Breaks, IsFirstBroken};
+ghost use Rattle.sct_message.specs.Rules.{rule_number, first_broken_rule, broken_before_list, broken_in_list, is_long, broken_in_credit_transfer, broken_in_status_report, broken_in_cancellation_request, broken_in_payment_return, broken_in_resolution, broken_in_kind, kind_it_is_about, names_its_original, FollowsRules, Breaks, IsFirstBroken};
 
 use crate::draft::{
     CancellationRequest, CreditTransfer, Draft, PaymentReturn, Resolution, StatusReport,
 };
 use crate::kinds::Kind;
+use crate::recall_list::{
+    are_in_euro, broken_by_long, broken_by_transactions, name_their_originals, names,
+};
 use thiserror::Error;
 
 /// A rule that a message's elements break, of those of its kind the first by number (EPC004-16).
@@ -47,10 +50,16 @@ pub enum RuleFault {
     /// 21: OrgnlMsgNmId is no name of the kind that such a message is about.
     #[error("the original message name is of a wrong kind")]
     WrongOriginalName,
+    /// 22: two transactions of a camt.056 have the same recall key.
+    #[error("a recall is named twice")]
+    RepeatedRecall,
+    /// 23: a camt.056 has no transaction, or more than 100.
+    #[error("the number of transactions is not 1 to 100")]
+    WrongCount,
 }
 
 impl RuleFault {
-    /// The fault's number, 10 to 21.
+    /// The fault's number, 10 to 23.
     pub fn number(self) -> u8
         ensures { result ≡ rule_number self }
     {
@@ -67,6 +76,8 @@ impl RuleFault {
             RuleFault::WrongReturnReason => 19,
             RuleFault::WrongAnswer => 20,
             RuleFault::WrongOriginalName => 21,
+            RuleFault::RepeatedRecall => 22,
+            RuleFault::WrongCount => 23,
         }
     }
 }
@@ -111,10 +122,10 @@ fn broken_in_status_report(status_report: &StatusReport) -> Option<RuleFault>
 fn broken_in_cancellation_request(cancellation_request: &CancellationRequest) -> Option<RuleFault>
     ensures { result ≡ broken_in_cancellation_request cancellation_request.now }
 {
-    if cancellation_request.currency.text() != "EUR" {
-        Some(RuleFault::WrongCurrency)
-    } else {
+    if are_in_euro(&cancellation_request.txs) {
         None
+    } else {
+        Some(RuleFault::WrongCurrency)
     }
 }
 
@@ -177,16 +188,31 @@ fn kind_it_is_about(draft: &Draft) -> Kind
 fn names_its_original(draft: &Draft) -> bool
     ensures { result ≡ names_its_original draft.now }
 {
-    match draft.original() {
-        None => true,
-        Some(original) => kind_it_is_about(draft).is_named(original.message_name.text()),
+    let kind = kind_it_is_about(draft);
+    match draft {
+        Draft::CreditTransfer(_) => true,
+        Draft::StatusReport(m) => names(kind, &m.original),
+        Draft::StatusRequest(m) => names(kind, &m.original),
+        Draft::CancellationRequest(m) => name_their_originals(kind, &m.txs),
+        Draft::PaymentReturn(m) => names(kind, &m.original),
+        Draft::Resolution(m) => names(kind, &m.original),
     }
 }
 
-/// The first rule by number that a draft breaks.
-#[tactic(auto, unfolding(crate::specs::Rules::first_broken_rule))]
-pub(crate) fn first_broken_rule(draft: &Draft) -> Option<RuleFault>
-    ensures { result ≡ first_broken_rule draft.now }
+/// The first of the rules 22 and 23 that a camt.056 breaks.
+pub(crate) fn broken_in_list(draft: &Draft) -> Option<RuleFault>
+    ensures { result ≡ broken_in_list draft.now }
+{
+    match draft {
+        Draft::CancellationRequest(m) => broken_by_transactions(&m.txs),
+        _ => None,
+    }
+}
+
+/// The first rule by number that a draft breaks, but for those on the list of a camt.056.
+#[tactic(auto, unfolding(crate::specs::Rules::broken_before_list))]
+pub(crate) fn broken_before_list(draft: &Draft) -> Option<RuleFault>
+    ensures { result ≡ broken_before_list draft.now }
 {
     if !draft.kind().is_named(draft.head().message_name.text()) {
         return Some(RuleFault::WrongName);
@@ -199,6 +225,28 @@ pub(crate) fn first_broken_rule(draft: &Draft) -> Option<RuleFault>
         None
     } else {
         Some(RuleFault::WrongOriginalName)
+    }
+}
+
+/// Whether a draft is a camt.056 of more than 100 transactions.
+pub(crate) fn is_long(draft: &Draft) -> bool
+    ensures { result ≡ is_long draft.now }
+{
+    match draft {
+        Draft::CancellationRequest(m) => m.txs.len() > 100,
+        _ => false,
+    }
+}
+
+/// The first of the rules 22 and 23 that a camt.056 of more than 100 transactions breaks. It takes the draft to sort the
+/// transactions, since to compare each with each would take too long.
+pub(crate) fn broken_in_long(draft: Draft) -> RuleFault
+    requires { IsTrue (is_long draft) }
+    ensures { broken_in_list draft ≡ Some result }
+{
+    match draft {
+        Draft::CancellationRequest(m) => broken_by_long(m),
+        _ => unreachable!(),
     }
 }
 

@@ -2,11 +2,15 @@
 
 mod faults;
 mod forms;
+mod lists;
 
 use faults::*;
 use forms::*;
+use lists::*;
 use sct_json::*;
+use sct_message::Message;
 use std::alloc::{AllocError, Global};
+use std::fmt::Write;
 use std::process::Abort;
 use std::test::Fail;
 
@@ -28,6 +32,23 @@ fn repeated(alloc: Global, text: &str, count: usize) -> Result<String, AllocErro
     Ok(out)
 }
 
+/// How a fault of an element of a list is told: its number and its fields.
+fn element_told_of(alloc: Global, fault: &KeyFault) -> Result<String, AllocError> {
+    let number = fault.number();
+    match fault {
+        KeyFault::Missing(key) | KeyFault::NotText(key) => format!(in alloc;
+            "{number} {}",
+            key.text()
+        ),
+        KeyFault::Element(key, fault) => format!(in alloc;
+            "{number} {} {}",
+            key.text(),
+            fault.number()
+        ),
+        KeyFault::Extra(key) => format!(in alloc; "{number} {}", key.as_str()),
+    }
+}
+
 /// How a fault is told: its number and its fields.
 fn told_of(alloc: Global, fault: &JsonFault) -> Result<String, AllocError> {
     let number = fault.number();
@@ -43,6 +64,11 @@ fn told_of(alloc: Global, fault: &JsonFault) -> Result<String, AllocError> {
         ),
         JsonFault::Extra(key) => format!(in alloc; "{number} {}", key.as_str()),
         JsonFault::Rule(fault) => format!(in alloc; "{number} {}", fault.number()),
+        JsonFault::BadTransactions(place) => format!(in alloc; "{number} {place}"),
+        JsonFault::At(place, fault) => {
+            let fault = element_told_of(alloc, fault)?;
+            format!(in alloc; "{number} {place} {}", fault.as_str())
+        }
         _ => format!(in alloc; "{number}"),
     }
 }
@@ -143,6 +169,132 @@ fn tells_nesting_and_lengths(rt: HostRuntime) -> Result<(), Fail> {
     let ustrd = changed(alloc, r#""Ustrd":"<>","MsgId""#, "<>", long.as_str())?;
     let text = changed(alloc, CREDIT_TRANSFER, r#""MsgId""#, ustrd.as_str())?;
     assert_told(&rt, alloc, text.as_str(), "36 Ustrd 6")
+}
+
+#[test]
+fn writes_a_list_where_there_are_two_transactions(rt: HostRuntime) -> Result<(), Fail> {
+    for (text, form) in &LIST_FORMS {
+        assert_written(&rt, rt.alloc(), text, form)?;
+    }
+    Ok(())
+}
+
+#[test]
+fn reads_a_list_of_one_as_the_form_without_a_list(rt: HostRuntime) -> Result<(), Fail> {
+    let listed = read_message(rt.alloc(), ONE.as_bytes())?;
+    let flat = read_message(rt.alloc(), ONE_WRITTEN.as_bytes())?;
+    assert!(rt; listed.same(&flat));
+    Ok(())
+}
+
+#[test]
+fn tells_the_first_fault_of_a_list(rt: HostRuntime) -> Result<(), Fail> {
+    let alloc = rt.alloc();
+    assert_faults(&rt, alloc, TWO, &LIST_FAULTS)?;
+    for (list, fault) in &NO_LISTS {
+        let text = changed(alloc, EMPTY_LIST, "[]", list)?;
+        assert_told(&rt, alloc, text.as_str(), fault)?;
+    }
+    Ok(())
+}
+
+#[test]
+fn tells_a_list_in_another_kind_as_an_extra_key(rt: HostRuntime) -> Result<(), Fail> {
+    for text in &NO_RECALLS {
+        let text = changed(rt.alloc(), text, r#""MsgId""#, r#""TxInf":[],"MsgId""#)?;
+        assert_told(&rt, rt.alloc(), text.as_str(), "37 TxInf")?;
+    }
+    Ok(())
+}
+
+/// A recall message whose list has so many of one element, and then a last one.
+fn listed(alloc: Global, element: &str, count: usize, last: &str) -> Result<String, AllocError> {
+    let mut out = String::from_str(alloc, BEFORE_ELEMENTS)?;
+    for _ in 0..count {
+        out.push_str(element)?;
+        out.push_str(",")?;
+    }
+    out.push_str(last)?;
+    out.push_str("]}")?;
+    Ok(out)
+}
+
+#[test]
+fn counts_the_elements_of_a_list(rt: HostRuntime) -> Result<(), Fail> {
+    for (element, count, last, fault) in &COUNTED {
+        let text = listed(rt.alloc(), element, *count, last)?;
+        assert_told(&rt, rt.alloc(), text.as_str(), fault)?;
+    }
+    Ok(())
+}
+
+#[test]
+fn tells_nesting_in_a_list(rt: HostRuntime) -> Result<(), Fail> {
+    let alloc = rt.alloc();
+    for (depth, fault) in &NESTED_IN_LISTS {
+        let open = repeated(alloc, "[", *depth)?;
+        let close = repeated(alloc, "]", *depth)?;
+        let nested = changed(alloc, close.as_str(), "", open.as_str())?;
+        let text = listed(alloc, "", 0, nested.as_str())?;
+        assert_told(&rt, alloc, text.as_str(), fault)?;
+    }
+    Ok(())
+}
+
+/// The written form of a recall message of so many transactions, each of another recall.
+fn numbered(alloc: Global, count: usize) -> Result<String, AllocError> {
+    let mut out = String::from_str(alloc, BEFORE_ELEMENTS)?;
+    for number in 1..=count {
+        if 1 < number {
+            out.push_str(",")?;
+        }
+        write!(out, "{BEFORE_NUMBER}{number}{BEHIND_NUMBER}")?;
+    }
+    out.push_str("]}")?;
+    Ok(out)
+}
+
+#[test]
+fn reads_and_writes_100_transactions(rt: HostRuntime) -> Result<(), Fail> {
+    let alloc = rt.alloc();
+    let most = numbered(alloc, 100)?;
+    assert_written(&rt, alloc, most.as_str(), most.as_str())?;
+    let many = numbered(alloc, 101)?;
+    assert_told(&rt, alloc, many.as_str(), "46 0")
+}
+
+#[test]
+fn tells_the_least_of_many_extra_keys_of_an_element(rt: HostRuntime) -> Result<(), Fail> {
+    let alloc = rt.alloc();
+    let mut keys = String::new(alloc);
+    for number in 0..5_000 {
+        write!(keys, "\"x{number}\":1,\"X{number}\":[],")?;
+    }
+    keys.push_str("\"DbtrAgt\"")?;
+    let one = numbered(alloc, 1)?;
+    let text = changed(alloc, one.as_str(), "\"DbtrAgt\"", keys.as_str())?;
+    assert_told(&rt, alloc, text.as_str(), "56 1 37 X0")
+}
+
+/// That a message is filed under the transfer T1 of one bank, and under this recall of it.
+fn assert_filed(rt: &impl Abort, message: &Message, recall: Option<&str>) {
+    assert_eq!(rt; message.transfer_count(), 1);
+    let transfer = message.transfer(0);
+    assert!(rt; transfer.as_ref().map(|key| key.debtor_agent.text()) == Some("BANKDEFFXXX"));
+    assert!(rt; transfer.as_ref().map(|key| key.tx.text()) == Some("T1"));
+    assert!(rt; message.transfer(1).is_none());
+    let key = message.recall(0);
+    assert!(rt; key.as_ref().map(|key| key.cxl.text()) == recall);
+    assert!(rt; message.recall(1).is_none());
+}
+
+#[test]
+fn files_a_message_of_each_kind(rt: HostRuntime) -> Result<(), Fail> {
+    for (text, recall) in &FILED {
+        let message = read_message(rt.alloc(), text.as_bytes())?;
+        assert_filed(&rt, &message, *recall);
+    }
+    Ok(())
 }
 
 /// How deep arrays nest, and what is told of them.

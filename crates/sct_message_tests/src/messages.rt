@@ -1,7 +1,9 @@
 //! Messages made of the elements of worked examples. The rules of each kind are tried on JSON texts,
 //! in sct_json.
 
+mod lists;
 mod order;
+mod recalls;
 mod texts;
 
 use sct_message::*;
@@ -9,7 +11,7 @@ use std::process::Abort;
 use std::test::Fail;
 use texts::{REQUEST, RequestTexts, broken, requests};
 
-static FAULTS: [(RuleFault, u8, &str); 12] = [
+static FAULTS: [(RuleFault, u8, &str); 14] = [
     (
         RuleFault::WrongName,
         10,
@@ -49,6 +51,12 @@ static FAULTS: [(RuleFault, u8, &str); 12] = [
         RuleFault::WrongOriginalName,
         21,
         "the original message name is of a wrong kind",
+    ),
+    (RuleFault::RepeatedRecall, 22, "a recall is named twice"),
+    (
+        RuleFault::WrongCount,
+        23,
+        "the number of transactions is not 1 to 100",
     ),
 ];
 
@@ -155,17 +163,25 @@ fn assert_identity(rt: &impl Abort, identity: &Identity) {
     assert_eq!(rt; identity.msg_id.text(), "S1");
 }
 
-fn assert_transfer(rt: &impl Abort, transfer: &TransferKey) {
-    assert_eq!(rt; transfer.debtor_agent.text(), "BANKNL2AXXX");
-    assert_eq!(rt; transfer.tx.text(), "T1");
+/// That a message is about one transfer.
+fn assert_transfer(rt: &impl Abort, message: &Message) {
+    assert_eq!(rt; message.transfer_count(), 1);
+    let transfer = message.transfer(0);
+    assert!(rt; transfer.as_ref().map(|transfer| transfer.tx.text()) == Some("T1"));
+    assert!(rt;
+        transfer.as_ref().is_some_and(|transfer| transfer.copy().debtor_agent.text()
+            == "BANKNL2AXXX")
+    );
+    assert!(rt; message.transfer(1).is_none());
 }
 
 /// That a message is filed by these keys, the last one the identification of its recall.
 fn assert_filed(rt: &impl Abort, message: &Message, recall: Option<&str>) {
     assert_identity(rt, &message.identity().copy());
-    assert_transfer(rt, &message.transfer().copy());
-    let key = message.recall();
+    assert_transfer(rt, message);
+    let key = message.recall(0);
     assert!(rt; key.as_ref().map(|key| key.cxl.text()) == recall);
+    assert!(rt; message.recall(1).is_none());
 }
 
 #[test]
@@ -178,28 +194,32 @@ fn files_status_requests(rt: HostRuntime) -> Result<(), Fail> {
     Ok(())
 }
 
-fn assert_kept(rt: &impl Abort, draft: &Draft) {
+/// That a request has these elements, the last one the recall that it asks about.
+fn assert_request(rt: &impl Abort, request: &StatusRequest, recall: Option<&str>) {
+    assert_eq!(rt; request.head.message_id.text(), "S1");
+    assert_eq!(rt; request.original.message_id.text(), "M1");
+    assert_eq!(rt; request.original.transaction_id.text(), "T1");
+    assert_eq!(rt; request.debtor_agent.text(), "BANKNL2AXXX");
+    let key = request.cancellation_id.as_ref();
+    assert!(rt; key.map(|key| key.text()) == recall);
+}
+
+fn assert_kept(rt: &impl Abort, draft: &Draft, recall: Option<&str>) {
     assert_eq!(rt; draft.kind(), Kind::Pacs028);
     assert_eq!(rt; draft.head().message_name.text(), "pacs.028");
-    assert_eq!(rt; draft.debtor_agent().text(), "BANKNL2AXXX");
-    assert_eq!(rt; draft.transaction_id().text(), "T1");
-    assert!(rt;
-        draft
-            .original()
-            .is_some_and(|original| original.message_id.text() == "M1")
-    );
-    assert!(rt;
-        draft
-            .cancellation_id()
-            .is_none_or(|recall| recall.text() == "R1")
-    );
+    match draft {
+        Draft::StatusRequest(request) => assert_request(rt, request, recall),
+        _ => assert!(rt; false),
+    }
 }
 
 #[test]
 fn keeps_the_elements(rt: HostRuntime) -> Result<(), Fail> {
-    for message in &requests(rt.alloc(), &FILED)? {
+    let messages = requests(rt.alloc(), &FILED)?;
+    assert_eq!(rt; messages.len(), 2);
+    for (message, recall) in messages.iter().zip([None, Some("R1")]) {
         assert_eq!(rt; message.kind(), Kind::Pacs028);
-        assert_kept(&rt, message.draft());
+        assert_kept(&rt, message.draft(), recall);
     }
     Ok(())
 }

@@ -125,3 +125,14 @@ pub static PARTS: [(&str, &str, &str, &str); 7] = [
 
 /// The written form of the credit transfer.
 pub const WRITTEN: &str = CREDIT_TRANSFER_WRITTEN;
+
+/// Objects about the transfer T1 of one bank, and the recall that they are about.
+pub static FILED: [(&str, Option<&str>); 7] = [
+    (CREDIT_TRANSFER, None),
+    (STATUS_REPORT, None),
+    (STATUS_REQUEST, None),
+    (STATUS_REQUEST_WHOLE, Some("R1")),
+    (CANCELLATION_REQUEST, Some("R1")),
+    (PAYMENT_RETURN, Some("R1")),
+    (RESOLUTION, Some("R1")),
+];

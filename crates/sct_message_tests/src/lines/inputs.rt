@@ -12,7 +12,7 @@ pub static PARTED: [(&[u8], Parts); 7] = [
     (b"\n\nthree", Some((b"", b"\nthree"))),
 ];
 
-pub static TOLD: [(&[u8], &str); 10] = [
+pub static TOLD: [(&[u8], &str); 16] = [
     (
         b"{\"MsgNmId\":\"pacs.002\",\"MsgId\":\"C1\",\"CreDtTm\":\"2024-05-02T10:00:02Z\",\"InstgAgt\":\"BANQFRPP\",\"OrgnlMsgId\":\"M1\",\"OrgnlMsgNmId\":\"pacs.008\",\"OrgnlTxId\":\"T1\",\"TxSts\":\"ACCP\",\"DbtrAgt\":\"BANKDEFF\"}",
         "read",
@@ -34,6 +34,30 @@ pub static TOLD: [(&[u8], &str); 10] = [
     (
         b"{\"MsgNmId\":\"pacs.002\",\"MsgId\":\"C1\",\"CreDtTm\":\"2024-05-02T10:00:02Z\",\"InstgAgt\":\"BANQFRPP\",\"OrgnlMsgId\":\"M1\",\"OrgnlMsgNmId\":\"pacs.008\",\"OrgnlTxId\":\"T1\",\"TxSts\":\"RJCT\",\"DbtrAgt\":\"BANKDEFF\"}",
         "38 16",
+    ),
+    (
+        b"{\"MsgNmId\":\"camt.056\",\"MsgId\":\"K1\",\"CreDtTm\":\"2024-05-03T09:00:00Z\",\"InstgAgt\":\"BANKDEFF\",\"TxInf\":[]}",
+        "46 0",
+    ),
+    (
+        b"{\"MsgNmId\":\"camt.056\",\"MsgId\":\"K1\",\"CreDtTm\":\"2024-05-03T09:00:00Z\",\"InstgAgt\":\"BANKDEFF\",\"TxInf\":[{},7]}",
+        "46 2",
+    ),
+    (
+        b"{\"MsgNmId\":\"camt.056\",\"MsgId\":\"K1\",\"CreDtTm\":\"2024-05-03T09:00:00Z\",\"InstgAgt\":\"BANKDEFF\",\"TxInf\":[{}]}",
+        "56 1 34 CxlId",
+    ),
+    (
+        b"{\"MsgNmId\":\"camt.056\",\"MsgId\":\"K1\",\"CreDtTm\":\"2024-05-03T09:00:00Z\",\"InstgAgt\":\"BANKDEFF\",\"TxInf\":[{\"CxlId\":\"R1\",\"OrgnlMsgId\":\"M1\",\"OrgnlMsgNmId\":\"pacs.008\",\"OrgnlTxId\":\"T1\",\"OrgnlIntrBkSttlmAmt\":\"1.00\",\"Ccy\":\"EUR\",\"Rsn\":\"FRAD\",\"DbtrAgt\":\"BANKDEFF\"},{\"CxlId\":7}]}",
+        "56 2 35 CxlId",
+    ),
+    (
+        b"{\"MsgNmId\":\"camt.056\",\"MsgId\":\"K1\",\"CreDtTm\":\"2024-05-03T09:00:00Z\",\"InstgAgt\":\"BANKDEFF\",\"TxInf\":[{\"CxlId\":\"\"}]}",
+        "56 1 36 CxlId 3",
+    ),
+    (
+        b"{\"MsgNmId\":\"camt.056\",\"MsgId\":\"K1\",\"CreDtTm\":\"2024-05-03T09:00:00Z\",\"InstgAgt\":\"BANKDEFF\",\"TxInf\":[{\"CxlId\":\"R1\",\"OrgnlMsgId\":\"M1\",\"OrgnlMsgNmId\":\"pacs.008\",\"OrgnlTxId\":\"T1\",\"OrgnlIntrBkSttlmAmt\":\"1.00\",\"Ccy\":\"EUR\",\"Rsn\":\"FRAD\",\"DbtrAgt\":\"BANKDEFF\",\"Note\\\"s\":\"\"}]}",
+        "56 1 37 \"Note\\\"s\"",
     ),
 ];
 

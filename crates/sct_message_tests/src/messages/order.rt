@@ -1,5 +1,6 @@
 //! Messages and keys in their orders.
 
+use super::recalls::{LIST, ListTexts, TX, TxTexts, lists};
 use super::texts::{REQUEST, RequestTexts, requests};
 use sct_element::{Bic, ElementFault, Id35};
 use sct_message::*;
@@ -65,6 +66,77 @@ static ASCENDING: [RequestTexts; 9] = [
 #[test]
 fn orders_messages_by_identity_and_then_by_elements(rt: HostRuntime) -> Result<(), Fail> {
     assert_ascending(&rt, &requests(rt.alloc(), &ASCENDING)?);
+    Ok(())
+}
+
+/// The second transaction of the lists below.
+const SECOND: TxTexts = TxTexts {
+    cxl: "R2",
+    tx: "T2",
+    ..TX
+};
+
+/// Recall messages of one identity: by the head, then transaction by transaction, a list before each that it begins.
+static LISTS: [ListTexts; 10] = [
+    LIST,
+    // two transactions, whose order counts
+    ListTexts {
+        txs: &[TX, TxTexts { cxl: "R2", ..TX }],
+        ..LIST
+    },
+    // three, of which the list above is the beginning
+    ListTexts {
+        txs: &[TX, TxTexts { cxl: "R2", ..TX }, SECOND],
+        ..LIST
+    },
+    // two, the second of another transfer, then with another bank, which counts less than another amount
+    ListTexts {
+        txs: &[TX, SECOND],
+        ..LIST
+    },
+    ListTexts {
+        txs: &[
+            TX,
+            TxTexts {
+                bank: "BANQFRPP",
+                ..SECOND
+            },
+        ],
+        ..LIST
+    },
+    ListTexts {
+        txs: &[
+            TX,
+            TxTexts {
+                amount: "10.00",
+                ..SECOND
+            },
+        ],
+        ..LIST
+    },
+    // a shorter list with a later first transaction
+    ListTexts {
+        txs: &[TxTexts { tx: "T2", ..TX }],
+        ..LIST
+    },
+    ListTexts {
+        txs: &[TxTexts { cxl: "R2", ..TX }],
+        ..LIST
+    },
+    ListTexts {
+        txs: &[TxTexts { cxl: "R2", ..TX }, TX],
+        ..LIST
+    },
+    // a later head
+    ListTexts {
+        time: "2024-05-03T09:00:01Z",
+        ..LIST
+    },
+];
+
+#[test]
+fn orders_recalls_by_head_and_then_by_transactions(rt: HostRuntime) -> Result<(), Fail> {
+    assert_ascending(&rt, &lists(rt.alloc(), &LISTS)?);
     Ok(())
 }
 

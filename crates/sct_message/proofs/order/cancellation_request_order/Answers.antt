@@ -1,6 +1,11 @@
--- The fields of the record in their order are the elements in the order of the key table.
-use Rattle.sct_message.specs.OrderLaws.{then_assoc, then_equal}
+-- The heads and then the transactions in turn are the elements in a row.
+use Rattle.std.proofs.Common.{◌∙◌}
+use Rattle.sct_message.proofs.RecallRows.{after_head}
 use Rattle.sct_message.proofs.order.cancellation_request_order.Goals as goal
 
 pub returns : goal.returns
-returns c = simp then_equal (simp then_assoc at c.cmp.ensures)
+returns c = rw (← c.left.view_is, ← c.right.view_is)
+    (c.cmp.ensures ∙ after_head c.cmp-by_head.result
+    (record { head = c.left.inside.head; txs = c.left.inside.txs.items })
+    (record { head = c.right.inside.head; txs = c.right.inside.txs.items })
+    c.if-ne.ensures c.cmp-by_head.ensures)
