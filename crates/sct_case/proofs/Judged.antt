@@ -1,42 +1,23 @@
 -- What the words on a transfer come to where there is no message, and by whether something was found.
-use Rattle.std.proofs.Common.{◌≡◌, ◌∙◌, refl, sym, ap, arith, ℕ, Bool, true, false, not, List, [], ◌∷◌, ◌++◌, length, map, filter, Some}
+use Rattle.std.proofs.Common.{◌≡◌, ◌∙◌, refl, sym, ap, arith, ℕ, Bool, true, false, not, List, [], ◌∷◌, ◌++◌, length, map, filter}
 use Rattle.std.specs.Prelude.{◌==◌, ◌&&◌}
-use Rattle.std.specs.List.{slice_get, list_any}
+use Rattle.std.specs.List.{list_any}
 use Rattle.std.specs.List.Sorted.{IsStrictlySortedBy}
-use Rattle.std.specs.Global.{Global}
-use Rattle.std.specs.Arc.{arc_value}
-use Rattle.std.specs.declared.sync.Arc.{Arc}
 use Rattle.std.specs.Cmp.Lexicographic.{nat_list_cmp_total}
 use Rattle.std.specs.FinSet.{IsAntisymmetric, nat_cmp-IsAntisymmetric, slice_cmp-IsAntisymmetric}
-use Rattle.std.proofs.lemmas.Bool.{ne_eqb}
+use Rattle.std.proofs.lemmas.Bool.{false≢true, ne_eqb}
 use Rattle.std.proofs.lemmas.List.{append-nil}
-use Rattle.std.proofs.lemmas.List.Elements.{All-head}
-use Rattle.sct_message.specs.Keys.{transfer_of}
 use Rattle.sct_message.specs.Order.{text_order}
-use Rattle.sct_message.specs.OrderLaws.{transfer_total, transfers_same}
-use Rattle.sct_message.specs.Sets.{messages_in}
-use Rattle.sct_message.specs.Transfers.{is_on}
 use Rattle.sct_message.specs.declared.draft.Draft.{Draft}
 use Rattle.sct_message.specs.declared.keys.Identity.{Identity}
 use Rattle.sct_message.specs.declared.keys.TransferKey.{TransferKey}
 use Rattle.sct_message.proofs.AscendingLemmas.{ascending-sorted}
-use Rattle.sct_message.proofs.Members.{tie_is}
 use Rattle.sct_case.specs.declared.finding.Finding.{Finding}
 use Rattle.sct_case.specs.declared.finding.Finding.TheVariants as finding
 use Rattle.sct_case.specs.declared.status.RecallStatus.{RecallStatus}
 use Rattle.sct_case.specs.declared.status.RecallStatus.TheVariants as recall
 use Rattle.sct_case.specs.Told.{has_some, cxls, differ_among, recall_of_it, return_of_it, refusal_of_it, same_recall, same_refusal, findings_of_instruction, findings_of_recalls, findings_of}
-use Rattle.sct_case.specs.Statuses.{AreOn, Standing, Contradicted, Unknown, first_standing, is_unknown, standing_of, transfer_status_of, first_recall, recall_standing_of, recall_status_of}
-
--- ---- the transfer
-
-pub is_the_transfer : (t : TransferKey) (clean : List (Arc Draft Global)) (m : Arc Draft Global) → Some m ≡ slice_get clean 0 → AreOn t (messages_in clean) → transfer_of (arc_value m) ≡ t
-is_the_transfer t [] m e on = cc
-is_the_transfer t (x ∷ xs) m e on =
-    let h : Some m ≡ Some x = e in
-    let k : m ≡ x = cc in
-    ap (λ (one : Arc Draft Global). transfer_of (arc_value one)) k
-    ∙ tie_is transfer_total transfers_same (transfer_of (arc_value x)) t (All-head (λ one. is_on t one ≡ true) (arc_value x) (messages_in xs) on)
+use Rattle.sct_case.specs.Statuses.{Standing, Contradicted, Unknown, first_standing, is_unknown, standing_of, transfer_status_of, first_recall, recall_standing_of, recall_status_of}
 
 -- ---- where there is no message
 
@@ -76,6 +57,15 @@ some x xs = ne_eqb _ _ (λ e. omega arith)
 pub none_in : {X : Type 0} (xs : List X) → has_some xs ≡ false → xs ≡ []
 none_in [] e = refl
 none_in (x ∷ xs) e = let s = some x xs in let k : has_some (x ∷ xs) ≡ true = ap not s in cc
+
+-- whether there is anything, of a list and of what it is mapped to
+pub none_held : {X Y : Type 0} (g : X → Y) (xs : List X) → (length xs == 0) ≡ true → map g xs ≡ []
+none_held g [] e = refl
+none_held g (x ∷ xs) e = absurd (false≢true (sym (some x xs) ∙ e))
+
+pub some_held : {X Y : Type 0} (g : X → Y) (xs : List X) → (length xs == 0) ≡ false → has_some (map g xs) ≡ true
+some_held g [] e = cc
+some_held g (x ∷ xs) e = ap not (some (g x) (map g xs))
 
 found_stands : (found : List Finding) (unknown : Bool) (stands : Standing) → has_some found ≡ true → Contradicted found ≡ first_standing found unknown stands
 found_stands [] unknown stands e = cc
@@ -124,14 +114,3 @@ unfolding transfer_status_of
 unknown t clean asides found f e none =
     let empty : asides ≡ [] = mapped_none (λ i. finding.Identity i) asides (found_of_asides t clean asides none ∙ sym f ∙ none_in found e) in
     sym ((λ i. first_standing ((sym f ∙ none_in found e) i) (is_unknown (none i) (empty i)) (standing_of t clean)))
-
-nothing_recalled : (t : TransferKey) (clean : List Draft) (cxl : List ℕ) → clean ≡ [] → recall_standing_of t clean cxl ≡ recall.Unknown
-nothing_recalled t clean cxl none = ap (λ (ms : List Draft). recall_standing_of t ms cxl) none
-
-pub recall_unknown : (t : TransferKey) (clean : List Draft) (asides : List Identity) (cxl : List ℕ) (found : List Finding)
-    → found ≡ findings_of t clean asides → has_some found ≡ false → clean ≡ [] → recall.Unknown ≡ recall_status_of t clean asides cxl
-recall_unknown t clean asides cxl found f e none = sym (nothing_recalled t clean cxl none) ∙ recall_not_contradicted t clean asides cxl found f e
-
-pub is_some_message : (clean : List (Arc Draft Global)) (m : Arc Draft Global) → Some m ≡ slice_get clean 0 → has_some (messages_in clean) ≡ true
-is_some_message [] m e = cc
-is_some_message (x ∷ xs) m e = ap not (some (arc_value x) (messages_in xs))

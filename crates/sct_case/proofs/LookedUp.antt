@@ -1,5 +1,5 @@
 -- What the messages on a transfer say, looked up in the messages themselves. Proof plumbing.
-use Rattle.std.proofs.Common.{◌≡◌, ◌∙◌, refl, sym, ap, subst, ℕ, Bool, true, false, cond, ◌||◌, List, [], ◌∷◌, ◌++◌, map, find, Option, Some, None, option_map}
+use Rattle.std.proofs.Common.{◌≡◌, ◌∙◌, refl, sym, ap, subst, ℕ, Bool, true, false, cond, ◌||◌, List, [], ◌∷◌, map, find, Option, Some, None, option_map}
 use Rattle.std.specs.Arc.{arc_value}
 use Rattle.std.specs.Global.{Global, Vec}
 use Rattle.std.specs.declared.sync.Arc.{Arc}
@@ -7,11 +7,8 @@ use Rattle.std.specs.List.{list_any, flat_map}
 use Rattle.std.specs.Option.{option_or}
 use Rattle.std.proofs.lemmas.Bool.{false≢true}
 use Rattle.std.proofs.lemmas.List.Folds.{list_any-append, find-append}
-use Rattle.std.proofs.lemmas.List.Elements.{All-head, All-tail}
 use Rattle.sct_reason.specs.declared.reasons.Reason.{Reason}
-use Rattle.sct_message.specs.Drafts.{cancellation_of}
 use Rattle.sct_message.specs.Sets.{messages_in}
-use Rattle.sct_message.specs.Transfers.{is_on}
 use Rattle.sct_message.specs.declared.draft.Draft.{Draft}
 use Rattle.sct_message.specs.declared.keys.Identity.{Identity}
 use Rattle.sct_message.specs.declared.keys.TransferKey.{TransferKey}
@@ -20,16 +17,17 @@ use Rattle.sct_case.specs.declared.status.Status.{Status}
 use Rattle.sct_case.specs.declared.status.Status.TheVariants as status
 use Rattle.sct_case.specs.declared.status.RecallStatus.{RecallStatus}
 use Rattle.sct_case.specs.declared.status.RecallStatus.TheVariants as recall
-use Rattle.sct_case.specs.Said.{asked_by, made_by, recalls_in, refused_by, refusals_by, requests_by, returned_by, returns_by, where_on}
-use Rattle.sct_case.specs.Statuses.{AreOn, Standing, Contradicted, amount_returned, answer_of, answered, confirmed, first_recall, first_standing, is_made, is_named, is_unknown, known, named_of_it, reason_refused, recall_standing_of, recall_status_of, request_of_it, standing_of, told, transfer_status_of}
+use Rattle.sct_case.specs.Said.{recalls_by, recalls_named_by, refusals_by, requests_by, returns_by}
+use Rattle.sct_case.specs.Statuses.{Standing, Contradicted, amount_returned, answer_of, answered, confirmed, first_recall, first_standing, is_made, is_named, is_unknown, known, named_of_it, reason_refused, recall_standing_of, recall_status_of, request_of_it, standing_of, told, transfer_status_of}
 use Rattle.sct_case.specs.Told.{findings_of, recall_of_it, refusal_of_it, return_of_it}
 
--- what messages on a transfer say of it is all that they say
-pub on_all : {X : Type 0} (t : TransferKey) (says : Draft → List X) (ms : List Draft) → AreOn t ms
-    → flat_map (λ m. where_on t m (says m)) ms ≡ flat_map says ms
-on_all t says [] on = refl
-on_all t says (m ∷ ms) on =
-    (λ n. cond (All-head (λ (k : Draft). is_on t k ≡ true) m ms on n) (says m) [] ++ on_all t says ms (All-tail (λ (k : Draft). is_on t k ≡ true) m ms on) n)
+module _ {X Y : Type 0} (says : X → List Y) (p : Y → Bool) where
+  -- what the items of a list say, one after the other
+  pub any_parts : (xs : List X) → list_any (λ x. list_any p (says x)) xs ≡ list_any p (flat_map says xs)
+  any_parts [] = refl
+  any_parts (x ∷ xs) =
+      ap (λ (b : Bool). list_any p (says x) || b) (any_parts xs)
+      ∙ sym (list_any-append p (says x) (flat_map says xs))
 
 module _ {A X Y : Type 0} (f : A → X) (says : X → List Y) (p : Y → Bool) where
   pub any_said : (ms : List A) → list_any (λ m. list_any p (says (f m))) ms ≡ list_any p (flat_map says (map f ms))
@@ -112,41 +110,35 @@ module _ (t : TransferKey) (clean : List Draft) (asides : List Identity) (cxl : 
 
 -- ---- what is told of a recall
 
-module _ (t : TransferKey) (cxl : List ℕ) (ms : List (Arc Draft Global)) (on : AreOn t (messages_in ms)) where
-  pub named_is : list_any (λ m. list_any (named_of_it cxl) (recalls_in (cancellation_of (arc_value m)))) ms ≡ is_named t (messages_in ms) cxl
-  named_is =
-      any_said arc_value (λ (m : Draft). recalls_in (cancellation_of m)) (named_of_it cxl) ms
-      ∙ ap (list_any (named_of_it cxl)) (sym (on_all t (λ (m : Draft). recalls_in (cancellation_of m)) (messages_in ms) on))
-
-  pub made_is : list_any (λ m. list_any (recall_of_it cxl) (made_by (arc_value m))) ms ≡ is_made t (messages_in ms) cxl
-  made_is = any_said arc_value made_by (recall_of_it cxl) ms ∙ ap (list_any (recall_of_it cxl)) (sym (on_all t made_by (messages_in ms) on))
-
-  pub asked_is : list_any (λ m. list_any (request_of_it cxl) (asked_by (arc_value m))) ms ≡ list_any (request_of_it cxl) (flat_map (requests_by t) (messages_in ms))
-  asked_is = any_said arc_value asked_by (request_of_it cxl) ms ∙ ap (list_any (request_of_it cxl)) (sym (on_all t asked_by (messages_in ms) on))
-
-  pub answer_is : (amount : Option ℕ) (reason : Option Reason) (asked : Bool) → amount ≡ amount_returned cxl (flat_map returned_by (messages_in ms))
-      → reason ≡ reason_refused cxl (flat_map refused_by (messages_in ms))
-      → asked ≡ list_any (λ m. list_any (request_of_it cxl) (asked_by (arc_value m))) ms → answered amount reason asked ≡ answer_of t (messages_in ms) cxl
-  answer_is amount reason asked a r q =
-      let amount_is : amount ≡ amount_returned cxl (flat_map (returns_by t) (messages_in ms)) = a ∙ ap (amount_returned cxl) (sym (on_all t returned_by (messages_in ms) on)) in
-      let reason_is : reason ≡ reason_refused cxl (flat_map (refusals_by t) (messages_in ms)) = r ∙ ap (reason_refused cxl) (sym (on_all t refused_by (messages_in ms) on)) in
-      λ n. answered (amount_is n) (reason_is n) ((q ∙ asked_is) n)
-
 -- the message behind a handle
 abbrev value : Arc Draft Global → Draft
 value = arc_value
 
-pub amount_found : (cxl : List ℕ) (ms : List (Arc Draft Global)) (o : Option (Arc Draft Global)) → o ≡ find (λ m. list_any (return_of_it cxl) (returned_by (arc_value m))) ms
-    → option_map (λ r. r.amount) (said_by value returned_by (return_of_it cxl) (option_map value o)) ≡ amount_returned cxl (flat_map returned_by (messages_in ms))
-amount_found cxl ms o e =
-    ap (λ (x : Option (Arc Draft Global)). option_map (λ r. r.amount) (said_by value returned_by (return_of_it cxl) (option_map value x))) e
-    ∙ ap (option_map (λ r. r.amount)) (first_said value returned_by (return_of_it cxl) ms)
+module _ (t : TransferKey) (cxl : List ℕ) (ms : List (Arc Draft Global)) where
+  pub named_is : list_any (λ m. list_any (named_of_it cxl) (recalls_named_by t (arc_value m))) ms ≡ is_named t (messages_in ms) cxl
+  named_is = any_said arc_value (recalls_named_by t) (named_of_it cxl) ms
 
-pub reason_found : (cxl : List ℕ) (ms : List (Arc Draft Global)) (o : Option (Arc Draft Global)) → o ≡ find (λ m. list_any (refusal_of_it cxl) (refused_by (arc_value m))) ms
-    → option_map (λ r. r.reason) (said_by value refused_by (refusal_of_it cxl) (option_map value o)) ≡ reason_refused cxl (flat_map refused_by (messages_in ms))
-reason_found cxl ms o e =
-    ap (λ (x : Option (Arc Draft Global)). option_map (λ r. r.reason) (said_by value refused_by (refusal_of_it cxl) (option_map value x))) e
-    ∙ ap (option_map (λ r. r.reason)) (first_said value refused_by (refusal_of_it cxl) ms)
+  pub made_is : list_any (λ m. list_any (recall_of_it cxl) (recalls_by t (arc_value m))) ms ≡ is_made t (messages_in ms) cxl
+  made_is = any_said arc_value (recalls_by t) (recall_of_it cxl) ms
+
+  pub answer_is : (amount : Option ℕ) (reason : Option Reason) (asked : Bool) → amount ≡ amount_returned cxl (flat_map (returns_by t) (messages_in ms))
+      → reason ≡ reason_refused cxl (flat_map (refusals_by t) (messages_in ms))
+      → asked ≡ list_any (λ m. list_any (request_of_it cxl) (requests_by t (arc_value m))) ms → answered amount reason asked ≡ answer_of t (messages_in ms) cxl
+  answer_is amount reason asked a r q =
+      λ n. answered (a n) (r n) ((q ∙ any_said arc_value (requests_by t) (request_of_it cxl) ms) n)
+
+  -- what the message that was found says
+  pub amount_found : (o : Option (Arc Draft Global)) → o ≡ find (λ m. list_any (return_of_it cxl) (returns_by t (arc_value m))) ms
+      → option_map (λ r. r.amount) (said_by value (returns_by t) (return_of_it cxl) (option_map value o)) ≡ amount_returned cxl (flat_map (returns_by t) (messages_in ms))
+  amount_found o e =
+      ap (λ (x : Option (Arc Draft Global)). option_map (λ r. r.amount) (said_by value (returns_by t) (return_of_it cxl) (option_map value x))) e
+      ∙ ap (option_map (λ r. r.amount)) (first_said value (returns_by t) (return_of_it cxl) ms)
+
+  pub reason_found : (o : Option (Arc Draft Global)) → o ≡ find (λ m. list_any (refusal_of_it cxl) (refusals_by t (arc_value m))) ms
+      → option_map (λ r. r.reason) (said_by value (refusals_by t) (refusal_of_it cxl) (option_map value o)) ≡ reason_refused cxl (flat_map (refusals_by t) (messages_in ms))
+  reason_found o e =
+      ap (λ (x : Option (Arc Draft Global)). option_map (λ r. r.reason) (said_by value (refusals_by t) (refusal_of_it cxl) (option_map value x))) e
+      ∙ ap (option_map (λ r. r.reason)) (first_said value (refusals_by t) (refusal_of_it cxl) ms)
 
 -- a status that is no contradiction tells none
 pub told_clear : (s : Status) → ((found : Vec Finding) → s ≡ status.Contradicted found → ⊥) → IsContradictedStanding (told s) → ⊥

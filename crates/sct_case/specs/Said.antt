@@ -1,12 +1,16 @@
 -- What one message says of a transfer, for auditors. Findings and statuses read a message by these words alone.
 use Rattle.std.specs.Prelude.{ℕ, Bool, false, List, [], ◌∷◌, Option, Some, None, is_none, if◌then◌else◌, codes, Contains}
+use Rattle.std.specs.List.{flat_map}
 use Rattle.sct_reason.specs.declared.reasons.Reason.{Reason}
-use Rattle.sct_message.specs.Drafts.{cancellation_of}
 use Rattle.sct_element.specs.Text.{is_text}
-use Rattle.sct_message.specs.Transfers.{is_on}
+use Rattle.sct_message.specs.Keys.{transfer_key, recalls_of}
+use Rattle.sct_message.specs.Order.{same_transfer}
+use Rattle.sct_message.specs.Recalls.{transfer_in}
+use Rattle.sct_message.specs.declared.draft.RecallTx.{RecallTx}
 use Rattle.sct_message.specs.declared.draft.Draft.{Draft}
 use Rattle.sct_message.specs.declared.draft.Draft.TheVariants.{CreditTransfer, StatusReport, StatusRequest, CancellationRequest, PaymentReturn, Resolution}
 use Rattle.sct_message.specs.declared.keys.TransferKey.{TransferKey}
+use Rattle.sct_message.specs.declared.keys.RecallKey.{RecallKey}
 use Rattle.sct_case.specs.declared.said.InstructedAmount.{InstructedAmount}
 use Rattle.sct_case.specs.declared.said.RejectionReason.{RejectionReason}
 use Rattle.sct_case.specs.declared.said.RecallMade.{RecallMade}
@@ -48,62 +52,60 @@ abbrev pub is_investigation : Draft → Bool
 is_investigation (StatusRequest d) = is_none d.cancellation_id
 is_investigation other = false
 
--- ---- of its recalls: a message on another transfer says nothing of them
+-- ---- of its recalls: what a message says under the key of another transfer is not said of them
 
-abbrev pub where_on : {X : Type 0} → TransferKey → Draft → List X → List X
-where_on transfer m said = if is_on transfer m then said else []
+abbrev pub where_of : {X : Type 0} → TransferKey → TransferKey → List X → List X
+where_of transfer key said = if same_transfer key transfer then said else []
 
--- the recalls that it makes (camt.056), each by its identification, the original amount that it names, and its reason
-abbrev pub made_by : Draft → List RecallMade
-made_by (CancellationRequest d) =
-    record { cxl = d.cancellation_id; amount = d.original_amount; reason = d.reason } ∷ []
-made_by other = []
+-- the recalls that it makes (camt.056), one for each of its transactions on the transfer, by its identification, the
+-- original amount that it names, and its reason
+abbrev pub made_in : TransferKey → RecallTx → List RecallMade
+made_in transfer tx =
+    where_of transfer (transfer_in tx)
+    (record { cxl = tx.cancellation_id; amount = tx.original_amount; reason = tx.reason } ∷ [])
 
 abbrev pub recalls_by : TransferKey → Draft → List RecallMade
-recalls_by transfer m = where_on transfer m (made_by m)
+recalls_by transfer (CancellationRequest d) = flat_map (made_in transfer) d.txs
+recalls_by transfer other = []
 
 -- the original amounts that its recalls and returns name
-abbrev pub named_by : Draft → List OriginalAmount
-named_by (CancellationRequest d) = record { amount = d.original_amount } ∷ []
-named_by (PaymentReturn d) = record { amount = d.original_amount } ∷ []
-named_by other = []
+abbrev pub amount_in : TransferKey → RecallTx → List OriginalAmount
+amount_in transfer tx = where_of transfer (transfer_in tx) (record { amount = tx.original_amount } ∷ [])
 
 abbrev pub amounts_by : TransferKey → Draft → List OriginalAmount
-amounts_by transfer m = where_on transfer m (named_by m)
+amounts_by transfer (CancellationRequest d) = flat_map (amount_in transfer) d.txs
+amounts_by transfer (PaymentReturn d) =
+    where_of transfer (transfer_key d.debtor_agent d.original.transaction_id)
+    (record { amount = d.original_amount } ∷ [])
+amounts_by transfer other = []
 
 -- the returns that it makes (pacs.004), each by its identification, its recall, and the amount that comes back
-abbrev pub returned_by : Draft → List ReturnMade
-returned_by (PaymentReturn d) =
-    record { return_id = d.return_id; cxl = d.cancellation_id; amount = d.returned_amount } ∷ []
-returned_by other = []
-
 abbrev pub returns_by : TransferKey → Draft → List ReturnMade
-returns_by transfer m = where_on transfer m (returned_by m)
+returns_by transfer (PaymentReturn d) =
+    where_of transfer (transfer_key d.debtor_agent d.original.transaction_id)
+    (record { return_id = d.return_id; cxl = d.cancellation_id; amount = d.returned_amount } ∷ [])
+returns_by transfer other = []
 
 -- the refusals that it makes (camt.029), each by its recall and its reason
-abbrev pub refused_by : Draft → List RefusalMade
-refused_by (Resolution d) = record { cxl = d.cancellation_id; reason = d.reason } ∷ []
-refused_by other = []
-
 abbrev pub refusals_by : TransferKey → Draft → List RefusalMade
-refusals_by transfer m = where_on transfer m (refused_by m)
+refusals_by transfer (Resolution d) =
+    where_of transfer (transfer_key d.debtor_agent d.original.transaction_id)
+    (record { cxl = d.cancellation_id; reason = d.reason } ∷ [])
+refusals_by transfer other = []
 
 -- the recalls whose status it asks for (pacs.028 that names one)
 abbrev pub cancellations_in : Option (List ℕ) → List RecallAsked
 cancellations_in None = []
 cancellations_in (Some cxl) = record { cxl = cxl } ∷ []
 
-abbrev pub asked_by : Draft → List RecallAsked
-asked_by (StatusRequest d) = cancellations_in d.cancellation_id
-asked_by other = []
-
 abbrev pub requests_by : TransferKey → Draft → List RecallAsked
-requests_by transfer m = where_on transfer m (asked_by m)
+requests_by transfer (StatusRequest d) =
+    where_of transfer (transfer_key d.debtor_agent d.original.transaction_id) (cancellations_in d.cancellation_id)
+requests_by transfer other = []
 
--- the recalls that it names, whatever it says of them
-abbrev pub recalls_in : Option (List ℕ) → List RecallNamed
-recalls_in None = []
-recalls_in (Some cxl) = record { cxl = cxl } ∷ []
+-- the recalls of the transfer that it names, whatever it says of them
+abbrev pub named_in : TransferKey → RecallKey → List RecallNamed
+named_in transfer recall = where_of transfer recall.transfer (record { cxl = recall.cxl } ∷ [])
 
 abbrev pub recalls_named_by : TransferKey → Draft → List RecallNamed
-recalls_named_by transfer m = where_on transfer m (recalls_in (cancellation_of m))
+recalls_named_by transfer m = flat_map (named_in transfer) (recalls_of m)

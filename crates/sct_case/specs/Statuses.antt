@@ -1,9 +1,8 @@
 -- Where a transfer and its recalls stand, for auditors: the first of a list of sentences that holds.
-use Rattle.std.specs.Prelude.{◌≡◌, ◌&&◌, ◌==◌, ℕ, List, [], ◌∷◌, length, find, Bool, true, false, Option, Some, None, option_map}
-use Rattle.std.specs.List.{list_any, flat_map, All}
+use Rattle.std.specs.Prelude.{◌&&◌, ◌==◌, ℕ, List, [], ◌∷◌, length, find, Bool, true, false, Option, Some, None, option_map}
+use Rattle.std.specs.List.{list_any, flat_map}
 use Rattle.sct_reason.specs.declared.reasons.Reason.{Reason}
 use Rattle.sct_element.specs.Text.{is_text}
-use Rattle.sct_message.specs.Transfers.{is_on}
 use Rattle.sct_message.specs.declared.draft.Draft.{Draft}
 use Rattle.sct_message.specs.declared.keys.Identity.{Identity}
 use Rattle.sct_message.specs.declared.keys.TransferKey.{TransferKey}
@@ -18,10 +17,6 @@ use Rattle.sct_case.specs.declared.said.ReturnMade.{ReturnMade}
 use Rattle.sct_case.specs.declared.said.RefusalMade.{RefusalMade}
 use Rattle.sct_case.specs.Said.{is_acceptance, is_investigation, instructions_by, rejections_by, recalls_by, returns_by, refusals_by, requests_by, recalls_named_by}
 use Rattle.sct_case.specs.Told.{findings_of, has_some, recall_of_it, return_of_it, refusal_of_it}
-
--- every message is on the transfer
-abbrev pub AreOn : TransferKey → List Draft → Type 0
-AreOn transfer clean = All (λ m. is_on transfer m ≡ true) clean
 
 -- ---- the transfer
 

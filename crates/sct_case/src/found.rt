@@ -245,7 +245,7 @@ fn push_where(found: &mut Vec<Finding>, holds: bool, finding: Finding) -> Result
 }
 
 /// The contradicted identities as findings.
-pub(crate) fn contradictions(alloc: Global, asides: &[Identity]) -> Result<Vec<Finding>, AllocError>
+fn contradictions(alloc: Global, asides: &[Identity]) -> Result<Vec<Finding>, AllocError>
     ensures { IfOk result (λ found. found.items ≡ map (λ i. finding.Identity i) asides.now) }
 {
     let mut found = Vec::new(alloc);

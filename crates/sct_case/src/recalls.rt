@@ -3,175 +3,280 @@ ghost use Rattle.std.specs.Prelude.{◌≡◌, List, find, option_map};
 ghost use Rattle.std.specs.Arc.{arc_value};
 ghost use Rattle.std.specs.List.{list_any, flat_map};
 ghost use Rattle.std.specs.Option.{option_copied};
-ghost use Rattle.sct_message.specs.Drafts.{cancellation_of};
+ghost use Rattle.sct_message.specs.Keys.{transfer_key, recalls_named};
+ghost use Rattle.sct_message.specs.Recalls.{recall_in};
 ghost use Rattle.sct_message.specs.Sets.{messages_in};
 ghost use Rattle.sct_message.specs.declared.keys.Identity.{Identity as IdentityOf};
-ghost use Rattle.sct_message.specs.declared.keys.TransferKey.{TransferKey as TransferOf};
-ghost use Rattle.sct_case.specs.Said.{asked_by, made_by, recalls_in, refused_by, returned_by};
-ghost use Rattle.sct_case.specs.Statuses.{AreOn, amount_returned, named_of_it, reason_refused, recall_standing_of, recall_status_of, request_of_it, told, transfer_status_of};
+ghost use Rattle.sct_case.specs.Said.{cancellations_in, made_in, named_in, recalls_by, recalls_named_by, refusals_by, requests_by, returns_by};
+ghost use Rattle.sct_case.specs.Statuses.{amount_returned, named_of_it, reason_refused, recall_standing_of, recall_status_of, request_of_it, told, transfer_status_of};
 ghost use Rattle.sct_case.specs.Told.{recall_of_it, refusal_of_it, return_of_it};
 
+use crate::said::{is_of, recalls};
 use crate::standing::answered;
 use crate::status::{RecallStatus, Status};
-use sct_element::{Amount, Id35};
-use sct_message::{Draft, Message};
+use sct_element::{Amount, Bic, Id35};
+use sct_message::{Draft, Message, RecallTx, StatusRequest, TransferKey};
 use sct_reason::Reason;
 use std::sync::Arc;
 
-/// Whether a message names the recall of this identification.
-fn names(draft: &Draft, cxl: &Id35) -> bool
-    ensures { result ≡ list_any (named_of_it cxl.now) (recalls_in (cancellation_of draft.now)) }
+/// Whether a message of one transfer that names this recall, if any, is about the recall.
+fn is_it(
+    transfer: &TransferKey,
+    cxl: &Id35,
+    debtor_agent: &Bic,
+    tx: &Id35,
+    named: Option<&Id35>,
+) -> bool
+    ensures { result ≡ list_any (named_of_it cxl.now) (flat_map (named_in transfer.now)
+        (recalls_named (transfer_key debtor_agent.now tx.now) (option_copied named.entry))) }
 {
-    match draft.cancellation_id() {
+    match named {
+        Some(named) => is_of(transfer, debtor_agent, tx) && named.text() == cxl.text(),
+        None => false,
+    }
+}
+
+/// Whether a transaction is the recall, by its key.
+fn names_it(tx: &RecallTx, transfer: &TransferKey, cxl: &Id35) -> bool
+    ensures { result ≡ list_any (named_of_it cxl.now) (named_in transfer.now (recall_in tx.now)) }
+{
+    recalls(transfer, tx) && tx.cancellation_id.text() == cxl.text()
+}
+
+/// Whether one of some transactions is the recall, by its key.
+fn name_it(txs: &[RecallTx], transfer: &TransferKey, cxl: &Id35) -> bool
+    ensures { result ≡ list_any (λ tx. list_any (named_of_it cxl.now)
+        (named_in transfer.now (recall_in tx))) txs.now }
+{
+    txs.iter().any(|tx| names_it(tx, transfer, cxl))
+}
+
+/// Whether a message names the recall of the transfer that has this identification.
+fn names(draft: &Draft, transfer: &TransferKey, cxl: &Id35) -> bool
+    ensures { result ≡ list_any (named_of_it cxl.now) (recalls_named_by transfer.now draft.now) }
+{
+    match draft {
+        Draft::CreditTransfer(_) | Draft::StatusReport(_) => false,
+        Draft::StatusRequest(m) => is_it(
+            transfer,
+            cxl,
+            &m.debtor_agent,
+            &m.original.transaction_id,
+            m.cancellation_id.as_ref(),
+        ),
+        Draft::CancellationRequest(m) => name_it(&m.txs, transfer, cxl),
+        Draft::PaymentReturn(m) => is_it(
+            transfer,
+            cxl,
+            &m.debtor_agent,
+            &m.original.transaction_id,
+            Some(&m.cancellation_id),
+        ),
+        Draft::Resolution(m) => is_it(
+            transfer,
+            cxl,
+            &m.debtor_agent,
+            &m.original.transaction_id,
+            Some(&m.cancellation_id),
+        ),
+    }
+}
+
+/// Whether a transaction makes the recall.
+fn makes_it(tx: &RecallTx, transfer: &TransferKey, cxl: &Id35) -> bool
+    ensures { result ≡ list_any (recall_of_it cxl.now) (made_in transfer.now tx.now) }
+{
+    recalls(transfer, tx) && tx.cancellation_id.text() == cxl.text()
+}
+
+/// Whether one of some transactions makes the recall.
+fn make_it(txs: &[RecallTx], transfer: &TransferKey, cxl: &Id35) -> bool
+    ensures { result ≡ list_any (λ tx. list_any (recall_of_it cxl.now) (made_in transfer.now tx)) txs.now }
+{
+    txs.iter().any(|tx| makes_it(tx, transfer, cxl))
+}
+
+/// Whether a message makes the recall.
+fn makes(draft: &Draft, transfer: &TransferKey, cxl: &Id35) -> bool
+    ensures { result ≡ list_any (recall_of_it cxl.now) (recalls_by transfer.now draft.now) }
+{
+    match draft {
+        Draft::CancellationRequest(m) => make_it(&m.txs, transfer, cxl),
+        _ => false,
+    }
+}
+
+/// Whether a request asks for the status of the recall that it names.
+fn asks_for_it(request: &StatusRequest, cxl: &Id35) -> bool
+    ensures { result ≡ list_any (request_of_it cxl.now) (cancellations_in request.now.cancellation_id) }
+{
+    match &request.cancellation_id {
         Some(named) => named.text() == cxl.text(),
         None => false,
     }
 }
 
-/// Whether a message makes the recall.
-fn makes(draft: &Draft, cxl: &Id35) -> bool
-    ensures { result ≡ list_any (recall_of_it cxl.now) (made_by draft.now) }
-{
-    match draft {
-        Draft::CancellationRequest(made) => made.cancellation_id.text() == cxl.text(),
-        _ => false,
-    }
-}
-
 /// Whether a message asks for the status of the recall.
-fn asks(draft: &Draft, cxl: &Id35) -> bool
-    ensures { result ≡ list_any (request_of_it cxl.now) (asked_by draft.now) }
+fn asks(draft: &Draft, transfer: &TransferKey, cxl: &Id35) -> bool
+    ensures { result ≡ list_any (request_of_it cxl.now) (requests_by transfer.now draft.now) }
 {
     match draft {
-        Draft::StatusRequest(_) => names(draft, cxl),
+        Draft::StatusRequest(m) => is_of(transfer, &m.debtor_agent, &m.original.transaction_id)
+            && asks_for_it(m, cxl),
         _ => false,
     }
 }
 
 /// Whether a message returns money after the recall.
-fn returns(draft: &Draft, cxl: &Id35) -> bool
-    ensures { result ≡ list_any (return_of_it cxl.now) (returned_by draft.now) }
+fn returns(draft: &Draft, transfer: &TransferKey, cxl: &Id35) -> bool
+    ensures { result ≡ list_any (return_of_it cxl.now) (returns_by transfer.now draft.now) }
 {
     match draft {
-        Draft::PaymentReturn(made) => made.cancellation_id.text() == cxl.text(),
+        Draft::PaymentReturn(m) => is_of(transfer, &m.debtor_agent, &m.original.transaction_id)
+            && m.cancellation_id.text() == cxl.text(),
         _ => false,
     }
 }
 
 /// Whether a message refuses the recall.
-fn refuses(draft: &Draft, cxl: &Id35) -> bool
-    ensures { result ≡ list_any (refusal_of_it cxl.now) (refused_by draft.now) }
+fn refuses(draft: &Draft, transfer: &TransferKey, cxl: &Id35) -> bool
+    ensures { result ≡ list_any (refusal_of_it cxl.now) (refusals_by transfer.now draft.now) }
 {
     match draft {
-        Draft::Resolution(made) => made.cancellation_id.text() == cxl.text(),
+        Draft::Resolution(m) => is_of(transfer, &m.debtor_agent, &m.original.transaction_id)
+            && m.cancellation_id.text() == cxl.text(),
         _ => false,
     }
 }
 
 /// The amount that a message returns after the recall.
-fn amount_of(draft: &Draft, cxl: &Id35) -> Option<Amount>
-    ensures { result ≡ amount_returned cxl.now (returned_by draft.now) }
+fn amount_of(draft: &Draft, transfer: &TransferKey, cxl: &Id35) -> Option<Amount>
+    ensures { result ≡ amount_returned cxl.now (returns_by transfer.now draft.now) }
 {
     match draft {
-        Draft::PaymentReturn(made) if made.cancellation_id.text() == cxl.text() => Some(
-            made.returned_amount,
-        ),
+        Draft::PaymentReturn(m)
+            if is_of(transfer, &m.debtor_agent, &m.original.transaction_id)
+                && m.cancellation_id.text() == cxl.text() => Some(m.returned_amount),
         _ => None,
     }
 }
 
 /// The reason for which a message refuses the recall.
-fn reason_of(draft: &Draft, cxl: &Id35) -> Option<Reason>
-    ensures { result ≡ reason_refused cxl.now (refused_by draft.now) }
+fn reason_of(draft: &Draft, transfer: &TransferKey, cxl: &Id35) -> Option<Reason>
+    ensures { result ≡ reason_refused cxl.now (refusals_by transfer.now draft.now) }
 {
     match draft {
-        Draft::Resolution(made) if made.cancellation_id.text() == cxl.text() => Some(
-            made.reason.copy(),
-        ),
+        Draft::Resolution(m)
+            if is_of(transfer, &m.debtor_agent, &m.original.transaction_id)
+                && m.cancellation_id.text() == cxl.text() => Some(m.reason.copy()),
         _ => None,
     }
 }
 
-fn is_named(clean: &[Arc<Message>], cxl: &Id35) -> bool
+fn is_named(clean: &[Arc<Message>], transfer: &TransferKey, cxl: &Id35) -> bool
     ensures { result ≡ list_any (λ m. list_any (named_of_it cxl.now)
-        (recalls_in (cancellation_of (arc_value m)))) clean.now }
+        (recalls_named_by transfer.now (arc_value m))) clean.now }
 {
-    clean.iter().any(|message| names(message.draft(), cxl))
+    clean
+        .iter()
+        .any(|message| names(message.draft(), transfer, cxl))
 }
 
-fn is_made(clean: &[Arc<Message>], cxl: &Id35) -> bool
-    ensures { result ≡ list_any (λ m. list_any (recall_of_it cxl.now) (made_by (arc_value m))) clean.now }
+fn is_made(clean: &[Arc<Message>], transfer: &TransferKey, cxl: &Id35) -> bool
+    ensures { result ≡ list_any (λ m. list_any (recall_of_it cxl.now)
+        (recalls_by transfer.now (arc_value m))) clean.now }
 {
-    clean.iter().any(|message| makes(message.draft(), cxl))
+    clean
+        .iter()
+        .any(|message| makes(message.draft(), transfer, cxl))
 }
 
-fn is_asked(clean: &[Arc<Message>], cxl: &Id35) -> bool
-    ensures { result ≡ list_any (λ m. list_any (request_of_it cxl.now) (asked_by (arc_value m))) clean.now }
+fn is_asked(clean: &[Arc<Message>], transfer: &TransferKey, cxl: &Id35) -> bool
+    ensures { result ≡ list_any (λ m. list_any (request_of_it cxl.now)
+        (requests_by transfer.now (arc_value m))) clean.now }
 {
-    clean.iter().any(|message| asks(message.draft(), cxl))
+    clean
+        .iter()
+        .any(|message| asks(message.draft(), transfer, cxl))
 }
 
-fn first_return<'a>(clean: &'a [Arc<Message>], cxl: &Id35) -> Option<&'a Arc<Message>>
+fn first_return<'a>(
+    clean: &'a [Arc<Message>],
+    transfer: &TransferKey,
+    cxl: &Id35,
+) -> Option<&'a Arc<Message>>
     ensures { option_copied result
-        ≡ find (λ m. list_any (return_of_it cxl.now) (returned_by (arc_value m))) clean.now }
+        ≡ find (λ m. list_any (return_of_it cxl.now) (returns_by transfer.now (arc_value m))) clean.now }
 {
-    clean.iter().find(|message| returns(message.draft(), cxl))
+    clean
+        .iter()
+        .find(|message| returns(message.draft(), transfer, cxl))
 }
 
-fn first_refusal<'a>(clean: &'a [Arc<Message>], cxl: &Id35) -> Option<&'a Arc<Message>>
+fn first_refusal<'a>(
+    clean: &'a [Arc<Message>],
+    transfer: &TransferKey,
+    cxl: &Id35,
+) -> Option<&'a Arc<Message>>
     ensures { option_copied result
-        ≡ find (λ m. list_any (refusal_of_it cxl.now) (refused_by (arc_value m))) clean.now }
+        ≡ find (λ m. list_any (refusal_of_it cxl.now) (refusals_by transfer.now (arc_value m))) clean.now }
 {
-    clean.iter().find(|message| refuses(message.draft(), cxl))
+    clean
+        .iter()
+        .find(|message| refuses(message.draft(), transfer, cxl))
 }
 
 /// The amount of the first return after the recall.
-fn amount_told(clean: &[Arc<Message>], cxl: &Id35) -> Option<Amount>
-    ensures { result ≡ amount_returned cxl.now (flat_map returned_by (messages_in clean.now)) }
+fn amount_told(clean: &[Arc<Message>], transfer: &TransferKey, cxl: &Id35) -> Option<Amount>
+    ensures { result ≡ amount_returned cxl.now (flat_map (returns_by transfer.now) (messages_in clean.now)) }
 {
-    match first_return(clean, cxl) {
-        Some(message) => amount_of(message.draft(), cxl),
+    match first_return(clean, transfer, cxl) {
+        Some(message) => amount_of(message.draft(), transfer, cxl),
         None => None,
     }
 }
 
 /// The reason of the first refusal of the recall.
-fn reason_told(clean: &[Arc<Message>], cxl: &Id35) -> Option<Reason>
-    ensures { result ≡ reason_refused cxl.now (flat_map refused_by (messages_in clean.now)) }
+fn reason_told(clean: &[Arc<Message>], transfer: &TransferKey, cxl: &Id35) -> Option<Reason>
+    ensures { result ≡ reason_refused cxl.now (flat_map (refusals_by transfer.now) (messages_in clean.now)) }
 {
-    match first_refusal(clean, cxl) {
-        Some(message) => reason_of(message.draft(), cxl),
+    match first_refusal(clean, transfer, cxl) {
+        Some(message) => reason_of(message.draft(), transfer, cxl),
         None => None,
     }
 }
 
 /// Where a recall stands by the clean messages on its transfer, where nothing was found.
-fn recall_standing_in(clean: &[Arc<Message>], cxl: &Id35) -> RecallStatus
-    ensures { (t : TransferOf) → AreOn t (messages_in clean.now)
-        → result ≡ recall_standing_of t (messages_in clean.now) cxl.now }
+fn recall_standing_in(clean: &[Arc<Message>], transfer: &TransferKey, cxl: &Id35) -> RecallStatus
+    ensures { result ≡ recall_standing_of transfer.now (messages_in clean.now) cxl.now }
 {
-    if !is_named(clean, cxl) {
+    if !is_named(clean, transfer, cxl) {
         return RecallStatus::Unknown;
     }
-    if !is_made(clean, cxl) {
+    if !is_made(clean, transfer, cxl) {
         return RecallStatus::Unasked;
     }
     answered(
-        amount_told(clean, cxl),
-        reason_told(clean, cxl),
-        is_asked(clean, cxl),
+        amount_told(clean, transfer, cxl),
+        reason_told(clean, transfer, cxl),
+        is_asked(clean, transfer, cxl),
     )
 }
 
-/// Where the recall stands that has this identification, on a transfer that stands as the status tells and of which these are
-/// the clean messages. It takes no memory.
-pub fn recall_status_by(status: &Status, clean: &[Arc<Message>], cxl: &Id35) -> RecallStatus
-    ensures { (t : TransferOf) (asides : List IdentityOf) → AreOn t (messages_in clean.now)
-        → told status.now ≡ transfer_status_of t (messages_in clean.now) asides
-        → result ≡ recall_status_of t (messages_in clean.now) asides cxl.now }
+/// Where the recall of a transfer stands that has this identification, where the transfer stands as the status tells and
+/// these are the clean messages on it. It takes no memory.
+pub fn recall_status_by(
+    status: &Status,
+    transfer: &TransferKey,
+    clean: &[Arc<Message>],
+    cxl: &Id35,
+) -> RecallStatus
+    ensures { (asides : List IdentityOf)
+        → told status.now ≡ transfer_status_of transfer.now (messages_in clean.now) asides
+        → result ≡ recall_status_of transfer.now (messages_in clean.now) asides cxl.now }
 {
     match status {
         Status::Contradicted(_) => RecallStatus::Contradicted,
-        _ => recall_standing_in(clean, cxl),
+        _ => recall_standing_in(clean, transfer, cxl),
     }
 }

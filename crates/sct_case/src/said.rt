@@ -1,17 +1,20 @@
 //! What messages say of one transfer, read out of them into lists.
-ghost use Rattle.std.specs.Prelude.{◌≡◌, ◌++◌, ◌&&◌, List, nat_eq, OnOk, IfOk};
+ghost use Rattle.std.specs.Prelude.{◌≡◌, ◌++◌, ◌&&◌, List, map, nat_eq, OnOk, IfOk};
 ghost use Rattle.std.specs.List.{flat_map};
 ghost use Rattle.std.specs.Cmp.Lexicographic.{pointwise};
-ghost use Rattle.sct_message.specs.Drafts.{debtor_agent_of, transaction_of};
+ghost use Rattle.std.specs.Option.{option_copied};
+ghost use Rattle.sct_message.specs.Keys.{transfer_key, recalls_named};
+ghost use Rattle.sct_message.specs.Order.{same_transfer};
+ghost use Rattle.sct_message.specs.Recalls.{transfer_in, recall_in};
 ghost use Rattle.sct_message.specs.Sets.{messages_in};
-ghost use Rattle.sct_message.specs.Transfers.{is_on};
 ghost use Rattle.sct_message.specs.declared.draft.Draft.{Draft as DraftOf};
 ghost use Rattle.sct_message.specs.declared.keys.TransferKey.{TransferKey as TransferOf};
-ghost use Rattle.sct_case.specs.Said.{instructions_by, rejections_by, recalls_by, amounts_by, returns_by, refusals_by, requests_by, asked_by, recalls_named_by};
+ghost use Rattle.sct_case.specs.Said.{instructions_by, rejections_by, recalls_by, amounts_by, returns_by, refusals_by, requests_by, recalls_named_by};
+ghost use Rattle.sct_case.specs.Said.{amount_in, cancellations_in, made_in, named_in};
 ghost use Rattle.sct_message.specs.declared.draft.Draft.TheVariants as draft;
 
-use sct_element::{Amount, Id35};
-use sct_message::{Draft, Message, StatusReport, StatusRequest, TransferKey};
+use sct_element::{Amount, Bic, Id35};
+use sct_message::{Draft, Message, RecallTx, StatusReport, StatusRequest, TransferKey};
 use sct_reason::Reason;
 use std::alloc::{AllocError, Global};
 use std::sync::Arc;
@@ -93,20 +96,27 @@ pub(crate) fn said<S: Statement>(
     Ok(found)
 }
 
-/// Whether a message's originator bank and transfer identification are those of a transfer.
-fn has_parts_of(transfer: &TransferKey, draft: &Draft) -> bool
-    ensures { result ≡ (pointwise nat_eq (debtor_agent_of draft.now) transfer.now.debtor_agent
-        && pointwise nat_eq (transaction_of draft.now) transfer.now.tx) }
+/// Whether an originator bank and a transfer identification are those of a transfer. The identification, which differs
+/// most often, is looked at first.
+fn has_parts_of(transfer: &TransferKey, debtor_agent: &Bic, tx: &Id35) -> bool
+    ensures { result ≡ (pointwise nat_eq tx.now transfer.now.tx
+        && pointwise nat_eq debtor_agent.now transfer.now.debtor_agent) }
 {
-    draft.debtor_agent().text() == transfer.debtor_agent.text()
-        && draft.transaction_id().text() == transfer.tx.text()
+    tx.text() == transfer.tx.text() && debtor_agent.text() == transfer.debtor_agent.text()
 }
 
-/// Whether a message is on a transfer.
-fn is_on(transfer: &TransferKey, draft: &Draft) -> bool
-    ensures { result ≡ is_on transfer.now draft.now }
+/// Whether the transfer of an originator bank and an identification is this one.
+pub(crate) fn is_of(transfer: &TransferKey, debtor_agent: &Bic, tx: &Id35) -> bool
+    ensures { result ≡ same_transfer (transfer_key debtor_agent.now tx.now) transfer.now }
 {
-    has_parts_of(transfer, draft)
+    has_parts_of(transfer, debtor_agent, tx)
+}
+
+/// Whether a transaction recalls this transfer.
+pub(crate) fn recalls(transfer: &TransferKey, tx: &RecallTx) -> bool
+    ensures { result ≡ same_transfer (transfer_in tx.now) transfer.now }
+{
+    is_of(transfer, &tx.debtor_agent, &tx.original.transaction_id)
 }
 
 impl Statement for InstructedAmount {
@@ -149,15 +159,8 @@ impl Statement for RecallMade {
         transfer: &TransferKey,
         draft: &Draft,
     ) -> Result<(), AllocError> {
-        if !is_on(transfer, draft) {
-            return Ok(());
-        }
         match draft {
-            Draft::CancellationRequest(request) => Ok(found.push(RecallMade {
-                cxl: request.cancellation_id.copy(),
-                amount: request.original_amount,
-                reason: request.reason.copy(),
-            })?),
+            Draft::CancellationRequest(request) => push_all_made(found, transfer, &request.txs),
             _ => Ok(()),
         }
     }
@@ -171,14 +174,14 @@ impl Statement for OriginalAmount {
         transfer: &TransferKey,
         draft: &Draft,
     ) -> Result<(), AllocError> {
-        if !is_on(transfer, draft) {
-            return Ok(());
-        }
         match draft {
-            Draft::CancellationRequest(request) => Ok(found.push(OriginalAmount {
-                amount: request.original_amount,
-            })?),
-            Draft::PaymentReturn(payment) => Ok(found.push(OriginalAmount {
+            Draft::CancellationRequest(request) => push_amounts(found, transfer, &request.txs),
+            Draft::PaymentReturn(payment)
+                if is_of(
+                    transfer,
+                    &payment.debtor_agent,
+                    &payment.original.transaction_id,
+                ) => Ok(found.push(OriginalAmount {
                 amount: payment.original_amount,
             })?),
             _ => Ok(()),
@@ -194,11 +197,13 @@ impl Statement for ReturnMade {
         transfer: &TransferKey,
         draft: &Draft,
     ) -> Result<(), AllocError> {
-        if !is_on(transfer, draft) {
-            return Ok(());
-        }
         match draft {
-            Draft::PaymentReturn(payment) => Ok(found.push(ReturnMade {
+            Draft::PaymentReturn(payment)
+                if is_of(
+                    transfer,
+                    &payment.debtor_agent,
+                    &payment.original.transaction_id,
+                ) => Ok(found.push(ReturnMade {
                 return_id: payment.return_id.copy(),
                 cxl: payment.cancellation_id.copy(),
                 amount: payment.returned_amount,
@@ -216,11 +221,13 @@ impl Statement for RefusalMade {
         transfer: &TransferKey,
         draft: &Draft,
     ) -> Result<(), AllocError> {
-        if !is_on(transfer, draft) {
-            return Ok(());
-        }
         match draft {
-            Draft::Resolution(resolution) => Ok(found.push(RefusalMade {
+            Draft::Resolution(resolution)
+                if is_of(
+                    transfer,
+                    &resolution.debtor_agent,
+                    &resolution.original.transaction_id,
+                ) => Ok(found.push(RefusalMade {
                 cxl: resolution.cancellation_id.copy(),
                 reason: resolution.reason.copy(),
             })?),
@@ -237,11 +244,13 @@ impl Statement for RecallAsked {
         transfer: &TransferKey,
         draft: &Draft,
     ) -> Result<(), AllocError> {
-        if !is_on(transfer, draft) {
-            return Ok(());
-        }
         match draft {
-            Draft::StatusRequest(request) => push_asked(found, request),
+            Draft::StatusRequest(request)
+                if is_of(
+                    transfer,
+                    &request.debtor_agent,
+                    &request.original.transaction_id,
+                ) => push_asked(found, request),
             _ => Ok(()),
         }
     }
@@ -255,14 +264,145 @@ impl Statement for RecallNamed {
         transfer: &TransferKey,
         draft: &Draft,
     ) -> Result<(), AllocError> {
-        if !is_on(transfer, draft) {
-            return Ok(());
-        }
-        match draft.cancellation_id() {
-            Some(cxl) => Ok(found.push(RecallNamed { cxl: cxl.copy() })?),
-            None => Ok(()),
+        match draft {
+            Draft::CreditTransfer(_) | Draft::StatusReport(_) => Ok(()),
+            Draft::StatusRequest(m) => push_named(
+                found,
+                transfer,
+                &m.debtor_agent,
+                &m.original.transaction_id,
+                m.cancellation_id.as_ref(),
+            ),
+            Draft::CancellationRequest(m) => push_all_named(found, transfer, &m.txs),
+            Draft::PaymentReturn(m) => push_named(
+                found,
+                transfer,
+                &m.debtor_agent,
+                &m.original.transaction_id,
+                Some(&m.cancellation_id),
+            ),
+            Draft::Resolution(m) => push_named(
+                found,
+                transfer,
+                &m.debtor_agent,
+                &m.original.transaction_id,
+                Some(&m.cancellation_id),
+            ),
         }
     }
+}
+
+/// Appends the recall that a transaction makes, where it recalls the transfer.
+fn push_made(
+    found: &mut Vec<RecallMade>,
+    transfer: &TransferKey,
+    tx: &RecallTx,
+) -> Result<(), AllocError>
+    ensures { OnOk result (found.new.items ≡ found.old.items ++ made_in transfer.now tx.now) }
+{
+    if !recalls(transfer, tx) {
+        return Ok(());
+    }
+    Ok(found.push(RecallMade {
+        cxl: tx.cancellation_id.copy(),
+        amount: tx.original_amount,
+        reason: tx.reason.copy(),
+    })?)
+}
+
+/// Appends the recalls of the transfer that transactions make.
+fn push_all_made(
+    found: &mut Vec<RecallMade>,
+    transfer: &TransferKey,
+    txs: &[RecallTx],
+) -> Result<(), AllocError>
+    ensures { OnOk result (found.new.items ≡ found.old.items ++ flat_map (made_in transfer.now) txs.now) }
+{
+    for tx in txs {
+        push_made(found, transfer, tx)?;
+    }
+    Ok(())
+}
+
+/// Appends the amount that a transaction names, where it recalls the transfer.
+fn push_amount(
+    found: &mut Vec<OriginalAmount>,
+    transfer: &TransferKey,
+    tx: &RecallTx,
+) -> Result<(), AllocError>
+    ensures { OnOk result (found.new.items ≡ found.old.items ++ amount_in transfer.now tx.now) }
+{
+    if !recalls(transfer, tx) {
+        return Ok(());
+    }
+    Ok(found.push(OriginalAmount {
+        amount: tx.original_amount,
+    })?)
+}
+
+/// Appends the amounts of the transfer that transactions name.
+fn push_amounts(
+    found: &mut Vec<OriginalAmount>,
+    transfer: &TransferKey,
+    txs: &[RecallTx],
+) -> Result<(), AllocError>
+    ensures { OnOk result (found.new.items ≡ found.old.items ++ flat_map (amount_in transfer.now) txs.now) }
+{
+    for tx in txs {
+        push_amount(found, transfer, tx)?;
+    }
+    Ok(())
+}
+
+/// Appends the recall that a message of one transfer names, if any, where the message is on the transfer.
+fn push_named(
+    found: &mut Vec<RecallNamed>,
+    transfer: &TransferKey,
+    debtor_agent: &Bic,
+    tx: &Id35,
+    cxl: Option<&Id35>,
+) -> Result<(), AllocError>
+    ensures { OnOk result (found.new.items ≡ found.old.items
+        ++ flat_map (named_in transfer.now)
+        (recalls_named (transfer_key debtor_agent.now tx.now) (option_copied cxl.entry))) }
+{
+    match cxl {
+        Some(cxl) if is_of(transfer, debtor_agent, tx) => Ok(found.push(RecallNamed {
+            cxl: cxl.copy(),
+        })?),
+        _ => Ok(()),
+    }
+}
+
+/// Appends the recall that a transaction makes by its identification, where it recalls the transfer.
+fn push_named_by(
+    found: &mut Vec<RecallNamed>,
+    transfer: &TransferKey,
+    tx: &RecallTx,
+) -> Result<(), AllocError>
+    ensures { OnOk result (found.new.items ≡ found.old.items ++ named_in transfer.now (recall_in tx.now)) }
+{
+    if !recalls(transfer, tx) {
+        return Ok(());
+    }
+    Ok(found.push(RecallNamed {
+        cxl: tx.cancellation_id.copy(),
+    })?)
+}
+
+/// Appends the recalls of the transfer that transactions make, by their identifications.
+fn push_all_named(
+    found: &mut Vec<RecallNamed>,
+    transfer: &TransferKey,
+    txs: &[RecallTx],
+) -> Result<(), AllocError>
+    ensures { OnOk result (found.new.items
+        ≡ found.old.items ++ flat_map (named_in transfer.now) (map recall_in txs.now)) }
+{
+    for tx in txs {
+        push_named_by(found, transfer, tx)?;
+    }
+    Ok(())
 }
 
 /// Appends the reason of a rejection.
@@ -282,7 +422,7 @@ fn push_reason(found: &mut Vec<RejectionReason>, report: &StatusReport) -> Resul
 
 /// Appends the recall that a request for a status names.
 fn push_asked(found: &mut Vec<RecallAsked>, request: &StatusRequest) -> Result<(), AllocError>
-    ensures { OnOk result (found.new.items ≡ found.old.items ++ asked_by (draft.StatusRequest request.now)) }
+    ensures { OnOk result (found.new.items ≡ found.old.items ++ cancellations_in request.now.cancellation_id) }
 {
     match &request.cancellation_id {
         Some(cxl) => Ok(found.push(RecallAsked { cxl: cxl.copy() })?),

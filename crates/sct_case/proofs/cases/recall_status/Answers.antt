@@ -3,4 +3,4 @@ use Rattle.std.proofs.Common.{◌∙◌}
 use Rattle.sct_case.proofs.cases.recall_status.Goals as goal
 
 pub returns : goal.returns
-returns c = λ t on. c.recall_status_beside.ensures t c.args.asides.now on (c.deref.ensures.value ∙ c.in_ok-found.ensures t on)
+returns c = c.recall_status_beside.ensures c.args.asides.now (c.deref.ensures.value ∙ c.in_ok-found.ensures)

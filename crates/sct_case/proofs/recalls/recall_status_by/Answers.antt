@@ -6,11 +6,11 @@ use Rattle.sct_case.proofs.LookedUp.{IsContradictedStanding, recall_clear_by, re
 use Rattle.sct_case.proofs.recalls.recall_status_by.Goals as goal
 
 pub returns-in-Contradicted : goal.returns-in-Contradicted
-returns-in-Contradicted c = λ t asides on stands.
-    recall_contradicted_by t (messages_in c.args.clean.now) asides c.args.cxl.now (told c.args.status.now) stands
+returns-in-Contradicted c = λ asides stands.
+    recall_contradicted_by c.args.transfer.now (messages_in c.args.clean.now) asides c.args.cxl.now (told c.args.status.now) stands
     (subst (λ s. IsContradictedStanding (told s)) (sym c.in-Contradicted.is) tt)
 
 pub returns-in_default : goal.returns-in_default
-returns-in_default c = λ t asides on stands.
-    c.recall_standing_in.ensures t on
-    ∙ recall_clear_by t (messages_in c.args.clean.now) asides c.args.cxl.now (told c.args.status.now) stands (told_clear c.args.status.now c.in_default.not-Contradicted)
+returns-in_default c = λ asides stands.
+    c.recall_standing_in.ensures
+    ∙ recall_clear_by c.args.transfer.now (messages_in c.args.clean.now) asides c.args.cxl.now (told c.args.status.now) stands (told_clear c.args.status.now c.in_default.not-Contradicted)
