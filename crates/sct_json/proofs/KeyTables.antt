@@ -1,4 +1,4 @@
--- The tables of the kinds' keys: each ascends by bytes, and has the keys of its kind and no other.
+-- The tables of keys: each ascends by bytes, and has the keys of its kind or its shape and no other.
 use Rattle.std.proofs.Common.{◌≡◌, ◌∙◌, ap, sym, subst, refl, ℕ, Bool, true, false, List, [], ◌∷◌, ◌++◌, map, Ordering, Less, Equal, Greater, nat_cmp, is_lt}
 use Rattle.std.specs.Prelude.{◌||◌, ◌&&◌}
 use Rattle.std.specs.List.{AllByRecursion, list_all}
@@ -10,8 +10,9 @@ use Rattle.std.proofs.lemmas.List.Folds.{list_any-append}
 use Rattle.sct_element.specs.Text.{is_text}
 use Rattle.sct_message.specs.declared.kinds.Kind.TheVariants.{Camt029, Camt056, Pacs002, Pacs004, Pacs008, Pacs028}
 use Rattle.sct_json.specs.declared.keys.Key.{Key}
-use Rattle.sct_json.specs.declared.keys.TheConstants.{CREDIT_TRANSFER_KEYS, STATUS_REPORT_KEYS, STATUS_REQUEST_KEYS, CANCELLATION_REQUEST_KEYS, PAYMENT_RETURN_KEYS, RESOLUTION_KEYS}
-use Rattle.sct_json.specs.Keys.{key_text, is_among, is_key_of, head_keys, original_keys, credit_transfer_keys, status_report_keys, status_request_keys, cancellation_request_keys, payment_return_keys, resolution_keys}
+use Rattle.sct_json.specs.declared.keys.TheConstants.{CREDIT_TRANSFER_KEYS, STATUS_REPORT_KEYS, STATUS_REQUEST_KEYS, CANCELLATION_REQUEST_KEYS, LISTED_KEYS, TRANSACTION_KEYS, PAYMENT_RETURN_KEYS, RESOLUTION_KEYS}
+use Rattle.sct_json.specs.declared.keys.Shape.TheVariants.{Listed, Transaction}
+use Rattle.sct_json.specs.Keys.{key_text, is_among, is_key_of, is_key_in, head_keys, original_keys, credit_transfer_keys, status_report_keys, status_request_keys, cancellation_request_keys, list_keys, payment_return_keys, resolution_keys}
 use Rattle.sct_json.specs.Names.{IsBefore, AscendByBytes}
 
 -- ---- in order
@@ -63,6 +64,14 @@ status_request_ascends = ascend_where_each_does (map key_text STATUS_REQUEST_KEY
 pub cancellation_request_ascends : AscendByBytes (map key_text CANCELLATION_REQUEST_KEYS)
 unfolding each_before_next
 cancellation_request_ascends = ascend_where_each_does (map key_text CANCELLATION_REQUEST_KEYS) refl
+
+pub listed_ascends : AscendByBytes (map key_text LISTED_KEYS)
+unfolding each_before_next
+listed_ascends = ascend_where_each_does (map key_text LISTED_KEYS) refl
+
+pub transaction_ascends : AscendByBytes (map key_text TRANSACTION_KEYS)
+unfolding each_before_next
+transaction_ascends = ascend_where_each_does (map key_text TRANSACTION_KEYS) refl
 
 pub payment_return_ascends : AscendByBytes (map key_text PAYMENT_RETURN_KEYS)
 unfolding each_before_next
@@ -119,6 +128,15 @@ pub cancellation_request_is_whole : (name : List ℕ) → is_among CANCELLATION_
 unfolding is_among are_among
 cancellation_request_is_whole name =
     among_both name CANCELLATION_REQUEST_KEYS (head_keys ++ original_keys ++ cancellation_request_keys) refl refl ∙ among_three name cancellation_request_keys
+
+pub listed_is_whole : (name : List ℕ) → is_among LISTED_KEYS name ≡ is_key_in Listed name
+unfolding is_among are_among
+listed_is_whole name = among_both name LISTED_KEYS (head_keys ++ list_keys) refl refl ∙ among_parts name head_keys list_keys
+
+pub transaction_is_whole : (name : List ℕ) → is_among TRANSACTION_KEYS name ≡ is_key_in Transaction name
+unfolding is_among are_among
+transaction_is_whole name =
+    among_both name TRANSACTION_KEYS (original_keys ++ cancellation_request_keys) refl refl ∙ among_parts name original_keys cancellation_request_keys
 
 pub payment_return_is_whole : (name : List ℕ) → is_among PAYMENT_RETURN_KEYS name ≡ is_key_of Pacs004 name
 unfolding is_among are_among

@@ -7,7 +7,9 @@ pub mod KeyTables
 pub mod NameRule
 pub mod Names
 pub mod Ordered
+pub mod RecallForms
 pub mod Refusals
 pub mod Rows
+pub mod TableForms
 pub mod Texts
 pub mod Written

@@ -9,18 +9,18 @@ use Rattle.std.proofs.lemmas.Bool.{false≢true}
 use Rattle.std.proofs.lemmas.Cmp.{tied_itself}
 use Rattle.json.specs.Json as json
 use Rattle.json.specs.Lex.{tokens}
-use Rattle.serde_json.specs.Data.{Num, Data, number, array, object, Items, Members, no_members, member, put}
+use Rattle.serde_json.specs.Data.{Data, number, array, object, Items, no_items, item, Members, no_members, member, put}
 use Rattle.serde_json.specs.Find.{get_member}
 use Rattle.serde_json.specs.Read.{read, max_depth, of_json, of_items, of_members, number_of}
-use Rattle.sct_message.specs.declared.kinds.Kind.{Kind}
-use Rattle.sct_json.specs.Keys.{is_key_of}
+use Rattle.sct_json.specs.declared.keys.Shape.{Shape}
+use Rattle.sct_json.specs.Keys.{is_key_in}
 use Rattle.sct_json.specs.Reading.{names_of, first_extra}
-use Rattle.sct_json.specs.Names.{IsBefore, AscendByBytes, IsLeastExtraKey}
+use Rattle.sct_json.specs.Names.{IsBefore, AscendByBytes, NamesAscend, NamesAscendInItems, NamesAscendInMembers, IsLeastExtraKey}
 
 abbrev by_bytes : List ℕ → List ℕ → Ordering
 by_bytes = slice_cmp nat_cmp
 
-abbrev pub Ascend : Members → Type 0
+abbrev Ascend : Members → Type 0
 Ascend ms = AscendByBytes (names_of ms)
 
 abbrev AllNames : (List ℕ → Type 0) → Members → Type 0
@@ -51,53 +51,74 @@ ascend_at Greater k l d e ms after all later =
     let before : IsBefore l k = nat_list_cmp_total.antisymm l k ∙ ap ordering_reverse after in
     (all_put (λ y. IsBefore l y) k d ms before all.0, later)
 
-pub ascend_put : (k : List ℕ) (d : Data) (ms : Members) → Ascend ms → Ascend (put k d ms)
+names_put : (k : List ℕ) (d : Data) (ms : Members) → Ascend ms → Ascend (put k d ms)
 unfolding IsStrictlySortedBy
-ascend_put k d no_members all = (tt, tt)
-ascend_put k d (member l e ms) all = ascend_at (by_bytes k l) k l d e ms refl all (ascend_put k d ms all.1)
+names_put k d no_members all = (tt, tt)
+names_put k d (member l e ms) all = ascend_at (by_bytes k l) k l d e ms refl all (names_put k d ms all.1)
 
--- ---- an object that is read
+-- ---- each value in an object
 
-pub ascend_none : Ascend no_members
+within_at : (o : Ordering) (k l : List ℕ) (d e : Data) (ms : Members) → NamesAscend d → NamesAscendInMembers (member l e ms) → NamesAscendInMembers (put k d ms)
+    → NamesAscendInMembers (match_ordering o (member k d (member l e ms)) (member l d ms) (member l e (put k d ms)))
+within_at Less k l d e ms here all later = (here, all)
+within_at Equal k l d e ms here all later = (here, all.1)
+within_at Greater k l d e ms here all later = (all.0, later)
+
+within_put : (k : List ℕ) (d : Data) (ms : Members) → NamesAscend d → NamesAscendInMembers ms → NamesAscendInMembers (put k d ms)
+within_put k d no_members here all = (here, tt)
+within_put k d (member l e ms) here all = within_at (by_bytes k l) k l d e ms here all (within_put k d ms here all.1)
+
+pub ascend_none : NamesAscend (object no_members)
 unfolding IsStrictlySortedBy
-ascend_none = tt
+ascend_none = (tt, tt)
+
+pub ascend_put : (k : List ℕ) (d : Data) (ms : Members) → NamesAscend d → NamesAscend (object ms) → NamesAscend (object (put k d ms))
+ascend_put k d ms here all = (names_put k d ms all.0, within_put k d ms here all.1)
+
+-- ---- what is read
+
+mapped : {X Y : Type 0} (P : Y → Type 0) (f : X → Y) (o : Option X) (y : Y) → option_map f o ≡ Some y → ((x : X) → o ≡ Some x → P (f x)) → P y
+mapped P f None y e next = cc
+mapped P f (Some x) y e next = let same : f x ≡ y = cc in subst P same (next x refl)
+
+some_then : {X Y P : Type 0} (o : Option X) (f : X → Option Y) (y : Y) → option_and_then f o ≡ Some y → ((x : X) → o ≡ Some x → f x ≡ Some y → P) → P
+some_then None f y e next = cc
+some_then (Some x) f y e next = next x refl e
 
 same_members : (ms ns : Members) → ◌≡◌ {A = Option Members} (Some ms) (Some ns) → ms ≡ ns
 same_members ms ns e = cc
 
-some_then : {P : Type 0} (o : Option Data) (f : Data → Option Members) (ms : Members) → option_and_then f o ≡ Some ms → ((d : Data) → f d ≡ Some ms → P) → P
-some_then None f ms e next = cc
-some_then (Some d) f ms e next = next d e
+same_items : (ds es : Items) → ◌≡◌ {A = Option Items} (Some ds) (Some es) → ds ≡ es
+same_items ds es e = cc
+
+same_value : (d e : Data) → ◌≡◌ {A = Option Data} (Some d) (Some e) → d ≡ e
+same_value d e same = cc
 
 -- the members of a text go in one after another
-ascend_members : (js : json.Members) (found ms : Members) → of_members js found ≡ Some ms → Ascend found → Ascend ms
-ascend_members json.no_members found ms e all = subst Ascend (same_members found ms e) all
-ascend_members (json.member k j js) found ms e all =
-    some_then (of_json j) (λ d. of_members js (put k d found)) ms e (λ d h. ascend_members js (put k d found) ms h (ascend_put k d found all))
+mutual
+  ascend_value : (j : json.Json) (d : Data) → of_json j ≡ Some d → NamesAscend d
+  ascend_value json.null d e = subst NamesAscend (same_value _ d e) tt
+  ascend_value (json.boolean b) d e = subst NamesAscend (same_value _ d e) tt
+  ascend_value (json.number s) d e = mapped NamesAscend number (number_of s) d e (λ n h. tt)
+  ascend_value (json.string s) d e = subst NamesAscend (same_value _ d e) tt
+  ascend_value (json.array js) d e = mapped NamesAscend array (of_items js) d e (λ ds h. ascend_items js ds h)
+  ascend_value (json.object js) d e = mapped NamesAscend object (of_members js no_members) d e (λ ms h. ascend_members js no_members ms h ascend_none)
 
-no_number : {P : Type 0} (o : Option Num) (ms : Members) → option_map number o ≡ Some (object ms) → P
-no_number None ms e = cc
-no_number (Some n) ms e = cc
+  ascend_items : (js : json.Items) (ds : Items) → of_items js ≡ Some ds → NamesAscendInItems ds
+  ascend_items json.no_items ds e = subst NamesAscendInItems (same_items no_items ds e) tt
+  ascend_items (json.item j js) ds e =
+      some_then (of_json j) (λ d. option_map (item d) (of_items js)) ds e (λ d h r.
+      mapped NamesAscendInItems (item d) (of_items js) ds r (λ more g. (ascend_value j d h, ascend_items js more g)))
 
-no_array : {P : Type 0} (o : Option Items) (ms : Members) → option_map array o ≡ Some (object ms) → P
-no_array None ms e = cc
-no_array (Some ds) ms e = cc
+  ascend_members : (js : json.Members) (found ms : Members) → of_members js found ≡ Some ms → NamesAscend (object found) → NamesAscend (object ms)
+  ascend_members json.no_members found ms e all = subst (λ (l : Members). NamesAscend (object l)) (same_members found ms e) all
+  ascend_members (json.member k j js) found ms e all =
+      some_then (of_json j) (λ d. of_members js (put k d found)) ms e (λ d h r.
+      ascend_members js (put k d found) ms r (ascend_put k d found (ascend_value j d h) all))
 
-its_members : (o : Option Members) (ms : Members) → option_map object o ≡ Some (object ms) → o ≡ Some ms
-its_members None ms e = cc
-its_members (Some ns) ms e = cc
-
-ascend_value : (o : Option json.Json) (ms : Members) → option_and_then of_json o ≡ Some (object ms) → Ascend ms
-ascend_value None ms e = cc
-ascend_value (Some json.null) ms e = cc
-ascend_value (Some (json.boolean b)) ms e = cc
-ascend_value (Some (json.number s)) ms e = no_number (number_of s) ms e
-ascend_value (Some (json.string s)) ms e = cc
-ascend_value (Some (json.array js)) ms e = no_array (of_items js) ms e
-ascend_value (Some (json.object js)) ms e = ascend_members js no_members ms (its_members (of_members js no_members) ms e) ascend_none
-
-pub names_read : (bytes : List ℕ) (ms : Members) → read bytes ≡ Some (object ms) → Ascend ms
-names_read bytes ms e = ascend_value (option_and_then (λ p. json.if_last p.0 p.1) (json.value max_depth (tokens bytes))) ms e
+pub names_read : (bytes : List ℕ) (d : Data) → read bytes ≡ Some d → NamesAscend d
+names_read bytes d e =
+    some_then (option_and_then (λ p. json.if_last p.0 p.1) (json.value max_depth (tokens bytes))) of_json d e (λ j h r. ascend_value j d r)
 
 -- ---- the first extra name
 
@@ -161,9 +182,9 @@ fails_not : (b : Bool) → not b ≡ true → b ≡ false
 fails_not true e = absurd (false≢true e)
 fails_not false e = refl
 
-pub first_is_least : (kind : Kind) (ms : Members) (name : List ℕ) → Ascend ms → first_extra kind ms ≡ Some name → IsLeastExtraKey kind ms name
-first_is_least kind ms name all h =
-    let least : IsLeast (λ k. not (is_key_of kind k)) ms name = first_is_least_of (λ k. not (is_key_of kind k)) ms name all h in record {
-      is_extra = record { stands = least.stands; extra = fails_not (is_key_of kind name) least.passes };
+pub first_is_least : (shape : Shape) (ms : Members) (name : List ℕ) → AscendByBytes (names_of ms) → first_extra shape ms ≡ Some name → IsLeastExtraKey shape ms name
+first_is_least shape ms name all h =
+    let least : IsLeast (λ k. not (is_key_in shape k)) ms name = first_is_least_of (λ k. not (is_key_in shape k)) ms name all h in record {
+      is_extra = record { stands = least.stands; extra = fails_not (is_key_in shape name) least.passes };
       is_least = λ other extra. least.least other extra.stands (ap not extra.extra);
     }

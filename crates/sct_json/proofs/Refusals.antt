@@ -1,11 +1,13 @@
 -- What an object is refused with: each fault, with what it says of the object.
-use Rattle.std.proofs.Common.{◌≡◌, ◌≢◌, ◌∙◌, ap, sym, subst, refl, inl, inr, ℕ, List, Option, Some, None, Result, Ok, Err, Bool, true, false, cond}
-use Rattle.std.specs.Prelude.{ok_or, ◌⊎◌}
+use Rattle.std.proofs.Common.{◌≡◌, ◌≢◌, ◌∙◌, ap, sym, subst, refl, arith, inl, inr, ℕ, zero, suc, ◌+◌, List, length, Option, Some, None, Result, Ok, Err, Bool, true, false, cond, Ordering, Less, Equal, Greater, nat_cmp}
+use Rattle.std.specs.Prelude.{ok_or, ◌⊎◌, ⊤}
+use Rattle.std.specs.Ordering.{match_ordering}
+use Rattle.std.specs.Cmp.Lexicographic.{slice_cmp}
 use Rattle.std.specs.Str.{is_utf8}
 use Rattle.std.proofs.lemmas.Str.{IsUtf8-from_is_utf8}
-use Rattle.serde_json.specs.Data.{Data, null, boolean, number, string, array, object, Members}
+use Rattle.serde_json.specs.Data.{Data, null, boolean, number, string, array, object, Items, no_items, item, Members, no_members, member}
 use Rattle.serde_json.specs.Read.{read}
-use Rattle.serde_json.specs.Find.{get, as_object}
+use Rattle.serde_json.specs.Find.{get, get_member, get_item, as_object}
 use Rattle.sct_element.specs.declared.faults.ElementFault.{ElementFault}
 use Rattle.sct_message.specs.declared.kinds.Kind.{Kind}
 use Rattle.sct_message.specs.declared.kinds.Kind.TheVariants.{Camt029, Camt056, Pacs002, Pacs004, Pacs008, Pacs028}
@@ -14,18 +16,279 @@ use Rattle.sct_message.specs.declared.rules.RuleFault.{RuleFault}
 use Rattle.sct_message.specs.declared.rules.RuleFault.TheVariants as rule
 use Rattle.sct_message.specs.Drafts.{kind_of, head_of}
 use Rattle.sct_message.specs.Kinds.{is_name_of}
-use Rattle.sct_message.specs.Rules.{first_broken_rule}
+use Rattle.sct_message.specs.Rules.{first_broken_rule, is_right_count}
 use Rattle.sct_json.specs.declared.keys.Key.{Key}
+use Rattle.sct_json.specs.declared.keys.Key.TheVariants as key
+use Rattle.sct_json.specs.declared.keys.Shape.TheVariants.{Transaction}
 use Rattle.sct_json.specs.declared.faults.JsonFault.{JsonFault}
 use Rattle.sct_json.specs.declared.faults.JsonFault.TheVariants as fault
+use Rattle.sct_json.specs.declared.faults.KeyFault.TheVariants as key_fault
+use Rattle.sct_json.specs.Faults.{placed}
 use Rattle.sct_json.specs.Keys.{key_text}
-use Rattle.sct_json.specs.Reading.{◌>>=◌, required_as, optional_as, required, optional, head_in, original_in, credit_transfer_in, status_report_in, status_request_in, cancellation_request_in, payment_return_in, resolution_in, draft_in, first_extra, kind_in, passes_unless, follows_unless, object_in, value_in, message_in}
+use Rattle.sct_json.specs.Reading.{◌>>=◌, required_as, optional_as, required, optional, head_in, original_in, credit_transfer_in, status_report_in, status_request_in, transaction_in, payment_return_in, resolution_in, first_extra, passes_unless, items_list, items_in, counted, first_no_object, are_objects, element_in, at_place, elements_in, list_in, flat_recall_in, listed_recalls_in, recalls_by, cancellation_request_in, draft_in, shape_in, kind_in, follows_unless, object_in, value_in, message_in}
 use Rattle.sct_json.specs.Form.{StandsFor, HoldsElements}
-use Rattle.sct_json.specs.Names.{HasLeastExtraKey}
-use Rattle.sct_json.proofs.Forms.{ok_or_ok, is_object, draft_holds, named_as_its_kind}
+use Rattle.sct_json.specs.Names.{NamesAscend, NamesAscendInItems, NamesAscendInMembers, HasLeastExtraKey, HasLeastExtraKeyAt}
+use Rattle.sct_json.proofs.Forms.{draft_holds, named_as_its_kind}
 use Rattle.sct_json.proofs.NameRule.{named_is_not_told}
 use Rattle.sct_json.proofs.Names.{names_read, first_is_least}
+use Rattle.sct_json.proofs.RecallForms.{IsListOf, its_items}
+use Rattle.sct_json.proofs.TableForms.{ok_or_ok, is_object}
 
+-- ---- what is told, one step after another
+
+abbrev Tells : {X : Type 0} → (JsonFault → Type 0) → Result X JsonFault → Type 0
+Tells P (Ok x) = Unit {0}
+Tells P (Err e) = P e
+
+then_told : {X Y : Type 0} (P : JsonFault → Type 0) (r : Result X JsonFault) (f : X → Result Y JsonFault) → Tells P r → ((x : X) → r ≡ Ok x → Tells P (f x)) → Tells P (r >>= f)
+then_told P (Ok x) f first next = next x refl
+then_told P (Err e) f first next = first
+
+or_told : {X : Type 0} (P : JsonFault → Type 0) (o : Option X) (e : JsonFault) → P e → Tells P (ok_or o e)
+or_told P None e told = told
+or_told P (Some x) e told = tt
+
+-- ---- the key tables tell 34 to 36
+
+-- so much is said of a fault that it may be one of any key
+record IsOfKeys (P : JsonFault → Type 0) : Type 0 where
+  missing : (key : Key) → P (fault.Missing key)
+  not_text : (key : Key) → P (fault.NotText key)
+  element : (key : Key) (e : ElementFault) → P (fault.Element key e)
+
+module _ (P : JsonFault → Type 0) (keyed : IsOfKeys P) where
+  then_tells : {X Y : Type 0} (r : Result X JsonFault) (f : X → Result Y JsonFault) → Tells P r → ((x : X) → r ≡ Ok x → Tells P (f x)) → Tells P (r >>= f)
+  then_tells r f first next = then_told P r f first next
+
+  required_tells_at : {X : Type 0} (reads : List ℕ → Option X) (e : ElementFault) (k : Key) (o : Option Data) → Tells P (required_as reads e k o)
+  required_tells_at reads e k None = keyed.missing k
+  required_tells_at reads e k (Some null) = keyed.not_text k
+  required_tells_at reads e k (Some (boolean b)) = keyed.not_text k
+  required_tells_at reads e k (Some (number n)) = keyed.not_text k
+  required_tells_at reads e k (Some (string s)) = or_told P (reads s) (fault.Element k e) (keyed.element k e)
+  required_tells_at reads e k (Some (array ds)) = keyed.not_text k
+  required_tells_at reads e k (Some (object ms)) = keyed.not_text k
+
+  required_tells : {X : Type 0} (reads : List ℕ → Option X) (e : ElementFault) (k : Key) (d : Data) → Tells P (required reads e k d)
+  unfolding required
+  required_tells reads e k d = required_tells_at reads e k (get (key_text k) d)
+
+  optional_tells_at : {X : Type 0} (reads : List ℕ → Option X) (e : ElementFault) (k : Key) (o : Option Data) → Tells P (optional_as reads e k o)
+  optional_tells_at reads e k None = tt
+  optional_tells_at reads e k (Some v) = then_tells _ _ (required_tells_at reads e k (Some v)) (λ x r. tt)
+
+  optional_tells : {X : Type 0} (reads : List ℕ → Option X) (e : ElementFault) (k : Key) (d : Data) → Tells P (optional reads e k d)
+  unfolding optional
+  optional_tells reads e k d = optional_tells_at reads e k (get (key_text k) d)
+
+  head_tells : (d : Data) → Tells P (head_in d)
+  unfolding head_in
+  head_tells d =
+      then_tells _ _ (required_tells _ _ _ d) (λ x1 r1.
+      then_tells _ _ (required_tells _ _ _ d) (λ x2 r2.
+      then_tells _ _ (required_tells _ _ _ d) (λ x3 r3.
+      then_tells _ _ (required_tells _ _ _ d) (λ x4 r4.
+      then_tells _ _ (optional_tells _ _ _ d) (λ x5 r5.
+      tt)))))
+
+  original_tells : (d : Data) → Tells P (original_in d)
+  unfolding original_in
+  original_tells d =
+      then_tells _ _ (required_tells _ _ _ d) (λ x1 r1.
+      then_tells _ _ (required_tells _ _ _ d) (λ x2 r2.
+      then_tells _ _ (optional_tells _ _ _ d) (λ x3 r3.
+      then_tells _ _ (required_tells _ _ _ d) (λ x4 r4.
+      tt))))
+
+  credit_transfer_tells : (d : Data) → Tells P (credit_transfer_in d)
+  unfolding credit_transfer_in
+  credit_transfer_tells d =
+      then_tells _ _ (head_tells d) (λ x1 r1.
+      then_tells _ _ (required_tells _ _ _ d) (λ x2 r2.
+      then_tells _ _ (required_tells _ _ _ d) (λ x3 r3.
+      then_tells _ _ (required_tells _ _ _ d) (λ x4 r4.
+      then_tells _ _ (optional_tells _ _ _ d) (λ x5 r5.
+      then_tells _ _ (required_tells _ _ _ d) (λ x6 r6.
+      then_tells _ _ (required_tells _ _ _ d) (λ x7 r7.
+      then_tells _ _ (required_tells _ _ _ d) (λ x8 r8.
+      then_tells _ _ (required_tells _ _ _ d) (λ x9 r9.
+      then_tells _ _ (required_tells _ _ _ d) (λ x10 r10.
+      then_tells _ _ (optional_tells _ _ _ d) (λ x11 r11.
+      then_tells _ _ (required_tells _ _ _ d) (λ x12 r12.
+      then_tells _ _ (required_tells _ _ _ d) (λ x13 r13.
+      then_tells _ _ (required_tells _ _ _ d) (λ x14 r14.
+      then_tells _ _ (required_tells _ _ _ d) (λ x15 r15.
+      then_tells _ _ (required_tells _ _ _ d) (λ x16 r16.
+      then_tells _ _ (required_tells _ _ _ d) (λ x17 r17.
+      then_tells _ _ (optional_tells _ _ _ d) (λ x18 r18.
+      tt))))))))))))))))))
+
+  status_report_tells : (d : Data) → Tells P (status_report_in d)
+  unfolding status_report_in
+  status_report_tells d =
+      then_tells _ _ (head_tells d) (λ x1 r1.
+      then_tells _ _ (original_tells d) (λ x2 r2.
+      then_tells _ _ (required_tells _ _ _ d) (λ x3 r3.
+      then_tells _ _ (optional_tells _ _ _ d) (λ x4 r4.
+      then_tells _ _ (required_tells _ _ _ d) (λ x5 r5.
+      tt)))))
+
+  status_request_tells : (d : Data) → Tells P (status_request_in d)
+  unfolding status_request_in
+  status_request_tells d =
+      then_tells _ _ (head_tells d) (λ x1 r1.
+      then_tells _ _ (original_tells d) (λ x2 r2.
+      then_tells _ _ (optional_tells _ _ _ d) (λ x3 r3.
+      then_tells _ _ (required_tells _ _ _ d) (λ x4 r4.
+      tt))))
+
+  transaction_tells : (d : Data) → Tells P (transaction_in d)
+  unfolding transaction_in
+  transaction_tells d =
+      then_tells _ _ (required_tells _ _ _ d) (λ x1 r1.
+      then_tells _ _ (original_tells d) (λ x2 r2.
+      then_tells _ _ (required_tells _ _ _ d) (λ x3 r3.
+      then_tells _ _ (required_tells _ _ _ d) (λ x4 r4.
+      then_tells _ _ (optional_tells _ _ _ d) (λ x5 r5.
+      then_tells _ _ (required_tells _ _ _ d) (λ x6 r6.
+      then_tells _ _ (required_tells _ _ _ d) (λ x7 r7.
+      tt)))))))
+
+  payment_return_tells : (d : Data) → Tells P (payment_return_in d)
+  unfolding payment_return_in
+  payment_return_tells d =
+      then_tells _ _ (head_tells d) (λ x1 r1.
+      then_tells _ _ (required_tells _ _ _ d) (λ x2 r2.
+      then_tells _ _ (required_tells _ _ _ d) (λ x3 r3.
+      then_tells _ _ (original_tells d) (λ x4 r4.
+      then_tells _ _ (required_tells _ _ _ d) (λ x5 r5.
+      then_tells _ _ (required_tells _ _ _ d) (λ x6 r6.
+      then_tells _ _ (required_tells _ _ _ d) (λ x7 r7.
+      then_tells _ _ (required_tells _ _ _ d) (λ x8 r8.
+      then_tells _ _ (required_tells _ _ _ d) (λ x9 r9.
+      then_tells _ _ (required_tells _ _ _ d) (λ x10 r10.
+      tt))))))))))
+
+  resolution_tells : (d : Data) → Tells P (resolution_in d)
+  unfolding resolution_in
+  resolution_tells d =
+      then_tells _ _ (head_tells d) (λ x1 r1.
+      then_tells _ _ (required_tells _ _ _ d) (λ x2 r2.
+      then_tells _ _ (required_tells _ _ _ d) (λ x3 r3.
+      then_tells _ _ (original_tells d) (λ x4 r4.
+      then_tells _ _ (required_tells _ _ _ d) (λ x5 r5.
+      then_tells _ _ (required_tells _ _ _ d) (λ x6 r6.
+      then_tells _ _ (required_tells _ _ _ d) (λ x7 r7.
+      tt)))))))
+
+-- ---- the elements of a list
+
+-- what is told of the element at no place yet
+abbrev IsOfElement : Data → JsonFault → Type 0
+IsOfElement d fault.NotObject = Unit {0}
+IsOfElement d (fault.Missing key) = Unit {0}
+IsOfElement d (fault.NotText key) = Unit {0}
+IsOfElement d (fault.Element key e) = Unit {0}
+IsOfElement d (fault.Extra name) = (ms : Members) × (d ≡ object ms) × (first_extra Transaction ms ≡ Some name)
+IsOfElement d other = ⊥
+
+element_keyed : (d : Data) → IsOfKeys (IsOfElement d)
+element_keyed d = record { missing = λ key. tt; not_text = λ key. tt; element = λ key e. tt }
+
+extra_tells : (d : Data) (ms : Members) (o : Option (List ℕ)) → first_extra Transaction ms ≡ o → d ≡ object ms → Tells (IsOfElement d) (passes_unless o)
+extra_tells d ms None first is_object = tt
+extra_tells d ms (Some name) first is_object = (ms, is_object, first)
+
+element_tells : (d : Data) → Tells (IsOfElement d) (element_in d)
+unfolding element_in
+element_tells d =
+    let P : JsonFault → Type 0 = IsOfElement d in
+    then_told P (ok_or (as_object d) fault.NotObject) _ (or_told P (as_object d) _ tt) (λ ms r1.
+    then_told P (transaction_in d) _ (transaction_tells P (element_keyed d) d) (λ tx r2.
+    then_told P (passes_unless (first_extra Transaction ms)) _ (extra_tells d ms (first_extra Transaction ms) refl (is_object d ms (ok_or_ok _ _ _ r1))) (λ t r3.
+    tt)))
+
+-- the least extra key of the element at a place, where the first element has the place that is given
+record IsExtraAt (ds : Items) (first place : ℕ) (name : List ℕ) : Type 0 where
+  before : ℕ
+  is_place : place ≡ before + first
+  members : Members
+  element : get_item before ds ≡ Some (object members)
+  is_first : first_extra Transaction members ≡ Some name
+
+abbrev IsOfElements : Items → ℕ → JsonFault → Type 0
+IsOfElements ds first fault.NotObject = Unit {0}
+IsOfElements ds first (fault.At place (key_fault.Extra name)) = IsExtraAt ds first place name
+IsOfElements ds first (fault.At place other) = Unit {0}
+IsOfElements ds first other = ⊥
+
+placed_tells : (d : Data) (ds : Items) (first : ℕ) (e : JsonFault) → IsOfElement d e → IsOfElements (item d ds) first (placed first e)
+placed_tells d ds first fault.Memory told = absurd told
+placed_tells d ds first fault.NotJson told = absurd told
+placed_tells d ds first fault.NotObject told = tt
+placed_tells d ds first fault.UnknownKind told = absurd told
+placed_tells d ds first (fault.Missing key) told = tt
+placed_tells d ds first (fault.NotText key) told = tt
+placed_tells d ds first (fault.Element key e) told = tt
+placed_tells d ds first (fault.Extra name) (ms, is, extra) = record {
+  before = 0;
+  is_place = omega arith;
+  members = ms;
+  element = ap (λ (v : Data). Some v) is;
+  is_first = extra;
+}
+placed_tells d ds first (fault.Rule broken) told = absurd told
+placed_tells d ds first (fault.BadTransactions place) told = absurd told
+placed_tells d ds first (fault.At place e) told = absurd told
+
+here_tells : {X : Type 0} (d : Data) (ds : Items) (first : ℕ) (r : Result X JsonFault) → Tells (IsOfElement d) r → Tells (IsOfElements (item d ds) first) (at_place first r)
+here_tells d ds first (Ok x) told = tt
+here_tells d ds first (Err e) told = placed_tells d ds first e told
+
+later_told : (d : Data) (ds : Items) (first : ℕ) (e : JsonFault) → IsOfElements ds (first + 1) e → IsOfElements (item d ds) first e
+later_told d ds first fault.Memory told = absurd told
+later_told d ds first fault.NotJson told = absurd told
+later_told d ds first fault.NotObject told = tt
+later_told d ds first fault.UnknownKind told = absurd told
+later_told d ds first (fault.Missing key) told = absurd told
+later_told d ds first (fault.NotText key) told = absurd told
+later_told d ds first (fault.Element key e) told = absurd told
+later_told d ds first (fault.Extra name) told = absurd told
+later_told d ds first (fault.Rule broken) told = absurd told
+later_told d ds first (fault.BadTransactions place) told = absurd told
+later_told d ds first (fault.At place (key_fault.Missing key)) told = tt
+later_told d ds first (fault.At place (key_fault.NotText key)) told = tt
+later_told d ds first (fault.At place (key_fault.Element key e)) told = tt
+later_told d ds first (fault.At place (key_fault.Extra name)) told = let at = told.is_place in record {
+  before = suc told.before;
+  is_place = omega (arith, at);
+  members = told.members;
+  element = told.element;
+  is_first = told.is_first;
+}
+
+later_tells : {X : Type 0} (d : Data) (ds : Items) (first : ℕ) (r : Result X JsonFault) → Tells (IsOfElements ds (first + 1)) r → Tells (IsOfElements (item d ds) first) r
+later_tells d ds first (Ok x) told = tt
+later_tells d ds first (Err e) told = later_told d ds first e told
+
+elements_tell : (first : ℕ) (ds : Items) → Tells (IsOfElements ds first) (elements_in first (items_list ds))
+elements_tell first no_items = tt
+elements_tell first (item d ds) =
+    let P : JsonFault → Type 0 = IsOfElements (item d ds) first in
+    then_told P (at_place first (element_in d)) _ (here_tells d ds first (element_in d) (element_tells d)) (λ tx r1.
+    then_told P (elements_in (first + 1) (items_list ds)) _ (later_tells d ds first (elements_in (first + 1) (items_list ds)) (elements_tell (first + 1) ds)) (λ txs r2.
+    tt))
+
+-- ---- the list of a camt.056
+
+-- the least extra key of the element at a place of the object's list, counted from 1
+record IsExtraInList (d : Data) (place : ℕ) (name : List ℕ) : Type 0 where
+  is_of_kind : kind_in d ≡ Some Camt056
+  items : Items
+  list : get (key_text key.TxInf) d ≡ Some (array items)
+  extra : IsExtraAt items 1 place name
+
+-- what is told of an object
 abbrev IsTold : Data → JsonFault → Type 0
 IsTold d fault.Memory = ⊥
 IsTold d fault.NotJson = ⊥
@@ -34,176 +297,110 @@ IsTold d fault.UnknownKind = Unit {0}
 IsTold d (fault.Missing key) = Unit {0}
 IsTold d (fault.NotText key) = Unit {0}
 IsTold d (fault.Element key e) = Unit {0}
-IsTold d (fault.Extra name) = (kind : Kind) × (ms : Members) × (d ≡ object ms) × (kind_in d ≡ Some kind) × (first_extra kind ms ≡ Some name)
+IsTold d (fault.Extra name) = (kind : Kind) × (ms : Members) × (d ≡ object ms) × (kind_in d ≡ Some kind) × (first_extra (shape_in kind d) ms ≡ Some name)
 IsTold d (fault.Rule broken) = (m : Draft) × (first_broken_rule m ≡ Some broken) × (is_name_of (kind_of m) (head_of m).message_name ≡ true)
+IsTold d (fault.BadTransactions place) = Unit {0}
+IsTold d (fault.At place (key_fault.Extra name)) = IsExtraInList d place name
+IsTold d (fault.At place other) = Unit {0}
 
-abbrev Tells : {X : Type 0} → Data → Result X JsonFault → Type 0
-Tells d (Ok x) = Unit {0}
-Tells d (Err e) = IsTold d e
+told_keyed : (d : Data) → IsOfKeys (IsTold d)
+told_keyed d = record { missing = λ key. tt; not_text = λ key. tt; element = λ key e. tt }
 
-then_tells : {X Y : Type 0} (d : Data) (r : Result X JsonFault) (f : X → Result Y JsonFault) → Tells d r → ((x : X) → r ≡ Ok x → Tells d (f x)) → Tells d (r >>= f)
-then_tells d (Ok x) f first next = next x refl
-then_tells d (Err e) f first next = first
+told_of_elements : (d : Data) (ds : Items) (e : JsonFault) → kind_in d ≡ Some Camt056 → get (key_text key.TxInf) d ≡ Some (array ds) → IsOfElements ds 1 e → IsTold d e
+told_of_elements d ds fault.Memory at list told = absurd told
+told_of_elements d ds fault.NotJson at list told = absurd told
+told_of_elements d ds fault.NotObject at list told = tt
+told_of_elements d ds fault.UnknownKind at list told = absurd told
+told_of_elements d ds (fault.Missing key) at list told = absurd told
+told_of_elements d ds (fault.NotText key) at list told = absurd told
+told_of_elements d ds (fault.Element key e) at list told = absurd told
+told_of_elements d ds (fault.Extra name) at list told = absurd told
+told_of_elements d ds (fault.Rule broken) at list told = absurd told
+told_of_elements d ds (fault.BadTransactions place) at list told = absurd told
+told_of_elements d ds (fault.At place (key_fault.Missing key)) at list told = tt
+told_of_elements d ds (fault.At place (key_fault.NotText key)) at list told = tt
+told_of_elements d ds (fault.At place (key_fault.Element key e)) at list told = tt
+told_of_elements d ds (fault.At place (key_fault.Extra name)) at list told = record { is_of_kind = at; items = ds; list = list; extra = told }
 
-or_tells : {X : Type 0} (d : Data) (o : Option X) (e : JsonFault) → IsTold d e → Tells d (ok_or o e)
-or_tells d None e told = told
-or_tells d (Some x) e told = tt
+elements_told : {X : Type 0} (d : Data) (ds : Items) (r : Result X JsonFault) → kind_in d ≡ Some Camt056 → get (key_text key.TxInf) d ≡ Some (array ds) → Tells (IsOfElements ds 1) r → Tells (IsTold d) r
+elements_told d ds (Ok x) at list told = tt
+elements_told d ds (Err e) at list told = told_of_elements d ds e at list told
 
--- ---- one key
+counted_tells : (d : Data) (b : Bool) → Tells {X = ⊤} (IsTold d) (cond b (Ok tt) (Err (fault.BadTransactions 0)))
+counted_tells d true = tt
+counted_tells d false = tt
 
-required_tells_at : {X : Type 0} (reads : List ℕ → Option X) (e : ElementFault) (k : Key) (d : Data) (o : Option Data) → Tells d (required_as reads e k o)
-required_tells_at reads e k d None = tt
-required_tells_at reads e k d (Some null) = tt
-required_tells_at reads e k d (Some (boolean b)) = tt
-required_tells_at reads e k d (Some (number n)) = tt
-required_tells_at reads e k d (Some (string s)) = or_tells d (reads s) _ tt
-required_tells_at reads e k d (Some (array ds)) = tt
-required_tells_at reads e k d (Some (object ms)) = tt
+objects_tell : (d : Data) (o : Option ℕ) → Tells (IsTold d) (are_objects o)
+objects_tell d None = tt
+objects_tell d (Some place) = tt
 
-required_tells : {X : Type 0} (reads : List ℕ → Option X) (e : ElementFault) (k : Key) (d : Data) → Tells d (required reads e k d)
-unfolding required
-required_tells reads e k d = required_tells_at reads e k d (get (key_text k) d)
+list_tells : (d list : Data) → kind_in d ≡ Some Camt056 → get (key_text key.TxInf) d ≡ Some list → Tells (IsTold d) (list_in list)
+unfolding list_in
+list_tells d list at stands =
+    let P : JsonFault → Type 0 = IsTold d in
+    then_told P (ok_or (items_in list) (fault.BadTransactions 0)) _ (or_told P (items_in list) _ tt) (λ ds r1.
+    let its : IsListOf list ds = its_items list ds (ok_or_ok _ _ _ r1) in
+    then_told P (counted ds) _ (counted_tells d (is_right_count (length ds))) (λ t r2.
+    then_told P (are_objects (first_no_object 1 ds)) _ (objects_tell d (first_no_object 1 ds)) (λ u r3.
+    elements_told d its.items (elements_in 1 ds) at (stands ∙ ap (λ (v : Data). Some v) its.is_array)
+    (subst (λ (all : List Data). Tells (IsOfElements its.items 1) (elements_in 1 all)) its.same (elements_tell 1 its.items)))))
 
-optional_tells_at : {X : Type 0} (reads : List ℕ → Option X) (e : ElementFault) (k : Key) (d : Data) (o : Option Data) → Tells d (optional_as reads e k o)
-optional_tells_at reads e k d None = tt
-optional_tells_at reads e k d (Some v) = then_tells d _ _ (required_tells_at reads e k d (Some v)) (λ x r. tt)
+flat_tells : (d : Data) → Tells (IsTold d) (flat_recall_in d)
+unfolding flat_recall_in
+flat_tells d =
+    let P : JsonFault → Type 0 = IsTold d in
+    then_told P (head_in d) _ (head_tells P (told_keyed d) d) (λ head r1.
+    then_told P (transaction_in d) _ (transaction_tells P (told_keyed d) d) (λ tx r2.
+    tt))
 
-optional_tells : {X : Type 0} (reads : List ℕ → Option X) (e : ElementFault) (k : Key) (d : Data) → Tells d (optional reads e k d)
-unfolding optional
-optional_tells reads e k d = optional_tells_at reads e k d (get (key_text k) d)
+listed_tells : (d list : Data) → kind_in d ≡ Some Camt056 → get (key_text key.TxInf) d ≡ Some list → Tells (IsTold d) (listed_recalls_in list d)
+unfolding listed_recalls_in
+listed_tells d list at stands =
+    let P : JsonFault → Type 0 = IsTold d in
+    then_told P (head_in d) _ (head_tells P (told_keyed d) d) (λ head r1.
+    then_told P (list_in list) _ (list_tells d list at stands) (λ txs r2.
+    tt))
 
--- ---- the key tables
+recalls_tell_by : (d : Data) (o : Option Data) → kind_in d ≡ Some Camt056 → get (key_text key.TxInf) d ≡ o → Tells (IsTold d) (recalls_by o d)
+recalls_tell_by d None at stands = flat_tells d
+recalls_tell_by d (Some list) at stands = listed_tells d list at stands
 
-head_tells : (d : Data) → Tells d (head_in d)
-unfolding head_in
-head_tells d =
-    then_tells d _ _ (required_tells _ _ _ d) (λ x1 r1.
-    then_tells d _ _ (required_tells _ _ _ d) (λ x2 r2.
-    then_tells d _ _ (required_tells _ _ _ d) (λ x3 r3.
-    then_tells d _ _ (required_tells _ _ _ d) (λ x4 r4.
-    then_tells d _ _ (optional_tells _ _ _ d) (λ x5 r5.
-    tt)))))
-
-original_tells : (d : Data) → Tells d (original_in d)
-unfolding original_in
-original_tells d =
-    then_tells d _ _ (required_tells _ _ _ d) (λ x1 r1.
-    then_tells d _ _ (required_tells _ _ _ d) (λ x2 r2.
-    then_tells d _ _ (optional_tells _ _ _ d) (λ x3 r3.
-    then_tells d _ _ (required_tells _ _ _ d) (λ x4 r4.
-    tt))))
-
-credit_transfer_tells : (d : Data) → Tells d (credit_transfer_in d)
-unfolding credit_transfer_in
-credit_transfer_tells d =
-    then_tells d _ _ (head_tells d) (λ x1 r1.
-    then_tells d _ _ (required_tells _ _ _ d) (λ x2 r2.
-    then_tells d _ _ (required_tells _ _ _ d) (λ x3 r3.
-    then_tells d _ _ (required_tells _ _ _ d) (λ x4 r4.
-    then_tells d _ _ (optional_tells _ _ _ d) (λ x5 r5.
-    then_tells d _ _ (required_tells _ _ _ d) (λ x6 r6.
-    then_tells d _ _ (required_tells _ _ _ d) (λ x7 r7.
-    then_tells d _ _ (required_tells _ _ _ d) (λ x8 r8.
-    then_tells d _ _ (required_tells _ _ _ d) (λ x9 r9.
-    then_tells d _ _ (required_tells _ _ _ d) (λ x10 r10.
-    then_tells d _ _ (optional_tells _ _ _ d) (λ x11 r11.
-    then_tells d _ _ (required_tells _ _ _ d) (λ x12 r12.
-    then_tells d _ _ (required_tells _ _ _ d) (λ x13 r13.
-    then_tells d _ _ (required_tells _ _ _ d) (λ x14 r14.
-    then_tells d _ _ (required_tells _ _ _ d) (λ x15 r15.
-    then_tells d _ _ (required_tells _ _ _ d) (λ x16 r16.
-    then_tells d _ _ (required_tells _ _ _ d) (λ x17 r17.
-    then_tells d _ _ (optional_tells _ _ _ d) (λ x18 r18.
-    tt))))))))))))))))))
-
-status_report_tells : (d : Data) → Tells d (status_report_in d)
-unfolding status_report_in
-status_report_tells d =
-    then_tells d _ _ (head_tells d) (λ x1 r1.
-    then_tells d _ _ (original_tells d) (λ x2 r2.
-    then_tells d _ _ (required_tells _ _ _ d) (λ x3 r3.
-    then_tells d _ _ (optional_tells _ _ _ d) (λ x4 r4.
-    then_tells d _ _ (required_tells _ _ _ d) (λ x5 r5.
-    tt)))))
-
-status_request_tells : (d : Data) → Tells d (status_request_in d)
-unfolding status_request_in
-status_request_tells d =
-    then_tells d _ _ (head_tells d) (λ x1 r1.
-    then_tells d _ _ (original_tells d) (λ x2 r2.
-    then_tells d _ _ (optional_tells _ _ _ d) (λ x3 r3.
-    then_tells d _ _ (required_tells _ _ _ d) (λ x4 r4.
-    tt))))
-
-cancellation_request_tells : (d : Data) → Tells d (cancellation_request_in d)
+recalls_tell : (d : Data) → kind_in d ≡ Some Camt056 → Tells (IsTold d) (cancellation_request_in d)
 unfolding cancellation_request_in
-cancellation_request_tells d =
-    then_tells d _ _ (head_tells d) (λ x1 r1.
-    then_tells d _ _ (required_tells _ _ _ d) (λ x2 r2.
-    then_tells d _ _ (original_tells d) (λ x3 r3.
-    then_tells d _ _ (required_tells _ _ _ d) (λ x4 r4.
-    then_tells d _ _ (required_tells _ _ _ d) (λ x5 r5.
-    then_tells d _ _ (optional_tells _ _ _ d) (λ x6 r6.
-    then_tells d _ _ (required_tells _ _ _ d) (λ x7 r7.
-    then_tells d _ _ (required_tells _ _ _ d) (λ x8 r8.
-    tt))))))))
+recalls_tell d at = recalls_tell_by d (get (key_text key.TxInf) d) at refl
 
-payment_return_tells : (d : Data) → Tells d (payment_return_in d)
-unfolding payment_return_in
-payment_return_tells d =
-    then_tells d _ _ (head_tells d) (λ x1 r1.
-    then_tells d _ _ (required_tells _ _ _ d) (λ x2 r2.
-    then_tells d _ _ (required_tells _ _ _ d) (λ x3 r3.
-    then_tells d _ _ (original_tells d) (λ x4 r4.
-    then_tells d _ _ (required_tells _ _ _ d) (λ x5 r5.
-    then_tells d _ _ (required_tells _ _ _ d) (λ x6 r6.
-    then_tells d _ _ (required_tells _ _ _ d) (λ x7 r7.
-    then_tells d _ _ (required_tells _ _ _ d) (λ x8 r8.
-    then_tells d _ _ (required_tells _ _ _ d) (λ x9 r9.
-    then_tells d _ _ (required_tells _ _ _ d) (λ x10 r10.
-    tt))))))))))
+-- ---- every kind
 
-resolution_tells : (d : Data) → Tells d (resolution_in d)
-unfolding resolution_in
-resolution_tells d =
-    then_tells d _ _ (head_tells d) (λ x1 r1.
-    then_tells d _ _ (required_tells _ _ _ d) (λ x2 r2.
-    then_tells d _ _ (required_tells _ _ _ d) (λ x3 r3.
-    then_tells d _ _ (original_tells d) (λ x4 r4.
-    then_tells d _ _ (required_tells _ _ _ d) (λ x5 r5.
-    then_tells d _ _ (required_tells _ _ _ d) (λ x6 r6.
-    then_tells d _ _ (required_tells _ _ _ d) (λ x7 r7.
-    tt)))))))
-
-draft_tells : (kind : Kind) (d : Data) → Tells d (draft_in kind d)
-draft_tells Camt029 d = then_tells d _ _ (resolution_tells d) (λ m r. tt)
-draft_tells Camt056 d = then_tells d _ _ (cancellation_request_tells d) (λ m r. tt)
-draft_tells Pacs002 d = then_tells d _ _ (status_report_tells d) (λ m r. tt)
-draft_tells Pacs004 d = then_tells d _ _ (payment_return_tells d) (λ m r. tt)
-draft_tells Pacs008 d = then_tells d _ _ (credit_transfer_tells d) (λ m r. tt)
-draft_tells Pacs028 d = then_tells d _ _ (status_request_tells d) (λ m r. tt)
+draft_tells : (kind : Kind) (d : Data) → kind_in d ≡ Some kind → Tells (IsTold d) (draft_in kind d)
+draft_tells Camt029 d at = then_told (IsTold d) _ _ (resolution_tells (IsTold d) (told_keyed d) d) (λ m r. tt)
+draft_tells Camt056 d at = then_told (IsTold d) _ _ (recalls_tell d at) (λ m r. tt)
+draft_tells Pacs002 d at = then_told (IsTold d) _ _ (status_report_tells (IsTold d) (told_keyed d) d) (λ m r. tt)
+draft_tells Pacs004 d at = then_told (IsTold d) _ _ (payment_return_tells (IsTold d) (told_keyed d) d) (λ m r. tt)
+draft_tells Pacs008 d at = then_told (IsTold d) _ _ (credit_transfer_tells (IsTold d) (told_keyed d) d) (λ m r. tt)
+draft_tells Pacs028 d at = then_told (IsTold d) _ _ (status_request_tells (IsTold d) (told_keyed d) d) (λ m r. tt)
 
 -- ---- the whole object
 
-passes_tells : (d : Data) (kind : Kind) (ms : Members) (o : Option (List ℕ)) → first_extra kind ms ≡ o → d ≡ object ms → kind_in d ≡ Some kind → Tells d (passes_unless o)
+passes_tells : (d : Data) (kind : Kind) (ms : Members) (o : Option (List ℕ)) → first_extra (shape_in kind d) ms ≡ o → d ≡ object ms → kind_in d ≡ Some kind → Tells (IsTold d) (passes_unless o)
 passes_tells d kind ms None first is_object named = tt
 passes_tells d kind ms (Some name) first is_object named = (kind, ms, is_object, named, first)
 
-follows_tells : (d : Data) (m : Draft) (o : Option RuleFault) → first_broken_rule m ≡ o → is_name_of (kind_of m) (head_of m).message_name ≡ true → Tells d (follows_unless o m)
+follows_tells : (d : Data) (m : Draft) (o : Option RuleFault) → first_broken_rule m ≡ o → is_name_of (kind_of m) (head_of m).message_name ≡ true → Tells (IsTold d) (follows_unless o m)
 follows_tells d m None first named = tt
 follows_tells d m (Some broken) first named = (m, first, named)
 
 named : (d : Data) (kind : Kind) (m : Draft) → kind_in d ≡ Some kind → (kind ≡ kind_of m) × HoldsElements d m → is_name_of (kind_of m) (head_of m).message_name ≡ true
 named d kind m at drafted = named_as_its_kind d m drafted.1 (at ∙ ap (λ (k : Kind). Some k) drafted.0)
 
-object_tells : (d : Data) → Tells d (object_in d)
+object_tells : (d : Data) → Tells (IsTold d) (object_in d)
 unfolding object_in
 object_tells d =
-    then_tells d (ok_or (as_object d) fault.NotObject) _ (or_tells d (as_object d) _ tt) (λ ms r1.
-    then_tells d (ok_or (kind_in d) fault.UnknownKind) _ (or_tells d (kind_in d) _ tt) (λ kind r2.
+    let P : JsonFault → Type 0 = IsTold d in
+    then_told P (ok_or (as_object d) fault.NotObject) _ (or_told P (as_object d) _ tt) (λ ms r1.
+    then_told P (ok_or (kind_in d) fault.UnknownKind) _ (or_told P (kind_in d) _ tt) (λ kind r2.
     let at : kind_in d ≡ Some kind = ok_or_ok _ _ _ r2 in
-    then_tells d (draft_in kind d) _ (draft_tells kind d) (λ m r3.
-    then_tells d (passes_unless (first_extra kind ms)) _ (passes_tells d kind ms (first_extra kind ms) refl (is_object d ms (ok_or_ok _ _ _ r1)) at) (λ t r4.
+    then_told P (draft_in kind d) _ (draft_tells kind d at) (λ m r3.
+    then_told P (passes_unless (first_extra (shape_in kind d) ms)) _ (passes_tells d kind ms (first_extra (shape_in kind d) ms) refl (is_object d ms (ok_or_ok _ _ _ r1)) at) (λ t r4.
     follows_tells d m (first_broken_rule m) refl (named d kind m at (draft_holds kind d m r3))))))
 
 -- ---- the whole text
@@ -217,7 +414,7 @@ same_fault e f same = cc
 value_refused : (bytes : List ℕ) (o : Option Data) (e : JsonFault) → is_utf8 bytes ≡ true → read bytes ≡ o → value_in o ≡ Err e → IsToldOf bytes e
 value_refused bytes None e text value refused = inl (sym (same_fault _ _ refused))
 value_refused bytes (Some d) e text value refused =
-    inr (d, record { text = IsUtf8-from_is_utf8 bytes text; value = value }, subst (λ (r : Result Draft JsonFault). Tells d r) refused (object_tells d))
+    inr (d, record { text = IsUtf8-from_is_utf8 bytes text; value = value }, subst (λ (r : Result Draft JsonFault). Tells (IsTold d) r) refused (object_tells d))
 
 text_refused : (bytes : List ℕ) (b : Bool) (e : JsonFault) → is_utf8 bytes ≡ b → cond b (value_in (read bytes)) (Err fault.NotJson) ≡ Err e → IsToldOf bytes e
 text_refused bytes true e text refused = value_refused bytes (read bytes) e text refl refused
@@ -243,7 +440,52 @@ extra_key_is_least bytes name h = elim (refused bytes _ h) [
         members = ms;
         stands = whole;
         is_of_kind = subst (λ (v : Data). kind_in v ≡ Some kind) is at;
-        least = first_is_least kind ms name (names_read bytes ms whole.value) first;
+        least = first_is_least (shape_in kind (object ms)) ms name (names_read bytes (object ms) whole.value).0 (subst (λ (v : Data). first_extra (shape_in kind v) ms ≡ Some name) is first);
+      }
+]
+
+-- the names of a value that stands at a key, or at a place of a list, ascend as those of the whole
+ascend_here : (o : Ordering) (v : Data) (later : Option Data) (d : Data) → match_ordering o later (Some v) later ≡ Some d → NamesAscend v → (later ≡ Some d → NamesAscend d) → NamesAscend d
+ascend_here Less v later d e here next = next e
+ascend_here Equal v later d e here next = let same : v ≡ d = cc in subst NamesAscend same here
+ascend_here Greater v later d e here next = next e
+
+ascend_at_key : (k : List ℕ) (ms : Members) (d : Data) → NamesAscendInMembers ms → get_member k ms ≡ Some d → NamesAscend d
+ascend_at_key k no_members d all e = cc
+ascend_at_key k (member l v ms) d all e = ascend_here (slice_cmp nat_cmp k l) v (get_member k ms) d e all.0 (λ later. ascend_at_key k ms d all.1 later)
+
+ascend_in : (k : List ℕ) (whole d : Data) → NamesAscend whole → get k whole ≡ Some d → NamesAscend d
+ascend_in k null d all e = cc
+ascend_in k (boolean b) d all e = cc
+ascend_in k (number n) d all e = cc
+ascend_in k (string s) d all e = cc
+ascend_in k (array ds) d all e = cc
+ascend_in k (object ms) d all e = ascend_at_key k ms d all.1 e
+
+ascend_at_place : (n : ℕ) (ds : Items) (d : Data) → NamesAscendInItems ds → get_item n ds ≡ Some d → NamesAscend d
+ascend_at_place n no_items d all e = cc
+ascend_at_place zero (item v ds) d all e = let same : v ≡ d = cc in subst NamesAscend same all.0
+ascend_at_place (suc n) (item v ds) d all e = ascend_at_place n ds d all.1 e
+
+-- and so is that of an element
+pub element_key_is_least : (bytes : List ℕ) (place : ℕ) (name : List ℕ) → message_in bytes ≡ Err (fault.At place (key_fault.Extra name)) → HasLeastExtraKeyAt bytes place name
+element_key_is_least bytes place name h = elim (refused bytes _ h) [
+  | inl other ↦ cc
+  | inr (d, stands, told) ↦
+      let extra : IsExtraAt told.items 1 place name = told.extra in
+      let items_ascend : NamesAscend (array told.items) = ascend_in (key_text key.TxInf) d (array told.items) (names_read bytes d stands.value) told.list in
+      let element_ascends : NamesAscend (object extra.members) = ascend_at_place extra.before told.items (object extra.members) items_ascend extra.element in
+      record {
+        whole = d;
+        stands = stands;
+        is_of_kind = told.is_of_kind;
+        items = told.items;
+        list = told.list;
+        before = extra.before;
+        is_place = extra.is_place;
+        members = extra.members;
+        element = extra.element;
+        least = first_is_least Transaction extra.members name element_ascends.0 extra.is_first;
       }
 ]
 

@@ -1,6 +1,6 @@
 -- The text of a written object: one line, its keys ascending, and of one message alone.
 use Rattle.std.proofs.Common.{◌≡◌, ◌∙◌, ap, sym, refl, arith, inl, inr, ℕ, zero, suc, ◌<◌, ◌≤◌, ◌==◌, Bool, true, false, List, [], ◌∷◌, ◌++◌, Option, Some, None, Result, Ok, Ordering, Less, Equal, Greater, nat_cmp}
-use Rattle.std.specs.Prelude.{◌&&◌, not}
+use Rattle.std.specs.Prelude.{◌&&◌, not, option_and_then}
 use Rattle.std.specs.Ordering.{match_ordering}
 use Rattle.std.specs.Cmp.Lexicographic.{slice_cmp}
 use Rattle.std.proofs.lemmas.Bool.{and_parts, and_from, cases_lt, cases_eq}
@@ -11,51 +11,40 @@ use Rattle.json.specs.Print.{escape_byte, escape, quoted}
 use Rattle.json.specs.Tree as tree
 use Rattle.json.proofs.Printed.Strings.{escape_byte_plain}
 use Rattle.json.proofs.Printed.Trees.{document-print}
-use Rattle.serde_json.specs.Data.{Data, null, boolean, number, string, array, object, Members, no_members, member, put}
-use Rattle.serde_json.specs.Written.{compact_text, members_text, outline, members_outline}
+use Rattle.serde_json.specs.Data.{Data, string, array, object, Members, no_members, member, put}
+use Rattle.serde_json.specs.Read.{of_json}
+use Rattle.serde_json.specs.Written.{compact_text, items_text, members_text, outline, items_outline, members_outline}
 use Rattle.serde_json.proofs.Texts.{print-outline}
+use Rattle.sct_message.specs.declared.draft.RecallTx.{RecallTx}
 use Rattle.sct_message.specs.declared.draft.Draft.{Draft}
 use Rattle.sct_message.specs.Rules.{first_broken_rule}
+use Rattle.sct_json.specs.declared.keys.Key.TheVariants as key
 use Rattle.sct_json.specs.declared.faults.JsonFault.{JsonFault}
-use Rattle.sct_json.specs.Names.{AscendByBytes}
-use Rattle.sct_json.specs.Reading.{names_of, object_in}
-use Rattle.sct_json.specs.Writing.{with_elements, written_object, written_text, has_no_line_feed, ElementsReadBack}
-use Rattle.sct_json.proofs.Names.{Ascend, ascend_none, ascend_put}
-use Rattle.sct_json.proofs.Rows.{kept_written}
+use Rattle.sct_json.specs.Keys.{key_text}
+use Rattle.sct_json.specs.Names.{NamesAscend, NamesAscendInItems}
+use Rattle.sct_json.specs.Reading.{object_in}
+use Rattle.sct_json.specs.Writing.{with_rows, transaction_rows, transaction_objects, with_elements, written_object, written_text, has_no_line_feed, ElementsReadBack}
+use Rattle.sct_json.proofs.Names.{ascend_none, ascend_put}
+use Rattle.sct_json.proofs.Ordered.{object_back, written_shallow}
+use Rattle.sct_json.proofs.Rows.{IsKept, kept_rows, kept_written}
 use Rattle.sct_json.proofs.Written.{written_is_read}
-
--- ---- each member is a text
-
-abbrev IsText : Data → Type 0
-IsText null = ⊥
-IsText (boolean b) = ⊥
-IsText (number n) = ⊥
-IsText (string s) = Unit {0}
-IsText (array ds) = ⊥
-IsText (object ms) = ⊥
-
-abbrev AreTexts : Members → Type 0
-AreTexts no_members = Unit {0}
-AreTexts (member k d ms) = IsText d × AreTexts ms
-
-texts_at : (o : Ordering) (k l s : List ℕ) (e : Data) (ms : Members) → AreTexts (member l e ms) → AreTexts (put k (string s) ms)
-    → AreTexts (match_ordering o (member k (string s) (member l e ms)) (member l (string s) ms) (member l e (put k (string s) ms)))
-texts_at Less k l s e ms texts later = (tt, texts)
-texts_at Equal k l s e ms texts later = (tt, texts.1)
-texts_at Greater k l s e ms texts later = (texts.0, later)
-
-texts_put : (k s : List ℕ) (ms : Members) → AreTexts ms → AreTexts (put k (string s) ms)
-texts_put k s no_members texts = (tt, tt)
-texts_put k s (member l e ms) texts = texts_at (slice_cmp nat_cmp k l) k l s e ms texts (texts_put k s ms texts.1)
-
-texts_written : (m : Draft) → AreTexts (with_elements m no_members)
-texts_written m = kept_written AreTexts texts_put tt m
 
 -- ---- the keys ascend
 
-pub keys_ascend : (m : Draft) → (ms : Members) × (written_text m ≡ compact_text (object ms)) × AscendByBytes (names_of ms)
+kept_ascending : IsKept (λ ms. NamesAscend (object ms))
+kept_ascending k s ms all = ascend_put k (string s) ms tt all
+
+objects_ascend : (txs : List RecallTx) → NamesAscendInItems (transaction_objects txs)
+objects_ascend [] = tt
+objects_ascend (tx ∷ txs) = (kept_rows (λ ms. NamesAscend (object ms)) kept_ascending (transaction_rows tx) no_members ascend_none, objects_ascend txs)
+
+pub keys_ascend : (m : Draft) → (ms : Members) × (written_text m ≡ compact_text (object ms)) × NamesAscend (object ms)
 unfolding written_text
-keys_ascend m = (with_elements m no_members, refl, kept_written Ascend (λ k s ms. ascend_put k (string s) ms) ascend_none m)
+keys_ascend m = (
+  with_elements m no_members,
+  refl,
+  kept_written (λ ms. NamesAscend (object ms)) kept_ascending (λ txs ms all. ascend_put (key_text key.TxInf) (array (transaction_objects txs)) ms (objects_ascend txs) all) ascend_none m,
+)
 
 -- ---- one line
 
@@ -94,22 +83,50 @@ escaped (x ∷ s) = both_one_line (escape_byte x) (escape s) (escaped_byte x) (e
 quoted_is_one_line : (s : List ℕ) → IsOneLine (quoted s)
 quoted_is_one_line s = both_one_line (escape s) (34 ∷ []) (escaped s) refl
 
-member_is_one_line : (k s rest : List ℕ) → IsOneLine rest → IsOneLine (quoted k ++ 58 ∷ (quoted s ++ rest))
-member_is_one_line k s rest h = both_one_line (quoted k) (58 ∷ (quoted s ++ rest)) (quoted_is_one_line k) (both_one_line (quoted s) rest (quoted_is_one_line s) h)
+-- the text of each member is one line
+abbrev AreLines : Members → Type 0
+AreLines no_members = Unit {0}
+AreLines (member k d ms) = IsOneLine (compact_text d) × AreLines ms
 
-members_are_one_line : (later : Bool) (ms : Members) → AreTexts ms → IsOneLine (members_text later ms)
-members_are_one_line later no_members texts = refl
-members_are_one_line true (member k (string s) ms) texts = member_is_one_line k s (members_text true ms) (members_are_one_line true ms texts.1)
-members_are_one_line false (member k (string s) ms) texts = member_is_one_line k s (members_text true ms) (members_are_one_line true ms texts.1)
-members_are_one_line later (member k null ms) texts = absurd texts.0
-members_are_one_line later (member k (boolean b) ms) texts = absurd texts.0
-members_are_one_line later (member k (number n) ms) texts = absurd texts.0
-members_are_one_line later (member k (array ds) ms) texts = absurd texts.0
-members_are_one_line later (member k (object ns) ms) texts = absurd texts.0
+lines_at : (o : Ordering) (k l : List ℕ) (d e : Data) (ms : Members) → IsOneLine (compact_text d) → AreLines (member l e ms) → AreLines (put k d ms)
+    → AreLines (match_ordering o (member k d (member l e ms)) (member l d ms) (member l e (put k d ms)))
+lines_at Less k l d e ms here all later = (here, all)
+lines_at Equal k l d e ms here all later = (here, all.1)
+lines_at Greater k l d e ms here all later = (all.0, later)
+
+lines_put : (k : List ℕ) (d : Data) (ms : Members) → IsOneLine (compact_text d) → AreLines ms → AreLines (put k d ms)
+lines_put k d no_members here all = (here, tt)
+lines_put k d (member l e ms) here all = lines_at (slice_cmp nat_cmp k l) k l d e ms here all (lines_put k d ms here all.1)
+
+member_is_one_line : (k text rest : List ℕ) → IsOneLine text → IsOneLine rest → IsOneLine (quoted k ++ 58 ∷ (text ++ rest))
+member_is_one_line k text rest here later = both_one_line (quoted k) (58 ∷ (text ++ rest)) (quoted_is_one_line k) (both_one_line text rest here later)
+
+members_are_one_line : (later : Bool) (ms : Members) → AreLines ms → IsOneLine (members_text later ms)
+members_are_one_line later no_members all = refl
+members_are_one_line true (member k d ms) all = member_is_one_line k (compact_text d) (members_text true ms) all.0 (members_are_one_line true ms all.1)
+members_are_one_line false (member k d ms) all = member_is_one_line k (compact_text d) (members_text true ms) all.0 (members_are_one_line true ms all.1)
+
+kept_lines : IsKept AreLines
+kept_lines k s ms all = lines_put k (string s) ms (quoted_is_one_line s) all
+
+objects_are_one_line : (later : Bool) (txs : List RecallTx) → IsOneLine (items_text later (transaction_objects txs))
+objects_are_one_line later [] = refl
+objects_are_one_line true (tx ∷ txs) =
+    both_one_line (compact_text (object (with_rows (transaction_rows tx) no_members))) (items_text true (transaction_objects txs))
+    (members_are_one_line false (with_rows (transaction_rows tx) no_members) (kept_rows AreLines kept_lines (transaction_rows tx) no_members tt))
+    (objects_are_one_line true txs)
+objects_are_one_line false (tx ∷ txs) =
+    both_one_line (compact_text (object (with_rows (transaction_rows tx) no_members))) (items_text true (transaction_objects txs))
+    (members_are_one_line false (with_rows (transaction_rows tx) no_members) (kept_rows AreLines kept_lines (transaction_rows tx) no_members tt))
+    (objects_are_one_line true txs)
+
+lines_written : (m : Draft) → AreLines (with_elements m no_members)
+lines_written m =
+    kept_written AreLines kept_lines (λ txs ms all. lines_put (key_text key.TxInf) (array (transaction_objects txs)) ms (objects_are_one_line false txs) all) tt m
 
 pub text_is_one_line : (m : Draft) → has_no_line_feed (written_text m) ≡ true
 unfolding written_text
-text_is_one_line m = members_are_one_line false (with_elements m no_members) (texts_written m)
+text_is_one_line m = members_are_one_line false (with_elements m no_members) (lines_written m)
 
 pub text_begins : (m : Draft) → (rest : List ℕ) × (written_text m ≡ 123 ∷ rest)
 unfolding written_text
@@ -117,68 +134,48 @@ text_begins m = (members_text false (with_elements m no_members), refl)
 
 -- ---- one message
 
-abbrev text_back : json.Json → Data
-text_back json.null = null
-text_back (json.boolean b) = null
-text_back (json.number s) = null
-text_back (json.string s) = string s
-text_back (json.array js) = null
-text_back (json.object js) = null
+abbrev HaveNumbers : Members → Type 0
+HaveNumbers ms = tree.MembersHaveNumbers (members_outline ms)
 
-abbrev members_back : json.Members → Members
-members_back json.no_members = no_members
-members_back (json.member k j js) = member k (text_back j) (members_back js)
+numbers_at : (o : Ordering) (k l : List ℕ) (d e : Data) (ms : Members) → tree.HasNumbers (outline d) → HaveNumbers (member l e ms) → HaveNumbers (put k d ms)
+    → HaveNumbers (match_ordering o (member k d (member l e ms)) (member l d ms) (member l e (put k d ms)))
+numbers_at Less k l d e ms here all later = (here, all)
+numbers_at Equal k l d e ms here all later = (here, all.1)
+numbers_at Greater k l d e ms here all later = (all.0, later)
 
-abbrev back : Option json.Json → Members
-back None = no_members
-back (Some json.null) = no_members
-back (Some (json.boolean b)) = no_members
-back (Some (json.number s)) = no_members
-back (Some (json.string s)) = no_members
-back (Some (json.array js)) = no_members
-back (Some (json.object js)) = members_back js
+numbers_put : (k : List ℕ) (d : Data) (ms : Members) → tree.HasNumbers (outline d) → HaveNumbers ms → HaveNumbers (put k d ms)
+numbers_put k d no_members here all = (here, tt)
+numbers_put k d (member l e ms) here all = numbers_at (slice_cmp nat_cmp k l) k l d e ms here all (numbers_put k d ms here all.1)
 
-text_is_back : (d : Data) → IsText d → text_back (outline d) ≡ d
-text_is_back null texts = absurd texts
-text_is_back (boolean b) texts = absurd texts
-text_is_back (number n) texts = absurd texts
-text_is_back (string s) texts = refl
-text_is_back (array ds) texts = absurd texts
-text_is_back (object ms) texts = absurd texts
+kept_numbers : IsKept HaveNumbers
+kept_numbers k s ms all = numbers_put k (string s) ms tt all
 
-members_are_back : (ms : Members) → AreTexts ms → members_back (members_outline ms) ≡ ms
-members_are_back no_members texts = refl
-members_are_back (member k d ms) texts = rw (text_is_back d texts.0, members_are_back ms texts.1) refl
+objects_have_numbers : (txs : List RecallTx) → tree.ItemsHaveNumbers (items_outline (transaction_objects txs))
+objects_have_numbers [] = tt
+objects_have_numbers (tx ∷ txs) = (kept_rows HaveNumbers kept_numbers (transaction_rows tx) no_members tt, objects_have_numbers txs)
 
-text_has_numbers : (d : Data) → IsText d → tree.HasNumbers (outline d) × (tree.depth (outline d) ≡ 0)
-text_has_numbers null texts = absurd texts
-text_has_numbers (boolean b) texts = absurd texts
-text_has_numbers (number n) texts = absurd texts
-text_has_numbers (string s) texts = (tt, refl)
-text_has_numbers (array ds) texts = absurd texts
-text_has_numbers (object ms) texts = absurd texts
+numbers_written : (m : Draft) → HaveNumbers (with_elements m no_members)
+numbers_written m =
+    kept_written HaveNumbers kept_numbers (λ txs ms all. numbers_put (key_text key.TxInf) (array (transaction_objects txs)) ms (objects_have_numbers txs) all) tt m
 
-members_have_numbers : (ms : Members) → AreTexts ms → tree.MembersHaveNumbers (members_outline ms) × (tree.members_depth (members_outline ms) ≡ 0)
-members_have_numbers no_members texts = (tt, refl)
-members_have_numbers (member k d ms) texts =
-    let first = text_has_numbers d texts.0 in
-    let rest = members_have_numbers ms texts.1 in
-    ((first.0, rest.0), omega (arith, first.1, rest.1))
+-- the value that a text is
+abbrev value_of : List ℕ → Option Data
+value_of text = option_and_then of_json (json.document text)
 
-document_of : (ms : Members) → AreTexts ms → json.document (compact_text (object ms)) ≡ Some (outline (object ms))
-document_of ms texts =
-    let numbers = members_have_numbers ms texts in
-    ap json.document (sym (print-outline (object ms))) ∙ document-print (outline (object ms)) numbers.0 (omega (arith, numbers.1))
+value_written : (m : Draft) → value_of (written_text m) ≡ Some (written_object m)
+unfolding written_text
+value_written m =
+    let line : json.Json = outline (written_object m) in
+    let low = written_shallow m in
+    ap value_of (sym (print-outline (written_object m)))
+    ∙ ap (option_and_then of_json) (document-print line (numbers_written m) (omega (arith, low)))
+    ∙ object_back m
 
-members_of_text : (ms : Members) → AreTexts ms → back (json.document (compact_text (object ms))) ≡ ms
-members_of_text ms texts = ap back (document_of ms texts) ∙ members_are_back ms texts
+some_same : (d e : Data) → ◌≡◌ {A = Option Data} (Some d) (Some e) → d ≡ e
+some_same d e same = cc
 
 same_object : (m n : Draft) → written_text m ≡ written_text n → written_object m ≡ written_object n
-unfolding written_text
-same_object m n same =
-    let left : Members = with_elements m no_members in
-    let right : Members = with_elements n no_members in
-    ap object (sym (members_of_text left (texts_written m)) ∙ ap (λ (s : List ℕ). back (json.document s)) same ∙ members_of_text right (texts_written n))
+same_object m n same = some_same _ _ (sym (value_written m) ∙ ap value_of same ∙ value_written n)
 
 ok_same : (m n : Draft) → ◌≡◌ {A = Result Draft JsonFault} (Ok m) (Ok n) → m ≡ n
 ok_same m n e = cc

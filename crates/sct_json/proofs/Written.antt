@@ -1,10 +1,10 @@
 -- What is written is a form of its message.
-use Rattle.std.proofs.Common.{◌≡◌, ◌∙◌, ap, sym, subst, refl, ℕ, Bool, true, false, cond, List, [], ◌∷◌, Option, Some, None, option_map, Ok, Ordering, Less, Equal, Greater, nat_cmp}
-use Rattle.std.specs.List.{list_all}
+use Rattle.std.proofs.Common.{◌≡◌, ◌∙◌, ap, sym, subst, refl, inl, inr, ℕ, suc, Bool, true, false, not, cond, List, [], ◌∷◌, length, Option, Some, None, option_map, Ok, Ordering, Less, Equal, Greater, nat_cmp}
+use Rattle.std.specs.List.{AllByRecursion, list_all}
 use Rattle.std.specs.Ordering.{match_ordering}
 use Rattle.std.specs.Cmp.Lexicographic.{slice_cmp, bytes_decides}
 use Rattle.std.proofs.lemmas.Bool.{false≢true, and_parts, and_from}
-use Rattle.serde_json.specs.Data.{Data, string, Members, no_members, member, put}
+use Rattle.serde_json.specs.Data.{Data, string, array, object, Members, no_members, member, put}
 use Rattle.serde_json.specs.Find.{get, get_member}
 use Rattle.serde_json.proofs.Views.{get_member-put, get_member-put_other}
 use Rattle.sct_element.specs.Account.{written_iban}
@@ -20,20 +20,25 @@ use Rattle.sct_message.specs.declared.draft.Original.{Original}
 use Rattle.sct_message.specs.declared.draft.CreditTransfer.{CreditTransfer}
 use Rattle.sct_message.specs.declared.draft.StatusReport.{StatusReport}
 use Rattle.sct_message.specs.declared.draft.StatusRequest.{StatusRequest}
-use Rattle.sct_message.specs.declared.draft.CancellationRequest.{CancellationRequest}
+use Rattle.sct_message.specs.declared.draft.RecallTx.{RecallTx}
 use Rattle.sct_message.specs.declared.draft.PaymentReturn.{PaymentReturn}
 use Rattle.sct_message.specs.declared.draft.Resolution.{Resolution}
 use Rattle.sct_message.specs.declared.draft.Draft.{Draft}
 use Rattle.sct_message.specs.declared.draft.Draft.TheVariants as draft
 use Rattle.sct_message.specs.Drafts.{kind_of}
 use Rattle.sct_element.specs.Text.{is_text}
-use Rattle.sct_message.specs.Rules.{first_broken_rule}
+use Rattle.sct_message.specs.declared.rules.RuleFault.{RuleFault}
+use Rattle.sct_message.specs.declared.rules.RuleFault.TheVariants.{WrongName, WrongOriginalName, RepeatedRecall, WrongCount}
+use Rattle.sct_message.specs.Kinds.{is_name_of}
+use Rattle.sct_message.specs.Recalls.{Recalls}
+use Rattle.sct_message.specs.Rules.{first_broken_rule, broken_first, broken_in_kind, broken_by_transactions, names_its_original, repeats, is_right_count}
 use Rattle.sct_json.specs.declared.keys.Key.{Key}
 use Rattle.sct_json.specs.declared.keys.Key.TheVariants as key
-use Rattle.sct_json.specs.Keys.{key_text, is_among, is_key_of}
-use Rattle.sct_json.specs.Reading.{name_of, remittance_of, names_of, object_in}
-use Rattle.sct_json.specs.Form.{Holds, MayHold, HoldsHead, HoldsOriginal, HoldsCreditTransfer, HoldsStatusReport, HoldsStatusRequest, HoldsCancellationRequest, HoldsPaymentReturn, HoldsResolution, HoldsElements, HasKeysOf}
-use Rattle.sct_json.specs.Writing.{Row, with_text, with_rows, with_elements, written_object, head_rows, original_rows, credit_transfer_rows, status_report_rows, status_request_rows, cancellation_request_rows, payment_return_rows, resolution_rows, with_head, with_original, ReadsBack, MayReadBack, HeadReadsBack, OriginalReadsBack, CreditTransferReadsBack, StatusReportReadsBack, StatusRequestReadsBack, CancellationRequestReadsBack, PaymentReturnReadsBack, ResolutionReadsBack, ElementsReadBack}
+use Rattle.sct_json.specs.declared.keys.Shape.TheVariants.{Listed, Transaction}
+use Rattle.sct_json.specs.Keys.{key_text, is_among, is_key_of, is_key_in}
+use Rattle.sct_json.specs.Reading.{name_of, remittance_of, names_of, items_list, listed_or_flat, object_in}
+use Rattle.sct_json.specs.Form.{Holds, MayHold, HoldsHead, HoldsOriginal, HoldsCreditTransfer, HoldsStatusReport, HoldsStatusRequest, HoldsTransaction, IsTransaction, AreTransactions, HoldsOne, HoldsList, HoldsRecalls, HoldsPaymentReturn, HoldsResolution, HoldsElements, HasKeysIn, HasKeysOf}
+use Rattle.sct_json.specs.Writing.{Row, with_text, with_rows, with_elements, written_object, head_rows, original_rows, credit_transfer_rows, status_report_rows, status_request_rows, transaction_rows, payment_return_rows, resolution_rows, with_head, with_original, with_list, with_transactions, transaction_objects, ReadsBack, MayReadBack, HeadReadsBack, OriginalReadsBack, CreditTransferReadsBack, StatusReportReadsBack, StatusRequestReadsBack, TransactionReadsBack, PaymentReturnReadsBack, ResolutionReadsBack, ElementsReadBack}
 use Rattle.sct_json.proofs.Forms.{held_is_read}
 
 -- ---- what stands at a key once rows were put
@@ -123,13 +128,25 @@ status_request_rows_in_status_request : (m : StatusRequest) → are_rows_of (is_
 unfolding is_among
 status_request_rows_in_status_request m = refl
 
-head_rows_in_cancellation_request : (m : Head) → are_rows_of (is_key_of Camt056) (head_rows m) ≡ true
+head_rows_in_one : (m : Head) → are_rows_of (is_key_of Camt056) (head_rows m) ≡ true
 unfolding is_among
-head_rows_in_cancellation_request m = refl
+head_rows_in_one m = refl
 
-cancellation_request_rows_in_cancellation_request : (m : CancellationRequest) → are_rows_of (is_key_of Camt056) (cancellation_request_rows m) ≡ true
+transaction_rows_in_one : (m : RecallTx) → are_rows_of (is_key_of Camt056) (transaction_rows m) ≡ true
 unfolding is_among
-cancellation_request_rows_in_cancellation_request m = refl
+transaction_rows_in_one m = refl
+
+head_rows_in_list : (m : Head) → are_rows_of (is_key_in Listed) (head_rows m) ≡ true
+unfolding is_among
+head_rows_in_list m = refl
+
+list_key_in_list : is_key_in Listed (key_text key.TxInf) ≡ true
+unfolding is_among
+list_key_in_list = refl
+
+transaction_rows_in_transaction : (m : RecallTx) → are_rows_of (is_key_in Transaction) (transaction_rows m) ≡ true
+unfolding is_among
+transaction_rows_in_transaction m = refl
 
 head_rows_in_payment_return : (m : Head) → are_rows_of (is_key_of Pacs004) (head_rows m) ≡ true
 unfolding is_among
@@ -146,14 +163,6 @@ head_rows_in_resolution m = refl
 resolution_rows_in_resolution : (m : Resolution) → are_rows_of (is_key_of Camt029) (resolution_rows m) ≡ true
 unfolding is_among
 resolution_rows_in_resolution m = refl
-
-keys_written : (m : Draft) → HasKeysOf (kind_of m) (written_object m)
-keys_written (draft.CreditTransfer m) = (with_elements (draft.CreditTransfer m) no_members, refl, names_with (is_key_of Pacs008) (credit_transfer_rows m) (with_head m.head no_members) (credit_transfer_rows_in_credit_transfer m) (names_with (is_key_of Pacs008) (head_rows m.head) no_members (head_rows_in_credit_transfer m.head) refl))
-keys_written (draft.StatusReport m) = (with_elements (draft.StatusReport m) no_members, refl, names_with (is_key_of Pacs002) (status_report_rows m) (with_original m.original (with_head m.head no_members)) (status_report_rows_in_status_report m) (names_with (is_key_of Pacs002) (original_rows m.original) (with_head m.head no_members) (original_rows_in_status_report m.original) (names_with (is_key_of Pacs002) (head_rows m.head) no_members (head_rows_in_status_report m.head) refl)))
-keys_written (draft.StatusRequest m) = (with_elements (draft.StatusRequest m) no_members, refl, names_with (is_key_of Pacs028) (status_request_rows m) (with_original m.original (with_head m.head no_members)) (status_request_rows_in_status_request m) (names_with (is_key_of Pacs028) (original_rows m.original) (with_head m.head no_members) (original_rows_in_status_request m.original) (names_with (is_key_of Pacs028) (head_rows m.head) no_members (head_rows_in_status_request m.head) refl)))
-keys_written (draft.CancellationRequest m) = (with_elements (draft.CancellationRequest m) no_members, refl, names_with (is_key_of Camt056) (cancellation_request_rows m) (with_head m.head no_members) (cancellation_request_rows_in_cancellation_request m) (names_with (is_key_of Camt056) (head_rows m.head) no_members (head_rows_in_cancellation_request m.head) refl))
-keys_written (draft.PaymentReturn m) = (with_elements (draft.PaymentReturn m) no_members, refl, names_with (is_key_of Pacs004) (payment_return_rows m) (with_head m.head no_members) (payment_return_rows_in_payment_return m) (names_with (is_key_of Pacs004) (head_rows m.head) no_members (head_rows_in_payment_return m.head) refl))
-keys_written (draft.Resolution m) = (with_elements (draft.Resolution m) no_members, refl, names_with (is_key_of Camt029) (resolution_rows m) (with_head m.head no_members) (resolution_rows_in_resolution m) (names_with (is_key_of Camt029) (head_rows m.head) no_members (head_rows_in_resolution m.head) refl))
 
 -- ---- the elements of what is written
 
@@ -233,20 +242,134 @@ status_request_written m back = let d : Data = written_object (draft.StatusReque
   debtor_agent = holds_text written_bic (λ s. s) key.DbtrAgt d m.debtor_agent back.debtor_agent (in_status_request m key.DbtrAgt);
 }
 
-in_cancellation_request : (m : CancellationRequest) (k : Key) → get (key_text k) (written_object (draft.CancellationRequest m)) ≡ found (key_text k) (cancellation_request_rows m) (found (key_text k) (head_rows m.head) None)
-in_cancellation_request m k = get_with (key_text k) (cancellation_request_rows m) (with_head m.head no_members) ∙ ap (found (key_text k) (cancellation_request_rows m)) (get_with (key_text k) (head_rows m.head) no_members)
-
-cancellation_request_written : (m : CancellationRequest) → CancellationRequestReadsBack m → HoldsCancellationRequest (written_object (draft.CancellationRequest m)) m
-cancellation_request_written m back = let d : Data = written_object (draft.CancellationRequest m) in record {
-  head = head_written d m.head back.head (in_cancellation_request m key.MsgNmId) (in_cancellation_request m key.MsgId) (in_cancellation_request m key.CreDtTm) (in_cancellation_request m key.InstgAgt) (in_cancellation_request m key.InstdAgt);
-  cancellation_id = holds_text written_identification (λ s. s) key.CxlId d m.cancellation_id back.cancellation_id (in_cancellation_request m key.CxlId);
-  original = original_written d m.original back.original (in_cancellation_request m key.OrgnlMsgId) (in_cancellation_request m key.OrgnlMsgNmId) (in_cancellation_request m key.OrgnlEndToEndId) (in_cancellation_request m key.OrgnlTxId);
-  original_amount = holds_text cents_of amount_text key.OrgnlIntrBkSttlmAmt d m.original_amount back.original_amount (in_cancellation_request m key.OrgnlIntrBkSttlmAmt);
-  currency = holds_text written_code (λ s. s) key.Ccy d m.currency back.currency (in_cancellation_request m key.Ccy);
-  original_settlement_date = may_hold_text written_day key.OrgnlIntrBkSttlmDt d m.original_settlement_date back.original_settlement_date (in_cancellation_request m key.OrgnlIntrBkSttlmDt);
-  reason = holds_text reason_of reason_text key.Rsn d m.reason back.reason (in_cancellation_request m key.Rsn);
-  debtor_agent = holds_text written_bic (λ s. s) key.DbtrAgt d m.debtor_agent back.debtor_agent (in_cancellation_request m key.DbtrAgt);
+transaction_written : (d : Data) (m : RecallTx) → TransactionReadsBack m
+    → get (key_text key.CxlId) d ≡ Some (string m.cancellation_id)
+    → get (key_text key.OrgnlMsgId) d ≡ Some (string m.original.message_id)
+    → get (key_text key.OrgnlMsgNmId) d ≡ Some (string m.original.message_name)
+    → get (key_text key.OrgnlEndToEndId) d ≡ text_or None m.original.end_to_end_id
+    → get (key_text key.OrgnlTxId) d ≡ Some (string m.original.transaction_id)
+    → get (key_text key.OrgnlIntrBkSttlmAmt) d ≡ Some (string (amount_text m.original_amount))
+    → get (key_text key.Ccy) d ≡ Some (string m.currency)
+    → get (key_text key.OrgnlIntrBkSttlmDt) d ≡ text_or None m.original_settlement_date
+    → get (key_text key.Rsn) d ≡ Some (string (reason_text m.reason))
+    → get (key_text key.DbtrAgt) d ≡ Some (string m.debtor_agent)
+    → HoldsTransaction d m
+transaction_written d m back at0 at1 at2 at3 at4 at5 at6 at7 at8 at9 = record {
+  cancellation_id = holds_text written_identification (λ s. s) key.CxlId d m.cancellation_id back.cancellation_id at0;
+  original = original_written d m.original back.original at1 at2 at3 at4;
+  original_amount = holds_text cents_of amount_text key.OrgnlIntrBkSttlmAmt d m.original_amount back.original_amount at5;
+  currency = holds_text written_code (λ s. s) key.Ccy d m.currency back.currency at6;
+  original_settlement_date = may_hold_text written_day key.OrgnlIntrBkSttlmDt d m.original_settlement_date back.original_settlement_date at7;
+  reason = holds_text reason_of reason_text key.Rsn d m.reason back.reason at8;
+  debtor_agent = holds_text written_bic (λ s. s) key.DbtrAgt d m.debtor_agent back.debtor_agent at9;
 }
+
+-- ---- a camt.056 of one transaction
+
+abbrev one_members : Head → RecallTx → Members
+one_members h tx = with_rows (transaction_rows tx) (with_head h no_members)
+
+in_one : (h : Head) (tx : RecallTx) (k : Key) → get (key_text k) (object (one_members h tx)) ≡ found (key_text k) (transaction_rows tx) (found (key_text k) (head_rows h) None)
+in_one h tx k = get_with (key_text k) (transaction_rows tx) (with_head h no_members) ∙ ap (found (key_text k) (transaction_rows tx)) (get_with (key_text k) (head_rows h) no_members)
+
+one_written : (h : Head) (tx : RecallTx) → HeadReadsBack h → TransactionReadsBack tx → HoldsOne (object (one_members h tx)) (record { head = h; txs = tx ∷ [] })
+one_written h tx head_back back = let d : Data = object (one_members h tx) in record {
+  head = head_written d h head_back (in_one h tx key.MsgNmId) (in_one h tx key.MsgId) (in_one h tx key.CreDtTm) (in_one h tx key.InstgAgt) (in_one h tx key.InstdAgt);
+  flat = in_one h tx key.TxInf;
+  one = tx;
+  holds = transaction_written d tx back (in_one h tx key.CxlId) (in_one h tx key.OrgnlMsgId) (in_one h tx key.OrgnlMsgNmId) (in_one h tx key.OrgnlEndToEndId) (in_one h tx key.OrgnlTxId) (in_one h tx key.OrgnlIntrBkSttlmAmt) (in_one h tx key.Ccy) (in_one h tx key.OrgnlIntrBkSttlmDt) (in_one h tx key.Rsn) (in_one h tx key.DbtrAgt);
+  only = refl;
+}
+
+keys_of_one : (h : Head) (tx : RecallTx) → HasKeysOf Camt056 (object (one_members h tx))
+keys_of_one h tx = subst (λ (list : Option Data). HasKeysIn (listed_or_flat list) (object (one_members h tx))) (sym (in_one h tx key.TxInf)) (
+  one_members h tx,
+  refl,
+  names_with (is_key_of Camt056) (transaction_rows tx) (with_head h no_members) (transaction_rows_in_one tx) (names_with (is_key_of Camt056) (head_rows h) no_members (head_rows_in_one h) refl),
+)
+
+-- ---- a camt.056 with a list
+
+abbrev element_members : RecallTx → Members
+element_members tx = with_rows (transaction_rows tx) no_members
+
+in_element : (tx : RecallTx) (k : Key) → get (key_text k) (object (element_members tx)) ≡ found (key_text k) (transaction_rows tx) None
+in_element tx k = get_with (key_text k) (transaction_rows tx) no_members
+
+element_written : (tx : RecallTx) → TransactionReadsBack tx → IsTransaction (object (element_members tx)) tx
+element_written tx back = record {
+  keys = (element_members tx, refl, names_with (is_key_in Transaction) (transaction_rows tx) no_members (transaction_rows_in_transaction tx) refl);
+  elements = transaction_written (object (element_members tx)) tx back (in_element tx key.CxlId) (in_element tx key.OrgnlMsgId) (in_element tx key.OrgnlMsgNmId) (in_element tx key.OrgnlEndToEndId) (in_element tx key.OrgnlTxId) (in_element tx key.OrgnlIntrBkSttlmAmt) (in_element tx key.Ccy) (in_element tx key.OrgnlIntrBkSttlmDt) (in_element tx key.Rsn) (in_element tx key.DbtrAgt);
+}
+
+each_written : (txs : List RecallTx) → AllByRecursion TransactionReadsBack txs → AreTransactions (items_list (transaction_objects txs)) txs
+each_written [] back = tt
+each_written (tx ∷ txs) back = (element_written tx back.0, each_written txs back.1)
+
+as_many : (txs : List RecallTx) → length (items_list (transaction_objects txs)) ≡ length txs
+as_many [] = refl
+as_many (tx ∷ txs) = ap suc (as_many txs)
+
+abbrev list_members : Head → List RecallTx → Members
+list_members h txs = with_list txs (with_head h no_members)
+
+at_list : (h : Head) (txs : List RecallTx) → get (key_text key.TxInf) (object (list_members h txs)) ≡ Some (array (transaction_objects txs))
+at_list h txs = get_member-put (key_text key.TxInf) (array (transaction_objects txs)) (with_head h no_members)
+
+-- the head's keys are not that of the list
+beside_list : (h : Head) (txs : List RecallTx) (k : Key) → is_text (key_text k) (key_text key.TxInf) ≡ false → get (key_text k) (object (list_members h txs)) ≡ found (key_text k) (head_rows h) None
+beside_list h txs k other =
+    get_member-put_other (key_text k) (key_text key.TxInf) (array (transaction_objects txs)) (with_head h no_members) (λ same. false≢true (sym other ∙ (bytes_decides (key_text k) (key_text key.TxInf)).1 same))
+    ∙ get_with (key_text k) (head_rows h) no_members
+
+list_written : (h : Head) (txs : List RecallTx) → HeadReadsBack h → AllByRecursion TransactionReadsBack txs → is_right_count (length txs) ≡ true → HoldsList (object (list_members h txs)) (record { head = h; txs = txs })
+list_written h txs head_back back few = let d : Data = object (list_members h txs) in record {
+  head = head_written d h head_back (beside_list h txs key.MsgNmId refl) (beside_list h txs key.MsgId refl) (beside_list h txs key.CreDtTm refl) (beside_list h txs key.InstgAgt refl) (beside_list h txs key.InstdAgt refl);
+  items = transaction_objects txs;
+  list = at_list h txs;
+  few = ap is_right_count (as_many txs) ∙ few;
+  each = each_written txs back;
+}
+
+keys_of_list : (h : Head) (txs : List RecallTx) → HasKeysOf Camt056 (object (list_members h txs))
+keys_of_list h txs = subst (λ (list : Option Data). HasKeysIn (listed_or_flat list) (object (list_members h txs))) (sym (at_list h txs)) (
+  list_members h txs,
+  refl,
+  names_put (is_key_in Listed) (key_text key.TxInf) (array (transaction_objects txs)) (with_head h no_members) list_key_in_list (names_with (is_key_in Listed) (head_rows h) no_members (head_rows_in_list h) refl),
+)
+
+-- ---- both forms
+
+abbrev recall_members : Head → List RecallTx → Members
+recall_members h txs = with_transactions txs (with_head h no_members)
+
+recalls_written : (h : Head) (txs : List RecallTx) → HeadReadsBack h → AllByRecursion TransactionReadsBack txs → is_right_count (length txs) ≡ true → HoldsRecalls (object (recall_members h txs)) (record { head = h; txs = txs })
+recalls_written h [] head_back back few = inr (list_written h [] head_back back few)
+recalls_written h (tx ∷ []) head_back back few = inl (one_written h tx head_back back.0)
+recalls_written h (tx ∷ (other ∷ more)) head_back back few = inr (list_written h (tx ∷ (other ∷ more)) head_back back few)
+
+keys_of_recalls : (h : Head) (txs : List RecallTx) → HasKeysOf Camt056 (object (recall_members h txs))
+keys_of_recalls h [] = keys_of_list h []
+keys_of_recalls h (tx ∷ []) = keys_of_one h tx
+keys_of_recalls h (tx ∷ (other ∷ more)) = keys_of_list h (tx ∷ (other ∷ more))
+
+kept_last : (named : Bool) (kind : Option RuleFault) (original repeated few : Bool)
+    → cond (not named) (Some WrongName) (broken_first kind (cond (not original) (Some WrongOriginalName) (cond repeated (Some RepeatedRecall) (cond (not few) (Some WrongCount) None)))) ≡ None → few ≡ true
+kept_last named kind original repeated true e = refl
+kept_last false kind original repeated false e = cc
+kept_last true (Some broken) original repeated false e = cc
+kept_last true None false repeated false e = cc
+kept_last true None true true false e = cc
+kept_last true None true false false e = cc
+
+-- a recall message that follows the rules has 1 to 100 transactions
+count_kept : (m : Recalls) → first_broken_rule (draft.CancellationRequest m) ≡ None → is_right_count (length m.txs) ≡ true
+unfolding first_broken_rule broken_by_transactions
+count_kept m e =
+    let d : Draft = draft.CancellationRequest m in
+    kept_last (is_name_of Camt056 m.head.message_name) (broken_in_kind d) (names_its_original d) (repeats m.txs) (is_right_count (length m.txs)) e
+
+-- ---- the other kinds
 
 in_payment_return : (m : PaymentReturn) (k : Key) → get (key_text k) (written_object (draft.PaymentReturn m)) ≡ found (key_text k) (payment_return_rows m) (found (key_text k) (head_rows m.head) None)
 in_payment_return m k = get_with (key_text k) (payment_return_rows m) (with_head m.head no_members) ∙ ap (found (key_text k) (payment_return_rows m)) (get_with (key_text k) (head_rows m.head) no_members)
@@ -279,13 +402,23 @@ resolution_written m back = let d : Data = written_object (draft.Resolution m) i
   debtor_agent = holds_text written_bic (λ s. s) key.DbtrAgt d m.debtor_agent back.debtor_agent (in_resolution m key.DbtrAgt);
 }
 
-elements_written : (m : Draft) → ElementsReadBack m → HoldsElements (written_object m) m
-elements_written (draft.CreditTransfer m) back = credit_transfer_written m back
-elements_written (draft.StatusReport m) back = status_report_written m back
-elements_written (draft.StatusRequest m) back = status_request_written m back
-elements_written (draft.CancellationRequest m) back = cancellation_request_written m back
-elements_written (draft.PaymentReturn m) back = payment_return_written m back
-elements_written (draft.Resolution m) back = resolution_written m back
+-- ---- every kind
+
+keys_written : (m : Draft) → HasKeysOf (kind_of m) (written_object m)
+keys_written (draft.CreditTransfer m) = (with_elements (draft.CreditTransfer m) no_members, refl, names_with (is_key_of Pacs008) (credit_transfer_rows m) (with_head m.head no_members) (credit_transfer_rows_in_credit_transfer m) (names_with (is_key_of Pacs008) (head_rows m.head) no_members (head_rows_in_credit_transfer m.head) refl))
+keys_written (draft.StatusReport m) = (with_elements (draft.StatusReport m) no_members, refl, names_with (is_key_of Pacs002) (status_report_rows m) (with_original m.original (with_head m.head no_members)) (status_report_rows_in_status_report m) (names_with (is_key_of Pacs002) (original_rows m.original) (with_head m.head no_members) (original_rows_in_status_report m.original) (names_with (is_key_of Pacs002) (head_rows m.head) no_members (head_rows_in_status_report m.head) refl)))
+keys_written (draft.StatusRequest m) = (with_elements (draft.StatusRequest m) no_members, refl, names_with (is_key_of Pacs028) (status_request_rows m) (with_original m.original (with_head m.head no_members)) (status_request_rows_in_status_request m) (names_with (is_key_of Pacs028) (original_rows m.original) (with_head m.head no_members) (original_rows_in_status_request m.original) (names_with (is_key_of Pacs028) (head_rows m.head) no_members (head_rows_in_status_request m.head) refl)))
+keys_written (draft.CancellationRequest m) = keys_of_recalls m.head m.txs
+keys_written (draft.PaymentReturn m) = (with_elements (draft.PaymentReturn m) no_members, refl, names_with (is_key_of Pacs004) (payment_return_rows m) (with_head m.head no_members) (payment_return_rows_in_payment_return m) (names_with (is_key_of Pacs004) (head_rows m.head) no_members (head_rows_in_payment_return m.head) refl))
+keys_written (draft.Resolution m) = (with_elements (draft.Resolution m) no_members, refl, names_with (is_key_of Camt029) (resolution_rows m) (with_head m.head no_members) (resolution_rows_in_resolution m) (names_with (is_key_of Camt029) (head_rows m.head) no_members (head_rows_in_resolution m.head) refl))
+
+elements_written : (m : Draft) → ElementsReadBack m → first_broken_rule m ≡ None → HoldsElements (written_object m) m
+elements_written (draft.CreditTransfer m) back rules = credit_transfer_written m back
+elements_written (draft.StatusReport m) back rules = status_report_written m back
+elements_written (draft.StatusRequest m) back rules = status_request_written m back
+elements_written (draft.CancellationRequest m) back rules = recalls_written m.head m.txs back.head back.txs (count_kept m rules)
+elements_written (draft.PaymentReturn m) back rules = payment_return_written m back
+elements_written (draft.Resolution m) back rules = resolution_written m back
 
 pub written_is_read : (m : Draft) → ElementsReadBack m → first_broken_rule m ≡ None → object_in (written_object m) ≡ Ok m
-written_is_read m back rules = held_is_read (written_object m) m (keys_written m) (elements_written m back) rules
+written_is_read m back rules = held_is_read (written_object m) m (keys_written m) (elements_written m back rules) rules

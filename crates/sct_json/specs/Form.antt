@@ -1,7 +1,7 @@
 -- The JSON form of a message, as a relation between an object and it, with no order of reading. Read by an auditor.
-use Rattle.std.specs.Prelude.{◌≡◌, ℕ, List, Option, Some, None, IsTrue, IsUtf8}
+use Rattle.std.specs.Prelude.{◌≡◌, ℕ, List, [], ◌∷◌, length, Option, Some, None, IsTrue, IsUtf8, ◌⊎◌}
 use Rattle.std.specs.List.{list_all}
-use Rattle.serde_json.specs.Data.{Data, string, object, Members}
+use Rattle.serde_json.specs.Data.{Data, string, array, object, Items, Members}
 use Rattle.serde_json.specs.Read.{read}
 use Rattle.serde_json.specs.Find.{get}
 use Rattle.sct_element.specs.Account.{written_iban}
@@ -16,17 +16,20 @@ use Rattle.sct_message.specs.declared.draft.Original.{Original}
 use Rattle.sct_message.specs.declared.draft.CreditTransfer.{CreditTransfer}
 use Rattle.sct_message.specs.declared.draft.StatusReport.{StatusReport}
 use Rattle.sct_message.specs.declared.draft.StatusRequest.{StatusRequest}
-use Rattle.sct_message.specs.declared.draft.CancellationRequest.{CancellationRequest}
+use Rattle.sct_message.specs.declared.draft.RecallTx.{RecallTx}
 use Rattle.sct_message.specs.declared.draft.PaymentReturn.{PaymentReturn}
 use Rattle.sct_message.specs.declared.draft.Resolution.{Resolution}
 use Rattle.sct_message.specs.declared.draft.Draft.{Draft}
 use Rattle.sct_message.specs.declared.draft.Draft.TheVariants as draft
 use Rattle.sct_message.specs.Drafts.{kind_of}
-use Rattle.sct_message.specs.Rules.{FollowsRules}
+use Rattle.sct_message.specs.Recalls.{Recalls}
+use Rattle.sct_message.specs.Rules.{FollowsRules, is_right_count}
 use Rattle.sct_json.specs.declared.keys.Key.{Key}
 use Rattle.sct_json.specs.declared.keys.Key.TheVariants as key
-use Rattle.sct_json.specs.Keys.{key_text, is_key_of}
-use Rattle.sct_json.specs.Reading.{name_of, remittance_of, names_of}
+use Rattle.sct_json.specs.declared.keys.Shape.{Shape}
+use Rattle.sct_json.specs.declared.keys.Shape.TheVariants.{Transaction}
+use Rattle.sct_json.specs.Keys.{key_text, is_key_in}
+use Rattle.sct_json.specs.Reading.{name_of, remittance_of, names_of, items_list, shape_in}
 
 -- The key's value is a text, which is read as the element.
 abbrev pub Holds : {X : Type 0} → (List ℕ → Option X) → Key → Data → X → Type 0
@@ -88,9 +91,12 @@ pub record HoldsStatusRequest (d : Data) (m : StatusRequest) : Type 0 where
   pub cancellation_id : MayHold written_identification key.OrgnlCxlId d m.cancellation_id
   pub debtor_agent : Holds written_bic key.DbtrAgt d m.debtor_agent
 
--- The object holds the elements of a camt.056.
-pub record HoldsCancellationRequest (d : Data) (m : CancellationRequest) : Type 0 where
-  pub head : HoldsHead d m.head
+-- The value is an object with keys of the shape alone.
+abbrev pub HasKeysIn : Shape → Data → Type 0
+HasKeysIn shape d = (ms : Members) × (d ≡ object ms) × IsTrue (list_all (is_key_in shape) (names_of ms))
+
+-- The object holds the elements of a transaction of a camt.056.
+pub record HoldsTransaction (d : Data) (m : RecallTx) : Type 0 where
   pub cancellation_id : Holds written_identification key.CxlId d m.cancellation_id
   pub original : HoldsOriginal d m.original
   pub original_amount : Holds cents_of key.OrgnlIntrBkSttlmAmt d m.original_amount
@@ -98,6 +104,37 @@ pub record HoldsCancellationRequest (d : Data) (m : CancellationRequest) : Type 
   pub original_settlement_date : MayHold written_day key.OrgnlIntrBkSttlmDt d m.original_settlement_date
   pub reason : Holds reason_of key.Rsn d m.reason
   pub debtor_agent : Holds written_bic key.DbtrAgt d m.debtor_agent
+
+-- The value is an object of a transaction, with no other key.
+pub record IsTransaction (d : Data) (m : RecallTx) : Type 0 where
+  pub keys : HasKeysIn Transaction d
+  pub elements : HoldsTransaction d m
+
+-- The values are the transactions, one for one in their order.
+abbrev pub AreTransactions : List Data → List RecallTx → Type 0
+AreTransactions [] [] = Unit {0}
+AreTransactions (d ∷ ds) (tx ∷ txs) = IsTransaction d tx × AreTransactions ds txs
+AreTransactions ds txs = ⊥
+
+-- A camt.056 of one transaction, whose elements stand beside those of the head.
+pub record HoldsOne (d : Data) (m : Recalls) : Type 0 where
+  pub head : HoldsHead d m.head
+  pub flat : get (key_text key.TxInf) d ≡ None
+  pub one : RecallTx
+  pub holds : HoldsTransaction d one
+  pub only : m.txs ≡ one ∷ []
+
+-- A camt.056 with a list of 1 to 100 transactions.
+pub record HoldsList (d : Data) (m : Recalls) : Type 0 where
+  pub head : HoldsHead d m.head
+  pub items : Items
+  pub list : get (key_text key.TxInf) d ≡ Some (array items)
+  pub few : IsTrue (is_right_count (length (items_list items)))
+  pub each : AreTransactions (items_list items) m.txs
+
+-- The object holds the elements of a camt.056, in one of its two forms.
+abbrev pub HoldsRecalls : Data → Recalls → Type 0
+HoldsRecalls d m = HoldsOne d m ⊎ HoldsList d m
 
 -- The object holds the elements of a pacs.004.
 pub record HoldsPaymentReturn (d : Data) (m : PaymentReturn) : Type 0 where
@@ -126,13 +163,13 @@ abbrev pub HoldsElements : Data → Draft → Type 0
 HoldsElements d (draft.CreditTransfer m) = HoldsCreditTransfer d m
 HoldsElements d (draft.StatusReport m) = HoldsStatusReport d m
 HoldsElements d (draft.StatusRequest m) = HoldsStatusRequest d m
-HoldsElements d (draft.CancellationRequest m) = HoldsCancellationRequest d m
+HoldsElements d (draft.CancellationRequest m) = HoldsRecalls d m
 HoldsElements d (draft.PaymentReturn m) = HoldsPaymentReturn d m
 HoldsElements d (draft.Resolution m) = HoldsResolution d m
 
--- The value is an object with keys of the kind alone.
+-- The value is an object with keys of the kind alone; a camt.056 with a list has no key of a transaction beside it.
 abbrev pub HasKeysOf : Kind → Data → Type 0
-HasKeysOf kind d = (ms : Members) × (d ≡ object ms) × IsTrue (list_all (is_key_of kind) (names_of ms))
+HasKeysOf kind d = HasKeysIn (shape_in kind d) d
 
 -- An object is a form of a message where its keys are keys of the message's kind, each element is what its key's
 -- text is read as, absent keys are exactly the absent elements, and the elements follow the rules of the kind.

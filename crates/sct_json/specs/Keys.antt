@@ -1,4 +1,4 @@
--- The keys of the JSON form (short names of ISO 20022), and those of each kind. Read by an auditor.
+-- The keys of the JSON form (short names of ISO 20022), and those of each kind and each shape. Read by an auditor.
 use Rattle.std.specs.Prelude.{ℕ, List, [], ◌∷◌, ◌||◌, Bool, false, codes, if◌then◌else◌}
 use Rattle.std.specs.List.{list_any}
 use Rattle.std.specs.Ordering.{nat_cmp, is_lt}
@@ -7,7 +7,9 @@ use Rattle.sct_message.specs.declared.kinds.Kind.{Kind}
 use Rattle.sct_message.specs.declared.kinds.Kind.TheVariants.{Camt029, Camt056, Pacs002, Pacs004, Pacs008, Pacs028}
 use Rattle.sct_element.specs.Text.{is_text}
 use Rattle.sct_json.specs.declared.keys.Key.{Key}
-use Rattle.sct_json.specs.declared.keys.Key.TheVariants.{MsgNmId, MsgId, CreDtTm, InstgAgt, InstdAgt, IntrBkSttlmDt, SvcLvl, LclInstrm, InstrId, EndToEndId, TxId, IntrBkSttlmAmt, Ccy, ChrgBr, AccptncDtTm, Dbtr, DbtrAcct, DbtrAgt, CdtrAgt, Cdtr, CdtrAcct, Ustrd, OrgnlMsgId, OrgnlMsgNmId, OrgnlEndToEndId, OrgnlTxId, TxSts, Rsn, OrgnlCxlId, CxlId, OrgnlIntrBkSttlmAmt, OrgnlIntrBkSttlmDt, RtrId, RtrdIntrBkSttlmAmt, CxlStsId, Conf}
+use Rattle.sct_json.specs.declared.keys.Key.TheVariants.{MsgNmId, MsgId, CreDtTm, InstgAgt, InstdAgt, IntrBkSttlmDt, SvcLvl, LclInstrm, InstrId, EndToEndId, TxId, IntrBkSttlmAmt, Ccy, ChrgBr, AccptncDtTm, Dbtr, DbtrAcct, DbtrAgt, CdtrAgt, Cdtr, CdtrAcct, Ustrd, OrgnlMsgId, OrgnlMsgNmId, OrgnlEndToEndId, OrgnlTxId, TxSts, Rsn, OrgnlCxlId, CxlId, OrgnlIntrBkSttlmAmt, OrgnlIntrBkSttlmDt, TxInf, RtrId, RtrdIntrBkSttlmAmt, CxlStsId, Conf}
+use Rattle.sct_json.specs.declared.keys.Shape.{Shape}
+use Rattle.sct_json.specs.declared.keys.Shape.TheVariants.{Flat, Listed, Transaction}
 
 abbrev pub key_text : Key → List ℕ
 key_text MsgNmId = codes "MsgNmId"
@@ -42,6 +44,7 @@ key_text OrgnlCxlId = codes "OrgnlCxlId"
 key_text CxlId = codes "CxlId"
 key_text OrgnlIntrBkSttlmAmt = codes "OrgnlIntrBkSttlmAmt"
 key_text OrgnlIntrBkSttlmDt = codes "OrgnlIntrBkSttlmDt"
+key_text TxInf = codes "TxInf"
 key_text RtrId = codes "RtrId"
 key_text RtrdIntrBkSttlmAmt = codes "RtrdIntrBkSttlmAmt"
 key_text CxlStsId = codes "CxlStsId"
@@ -68,6 +71,10 @@ status_request_keys = OrgnlCxlId ∷ DbtrAgt ∷ []
 
 abbrev pub cancellation_request_keys : List Key
 cancellation_request_keys = CxlId ∷ OrgnlIntrBkSttlmAmt ∷ Ccy ∷ OrgnlIntrBkSttlmDt ∷ Rsn ∷ DbtrAgt ∷ []
+
+-- a recall message with a list has its transactions there
+abbrev pub list_keys : List Key
+list_keys = TxInf ∷ []
 
 abbrev pub payment_return_keys : List Key
 payment_return_keys =
@@ -104,3 +111,9 @@ is_key_of Pacs004 name =
 is_key_of Pacs008 name = is_among head_keys name || is_among credit_transfer_keys name
 is_key_of Pacs028 name =
     is_among head_keys name || is_among original_keys name || is_among status_request_keys name
+
+-- the keys that an object of a shape may have
+abbrev pub is_key_in : Shape → List ℕ → Bool
+is_key_in (Flat kind) name = is_key_of kind name
+is_key_in Listed name = is_among head_keys name || is_among list_keys name
+is_key_in Transaction name = is_among original_keys name || is_among cancellation_request_keys name

@@ -1,9 +1,11 @@
 -- What an object is read as: its message, or the first reason why it is a form of none. Read by an auditor.
-use Rattle.std.specs.Prelude.{◌≡◌, ℕ, List, [], ◌∷◌, Bool, true, false, not, if◌then◌else◌, IsTrue, Option, Some, None, option_and_then, find, Result, Ok, Err, ok_or, ⊤}
+use Rattle.std.specs.Prelude.{◌≡◌, ℕ, ◌+◌, List, [], ◌∷◌, length, Bool, true, false, not, if◌then◌else◌, IsTrue, Option, Some, None, is_some, option_and_then, option_map, find, Result, Ok, Err, ok_or, ⊤}
 use Rattle.std.specs.Str.{is_utf8}
-use Rattle.serde_json.specs.Data.{Data, Members, no_members, member}
+use Rattle.std.specs.declared.alloc.Global.{Global}
+use Rattle.std.specs.declared.vec.Vec.{Vec}
+use Rattle.serde_json.specs.Data.{Data, Items, no_items, item, Members, no_members, member}
 use Rattle.serde_json.specs.Read.{read}
-use Rattle.serde_json.specs.Find.{get, as_str, as_object}
+use Rattle.serde_json.specs.Find.{get, as_str, as_array, as_object}
 use Rattle.sct_element.specs.declared.faults.ElementFault.{ElementFault}
 use Rattle.sct_element.specs.declared.faults.ElementFault.TheVariants as element
 use Rattle.sct_element.specs.Text.{where_read}
@@ -21,19 +23,23 @@ use Rattle.sct_message.specs.declared.draft.Original.{Original}
 use Rattle.sct_message.specs.declared.draft.CreditTransfer.{CreditTransfer}
 use Rattle.sct_message.specs.declared.draft.StatusReport.{StatusReport}
 use Rattle.sct_message.specs.declared.draft.StatusRequest.{StatusRequest}
-use Rattle.sct_message.specs.declared.draft.CancellationRequest.{CancellationRequest}
+use Rattle.sct_message.specs.declared.draft.RecallTx.{RecallTx}
 use Rattle.sct_message.specs.declared.draft.PaymentReturn.{PaymentReturn}
 use Rattle.sct_message.specs.declared.draft.Resolution.{Resolution}
 use Rattle.sct_message.specs.declared.draft.Draft.{Draft}
 use Rattle.sct_message.specs.declared.draft.Draft.TheVariants as draft
 use Rattle.sct_message.specs.declared.rules.RuleFault.{RuleFault}
 use Rattle.sct_message.specs.Kinds.{kind_named}
-use Rattle.sct_message.specs.Rules.{first_broken_rule}
+use Rattle.sct_message.specs.Recalls.{Recalls}
+use Rattle.sct_message.specs.Rules.{first_broken_rule, is_right_count}
 use Rattle.sct_json.specs.declared.keys.Key.{Key}
 use Rattle.sct_json.specs.declared.keys.Key.TheVariants as key
+use Rattle.sct_json.specs.declared.keys.Shape.{Shape}
+use Rattle.sct_json.specs.declared.keys.Shape.TheVariants.{Flat, Listed, Transaction}
 use Rattle.sct_json.specs.declared.faults.JsonFault.{JsonFault}
 use Rattle.sct_json.specs.declared.faults.JsonFault.TheVariants as fault
-use Rattle.sct_json.specs.Keys.{key_text, is_key_of}
+use Rattle.sct_json.specs.Faults.{placed}
+use Rattle.sct_json.specs.Keys.{key_text, is_key_in}
 
 -- a step that may refuse, and the next one
 infixl 10 ◌>>=◌
@@ -51,12 +57,16 @@ abbrev pub GivesWhere : {X : Type 0} → Bool → Result X JsonFault → Result 
 GivesWhere takes_memory (Ok x) read = read ≡ Ok x
 GivesWhere takes_memory (Err e) read = FailsWhere takes_memory e read
 
--- the same of a function that may always take memory, and of one that never does
+-- the same of a function that may always take memory, of one that never does, and of one that answers a list in memory
 abbrev pub Gives : {X : Type 0} → Result X JsonFault → Result X JsonFault → Type 0
 Gives answered read = GivesWhere true answered read
 
 abbrev pub GivesWithoutMemory : {X : Type 0} → Result X JsonFault → Result X JsonFault → Type 0
 GivesWithoutMemory answered read = GivesWhere false answered read
+
+abbrev pub GivesItems : Result (Vec RecallTx Global) JsonFault → Result (List RecallTx) JsonFault → Type 0
+GivesItems (Ok txs) read = read ≡ Ok txs.items
+GivesItems (Err e) read = FailsWhere true e read
 
 -- A text is read as an element, or refused with the fault of the element's type. Want of memory is an answer only
 -- where reading the element takes memory.
@@ -70,15 +80,15 @@ abbrev pub is_want_of_memory : ElementFault → Bool
 is_want_of_memory element.Memory = true
 is_want_of_memory e = false
 
--- a pacs.008 alone has names and remittance information, which are kept in memory of their own; every other element
--- takes no memory
-abbrev pub has_free_texts : Kind → Bool
-has_free_texts Camt029 = false
-has_free_texts Camt056 = false
-has_free_texts Pacs002 = false
-has_free_texts Pacs004 = false
-has_free_texts Pacs008 = true
-has_free_texts Pacs028 = false
+-- a pacs.008 has names and remittance information, and a camt.056 has a list, which are kept in memory of their own;
+-- every other element takes no memory
+abbrev pub keeps_memory : Kind → Bool
+keeps_memory Camt029 = false
+keeps_memory Camt056 = true
+keeps_memory Pacs002 = false
+keeps_memory Pacs004 = false
+keeps_memory Pacs008 = true
+keeps_memory Pacs028 = false
 
 -- a name and remittance information are read as they stand
 abbrev pub name_of : List ℕ → Option (List ℕ)
@@ -221,10 +231,9 @@ status_request_in d = do
     debtor_agent = debtor_agent;
   })
 
--- camt.056
-unfoldable pub cancellation_request_in : Data → Result CancellationRequest JsonFault
-cancellation_request_in d = do
-  head ← head_in d
+-- a transaction of a camt.056
+unfoldable pub transaction_in : Data → Result RecallTx JsonFault
+transaction_in d = do
   cancellation_id ← required written_identification element.BadId key.CxlId d
   original ← original_in d
   original_amount ← required cents_of element.BadAmount key.OrgnlIntrBkSttlmAmt d
@@ -233,7 +242,6 @@ cancellation_request_in d = do
   reason ← required reason_of element.BadCode key.Rsn d
   debtor_agent ← required written_bic element.BadBic key.DbtrAgt d
   Ok (record {
-    head = head;
     cancellation_id = cancellation_id;
     original = original;
     original_amount = original_amount;
@@ -289,6 +297,91 @@ resolution_in d = do
     debtor_agent = debtor_agent;
   })
 
+-- ---- one object
+
+-- the names of the members, in the order of the members, which is that of the names' bytes
+abbrev pub names_of : Members → List (List ℕ)
+names_of no_members = []
+names_of (member k d ms) = k ∷ names_of ms
+
+-- the first name that is no key of the shape
+abbrev pub first_extra : Shape → Members → Option (List ℕ)
+first_extra shape ms = find (λ name. not (is_key_in shape name)) (names_of ms)
+
+abbrev pub passes_unless : Option (List ℕ) → Result ⊤ JsonFault
+passes_unless None = Ok tt
+passes_unless (Some name) = Err (fault.Extra name)
+
+-- ---- the list of a camt.056
+
+abbrev pub items_list : Items → List Data
+items_list no_items = []
+items_list (item d ds) = d ∷ items_list ds
+
+-- the elements of a list; none where the value is no list
+abbrev pub items_in : Data → Option (List Data)
+items_in d = option_map items_list (as_array d)
+
+abbrev pub counted : List Data → Result ⊤ JsonFault
+counted ds = if is_right_count (length ds) then Ok tt else Err (fault.BadTransactions 0)
+
+-- the place of the first element that is no object, where the first element has the place that is given
+abbrev pub first_no_object : ℕ → List Data → Option ℕ
+first_no_object place [] = None
+first_no_object place (d ∷ ds) = if is_some (as_object d) then first_no_object (place + 1) ds else Some place
+
+abbrev pub are_objects : Option ℕ → Result ⊤ JsonFault
+are_objects None = Ok tt
+are_objects (Some place) = Err (fault.BadTransactions place)
+
+-- an element: the keys of a transaction in their order, and then no other key
+unfoldable pub element_in : Data → Result RecallTx JsonFault
+element_in d = do
+  members ← ok_or (as_object d) fault.NotObject
+  tx ← transaction_in d
+  alone ← passes_unless (first_extra Transaction members)
+  Ok tx
+
+-- the fault is one of the element at the place
+abbrev pub at_place : {X : Type 0} → ℕ → Result X JsonFault → Result X JsonFault
+at_place place (Ok x) = Ok x
+at_place place (Err e) = Err (placed place e)
+
+-- each element in the order of the list, where the first has the place that is given
+abbrev pub elements_in : ℕ → List Data → Result (List RecallTx) JsonFault
+elements_in place [] = Ok []
+elements_in place (d ∷ ds) = at_place place (element_in d) >>= λ tx. elements_in (place + 1) ds >>= λ txs. Ok (tx ∷ txs)
+
+-- a list of 1 to 100 elements, then objects alone, and then each element
+unfoldable pub list_in : Data → Result (List RecallTx) JsonFault
+list_in d = do
+  ds ← ok_or (items_in d) (fault.BadTransactions 0)
+  few ← counted ds
+  objects ← are_objects (first_no_object 1 ds)
+  elements_in 1 ds
+
+-- camt.056: the head, and one transaction among the keys of the object or the list at TxInf
+unfoldable pub flat_recall_in : Data → Result Recalls JsonFault
+flat_recall_in d = do
+  head ← head_in d
+  tx ← transaction_in d
+  Ok (record { head = head; txs = tx ∷ [] })
+
+unfoldable pub listed_recalls_in : Data → Data → Result Recalls JsonFault
+listed_recalls_in list d = do
+  head ← head_in d
+  txs ← list_in list
+  Ok (record { head = head; txs = txs })
+
+abbrev pub recalls_by : Option Data → Data → Result Recalls JsonFault
+recalls_by None d = flat_recall_in d
+recalls_by (Some list) d = listed_recalls_in list d
+
+unfoldable pub cancellation_request_in : Data → Result Recalls JsonFault
+cancellation_request_in d = recalls_by (get (key_text key.TxInf) d) d
+
+-- ---- the whole object
+
 abbrev pub draft_in : Kind → Data → Result Draft JsonFault
 draft_in Camt029 d = resolution_in d >>= λ m. Ok (draft.Resolution m)
 draft_in Camt056 d = cancellation_request_in d >>= λ m. Ok (draft.CancellationRequest m)
@@ -297,33 +390,28 @@ draft_in Pacs004 d = payment_return_in d >>= λ m. Ok (draft.PaymentReturn m)
 draft_in Pacs008 d = credit_transfer_in d >>= λ m. Ok (draft.CreditTransfer m)
 draft_in Pacs028 d = status_request_in d >>= λ m. Ok (draft.StatusRequest m)
 
--- ---- the whole object
+-- a camt.056 with TxInf has a list, whatever stands there
+abbrev pub listed_or_flat : Option Data → Shape
+listed_or_flat None = Flat Camt056
+listed_or_flat (Some list) = Listed
 
--- the names of the members, in the order of the members, which is that of the names' bytes
-abbrev pub names_of : Members → List (List ℕ)
-names_of no_members = []
-names_of (member k d ms) = k ∷ names_of ms
-
--- the first name that is no key of the kind
-abbrev pub first_extra : Kind → Members → Option (List ℕ)
-first_extra kind ms = find (λ name. not (is_key_of kind name)) (names_of ms)
+-- the shape of an object that is to be a message of a kind
+abbrev pub shape_in : Kind → Data → Shape
+shape_in Camt056 d = listed_or_flat (get (key_text key.TxInf) d)
+shape_in kind d = Flat kind
 
 -- the kind that the text at MsgNmId names
 abbrev pub kind_in : Data → Option Kind
 kind_in d = option_and_then kind_named (option_and_then as_str (get (key_text key.MsgNmId) d))
-
-abbrev pub passes_unless : Option (List ℕ) → Result ⊤ JsonFault
-passes_unless None = Ok tt
-passes_unless (Some name) = Err (fault.Extra name)
 
 abbrev pub follows_unless : Option RuleFault → Draft → Result Draft JsonFault
 follows_unless None m = Ok m
 follows_unless (Some broken) m = Err (fault.Rule broken)
 
 -- no other key, and then the rules
-abbrev pub message_in_whole : Kind → Members → Draft → Result Draft JsonFault
-message_in_whole kind members elements =
-    passes_unless (first_extra kind members) >>= λ alone. follows_unless (first_broken_rule elements) elements
+abbrev pub message_in_whole : Shape → Members → Draft → Result Draft JsonFault
+message_in_whole shape members elements =
+    passes_unless (first_extra shape members) >>= λ alone. follows_unless (first_broken_rule elements) elements
 
 -- an object, a kind, the kind's keys in their order, no other key, and then the rules
 unfoldable pub object_in : Data → Result Draft JsonFault
@@ -331,7 +419,7 @@ object_in d = do
   members ← ok_or (as_object d) fault.NotObject
   kind ← ok_or (kind_in d) fault.UnknownKind
   elements ← draft_in kind d
-  message_in_whole kind members elements
+  message_in_whole (shape_in kind d) members elements
 
 abbrev pub value_in : Option Data → Result Draft JsonFault
 value_in None = Err fault.NotJson

@@ -1,8 +1,9 @@
--- The written form of a message: one line with no spaces, keys in the order of their bytes, absent ones left out.
+-- The written form of a message: one line with no spaces, keys in the order of their bytes, absent ones left out. A recall
+-- message of one transaction has its elements beside the head's, one of more has a list of objects.
 -- Read by an auditor, but for the last part: that elements read back serves the proofs.
 use Rattle.std.specs.Prelude.{◌≡◌, ℕ, ◌==◌, Bool, not, List, [], ◌∷◌, ◌++◌, Option, Some, None, option_map}
-use Rattle.std.specs.List.{list_all}
-use Rattle.serde_json.specs.Data.{Data, string, object, Members, no_members, put}
+use Rattle.std.specs.List.{AllByRecursion, list_all}
+use Rattle.serde_json.specs.Data.{Data, string, array, object, Items, no_items, item, Members, no_members, put}
 use Rattle.serde_json.specs.Written.{compact_text}
 use Rattle.sct_element.specs.Account.{written_iban}
 use Rattle.sct_element.specs.Bank.{written_bic}
@@ -16,11 +17,12 @@ use Rattle.sct_message.specs.declared.draft.Original.{Original}
 use Rattle.sct_message.specs.declared.draft.CreditTransfer.{CreditTransfer}
 use Rattle.sct_message.specs.declared.draft.StatusReport.{StatusReport}
 use Rattle.sct_message.specs.declared.draft.StatusRequest.{StatusRequest}
-use Rattle.sct_message.specs.declared.draft.CancellationRequest.{CancellationRequest}
+use Rattle.sct_message.specs.declared.draft.RecallTx.{RecallTx}
 use Rattle.sct_message.specs.declared.draft.PaymentReturn.{PaymentReturn}
 use Rattle.sct_message.specs.declared.draft.Resolution.{Resolution}
 use Rattle.sct_message.specs.declared.draft.Draft.{Draft}
 use Rattle.sct_message.specs.declared.draft.Draft.TheVariants as draft
+use Rattle.sct_message.specs.Recalls.{Recalls}
 use Rattle.sct_json.specs.declared.keys.Key.{Key}
 use Rattle.sct_json.specs.declared.keys.Key.TheVariants as key
 use Rattle.sct_json.specs.Keys.{key_text}
@@ -90,9 +92,9 @@ status_request_rows m =
     (key.OrgnlCxlId, m.cancellation_id) ∷
     (key.DbtrAgt, Some m.debtor_agent) ∷ []
 
--- camt.056, without its head
-abbrev pub cancellation_request_rows : CancellationRequest → List Row
-cancellation_request_rows m =
+-- a transaction of a camt.056
+abbrev pub transaction_rows : RecallTx → List Row
+transaction_rows m =
     (key.CxlId, Some m.cancellation_id) ∷
     original_rows m.original ++
     (key.OrgnlIntrBkSttlmAmt, Some (amount_text m.original_amount)) ∷
@@ -140,8 +142,22 @@ with_status_report m ms = with_rows (status_report_rows m) (with_original m.orig
 abbrev pub with_status_request : StatusRequest → Members → Members
 with_status_request m ms = with_rows (status_request_rows m) (with_original m.original (with_head m.head ms))
 
-abbrev pub with_cancellation_request : CancellationRequest → Members → Members
-with_cancellation_request m ms = with_rows (cancellation_request_rows m) (with_head m.head ms)
+-- an object for each transaction
+abbrev pub transaction_objects : List RecallTx → Items
+transaction_objects [] = no_items
+transaction_objects (tx ∷ txs) = item (object (with_rows (transaction_rows tx) no_members)) (transaction_objects txs)
+
+abbrev pub with_list : List RecallTx → Members → Members
+with_list txs ms = put (key_text key.TxInf) (array (transaction_objects txs)) ms
+
+-- one transaction has no list; no message has no transaction
+abbrev pub with_transactions : List RecallTx → Members → Members
+with_transactions [] ms = with_list [] ms
+with_transactions (tx ∷ []) ms = with_rows (transaction_rows tx) ms
+with_transactions (tx ∷ (other ∷ more)) ms = with_list (tx ∷ (other ∷ more)) ms
+
+abbrev pub with_cancellation_request : Recalls → Members → Members
+with_cancellation_request m ms = with_transactions m.txs (with_head m.head ms)
 
 abbrev pub with_payment_return : PaymentReturn → Members → Members
 with_payment_return m ms = with_rows (payment_return_rows m) (with_head m.head ms)
@@ -223,8 +239,7 @@ pub record StatusRequestReadsBack (m : StatusRequest) : Type 0 where
   pub cancellation_id : MayReadBack written_identification (λ s. s) m.cancellation_id
   pub debtor_agent : ReadsBack written_bic (λ s. s) m.debtor_agent
 
-pub record CancellationRequestReadsBack (m : CancellationRequest) : Type 0 where
-  pub head : HeadReadsBack m.head
+pub record TransactionReadsBack (m : RecallTx) : Type 0 where
   pub cancellation_id : ReadsBack written_identification (λ s. s) m.cancellation_id
   pub original : OriginalReadsBack m.original
   pub original_amount : ReadsBack cents_of amount_text m.original_amount
@@ -232,6 +247,10 @@ pub record CancellationRequestReadsBack (m : CancellationRequest) : Type 0 where
   pub original_settlement_date : MayReadBack written_day (λ s. s) m.original_settlement_date
   pub reason : ReadsBack reason_of reason_text m.reason
   pub debtor_agent : ReadsBack written_bic (λ s. s) m.debtor_agent
+
+pub record RecallsReadBack (m : Recalls) : Type 0 where
+  pub head : HeadReadsBack m.head
+  pub txs : AllByRecursion TransactionReadsBack m.txs
 
 pub record PaymentReturnReadsBack (m : PaymentReturn) : Type 0 where
   pub head : HeadReadsBack m.head
@@ -258,6 +277,6 @@ abbrev pub ElementsReadBack : Draft → Type 0
 ElementsReadBack (draft.CreditTransfer m) = CreditTransferReadsBack m
 ElementsReadBack (draft.StatusReport m) = StatusReportReadsBack m
 ElementsReadBack (draft.StatusRequest m) = StatusRequestReadsBack m
-ElementsReadBack (draft.CancellationRequest m) = CancellationRequestReadsBack m
+ElementsReadBack (draft.CancellationRequest m) = RecallsReadBack m
 ElementsReadBack (draft.PaymentReturn m) = PaymentReturnReadsBack m
 ElementsReadBack (draft.Resolution m) = ResolutionReadsBack m

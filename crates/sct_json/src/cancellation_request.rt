@@ -1,41 +1,96 @@
-//! camt.056: the recall of a transfer.
-ghost use Rattle.std.specs.Prelude.{◌≡◌, OnOk};
+//! camt.056: the recall of 1 to 100 transfers. It has two forms. Of one transfer, the elements of the recall stand beside
+//! those of the head. Of one or more, a list has an object for each.
+ghost use Rattle.std.specs.Prelude.{◌≡◌, ◌∷◌, [], Ok, OnOk};
 ghost use Rattle.serde_json.specs.View.{view};
-ghost use Rattle.sct_json.specs.Reading.{GivesWithoutMemory, cancellation_request_in};
-ghost use Rattle.sct_json.specs.Line.{with_line, cancellation_request_line, Writes};
-ghost use Rattle.sct_json.specs.Writing.{CancellationRequestReadsBack};
+ghost use Rattle.sct_json.specs.Reading.{Gives, GivesItems, flat_recall_in, listed_recalls_in, cancellation_request_in};
+ghost use Rattle.sct_json.specs.Line.{with_line, one_recall_line, with_recalls, Writes};
+ghost use Rattle.sct_json.specs.Writing.{RecallsReadBack};
 
 use crate::faults::JsonFault;
 use crate::keys::Key;
-use crate::members::{may_read_back, optional, put, put_optional, reads_back, required};
-use crate::tables::{read_back_member, read_back_table, read_member, read_table};
-use crate::{head, original};
+use crate::members::{put, put_optional};
+use crate::{head, recall_list, transaction};
 use json::Writer;
-use sct_message::CancellationRequest;
+use sct_message::{CancellationRequest, Head, RecallTx};
 use serde_json::Value;
 use std::alloc::{AllocError, Global};
 
-/// The keys of a camt.056, in their order.
-macro_rules! cancellation_request_table {
-    ($walk:ident! { $($context:tt)* }) => {
-        $walk! { [$($context)*] CancellationRequest {
-            head: part head,
-            cancellation_id: required CxlId,
-            original: part original,
-            original_amount: required OrgnlIntrBkSttlmAmt,
-            currency: required Ccy,
-            original_settlement_date: optional OrgnlIntrBkSttlmDt,
-            reason: required Rsn,
-            debtor_agent: required DbtrAgt,
-        } }
-    };
+/// A list of one transaction.
+fn list_of(alloc: Global, tx: RecallTx) -> Result<Vec<RecallTx>, JsonFault>
+    ensures { GivesItems result (Ok (tx ∷ [])) }
+{
+    match vec![in alloc; tx] {
+        Ok(txs) => Ok(txs),
+        Err(_) => Err(JsonFault::Memory),
+    }
+}
+
+/// The form of one transaction, whose keys stand beside those of the head.
+#[tactic(auto, unfolding(crate::specs::Reading::flat_recall_in))]
+fn read_flat(alloc: Global, object: &Value) -> Result<CancellationRequest, JsonFault>
+    ensures { Gives result (flat_recall_in (view object.now)) }
+{
+    let head = head::read(alloc, object)?;
+    let tx = transaction::read(alloc, object)?;
+    let txs = list_of(alloc, tx)?;
+    Ok(CancellationRequest { head, txs })
+}
+
+/// The form with a list of transactions.
+#[tactic(auto, unfolding(crate::specs::Reading::listed_recalls_in))]
+fn read_listed(
+    alloc: Global,
+    list: &Value,
+    object: &Value,
+) -> Result<CancellationRequest, JsonFault>
+    ensures { Gives result (listed_recalls_in (view list.now) (view object.now)) }
+{
+    let head = head::read(alloc, object)?;
+    let txs = recall_list::read_list(alloc, list)?;
+    Ok(CancellationRequest { head, txs })
 }
 
 #[tactic(auto, unfolding(crate::specs::Reading::cancellation_request_in))]
 pub(crate) fn read(alloc: Global, object: &Value) -> Result<CancellationRequest, JsonFault>
-    ensures { GivesWithoutMemory result (cancellation_request_in (view object.now)) }
+    ensures { Gives result (cancellation_request_in (view object.now)) }
 {
-    cancellation_request_table!(read_table! { alloc, object })
+    match object.get(Key::TxInf.text()) {
+        Some(list) => read_listed(alloc, list, object),
+        None => read_flat(alloc, object),
+    }
+}
+
+/// Writes the members of the head and of one transaction, in the order of the bytes of their keys.
+fn put_flat(head: &Head, tx: &RecallTx, out: &mut Writer) -> Result<(), AllocError>
+    ensures { OnOk result (Writes (with_line (one_recall_line head.now tx.now)) out.old out.new) }
+{
+    put(Key::Ccy, &tx.currency, out)?;
+    put(Key::CreDtTm, &head.creation_time, out)?;
+    put(Key::CxlId, &tx.cancellation_id, out)?;
+    put(Key::DbtrAgt, &tx.debtor_agent, out)?;
+    put_optional(Key::InstdAgt, &head.instructed_agent, out)?;
+    put(Key::InstgAgt, &head.instructing_agent, out)?;
+    put(Key::MsgId, &head.message_id, out)?;
+    put(Key::MsgNmId, &head.message_name, out)?;
+    put_optional(Key::OrgnlEndToEndId, &tx.original.end_to_end_id, out)?;
+    put(Key::OrgnlIntrBkSttlmAmt, &tx.original_amount, out)?;
+    put_optional(Key::OrgnlIntrBkSttlmDt, &tx.original_settlement_date, out)?;
+    put(Key::OrgnlMsgId, &tx.original.message_id, out)?;
+    put(Key::OrgnlMsgNmId, &tx.original.message_name, out)?;
+    put(Key::OrgnlTxId, &tx.original.transaction_id, out)?;
+    put(Key::Rsn, &tx.reason, out)?;
+    Ok(())
+}
+
+/// Writes one transaction beside the head, and more as a list behind it.
+fn put_recalls(head: &Head, txs: &[RecallTx], out: &mut Writer) -> Result<(), AllocError>
+    ensures { OnOk result (Writes (with_recalls head.now txs.now) out.old out.new) }
+{
+    if let [tx] = txs {
+        return put_flat(head, tx, out);
+    }
+    head::put_all(head, out)?;
+    recall_list::put_list(txs, out)
 }
 
 /// Writes the members, in the order of the bytes of their keys.
@@ -43,62 +98,16 @@ pub(crate) fn put_all(
     cancellation_request: &CancellationRequest,
     out: &mut Writer,
 ) -> Result<(), AllocError>
-    ensures { OnOk result
-        (Writes (with_line (cancellation_request_line cancellation_request.now)) out.old out.new) }
+    ensures { OnOk result (Writes
+        (with_recalls cancellation_request.now.head cancellation_request.now.txs) out.old out.new) }
 {
-    put(Key::Ccy, &cancellation_request.currency, out)?;
-    put(Key::CreDtTm, &cancellation_request.head.creation_time, out)?;
-    put(Key::CxlId, &cancellation_request.cancellation_id, out)?;
-    put(Key::DbtrAgt, &cancellation_request.debtor_agent, out)?;
-    put_optional(
-        Key::InstdAgt,
-        &cancellation_request.head.instructed_agent,
-        out,
-    )?;
-    put(
-        Key::InstgAgt,
-        &cancellation_request.head.instructing_agent,
-        out,
-    )?;
-    put(Key::MsgId, &cancellation_request.head.message_id, out)?;
-    put(Key::MsgNmId, &cancellation_request.head.message_name, out)?;
-    put_optional(
-        Key::OrgnlEndToEndId,
-        &cancellation_request.original.end_to_end_id,
-        out,
-    )?;
-    put(
-        Key::OrgnlIntrBkSttlmAmt,
-        &cancellation_request.original_amount,
-        out,
-    )?;
-    put_optional(
-        Key::OrgnlIntrBkSttlmDt,
-        &cancellation_request.original_settlement_date,
-        out,
-    )?;
-    put(
-        Key::OrgnlMsgId,
-        &cancellation_request.original.message_id,
-        out,
-    )?;
-    put(
-        Key::OrgnlMsgNmId,
-        &cancellation_request.original.message_name,
-        out,
-    )?;
-    put(
-        Key::OrgnlTxId,
-        &cancellation_request.original.transaction_id,
-        out,
-    )?;
-    put(Key::Rsn, &cancellation_request.reason, out)?;
-    Ok(())
+    put_recalls(&cancellation_request.head, &cancellation_request.txs, out)
 }
 
 /// A law: the written form of each element is read as the element.
 pub(crate) fn elements_read_back(cancellation_request: &CancellationRequest)
-    ensures { CancellationRequestReadsBack cancellation_request.now }
+    ensures { RecallsReadBack cancellation_request.now }
 {
-    cancellation_request_table!(read_back_table! { cancellation_request })
+    head::elements_read_back(&cancellation_request.head);
+    recall_list::elements_read_back(&cancellation_request.txs);
 }

@@ -1,14 +1,14 @@
-//! The extra key that is told of an object. Its names and the keys of its kind stand in one order, so one walk along both finds it.
+//! The extra key that is told of an object. Its names and the keys of its shape stand in one order, so one walk along
+//! both finds it.
 ghost use Rattle.std.specs.Prelude.{◌≡◌, find, not, is_some, string_bytes};
 ghost use Rattle.std.specs.Option.{option_copied};
 ghost use Rattle.std.specs.BTreeMap.{keys};
 ghost use Rattle.serde_json.specs.View.{members_view};
-ghost use Rattle.sct_json.specs.Keys.{keys_from, is_first, is_key_of};
+ghost use Rattle.sct_json.specs.Keys.{keys_from, is_first, is_key_in};
 ghost use Rattle.sct_json.specs.Reading.{GivesWhere, first_extra, passes_unless};
 
 use crate::faults::{ExtraKey, JsonFault};
-use crate::keys::{Key, keys_of};
-use sct_message::Kind;
+use crate::keys::{Key, Shape, keys_in};
 use serde_json::{Map, Value};
 use std::alloc::Global;
 
@@ -32,12 +32,12 @@ fn is_first(name: &str, keys: &[Key]) -> bool
     matches!(keys, [key, ..] if name == key.text())
 }
 
-/// The first name of an object, in the order of the names' bytes, that is no key of a kind.
-fn first_other(kind: Kind, object: &Map<String, Value>) -> Option<&String>
+/// The first name of an object, in the order of the names' bytes, that is no key of a shape.
+fn first_other(shape: Shape, object: &Map<String, Value>) -> Option<&String>
     ensures { option_copied result
-        ≡ find (λ name. not (is_key_of kind (string_bytes name))) (keys object.now) }
+        ≡ find (λ name. not (is_key_in shape (string_bytes name))) (keys object.now) }
 {
-    let mut keys = keys_of(kind);
+    let mut keys = keys_in(shape);
     for name in object.keys() {
         keys = keys_from(keys, name.as_str());
         if !is_first(name.as_str(), keys) {
@@ -47,17 +47,17 @@ fn first_other(kind: Kind, object: &Map<String, Value>) -> Option<&String>
     None
 }
 
-/// Refuses an object with a key that is none of its kind.
+/// Refuses an object with a key that is none of its shape.
 #[tactic(auto, using(crate::proofs::Extra::first_extra_found))]
 pub(crate) fn refuse_extra(
     alloc: Global,
-    kind: Kind,
+    shape: Shape,
     object: &Map<String, Value>,
 ) -> Result<(), JsonFault>
-    ensures { let extra = first_extra kind (members_view object.now.entries) in
+    ensures { let extra = first_extra shape (members_view object.now.entries) in
         GivesWhere (is_some extra) result (passes_unless extra) }
 {
-    match first_other(kind, object) {
+    match first_other(shape, object) {
         None => Ok(()),
         Some(name) => match ExtraKey::of(alloc, name.as_str()) {
             Ok(extra) => Err(JsonFault::Extra(extra)),

@@ -39,8 +39,43 @@ impl ExtraKey {
     }
 }
 
-/// Why an object is a form of no message: the first reason in the order of the numbers 31 to 33, then key by key in
-/// the order of the kind's key table 34 to 36, then 37 and 38. Only 30 says nothing of the object.
+/// Why an object is no transaction of a recall message's list. It is the first reason, key by key in the order of the
+/// key table 34 to 36, and then 37.
+#[derive(Debug, Drop, Error)]
+pub enum KeyFault {
+    /// 34: a key that each transaction has is absent.
+    #[error("{} is missing", .0.text())]
+    Missing(Key),
+    /// 35: the value of a key is no text.
+    #[error("{} is no text", .0.text())]
+    NotText(Key),
+    /// 36: the text of a key is not read as the key's element.
+    #[error("{}: {}", .0.text(), .1)]
+    Element(Key, ElementFault),
+    /// 37: the object has a key that no transaction has; the first such key by its bytes.
+    #[error("{} is no key of a transaction", .0.as_str())]
+    Extra(ExtraKey),
+}
+
+impl KeyFault {
+    ghost use Rattle.sct_json.specs.Faults.{key_fault_number};
+
+    /// The fault's number, 34 to 37.
+    pub fn number(&self) -> u8
+        ensures { result ≡ key_fault_number self.now }
+    {
+        match self {
+            KeyFault::Missing(_) => 34,
+            KeyFault::NotText(_) => 35,
+            KeyFault::Element(_, _) => 36,
+            KeyFault::Extra(_) => 37,
+        }
+    }
+}
+
+/// Why an object is a form of no message. It is the first reason in the order of the numbers 31 to 33, then key by key
+/// in the order of the kind's key table 34 to 36, then 37 and 38. A recall message with a list has 46 and then 56 behind
+/// the keys of its head, and before 37. Only 30 says nothing of the object.
 #[derive(Debug, Drop, Error)]
 pub enum JsonFault {
     /// 30: out of memory.
@@ -70,12 +105,19 @@ pub enum JsonFault {
     /// 38: the elements break a rule of the kind.
     #[error("{}", .0)]
     Rule(RuleFault),
+    /// 46: `TxInf` is no array of 1 to 100 elements, told with 0; or an element is no object, and the place of the first
+    /// such element is told, from 1.
+    #[error("TxInf is no list of 1 to 100 objects: {0}")]
+    BadTransactions(usize),
+    /// 56: an element of `TxInf`, told by its place from 1, is no transaction.
+    #[error("transaction {0}: {1}")]
+    At(usize, KeyFault),
 }
 
 impl JsonFault {
-    ghost use Rattle.sct_json.specs.Faults.{json_fault_number};
+    ghost use Rattle.sct_json.specs.Faults.{json_fault_number, placed};
 
-    /// The fault's number, 30 to 38.
+    /// The fault's number, 30 to 38, 46 or 56.
     pub fn number(&self) -> u8
         ensures { result ≡ json_fault_number self.now }
     {
@@ -89,6 +131,21 @@ impl JsonFault {
             JsonFault::Element(_, _) => 36,
             JsonFault::Extra(_) => 37,
             JsonFault::Rule(_) => 38,
+            JsonFault::BadTransactions(_) => 46,
+            JsonFault::At(_, _) => 56,
+        }
+    }
+
+    /// A fault of an object's keys as one of the element at a place; another fault as it is.
+    pub(crate) fn placed(self, place: usize) -> JsonFault
+        ensures { result ≡ placed place self }
+    {
+        match self {
+            JsonFault::Missing(key) => JsonFault::At(place, KeyFault::Missing(key)),
+            JsonFault::NotText(key) => JsonFault::At(place, KeyFault::NotText(key)),
+            JsonFault::Element(key, fault) => JsonFault::At(place, KeyFault::Element(key, fault)),
+            JsonFault::Extra(name) => JsonFault::At(place, KeyFault::Extra(name)),
+            other => other,
         }
     }
 }

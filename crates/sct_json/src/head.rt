@@ -1,16 +1,18 @@
 //! What every message begins with.
-ghost use Rattle.std.specs.Prelude.{◌≡◌};
+ghost use Rattle.std.specs.Prelude.{◌≡◌, OnOk};
 ghost use Rattle.serde_json.specs.View.{view};
 ghost use Rattle.sct_json.specs.Reading.{GivesWithoutMemory, head_in};
+ghost use Rattle.sct_json.specs.Line.{with_line, head_line, Writes};
 ghost use Rattle.sct_json.specs.Writing.{HeadReadsBack};
 
 use crate::faults::JsonFault;
 use crate::keys::Key;
-use crate::members::{may_read_back, optional, reads_back, required};
+use crate::members::{may_read_back, optional, put, put_optional, reads_back, required};
 use crate::tables::{read_back_member, read_back_table, read_member, read_table};
+use json::Writer;
 use sct_message::Head;
 use serde_json::Value;
-use std::alloc::Global;
+use std::alloc::{AllocError, Global};
 
 /// The keys of the head, in their order.
 macro_rules! head_table {
@@ -30,6 +32,18 @@ pub(crate) fn read(alloc: Global, object: &Value) -> Result<Head, JsonFault>
     ensures { GivesWithoutMemory result (head_in (view object.now)) }
 {
     head_table!(read_table! { alloc, object })
+}
+
+/// Writes the members, in the order of the bytes of their keys.
+pub(crate) fn put_all(head: &Head, out: &mut Writer) -> Result<(), AllocError>
+    ensures { OnOk result (Writes (with_line (head_line head.now)) out.old out.new) }
+{
+    put(Key::CreDtTm, &head.creation_time, out)?;
+    put_optional(Key::InstdAgt, &head.instructed_agent, out)?;
+    put(Key::InstgAgt, &head.instructing_agent, out)?;
+    put(Key::MsgId, &head.message_id, out)?;
+    put(Key::MsgNmId, &head.message_name, out)?;
+    Ok(())
 }
 
 /// A law: the written form of each element is read as the element.

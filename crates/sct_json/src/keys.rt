@@ -1,7 +1,7 @@
 //! The keys of the JSON form: short names of ISO 20022 elements.
 ghost use Rattle.std.specs.Prelude.{◌≡◌, ℕ, List, map};
 ghost use Rattle.sct_message.specs.declared.kinds.Kind.{Kind};
-ghost use Rattle.sct_json.specs.Keys.{key_text, is_among, is_key_of};
+ghost use Rattle.sct_json.specs.Keys.{key_text, is_among, is_key_of, is_key_in};
 ghost use Rattle.sct_json.specs.Names.{AscendByBytes};
 
 use sct_message::Kind;
@@ -73,6 +73,8 @@ pub enum Key {
     OrgnlIntrBkSttlmAmt,
     /// The settlement date of that transfer.
     OrgnlIntrBkSttlmDt,
+    /// The transactions of a recall message, as a list of objects.
+    TxInf,
     /// The identification of the return.
     RtrId,
     /// The amount that comes back.
@@ -121,12 +123,24 @@ impl Key {
             Key::CxlId => "CxlId",
             Key::OrgnlIntrBkSttlmAmt => "OrgnlIntrBkSttlmAmt",
             Key::OrgnlIntrBkSttlmDt => "OrgnlIntrBkSttlmDt",
+            Key::TxInf => "TxInf",
             Key::RtrId => "RtrId",
             Key::RtrdIntrBkSttlmAmt => "RtrdIntrBkSttlmAmt",
             Key::CxlStsId => "CxlStsId",
             Key::Conf => "Conf",
         }
     }
+}
+
+/// What an object is to be: its shape says which keys it may have.
+#[derive(Clone, Copy, Debug)]
+pub(crate) enum Shape {
+    /// A message of a kind. A camt.056 has its one transaction among the other keys.
+    Flat(Kind),
+    /// A camt.056 with a list of transactions.
+    Listed,
+    /// A transaction in that list.
+    Transaction,
 }
 
 /// The keys of a pacs.008, in the order of their bytes.
@@ -205,6 +219,30 @@ static CANCELLATION_REQUEST_KEYS: [Key; 15] = [
     Key::Rsn,
 ];
 
+/// The keys of a camt.056 with a list of transactions, in the order of their bytes.
+static LISTED_KEYS: [Key; 6] = [
+    Key::CreDtTm,
+    Key::InstdAgt,
+    Key::InstgAgt,
+    Key::MsgId,
+    Key::MsgNmId,
+    Key::TxInf,
+];
+
+/// The keys of a transaction in that list, in the order of their bytes.
+static TRANSACTION_KEYS: [Key; 10] = [
+    Key::Ccy,
+    Key::CxlId,
+    Key::DbtrAgt,
+    Key::OrgnlEndToEndId,
+    Key::OrgnlIntrBkSttlmAmt,
+    Key::OrgnlIntrBkSttlmDt,
+    Key::OrgnlMsgId,
+    Key::OrgnlMsgNmId,
+    Key::OrgnlTxId,
+    Key::Rsn,
+];
+
 /// The keys of a pacs.004, in the order of their bytes.
 static PAYMENT_RETURN_KEYS: [Key; 17] = [
     Key::Ccy,
@@ -244,8 +282,8 @@ static RESOLUTION_KEYS: [Key; 14] = [
     Key::Rsn,
 ];
 
-/// The keys of a kind, in the order of their bytes.
-pub(crate) fn keys_of(kind: Kind) -> &'static [Key]
+/// The keys of a message of a kind, a camt.056 with one transaction, in the order of their bytes.
+fn keys_of(kind: Kind) -> &'static [Key]
     ensures ascend { AscendByBytes (map key_text result.now) }
     ensures all { (name : List ℕ) → is_among result.now name ≡ is_key_of kind name }
 {
@@ -256,5 +294,17 @@ pub(crate) fn keys_of(kind: Kind) -> &'static [Key]
         Kind::Camt056 => &CANCELLATION_REQUEST_KEYS,
         Kind::Pacs004 => &PAYMENT_RETURN_KEYS,
         Kind::Camt029 => &RESOLUTION_KEYS,
+    }
+}
+
+/// The keys of a shape, in the order of their bytes.
+pub(crate) fn keys_in(shape: Shape) -> &'static [Key]
+    ensures ascend { AscendByBytes (map key_text result.now) }
+    ensures all { (name : List ℕ) → is_among result.now name ≡ is_key_in shape name }
+{
+    match shape {
+        Shape::Flat(kind) => keys_of(kind),
+        Shape::Listed => &LISTED_KEYS,
+        Shape::Transaction => &TRANSACTION_KEYS,
     }
 }

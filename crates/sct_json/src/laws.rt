@@ -1,13 +1,14 @@
 //! What holds of the definitions of reading and writing. These functions do nothing; their contracts are laws.
 ghost use Rattle.std.specs.Prelude.{◌≡◌, ◌≢◌, ◌↔◌, ℕ, List, ◌∷◌, Some, Ok, Err, IsTrue};
 ghost use Rattle.sct_json.specs.declared.faults.JsonFault.TheVariants as fault;
+ghost use Rattle.sct_json.specs.declared.faults.KeyFault.TheVariants as key_fault;
 ghost use Rattle.serde_json.specs.Data.{Data, Members, object};
 ghost use Rattle.serde_json.specs.Read.{read};
 ghost use Rattle.serde_json.specs.Written.{compact_text};
 ghost use Rattle.sct_message.specs.declared.rules.RuleFault.TheVariants.{WrongName};
 ghost use Rattle.sct_message.specs.declared.draft.Draft.{Draft as Elements};
-ghost use Rattle.sct_json.specs.Names.{AscendByBytes, HasLeastExtraKey};
-ghost use Rattle.sct_json.specs.Reading.{names_of, object_in, message_in};
+ghost use Rattle.sct_json.specs.Names.{NamesAscend, HasLeastExtraKey, HasLeastExtraKeyAt};
+ghost use Rattle.sct_json.specs.Reading.{object_in, message_in};
 ghost use Rattle.sct_json.specs.Form.{IsFormOf, StandsFor};
 ghost use Rattle.sct_json.specs.Writing.{written_text, has_no_line_feed};
 
@@ -21,17 +22,19 @@ pub fn an_object_is_read_where_it_is_a_form()
     all_rules_hold_where_none_is_broken();
 }
 
-/// The names of an object that was read ascend by their bytes, each once.
+/// The names of an object that was read ascend by their bytes, each once, and so do those of each object in it.
 pub fn names_that_were_read_ascend()
-    ensures { (bytes : List ℕ) (members : Members) → read bytes ≡ Some (object members)
-        → AscendByBytes (names_of members) }
+    ensures { (bytes : List ℕ) (value : Data) → read bytes ≡ Some value → NamesAscend value }
 {}
 
 /// Where an extra key is told, it is a key of the object that is none of its kind, and each other such key is
-/// greater by its bytes.
+/// greater by its bytes. Where one of an element of `TxInf` is told, the same holds of the element at that place and of
+/// the keys of a transaction.
 pub fn the_extra_key_told_is_the_least()
-    ensures { (bytes name : List ℕ) → message_in bytes ≡ Err (fault.Extra name)
+    ensures of_object { (bytes name : List ℕ) → message_in bytes ≡ Err (fault.Extra name)
         → HasLeastExtraKey bytes name }
+    ensures of_element { (bytes : List ℕ) (place : ℕ) (name : List ℕ)
+        → message_in bytes ≡ Err (fault.At place (key_fault.Extra name)) → HasLeastExtraKeyAt bytes place name }
 {}
 
 /// No message is refused for its name (the rule fault 10): an object whose `MsgNmId` is no name of a kind is
@@ -61,10 +64,10 @@ pub fn bytes_are_read_where_they_stand_for_a_form()
     all_rules_hold_where_none_is_broken();
 }
 
-/// A written text has the keys of its object in ascending order by their bytes, each once.
+/// A written text has the keys of its object in ascending order by their bytes, each once, and so has each object in it.
 pub fn the_keys_of_a_written_text_ascend()
     ensures { (draft : Elements) → (members : Members)
-        × (written_text draft ≡ compact_text (object members)) × AscendByBytes (names_of members) }
+        × (written_text draft ≡ compact_text (object members)) × NamesAscend (object members) }
 {}
 
 /// A written text is one line, and not a blank one: it has no line feed, and begins with `{` (byte 123).

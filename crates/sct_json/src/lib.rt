@@ -1,4 +1,5 @@
-//! The JSON form of interbank messages: one flat object to one message, one written text for each message.
+//! The JSON form of interbank messages: one object to one message, one written text for each message. The object is flat,
+//! but a recall message may have a list of objects, one for each transaction.
 //!
 //! [`read_message`] takes the bytes of one JSON object and answers the message of which it is a form, or the
 //! first reason why it is a form of none. [`write_message`] answers the one written form of a message.
@@ -16,13 +17,15 @@ mod members;
 mod original;
 mod payment_return;
 mod reading;
+mod recall_list;
 mod resolution;
 mod status_report;
 mod status_request;
 mod tables;
+mod transaction;
 mod writing;
 
-pub use faults::{ExtraKey, JsonFault};
+pub use faults::{ExtraKey, JsonFault, KeyFault};
 pub use keys::Key;
 pub use laws::{
     a_text_is_written_for_one_message, a_written_text_is_one_line,

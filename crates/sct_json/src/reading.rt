@@ -1,11 +1,11 @@
 //! From the bytes of an object to its message.
 ghost use Rattle.std.specs.Prelude.{◌≡◌};
 ghost use Rattle.serde_json.specs.View.{view, members_view};
-ghost use Rattle.sct_json.specs.Reading.{Gives, GivesWhere, has_free_texts, draft_in, kind_in, message_in_whole, object_in, message_in};
+ghost use Rattle.sct_json.specs.Reading.{Gives, GivesWhere, keeps_memory, draft_in, kind_in, shape_in, message_in_whole, object_in, message_in};
 
 use crate::extra_key::refuse_extra;
 use crate::faults::JsonFault;
-use crate::keys::Key;
+use crate::keys::{Key, Shape};
 use crate::{
     cancellation_request, credit_transfer, payment_return, resolution, status_report,
     status_request,
@@ -22,9 +22,19 @@ fn kind_in(object: &Value) -> Option<Kind>
     Kind::of_name(name)
 }
 
+/// The shape of an object that is to be a message of a kind.
+fn shape_in(kind: Kind, object: &Value) -> Shape
+    ensures { result ≡ shape_in kind (view object.now) }
+{
+    match kind {
+        Kind::Camt056 if object.get(Key::TxInf.text()).is_some() => Shape::Listed,
+        _ => Shape::Flat(kind),
+    }
+}
+
 /// The elements of a message of a kind.
 fn read_draft(alloc: Global, kind: Kind, object: &Value) -> Result<Draft, JsonFault>
-    ensures { GivesWhere (has_free_texts kind) result (draft_in kind (view object.now)) }
+    ensures { GivesWhere (keeps_memory kind) result (draft_in kind (view object.now)) }
 {
     match kind {
         Kind::Pacs008 => Ok(Draft::CreditTransfer(credit_transfer::read(alloc, object)?)),
@@ -39,13 +49,13 @@ fn read_draft(alloc: Global, kind: Kind, object: &Value) -> Result<Draft, JsonFa
 /// The message of the elements that were read of an object: it has no extra key, and then they follow the rules.
 fn message_of(
     alloc: Global,
-    kind: Kind,
+    shape: Shape,
     object: &Map<String, Value>,
     elements: Draft,
 ) -> Result<Message, JsonFault>
-    ensures { Gives result (message_in_whole kind (members_view object.now.entries) elements) }
+    ensures { Gives result (message_in_whole shape (members_view object.now.entries) elements) }
 {
-    refuse_extra(alloc, kind, object)?;
+    refuse_extra(alloc, shape, object)?;
     match Message::of(elements) {
         Ok(message) => Ok(message),
         Err(fault) => Err(JsonFault::Rule(fault)),
@@ -64,7 +74,7 @@ fn read_object(alloc: Global, object: &Value) -> Result<Message, JsonFault>
         return Err(JsonFault::UnknownKind);
     };
     let elements = read_draft(alloc, kind, object)?;
-    message_of(alloc, kind, members, elements)
+    message_of(alloc, shape_in(kind, object), members, elements)
 }
 
 /// Reads the bytes of one JSON object as the message of which it is a form, or answers the first reason why it is

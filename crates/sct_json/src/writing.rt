@@ -2,7 +2,7 @@
 ghost use Rattle.std.specs.Prelude.{◌≡◌, Ok, OnOk, IfOk, IfErr};
 ghost use Rattle.sct_json.specs.Reading.{message_in};
 ghost use Rattle.sct_json.specs.Form.{StandsFor};
-ghost use Rattle.sct_json.specs.Line.{with_line, line_rows, Writes};
+ghost use Rattle.sct_json.specs.Line.{with_message, Writes};
 ghost use Rattle.sct_json.specs.Writing.{written_object, written_text, ElementsReadBack};
 
 use crate::faults::JsonFault;
@@ -19,7 +19,7 @@ const ROOM: usize = 768;
 
 /// Writes the members of a message, in the order of the bytes of their keys.
 fn put_members(draft: &Draft, out: &mut Writer) -> Result<(), AllocError>
-    ensures { OnOk result (Writes (with_line (line_rows draft.now)) out.old out.new) }
+    ensures { OnOk result (Writes (with_message draft.now) out.old out.new) }
 {
     match draft {
         Draft::CreditTransfer(credit_transfer) => credit_transfer::put_all(credit_transfer, out),
@@ -64,8 +64,8 @@ pub(crate) fn elements_read_back(draft: &Draft)
 }
 
 /// Writes the one written form of a message: one line with no spaces, its keys in the order of their bytes, each
-/// element in its written form, absent elements left out. The text reads back as the message. Only want of memory
-/// is a fault.
+/// element in its written form, absent elements left out. A camt.056 of one transaction has no list; one of more has an
+/// object for each, in their order. The text reads back as the message. Only want of memory is a fault.
 pub fn write_message(alloc: Global, message: &Message) -> Result<Vec<u8>, JsonFault>
     ensures written { IfOk result (λ text. text.items ≡ written_text message.now) }
     ensures reads_back { IfOk result (λ text. message_in text.items ≡ Ok message.now) }

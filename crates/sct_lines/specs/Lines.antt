@@ -11,7 +11,9 @@ use Rattle.sct_element.specs.Faults.{element_fault_number}
 use Rattle.sct_message.specs.Rules.{rule_number}
 use Rattle.sct_message.specs.declared.draft.Draft.{Draft}
 use Rattle.sct_json.specs.declared.faults.JsonFault.{JsonFault}
-use Rattle.sct_json.specs.declared.faults.JsonFault.TheVariants.{Memory, NotJson, NotObject, UnknownKind, Missing, NotText, Element, Extra, Rule}
+use Rattle.sct_json.specs.declared.faults.JsonFault.TheVariants.{Memory, NotJson, NotObject, UnknownKind, Missing, NotText, Element, Extra, Rule, BadTransactions, At}
+use Rattle.sct_json.specs.declared.faults.KeyFault.{KeyFault}
+use Rattle.sct_json.specs.declared.faults.KeyFault.TheVariants as key_fault
 use Rattle.sct_json.specs.Keys.{key_text}
 use Rattle.sct_json.specs.Reading.{message_in}
 use Rattle.sct_message.specs.Sets.{MessageSet}
@@ -61,7 +63,14 @@ refusals_told input = refusals_among (numbered_from 1 (lines_of input))
 
 -- ---- how a refusal is told
 
--- the number of a fault and its arguments, parted by spaces
+-- the number of a fault of an element of a list and its arguments, parted by spaces
+unfoldable pub key_fault_text : KeyFault → List ℕ
+key_fault_text (key_fault.Missing key) = codes "34 " ++ key_text key
+key_fault_text (key_fault.NotText key) = codes "35 " ++ key_text key
+key_fault_text (key_fault.Element key fault) = codes "36 " ++ key_text key ++ codes " " ++ decimal (element_fault_number fault)
+key_fault_text (key_fault.Extra key) = codes "37 " ++ compact_text (string key)
+
+-- the number of a fault and its arguments, parted by spaces; a fault of an element of a list is told behind its place
 unfoldable pub json_fault_text : JsonFault → List ℕ
 json_fault_text Memory = codes "30"
 json_fault_text NotJson = codes "31"
@@ -72,6 +81,8 @@ json_fault_text (NotText key) = codes "35 " ++ key_text key
 json_fault_text (Element key fault) = codes "36 " ++ key_text key ++ codes " " ++ decimal (element_fault_number fault)
 json_fault_text (Extra key) = codes "37 " ++ compact_text (string key)
 json_fault_text (Rule fault) = codes "38 " ++ decimal (rule_number fault)
+json_fault_text (BadTransactions place) = codes "46 " ++ decimal place
+json_fault_text (At place fault) = codes "56 " ++ decimal place ++ codes " " ++ key_fault_text fault
 
 -- the line that tells a refusal, with its line feed
 unfoldable pub refusal_line : ℕ × JsonFault → List ℕ

@@ -2,9 +2,9 @@
 ghost use Rattle.std.specs.Prelude.{◌≡◌, ◌++◌, IfOk, string_bytes};
 ghost use Rattle.serde_json.specs.Data.{string};
 ghost use Rattle.serde_json.specs.Written.{compact_text};
-ghost use Rattle.sct_lines.specs.Lines.{json_fault_text, refusal_line};
+ghost use Rattle.sct_lines.specs.Lines.{key_fault_text, json_fault_text, refusal_line};
 
-use sct_json::{ExtraKey, JsonFault};
+use sct_json::{ExtraKey, JsonFault, KeyFault};
 use serde_json::Value;
 use std::alloc::{AllocError, Global};
 use std::fmt::Write;
@@ -17,7 +17,24 @@ fn quoted(alloc: Global, key: &ExtraKey) -> Result<String, AllocError>
     Value::String(key).to_string(alloc)
 }
 
-/// Adds why a line is refused: the number of the fault and its arguments, parted by spaces.
+/// Adds why an element of a list is refused: the number of the fault and its arguments, parted by spaces.
+#[tactic(auto, unfolding(crate::specs::Lines::key_fault_text))]
+fn push_key_fault(alloc: Global, text: &mut String, fault: &KeyFault) -> Result<(), AllocError>
+    ensures { IfOk result (λ _. string_bytes text.new ≡ string_bytes text.old ++ key_fault_text fault.now) }
+{
+    match fault {
+        KeyFault::Missing(key) => write!(text, "34 {}", key.text()),
+        KeyFault::NotText(key) => write!(text, "35 {}", key.text()),
+        KeyFault::Element(key, fault) => write!(text, "36 {} {}", key.text(), fault.number()),
+        KeyFault::Extra(key) => {
+            let key = quoted(alloc, key)?;
+            write!(text, "37 {}", key.as_str())
+        }
+    }
+}
+
+/// Adds why a line is refused: the number of the fault and its arguments, parted by spaces. A fault of an element of a
+/// list stands behind the element's place.
 #[tactic(auto, unfolding(crate::specs::Lines::json_fault_text))]
 pub fn push_json_fault(
     alloc: Global,
@@ -39,6 +56,11 @@ pub fn push_json_fault(
             write!(text, "37 {}", key.as_str())
         }
         JsonFault::Rule(fault) => write!(text, "38 {}", fault.number()),
+        JsonFault::BadTransactions(place) => write!(text, "46 {place}"),
+        JsonFault::At(place, fault) => {
+            write!(text, "56 {place} ")?;
+            push_key_fault(alloc, text, fault)
+        }
     }
 }
 
