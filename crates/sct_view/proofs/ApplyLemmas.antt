@@ -1,5 +1,5 @@
 -- What a batch adds to a set, and that what it changes is about keys of the set. Proof plumbing.
-use Rattle.std.proofs.Common.{◌≡◌, ◌+◌, Bool, true, false, cond, ◌&&◌, ◌||◌, List, [], ◌∷◌, length, map, refl, sym, ap, ◌∙◌, arith}
+use Rattle.std.proofs.Common.{◌≡◌, ℕ, ◌+◌, ◌*◌, ◌≤◌, subst, Bool, true, false, cond, ◌&&◌, ◌||◌, List, [], ◌∷◌, length, map, refl, sym, ap, ◌∙◌, arith}
 use Rattle.std.specs.FinSet as set
 use Rattle.std.specs.FinSet.{contains-from_list, contains-insert, contains-union, len-insert}
 use Rattle.std.specs.List.{list_any}
@@ -13,10 +13,10 @@ use Rattle.sct_set.specs.Contents.{contents_of}
 use Rattle.sct_set.proofs.ContentsLemmas.{same_contents, same_itself, union-none}
 use Rattle.sct_view.specs.Changes.{are_among, change_in, changes_of}
 use Rattle.sct_view.specs.Kept.{case_of, same_key}
-use Rattle.sct_view.specs.Touched.{fresh_of, touched_by}
+use Rattle.sct_view.specs.Touched.{AreOnAtMost, fresh_of, touched_by}
 use Rattle.sct_view.specs.declared.case.Planned.{Planned}
 use Rattle.sct_view.proofs.ChangeLemmas.{touched_among}
-use Rattle.sct_view.proofs.FewLemmas.{contents_in_order, fresh_apart, held_where, in_order_apart, length_in_order}
+use Rattle.sct_view.proofs.FewLemmas.{batches_touch_few, contents_in_order, fresh_apart, held_where, in_order_apart, length_in_order}
 use Rattle.sct_view.proofs.SetKeys.{same_key-same, same_transfer-itself}
 use Rattle.sct_view.proofs.SumLemmas.{AreApart}
 use Rattle.sct_view.proofs.TouchedLemmas.{union-fresh}
@@ -70,6 +70,16 @@ len_disjoint s f apart =
 
 pub len_joined : (s b : MessageSet) → set.len (set.union s (fresh_of s b)) ≡ set.len s + set.len (fresh_of s b)
 len_joined s b = len_disjoint s (fresh_of s b) (fresh_apart s b)
+
+-- a batch touches few transfers, where each message is on one
+pub few_applied : (s v f b : MessageSet) (touched fresh : ℕ) → s ≡ v → f ≡ fresh_of s b → touched ≡ length (touched_by s f) → fresh ≡ set.len f
+    → AreOnAtMost 1 v → AreOnAtMost 1 b → touched ≤ 2 * fresh
+few_applied s v f b touched fresh same is counted len before later =
+    let law : length (touched_by s (fresh_of s b)) ≤ 2 * 1 * set.len (fresh_of s b) =
+    batches_touch_few 1 s b (subst (λ (t : MessageSet). AreOnAtMost 1 t) (sym same) before) later in
+    let all : touched ≡ length (touched_by s (fresh_of s b)) = counted ∙ ap (λ (g : MessageSet). length (touched_by s g)) is in
+    let new : fresh ≡ set.len (fresh_of s b) = len ∙ ap (λ (g : MessageSet). set.len g) is in
+    omega arith
 
 pub joined : (s b : MessageSet) → set.union s (fresh_of s b) ≡ set.union s b
 joined s b = union-fresh s b

@@ -1,5 +1,5 @@
 -- The banks of the transfers of a set, and which of them have totals. Proof plumbing.
-use Rattle.std.proofs.Common.{◌≡◌, ◌≢◌, ℕ, ◌+◌, Bool, true, false, not, ◌&&◌, ◌||◌, List, [], ◌∷◌, ◌++◌, refl, sym, ap, ◌∙◌, Option, Some, None, filter, arith}
+use Rattle.std.proofs.Common.{◌≡◌, ◌≢◌, ℕ, ◌+◌, Bool, true, false, not, ◌&&◌, ◌||◌, List, [], ◌∷◌, refl, sym, ap, ◌∙◌, Option, Some, None, filter, arith}
 use Rattle.std.specs.Prelude.{◌==◌, if◌then◌else◌, Contains}
 use Rattle.std.specs.List.{flat_map, list_any, sum_by}
 use Rattle.std.specs.Cmp.{eq_by_cmp_equiv}
@@ -19,6 +19,7 @@ use Rattle.sct_view.specs.Answers.{is_beneficiary, is_originator, status_of}
 use Rattle.sct_view.specs.Laws.{BanksHaveTotals}
 use Rattle.sct_view.specs.Totals.{banks_of, banks_on, beneficiary_in, cents_in, is_nothing, nothing, plus, share, share_of, share_of_beneficiary, share_of_originator, totals_of, totals_over}
 use Rattle.sct_view.specs.declared.totals.Totals.{Totals}
+use Rattle.sct_view.proofs.PartLemmas.{any_flat_map}
 use Rattle.sct_view.proofs.SetKeys.{any_bank, text_is, text_itself}
 use Rattle.sct_view.proofs.SumLemmas.{sum_away}
 use Rattle.sct_view.proofs.TotalsLemmas.{totals_same}
@@ -109,19 +110,6 @@ text_swap s t = texts_ties s t ∙ (eq_by_cmp_equiv nat_list_cmp_total).symm s t
 abbrev pub named : MessageSet → List (List ℕ)
 named held = flat_map (banks_on held) (keys_of held)
 
-or_assoc : (a b c : Bool) → (a || (b || c)) ≡ ((a || b) || c)
-or_assoc true b c = refl
-or_assoc false b c = refl
-
-any_append : {X : Type 0} (p : X → Bool) (xs ys : List X) → list_any p (xs ++ ys) ≡ (list_any p xs || list_any p ys)
-any_append p [] ys = refl
-any_append p (x ∷ xs) ys = ap (λ b. p x || b) (any_append p xs ys) ∙ or_assoc (p x) (list_any p xs) (list_any p ys)
-
-pub any_flat_map : {X Y : Type 0} (p : Y → Bool) (f : X → List Y) (xs : List X)
-    → list_any p (flat_map f xs) ≡ list_any (λ x. list_any p (f x)) xs
-any_flat_map p f [] = refl
-any_flat_map p f (x ∷ xs) = any_append p (f x) (flat_map f xs) ∙ ap (λ b. list_any p (f x) || b) (any_flat_map p f xs)
-
 pub any_named : (p : List ℕ → Bool) (held : MessageSet)
     → list_any p (ascending text_order (named held)) ≡ list_any (λ t. list_any p (banks_on held t)) (keys_of held)
 any_named p held = any_bank p (named held) ∙ any_flat_map p (banks_on held) (keys_of held)
@@ -194,7 +182,7 @@ bank_told held bank some =
     ] refl
 
 -- a member of a filtered list passes the test
-passes_filter : {K : Type 0} (E : K → K → Bool) (same : (x y : K) → E x y ≡ true → x ≡ y) (p : K → Bool) (q : K) (ks : List K)
+pub passes_filter : {K : Type 0} (E : K → K → Bool) (same : (x y : K) → E x y ≡ true → x ≡ y) (p : K → Bool) (q : K) (ks : List K)
     → list_any (E q) (filter p ks) ≡ true → p q ≡ true
 passes_filter E same p q [] h = absurd (false≢true h)
 passes_filter E same p q (k ∷ ks) h =

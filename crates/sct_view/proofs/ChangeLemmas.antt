@@ -3,12 +3,12 @@ use Rattle.std.proofs.Common.{◌≡◌, ℕ, Bool, true, false, ◌&&◌, ◌||
 use Rattle.std.specs.FinSet as set
 use Rattle.std.specs.Prelude.{if◌then◌else◌}
 use Rattle.std.specs.Cmp.{eq_by_cmp_equiv}
-use Rattle.std.specs.List.{list_any}
+use Rattle.std.specs.List.{flat_map, list_any}
 use Rattle.std.specs.List.Sorted.{IsStrictlySortedBy}
 use Rattle.std.proofs.lemmas.Bool.{false≢true}
 use Rattle.std.proofs.lemmas.List.Folds.{list_any-append}
 use Rattle.sct_message.specs.Ascending.{ascending}
-use Rattle.sct_message.specs.Keys.{identity_of, transfer_of}
+use Rattle.sct_message.specs.Keys.{identity_of, transfers_of}
 use Rattle.sct_message.specs.Order.{identity_order, same_transfer}
 use Rattle.sct_message.specs.OrderLaws.{identity_total, identities_same, message_total, message_same, transfer_total, transfers_same}
 use Rattle.sct_message.specs.Sets.{MessageSet, clean_messages, contradicted_messages, in_order, is_contradicted}
@@ -16,7 +16,7 @@ use Rattle.sct_message.specs.Transfers.{asides_of, is_on, keys_of, messages_on}
 use Rattle.sct_message.specs.declared.draft.Draft.{Draft}
 use Rattle.sct_message.specs.declared.keys.TransferKey.{TransferKey}
 use Rattle.sct_message.proofs.AscendingLemmas.{any_ascending, ascending-filter, ascending-same, ascending-sorted, members_ascending}
-use Rattle.sct_message.proofs.Members.{list_any-filter, list_any-map}
+use Rattle.sct_message.proofs.Members.{list_any-filter}
 use Rattle.sct_case.specs.declared.finding.Finding.{Finding}
 use Rattle.sct_case.specs.Statuses.{Unknown, first_standing, is_unknown, standing_of, transfer_status_of}
 use Rattle.sct_case.proofs.Judged.{found_of_asides}
@@ -27,7 +27,8 @@ use Rattle.sct_view.specs.Totals.{nothing, plus, share, totals_over}
 use Rattle.sct_view.specs.Touched.{is_newly_contradicted, touched_by}
 use Rattle.sct_view.specs.declared.totals.Totals.{Totals}
 use Rattle.sct_view.proofs.EvaluationLemmas.{any_union}
-use Rattle.sct_view.proofs.SetKeys.{any_key, same_key-is, same_key-same, same_transfer-is}
+use Rattle.sct_view.proofs.PartLemmas.{any_flat_map}
+use Rattle.sct_view.proofs.SetKeys.{any_key, key-is_on, same_key-is, same_key-same, same_transfer-is}
 use Rattle.sct_view.proofs.StandingLemmas.{split}
 use Rattle.sct_view.proofs.SumLemmas.{sum_kept}
 use Rattle.sct_view.proofs.TotalsLemmas.{Cases, totals_by, totals_same}
@@ -81,11 +82,6 @@ module _ (s : MessageSet) (t : TransferKey) (none : list_any (is_on t) (set.item
 
 swap : (s t : TransferKey) → same_transfer s t ≡ same_transfer t s
 swap s t = (eq_by_cmp_equiv transfer_total).symm s t
-
--- a transfer is a key of the set where a message of the set is on it
-pub key-is_on : (s : MessageSet) (t : TransferKey) → list_any (same_transfer t) (keys_of s) ≡ list_any (is_on t) (set.items s)
-key-is_on s t =
-    any_key (same_transfer t) s ∙ ap (λ (p : Draft → Bool). list_any p (set.items s)) (λ i m. swap t (transfer_of m) i)
 
 -- nothing is kept of a transfer that is no key of the set
 pub nothing_kept_elsewhere : (s : MessageSet) (t : TransferKey) → list_any (same_transfer t) (keys_of s) ≡ false → case_of s t ≡ no_messages
@@ -158,17 +154,17 @@ pub touched_among : (s f : MessageSet) (t : TransferKey) → list_any (same_tran
     → list_any (same_transfer t) (keys_of (set.union s f)) ≡ true
 unfolding touched_by
 touched_among s f t h =
-    let fresh = map transfer_of (set.items f) in
-    let newly = map transfer_of (filter (is_newly_contradicted s f) (set.items s)) in
-    let at = λ (m : Draft). same_transfer t (transfer_of m) in
+    let fresh = flat_map transfers_of (set.items f) in
+    let newly = flat_map transfers_of (filter (is_newly_contradicted s f) (set.items s)) in
+    let at = λ (m : Draft). list_any (same_transfer t) (transfers_of m) in
     any_key (same_transfer t) (set.union s f)
-    ∙ any_union (λ m. same_transfer t (transfer_of m)) s f
+    ∙ any_union (λ m. list_any (same_transfer t) (transfers_of m)) s f
     ∙ or_is (list_any (same_transfer t) fresh) (list_any (same_transfer t) newly) _
     (sym (list_any-append (same_transfer t) fresh newly) ∙ sym (any_ascending transfer_total transfers_same (same_transfer t) (fresh ++ newly)) ∙ h)
-    (λ one. or_right (list_any at (set.items s)) (list_any at (set.items f)) (sym (list_any-map (same_transfer t) transfer_of (set.items f)) ∙ one))
+    (λ one. or_right (list_any at (set.items s)) (list_any at (set.items f)) (sym (any_flat_map (same_transfer t) transfers_of (set.items f)) ∙ one))
     (λ other. ap (λ b. b || list_any at (set.items f))
     (narrower at (is_newly_contradicted s f) (set.items s)
-    (sym (list_any-filter at (is_newly_contradicted s f) (set.items s)) ∙ sym (list_any-map (same_transfer t) transfer_of (filter (is_newly_contradicted s f) (set.items s))) ∙ other)))
+    (sym (list_any-filter at (is_newly_contradicted s f) (set.items s)) ∙ sym (any_flat_map (same_transfer t) transfers_of (filter (is_newly_contradicted s f) (set.items s))) ∙ other)))
 
 implied : (a b : Bool) → (a ≡ true → b ≡ true) → (a && b) ≡ a
 implied true b h = h refl
@@ -205,7 +201,8 @@ unfolding share
 no_share bank t =
     ap (λ (x : Totals). plus x (if false then nothing else nothing)) (nothing_either (is_originator bank t))
 
-totals_picked : (f : TransferKey → Totals) (p : TransferKey → Bool) → ((t : TransferKey) → p t ≡ false → f t ≡ nothing)
+-- totals do not change where transfers without a share are left out
+pub totals_picked : (f : TransferKey → Totals) (p : TransferKey → Bool) → ((t : TransferKey) → p t ≡ false → f t ≡ nothing)
     → (ts : List TransferKey) → totals_over f (filter p ts) ≡ totals_over f ts
 totals_picked f p none ts =
     let number = λ (n : Totals → ℕ) (zero_of : n nothing ≡ 0). sum_kept (λ t. n (f t)) p (λ t e. ap n (none t e) ∙ zero_of) ts in
@@ -218,9 +215,9 @@ totals_picked f p none ts =
 keys_picked : (s f : MessageSet) → keys_of s ≡ filter (λ k. list_any (same_transfer k) (keys_of s)) (keys_of (set.union s f))
 keys_picked s f =
     let p = λ (k : TransferKey). list_any (same_transfer k) (keys_of s) in
-    let all = map transfer_of (set.items (set.union s f)) in
-    ascending-same transfer_total transfers_same (map transfer_of (set.items s)) (filter p all) (λ q.
-    sym (members_ascending transfer_total transfers_same (map transfer_of (set.items s)) q)
+    let all = flat_map transfers_of (set.items (set.union s f)) in
+    ascending-same transfer_total transfers_same (flat_map transfers_of (set.items s)) (filter p all) (λ q.
+    sym (members_ascending transfer_total transfers_same (flat_map transfers_of (set.items s)) q)
     ∙ sym (picked_where p q (keys_stay s f q))
     ∙ ap (λ b. p q && b) (members_ascending transfer_total transfers_same all q)
     ∙ sym (among_picked p q all))

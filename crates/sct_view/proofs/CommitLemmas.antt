@@ -1,29 +1,23 @@
 -- One case in the place of another, in the totals of each bank. Proof plumbing.
-use Rattle.std.proofs.Common.{◌≡◌, ◌∙◌, sym, ap, subst, ℕ, ◌<◌, ◌≤◌, ◌^◌, Bool, true, false, cond, List, length, arith}
+use Rattle.std.proofs.Common.{◌≡◌, ◌∙◌, refl, sym, ap, subst, ℕ, ◌<◌, ◌≤◌, ◌^◌, ◌||◌, Bool, true, false, cond, List, ◌∷◌, length, filter, None, arith}
 use Rattle.std.specs.List.{list_any}
-use Rattle.std.specs.Arc.{arc_value}
-use Rattle.std.specs.Global.{Global}
-use Rattle.std.specs.declared.sync.Arc.{Arc}
+use Rattle.std.specs.Map.{keys_of}
+use Rattle.std.proofs.lemmas.Bool.{false≢true}
 use Rattle.std.proofs.lemmas.List.{length-map}
-use Rattle.sct_message.specs.Sets.{MessageSet, messages_in}
-use Rattle.sct_message.specs.Transfers.{keys_of}
-use Rattle.sct_message.specs.declared.draft.Draft.{Draft}
+use Rattle.std.proofs.lemmas.Map.Made.{is_some-lookup}
+use Rattle.indexmap.specs.IndexMap.{IndexMap, get}
 use Rattle.sct_message.specs.declared.keys.TransferKey.{TransferKey}
-use Rattle.sct_set.specs.Contents.{contents_of}
-use Rattle.sct_view.specs.Kept.{Kept, same_key, share_in, IsInRange, IsSmall, IsUpTo}
+use Rattle.sct_view.specs.Kept.{Kept, case_at, kept_or_none, no_messages, same_key, share_in, IsInRange, IsSmall, IsUpTo}
 use Rattle.sct_view.specs.Totals.{plus}
+use Rattle.sct_view.specs.declared.case.Case.{Case}
 use Rattle.sct_view.specs.declared.totals.Totals.{Totals}
-use Rattle.sct_view.proofs.KeyLemmas.{keys_apart, key_itself}
-use Rattle.sct_view.proofs.SetKeys.{few_keys}
+use Rattle.sct_view.proofs.BankLemmas.{passes_filter}
+use Rattle.sct_view.proofs.ChangeLemmas.{no_share, totals_picked}
+use Rattle.sct_view.proofs.FewerLemmas.{apart_where, no_more}
+use Rattle.sct_view.proofs.KeyLemmas.{key_itself, key_swap, keys_apart}
 use Rattle.sct_view.proofs.SumLemmas.{AreApart}
+use Rattle.sct_view.proofs.TableLemmas.{none_is}
 use Rattle.sct_view.proofs.TotalsLemmas.{Cases, totals_by, part_of_shares, shares_in_range, shares_replaced}
-
--- the keys of a set of messages that lie in memory are fewer than 2^64
-pub few : (s : MessageSet) (ms : List (Arc Draft Global)) → contents_of (messages_in ms) ≡ s → length ms < 2 ^ 64 → length (keys_of s) < 2 ^ 64
-few s ms is h =
-    let most : length (keys_of (contents_of (messages_in ms))) ≤ length (messages_in ms) = few_keys (messages_in ms) in
-    let same : length (messages_in ms) ≡ length ms = length-map ms arc_value in
-    subst (λ (u : MessageSet). length (keys_of u) < 2 ^ 64) is (omega arith)
 
 module _ (cases : Cases) (t : TransferKey) (anew : Kept) where
   -- the cases, with another one at a transfer
@@ -55,9 +49,37 @@ module _ (cases : Cases) (t : TransferKey) (anew : Kept) where
         ∙ shares_replaced same_key keys_apart cases with_case t ts apart among elsewhere p (rest p)
         (ap (λ (k : Kept). plus (rest p) (share_in p t k)) is ∙ taken p ∙ kept p)
 
-    -- and they fit
+    -- and they fit, where nothing is kept but of some transfers that are few
     pub put_fits : AreApart same_key ts → (rest : List ℕ → Totals) → ((p : List ℕ) → plus (rest p) (share_in p t was) ≡ total p)
-        → ((k : TransferKey) → IsSmall (cases k)) → IsSmall anew → length ts < 2 ^ 64
+        → ((k : TransferKey) → IsSmall (cases k)) → IsSmall anew
+        → (kept_of : TransferKey → Bool) → ((k : TransferKey) → kept_of k ≡ false → with_case k ≡ no_messages) → length (filter kept_of ts) < 2 ^ 64
         → (p : List ℕ) → IsInRange (plus (rest p) (share_in p t anew))
-    put_fits apart rest taken small h fewer p =
-        subst IsInRange (sym (exchanged apart rest taken p)) (shares_in_range with_case ts (small_with small h) fewer p)
+    put_fits apart rest taken small h kept_of none fewer p =
+        let all = totals_picked (λ k. share_in p k (with_case k)) kept_of (λ k e. ap (share_in p k) (none k e) ∙ no_share p k) ts in
+        subst IsInRange (all ∙ sym (exchanged apart rest taken p)) (shares_in_range with_case (filter kept_of ts) (small_with small h) fewer p)
+
+or_false : (a b : Bool) → (a || b) ≡ false → (a ≡ false) × (b ≡ false)
+or_false true b e = absurd (false≢true (sym e))
+or_false false b e = (refl, e)
+
+-- A transfer, and those that have a place in a table.
+module _ {S : Type 0} (table : IndexMap TransferKey Case S) (t : TransferKey) where
+  abbrev pub is_placed : TransferKey → Bool
+  is_placed k = list_any (same_key k) (t ∷ keys_of table.entries)
+
+  -- of all others nothing is kept
+  pub none_elsewhere : (anew : Kept) (k : TransferKey) → is_placed k ≡ false → with_case (case_at table) t anew k ≡ no_messages
+  none_elsewhere anew k e =
+      let away = or_false (same_key k t) (list_any (same_key k) (keys_of table.entries)) e in
+      let none : get same_key table k ≡ None = none_is _ (is_some-lookup (same_key k) table.entries ∙ away.1) in
+      elsewhere (case_at table) t anew k (key_swap t k ∙ away.0) ∙ ap kept_or_none none
+
+  -- and they are no more than the table has entries, and one
+  pub few_placed : (n : ℕ) → n ≡ length table.entries → n < 2 ^ 63 → (ts : List TransferKey) → AreApart same_key ts
+      → length (filter is_placed ts) < 2 ^ 64
+  few_placed n is small ts apart =
+      let most : length (filter is_placed ts) ≤ length (t ∷ keys_of table.entries) =
+      no_more same_key key_itself keys_apart (filter is_placed ts) (t ∷ keys_of table.entries) (apart_where same_key is_placed ts apart)
+      (λ q among. passes_filter same_key keys_apart is_placed q ts among) in
+      let entries : length (keys_of table.entries) ≡ length table.entries = length-map table.entries (λ e. e.0) in
+      omega arith

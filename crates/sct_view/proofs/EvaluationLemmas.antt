@@ -1,10 +1,9 @@
 -- The messages of a transfer, parted, are what a set of messages keeps of it. Proof plumbing.
 use Rattle.std.specs.FinSet as set
 use Rattle.std.specs.FinSet.{contains-items, contains-union}
-use Rattle.std.proofs.Common.{◌≡◌, ◌∙◌, refl, sym, ap, subst, Bool, true, false, cond, not, ◌||◌, List, [], ◌∷◌, ◌++◌, map, filter}
+use Rattle.std.proofs.Common.{◌≡◌, ◌∙◌, refl, sym, ap, Bool, true, false, cond, not, ◌||◌, List, [], ◌∷◌, ◌++◌, map, filter}
 use Rattle.std.specs.List.{list_any}
 use Rattle.std.specs.Ordering.{eq_by_cmp}
-use Rattle.std.proofs.lemmas.List.Elements.{All-cons, All-nil}
 use Rattle.std.proofs.lemmas.List.Folds.{list_any-append}
 use Rattle.sct_message.specs.Ascending.{ascending}
 use Rattle.sct_message.specs.Keys.{identity_of}
@@ -16,7 +15,7 @@ use Rattle.sct_message.specs.declared.draft.Draft.{Draft}
 use Rattle.sct_message.specs.declared.keys.Identity.{Identity}
 use Rattle.sct_message.specs.declared.keys.TransferKey.{TransferKey}
 use Rattle.sct_message.proofs.Members.{same_any}
-use Rattle.sct_case.specs.Statuses.{AreOn, Standing, transfer_status_of}
+use Rattle.sct_case.specs.Statuses.{Standing, transfer_status_of}
 use Rattle.sct_view.specs.Answers.{status_of}
 use Rattle.sct_view.specs.Kept.{case_of, contradicted_on}
 
@@ -53,15 +52,6 @@ contradicted_in_union a b m = any_union _ a b
 
 -- ---- the messages on a transfer
 
--- the messages that pass a test all pass it
-pub on_filtered : (t : TransferKey) (ms : List Draft) → AreOn t (filter (is_on t) ms)
-on_filtered t [] = All-nil _
-on_filtered t (m ∷ ms) =
-    elim (is_on t m) as (λ b. is_on t m ≡ b → AreOn t (cond b (m ∷ filter (is_on t) ms) (filter (is_on t) ms))) [
-      | true ↦ λ e. All-cons (λ (n : Draft). is_on t n ≡ true) m (filter (is_on t) ms) e (on_filtered t ms)
-      | false ↦ λ _. on_filtered t ms
-    ] refl
-
 module _ (a b : MessageSet) (t : TransferKey) where
   abbrev disputed : Draft → Bool
   disputed = λ m. is_contradicted a m || is_contradicted b m
@@ -79,10 +69,6 @@ module _ (a b : MessageSet) (t : TransferKey) where
       ∙ ap (filter disputed) all
       ∙ filter_swap disputed (is_on t) (in_order (set.union a b))
       ∙ ap (λ (p : Draft → Bool). filter (is_on t) (filter p (in_order (set.union a b)))) (λ n m. sym (contradicted_in_union a b m) n)
-
-  -- the clean ones are on the transfer
-  pub clean_on : (ms clean : List Draft) → ms ≡ filter (is_on t) (in_order (set.union a b)) → clean ≡ filter (λ m. not (disputed m)) ms → AreOn t clean
-  clean_on ms clean all c = subst (λ (xs : List Draft). AreOn t xs) (sym (clean_is ms clean all c)) (on_filtered t _)
 
   -- a case that was evaluated from all messages on a transfer is what is to be kept of it
   pub evaluated : (ms clean contradicted : List Draft) (asides : List Identity) (stands : Standing)

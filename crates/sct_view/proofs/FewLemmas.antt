@@ -1,32 +1,35 @@
 -- The transfers that a batch touches, found message by message, and that they are few. Proof plumbing.
-use Rattle.std.proofs.Common.{◌≡◌, ◌+◌, ◌*◌, ◌≤◌, Bool, true, false, cond, not, ◌&&◌, ◌||◌, List, [], ◌∷◌, ◌++◌, length, map, refl, sym, ap, ◌∙◌, filter, arith}
+use Rattle.std.proofs.Common.{◌≡◌, ℕ, zero, suc, ◌+◌, ◌*◌, ◌≤◌, Bool, true, false, cond, not, ◌&&◌, ◌||◌, List, [], ◌∷◌, ◌++◌, length, refl, sym, ap, ◌∙◌, filter, arith, length-append}
+use Rattle.std.proofs.Math.Nat.{mul_comm}
+use Rattle.std.specs.Arc.{arc_value}
 use Rattle.std.specs.FinSet as set
 use Rattle.std.specs.FinSet.{contains-difference, contains-from_list, contains-items, len-empty, len-insert}
+use Rattle.std.specs.Global.{Global}
 use Rattle.std.specs.Prelude.{if◌then◌else◌}
 use Rattle.std.specs.Cmp.{eq_by_cmp_equiv}
-use Rattle.std.specs.List.{flat_map, list_any, sum_by}
+use Rattle.std.specs.List.{flat_map, list_any}
+use Rattle.std.specs.declared.sync.Arc.{Arc}
 use Rattle.std.proofs.lemmas.Bool.{false≢true}
 use Rattle.std.proofs.lemmas.List.{length-map}
-use Rattle.std.proofs.lemmas.List.Concat.{length-flat_map}
 use Rattle.std.proofs.lemmas.List.Folds.{list_any-append}
 use Rattle.sct_message.specs.Ascending.{ascending}
-use Rattle.sct_message.specs.Keys.{identity_of, transfer_of}
+use Rattle.sct_message.specs.Keys.{identity_of, transfers_of}
 use Rattle.sct_message.specs.Order.{message_order, same_identity, same_message, same_transfer, transfer_order}
 use Rattle.sct_message.specs.OrderLaws.{identity_total, identities_same, message_total, message_same, transfer_total, transfers_same}
-use Rattle.sct_message.specs.Sets.{MessageSet, in_order, is_contradicted}
+use Rattle.sct_message.specs.Sets.{MessageSet, in_order, is_contradicted, messages_in}
 use Rattle.sct_message.specs.declared.draft.Draft.{Draft}
 use Rattle.sct_message.specs.declared.keys.Identity.{Identity}
 use Rattle.sct_message.specs.declared.keys.TransferKey.{TransferKey}
 use Rattle.sct_message.proofs.AscendingLemmas.{any_ascending, ascending-same, ascending_rises, members_ascending}
-use Rattle.sct_message.proofs.Members.{list_any-filter, list_any-found, list_any-map, tie_is, ties_itself}
+use Rattle.sct_message.proofs.Members.{list_any-filter, list_any-found, tie_is, ties_itself}
 use Rattle.sct_set.specs.Contents.{contents_of}
 use Rattle.sct_set.proofs.ContentsLemmas.{any_items, same_contents}
 use Rattle.sct_view.specs.Changes.{newly_contradicted_by, touched_by_one}
-use Rattle.sct_view.specs.Touched.{BatchesTouchFew, fresh_of, is_newly_contradicted, touched_by}
-use Rattle.sct_view.proofs.BankLemmas.{any_flat_map}
+use Rattle.sct_view.specs.Touched.{AreOnAtMost, BatchesTouchFew, fresh_of, is_newly_contradicted, keys_in, touched_by}
 use Rattle.sct_view.proofs.EvaluationLemmas.{contradicted_in_union}
+use Rattle.sct_view.proofs.PartLemmas.{any_flat_map}
 use Rattle.sct_view.proofs.SetKeys.{apart_from_rises, shorter}
-use Rattle.sct_view.proofs.SumLemmas.{AreApart, sum_bounded}
+use Rattle.sct_view.proofs.SumLemmas.{AreApart}
 use Rattle.sct_view.proofs.TouchedLemmas.{and_any, none_among}
 
 -- ---- tests on lists
@@ -124,15 +127,15 @@ module _ (s : MessageSet) (ns : List Draft) (apart : (m : Draft) → set.contain
 
   module _ (q : TransferKey) where
     abbrev at : Draft → Bool
-    at m = same_transfer q (transfer_of m)
+    at m = list_any (same_transfer q) (transfers_of m)
 
     -- a fresh message meets one that is held: of its identity, and not yet contradicted
     abbrev meets : Draft → Draft → Bool
     meets n m = same_identity (identity_of m) (identity_of n) && not (is_contradicted s m)
 
-    met_at : (n : Draft) → list_any (same_transfer q) (map transfer_of (newly_contradicted_by s n)) ≡ list_any (λ m. meets n m && at m) (set.items s)
+    met_at : (n : Draft) → list_any (same_transfer q) (flat_map transfers_of (newly_contradicted_by s n)) ≡ list_any (λ m. meets n m && at m) (set.items s)
     met_at n =
-        list_any-map (same_transfer q) transfer_of (newly_contradicted_by s n)
+        any_flat_map (same_transfer q) transfers_of (newly_contradicted_by s n)
         ∙ list_any-filter (λ m. at m) (λ m. meets n m) (in_order s)
         ∙ any_ascending message_total message_same (λ m. meets n m && at m) (set.items s)
 
@@ -144,17 +147,18 @@ module _ (s : MessageSet) (ns : List Draft) (apart : (m : Draft) → set.contain
         ∙ ap (λ b. b && at m) (sym (newly-is m (contains-items s m ∙ among)))
 
     found_one_by_one : list_any (same_transfer q) (flat_map (touched_by_one s) ns)
-        ≡ list_any (same_transfer q) (map transfer_of (set.items (contents_of ns)) ++ map transfer_of (filter (is_newly_contradicted s (contents_of ns)) (set.items s)))
+        ≡ list_any (same_transfer q) (flat_map transfers_of (set.items (contents_of ns)) ++ flat_map transfers_of (filter (is_newly_contradicted s (contents_of ns)) (set.items s)))
     found_one_by_one =
         any_flat_map (same_transfer q) (touched_by_one s) ns
-        ∙ any_or (λ n. at n) (λ n. list_any (same_transfer q) (map transfer_of (newly_contradicted_by s n))) ns
+        ∙ ap (λ (p : Draft → Bool). list_any p ns) (λ i n. list_any-append (same_transfer q) (transfers_of n) (flat_map transfers_of (newly_contradicted_by s n)) i)
+        ∙ any_or (λ n. at n) (λ n. list_any (same_transfer q) (flat_map transfers_of (newly_contradicted_by s n))) ns
         ∙ ap (λ b. list_any (λ n. at n) ns || b)
         (ap (λ (p : Draft → Bool). list_any p ns) (λ i n. met_at n i)
         ∙ any_swap (λ n m. meets n m && at m) ns (set.items s)
         ∙ any_alike (λ m. list_any (λ n. meets n m && at m) ns) (λ m. is_newly_contradicted s (contents_of ns) m && at m) (set.items s) one_of_them)
-        ∙ sym (list_any-append (same_transfer q) (map transfer_of (set.items (contents_of ns))) (map transfer_of (filter (is_newly_contradicted s (contents_of ns)) (set.items s)))
-        ∙ (λ i. (list_any-map (same_transfer q) transfer_of (set.items (contents_of ns)) ∙ any_items (λ n. at n) ns) i
-        || (list_any-map (same_transfer q) transfer_of (filter (is_newly_contradicted s (contents_of ns)) (set.items s))
+        ∙ sym (list_any-append (same_transfer q) (flat_map transfers_of (set.items (contents_of ns))) (flat_map transfers_of (filter (is_newly_contradicted s (contents_of ns)) (set.items s)))
+        ∙ (λ i. (any_flat_map (same_transfer q) transfers_of (set.items (contents_of ns)) ∙ any_items (λ n. at n) ns) i
+        || (any_flat_map (same_transfer q) transfers_of (filter (is_newly_contradicted s (contents_of ns)) (set.items s))
         ∙ list_any-filter (λ m. at m) (is_newly_contradicted s (contents_of ns)) (set.items s)) i))
 
   -- the transfers touched are those that the fresh messages touch, one by one
@@ -162,7 +166,7 @@ module _ (s : MessageSet) (ns : List Draft) (apart : (m : Draft) → set.contain
   unfolding touched_by
   touched_list = ascending-same transfer_total transfers_same _ _ found_one_by_one
 
--- ---- at most two each
+-- ---- few each
 
 and_first : (a b : Bool) → (a && b) ≡ true → a ≡ true
 and_first true b e = refl
@@ -225,12 +229,67 @@ only_one s i m n held p q =
           absurd (false≢true (ap not (sym found) ∙ and_second (same_identity (identity_of m) i) (not (is_contradicted s m)) p))
     ] refl
 
-two_at_most : (s : MessageSet) (n : Draft) → length (touched_by_one s n) ≤ 2
-two_at_most s n =
-    let met : length (newly_contradicted_by s n) ≤ 1 =
+-- a fresh message contradicts at most one that is held
+one_at_most : (s : MessageSet) (n : Draft) → length (newly_contradicted_by s n) ≤ 1
+one_at_most s n =
     at_most_one (λ m. same_identity (identity_of m) (identity_of n) && not (is_contradicted s m)) (in_order s) (in_order_apart s)
-    (λ m k a b p q. only_one s (identity_of n) m k (held_where s k b) p q) in
-    let same : length (map transfer_of (newly_contradicted_by s n)) ≡ length (newly_contradicted_by s n) = length-map (newly_contradicted_by s n) transfer_of in
+    (λ m k a b p q. only_one s (identity_of n) m k (held_where s k b) p q)
+
+-- what passes a test is one of all
+one_of_all : (p : Draft → Bool) (q : Draft) (ms : List Draft) → list_any (same_message q) (filter p ms) ≡ true → list_any (same_message q) ms ≡ true
+one_of_all p q [] h = h
+one_of_all p q (m ∷ ms) h =
+    elim (p m) as (λ b. list_any (same_message q) (if b then m ∷ filter p ms else filter p ms) ≡ true → (same_message q m || list_any (same_message q) ms) ≡ true) [
+      | true ↦ λ among.
+          elim (same_message q m) as (λ b. (b || list_any (same_message q) (filter p ms)) ≡ true → (b || list_any (same_message q) ms) ≡ true) [
+            | true ↦ λ _. refl
+            | false ↦ λ later. one_of_all p q ms later
+          ] among
+      | false ↦ λ later. ap (λ b. same_message q m || b) (one_of_all p q ms later) ∙ or_true (same_message q m)
+    ] h
+
+-- a list of lists, each no longer than so many, for some messages
+no_longer : (most : ℕ) (f : Draft → List TransferKey) (ms : List Draft) → ((m : Draft) → list_any (same_message m) ms ≡ true → length (f m) ≤ most)
+    → length (flat_map f ms) ≤ length ms * most
+no_longer most f [] each = omega arith
+no_longer most f (m ∷ ms) each =
+    let first : length (f m) ≤ most = each m (ap (λ b. b || list_any (same_message m) ms) (message_itself m)) in
+    let rest : length (flat_map f ms) ≤ length ms * most =
+    no_longer most f ms (λ n among. each n (ap (λ b. same_message n m || b) among ∙ or_true (same_message n m))) in
+    let both : length (f m ++ flat_map f ms) ≡ length (f m) + length (flat_map f ms) = length-append (f m) (flat_map f ms) in
+    omega arith
+
+-- what one fresh message touches, each transfer of a message once
+once_by_one : MessageSet → Draft → List TransferKey
+once_by_one s n = keys_in n ++ flat_map keys_in (newly_contradicted_by s n)
+
+any_key_in : (q : TransferKey) (m : Draft) → list_any (same_transfer q) (transfers_of m) ≡ list_any (same_transfer q) (keys_in m)
+any_key_in q m = sym (any_ascending transfer_total transfers_same (same_transfer q) (transfers_of m))
+
+touched_once : (s : MessageSet) (q : TransferKey) (n : Draft) → list_any (same_transfer q) (touched_by_one s n) ≡ list_any (same_transfer q) (once_by_one s n)
+unfolding once_by_one
+touched_once s q n =
+    let newly = newly_contradicted_by s n in
+    list_any-append (same_transfer q) (transfers_of n) (flat_map transfers_of newly)
+    ∙ (λ i. any_key_in q n i
+    || (any_flat_map (same_transfer q) transfers_of newly
+    ∙ ap (λ (p : Draft → Bool). list_any p newly) (λ j m. any_key_in q m j)
+    ∙ sym (any_flat_map (same_transfer q) keys_in newly)) i)
+    ∙ sym (list_any-append (same_transfer q) (keys_in n) (flat_map keys_in newly))
+
+one_times : (n most : ℕ) → n ≤ 1 → n * most ≤ most
+one_times zero most h = omega arith
+one_times (suc zero) most h = omega arith
+one_times (suc (suc n)) most h = absurd (omega (arith, h))
+
+few_of_one : (most : ℕ) (s : MessageSet) (n : Draft) → length (keys_in n) ≤ most → AreOnAtMost most s → length (once_by_one s n) ≤ 2 * most
+unfolding once_by_one
+few_of_one most s n own held =
+    let newly = newly_contradicted_by s n in
+    let others : length (flat_map keys_in newly) ≤ length newly * most =
+    no_longer most keys_in newly (λ m among. held m (held_where s m (one_of_all (λ other. same_identity (identity_of other) (identity_of n) && not (is_contradicted s other)) m (in_order s) among))) in
+    let once : length newly * most ≤ most = one_times (length newly) most (one_at_most s n) in
+    let both : length (keys_in n ++ flat_map keys_in newly) ≡ length (keys_in n) + length (flat_map keys_in newly) = length-append (keys_in n) (flat_map keys_in newly) in
     omega arith
 
 -- ---- as many messages as a set has
@@ -264,23 +323,32 @@ fresh_apart held batch m h =
       | false ↦ λ _. refl
     ] (sym (contains-difference message_total batch held m) ∙ h)
 
--- fresh messages touch at most twice as many transfers
-pub few_touched : (s f : MessageSet) → ((m : Draft) → set.contains f m ≡ true → set.contains s m ≡ false)
-    → length (touched_by s f) ≤ 2 * set.len f
-few_touched s f apart =
+-- fresh messages touch few transfers
+pub few_touched : (most : ℕ) (s f : MessageSet) → ((m : Draft) → set.contains f m ≡ true → set.contains s m ≡ false)
+    → AreOnAtMost most s → AreOnAtMost most f → length (touched_by s f) ≤ 2 * most * set.len f
+few_touched most s f apart held fresh =
     let ns = in_order f in
-    let is : touched_by s f ≡ ascending transfer_order (flat_map (touched_by_one s) ns) =
+    let is : touched_by s f ≡ ascending transfer_order (flat_map (once_by_one s) ns) =
     ap (touched_by s) (sym (contents_in_order f))
-    ∙ sym (touched_list s ns (λ m h. apart m (ap (λ (t : MessageSet). set.contains t m) (sym (contents_in_order f)) ∙ h))) in
-    let one : length (touched_by s f) ≡ length (ascending transfer_order (flat_map (touched_by_one s) ns)) = ap (λ (ts : List TransferKey). length ts) is in
-    let two : length (ascending transfer_order (flat_map (touched_by_one s) ns)) ≤ length (flat_map (touched_by_one s) ns) = shorter transfer_total (flat_map (touched_by_one s) ns) in
-    let three : length (flat_map (touched_by_one s) ns) ≡ sum_by (λ n. length (touched_by_one s n)) ns = length-flat_map (touched_by_one s) ns in
-    let four : sum_by (λ n. length (touched_by_one s n)) ns ≤ length ns * 2 = sum_bounded (λ n. length (touched_by_one s n)) 2 (two_at_most s) ns in
-    let five : length ns ≡ set.len f = length_in_order f in
-    omega arith
+    ∙ sym (touched_list s ns (λ m h. apart m (ap (λ (t : MessageSet). set.contains t m) (sym (contents_in_order f)) ∙ h)))
+    ∙ ascending-same transfer_total transfers_same (flat_map (touched_by_one s) ns) (flat_map (once_by_one s) ns) (λ q.
+    any_flat_map (same_transfer q) (touched_by_one s) ns
+    ∙ ap (λ (p : Draft → Bool). list_any p ns) (λ i n. touched_once s q n i)
+    ∙ sym (any_flat_map (same_transfer q) (once_by_one s) ns)) in
+    let one : length (touched_by s f) ≡ length (ascending transfer_order (flat_map (once_by_one s) ns)) = ap (λ (ts : List TransferKey). length ts) is in
+    let two : length (ascending transfer_order (flat_map (once_by_one s) ns)) ≤ length (flat_map (once_by_one s) ns) = shorter transfer_total (flat_map (once_by_one s) ns) in
+    let three : length (flat_map (once_by_one s) ns) ≤ length ns * (2 * most) =
+    no_longer (2 * most) (once_by_one s) ns (λ n among. few_of_one most s n (fresh n (held_where f n among)) held) in
+    let four : length ns * (2 * most) ≡ 2 * most * set.len f = ap (λ n. n * (2 * most)) (length_in_order f) ∙ mul_comm (set.len f) (2 * most) in
+    omega (arith, one, two, three, four)
+
+fresh_of_it : (most : ℕ) (held batch : MessageSet) → AreOnAtMost most batch → AreOnAtMost most (fresh_of held batch)
+fresh_of_it most held batch few m h =
+    few m (and_first (set.contains batch m) (not (set.contains held m)) (sym (contains-difference message_total batch held m) ∙ h))
 
 pub batches_touch_few : BatchesTouchFew
-batches_touch_few held batch = few_touched held (fresh_of held batch) (fresh_apart held batch)
+batches_touch_few most held batch before later =
+    few_touched most held (fresh_of held batch) (fresh_apart held batch) before (fresh_of_it most held batch later)
 
 -- the same where a list has the fresh messages
 pub touched_here : (s f : MessageSet) (ns : List Draft) → contents_of ns ≡ f → ((m : Draft) → set.contains f m ≡ true → set.contains s m ≡ false)
@@ -288,9 +356,12 @@ pub touched_here : (s f : MessageSet) (ns : List Draft) → contents_of ns ≡ f
 touched_here s f ns is apart =
     touched_list s ns (λ m h. apart m (ap (λ (t : MessageSet). set.contains t m) (sym is) ∙ h)) ∙ ap (touched_by s) is
 
-pub few_here : (s f : MessageSet) (ts : List TransferKey) → ts ≡ touched_by s f → ((m : Draft) → set.contains f m ≡ true → set.contains s m ≡ false)
-    → length ts ≤ 2 * set.len f
-few_here s f ts is apart =
-    let e : length ts ≡ length (touched_by s f) = ap (λ (xs : List TransferKey). length xs) is in
-    let few : length (touched_by s f) ≤ 2 * set.len f = few_touched s f apart in
+-- transfers that are found message by message, few for each, are few when they are sorted and told apart
+pub few_found : (f : MessageSet) (ms : List (Arc Draft Global)) (found : List TransferKey) → contents_of (messages_in ms) ≡ f
+    → set.len (contents_of (messages_in ms)) ≡ length (messages_in ms) → length found ≤ 200 * length ms
+    → length (ascending transfer_order found) ≤ 200 * set.len f
+few_found f ms found is once few =
+    let one : length (ascending transfer_order found) ≤ length found = shorter transfer_total found in
+    let two : set.len f ≡ length (messages_in ms) = ap (λ (t : MessageSet). set.len t) (sym is) ∙ once in
+    let three : length (messages_in ms) ≡ length ms = length-map ms arc_value in
     omega arith

@@ -23,6 +23,7 @@ use Rattle.sct_set.specs.Contents.{contents_of}
 use Rattle.sct_set.proofs.ArchiveLemmas.{drafts_in-more}
 use Rattle.sct_set.proofs.ContentsLemmas.{contents-push, same_contents}
 use Rattle.sct_view.specs.Changes.{Change, case_after}
+use Rattle.sct_view.specs.Filed.{HasThose}
 use Rattle.sct_view.specs.Kept.{contradicted_on}
 use Rattle.sct_view.specs.Touched.{fresh_of}
 use Rattle.sct_view.proofs.StandingLemmas.{split}
@@ -81,6 +82,17 @@ pub gathered : (s : MessageSet) (ns : List Draft) (t : TransferKey)
 gathered s ns t =
     ascending-same message_total message_same _ _ (λ q. gathered_at t q s ns)
     ∙ ascending-filter message_total message_same (is_on t) (set.items (set.union s (contents_of ns)))
+
+-- and so are they with any list that has what is fresh of it
+pub gathered_those : (s : MessageSet) (ns : List Draft) (t : TransferKey) (on_it : List Draft) → HasThose on_it (filter (is_on t) ns)
+    → ascending message_order (messages_on s t ++ contradicted_on s t ++ on_it) ≡ filter (is_on t) (in_order (set.union s (contents_of ns)))
+gathered_those s ns t on_it those =
+    let kept = messages_on s t ++ contradicted_on s t in
+    ascending-same message_total message_same (kept ++ on_it) (kept ++ filter (is_on t) ns) (λ q.
+    list_any-append (same_message q) kept on_it
+    ∙ ap (λ b. list_any (same_message q) kept || b) (those q)
+    ∙ sym (list_any-append (same_message q) kept (filter (is_on t) ns)))
+    ∙ gathered s ns t
 
 -- ---- the fresh messages of a batch
 

@@ -1,5 +1,6 @@
 -- Transfers and banks that a table counts as the same are the same. Proof plumbing.
 use Rattle.std.proofs.Common.{◌≡◌, ◌∙◌, sym, ℕ, true, List}
+use Rattle.std.specs.Cmp.{eq_by_cmp_equiv}
 use Rattle.std.specs.Cmp.Lexicographic.{nat_list_cmp_total, texts_ties}
 use Rattle.std.specs.FinSet.{nat_cmp-IsAntisymmetric, slice_cmp-IsAntisymmetric}
 use Rattle.sct_element.specs.Text.{is_text}
@@ -18,6 +19,9 @@ keys_apart s t e = tie_is transfer_total transfers_same s t (sym (transfer_ties 
 
 pub key_itself : (t : TransferKey) → same_key t t ≡ true
 key_itself t = transfer_ties t t ∙ ties_itself transfer_total transfers_same t
+
+pub key_swap : (s t : TransferKey) → same_key s t ≡ same_key t s
+key_swap s t = transfer_ties s t ∙ (eq_by_cmp_equiv transfer_total).symm s t ∙ sym (transfer_ties t s)
 
 pub banks_apart : (p q : List ℕ) → is_text p q ≡ true → p ≡ q
 banks_apart p q e = tie_is nat_list_cmp_total (slice_cmp-IsAntisymmetric nat_cmp-IsAntisymmetric) p q (sym (texts_ties p q) ∙ e)

@@ -9,7 +9,6 @@ use Rattle.std.proofs.lemmas.Bool.{false≢true}
 use Rattle.std.proofs.lemmas.Map.Views.{list_any-from_Contains}
 use Rattle.sct_element.specs.Text.{is_text}
 use Rattle.sct_message.specs.Ascending.{ascending}
-use Rattle.sct_message.specs.Keys.{transfer_of}
 use Rattle.sct_message.specs.Order.{same_transfer, text_order}
 use Rattle.sct_message.specs.OrderLaws.{message_total, transfer_total}
 use Rattle.sct_message.specs.Sets.{MessageSet}
@@ -26,7 +25,7 @@ use Rattle.sct_view.specs.StatusText.{status_text_of}
 use Rattle.sct_view.specs.Totals.{as_beneficiary, banks_of, banks_on, beneficiary_in, cents_in, is_nothing, nothing, share, share_of, share_of_beneficiary, share_of_originator, totals_of, totals_over}
 use Rattle.sct_view.specs.TotalsText.{totals_text_of}
 use Rattle.sct_view.specs.declared.totals.Totals.{Totals}
-use Rattle.sct_view.proofs.SetKeys.{any_key, banks_apart, same_transfer-is, same_transfer-itself, text_is, text_itself}
+use Rattle.sct_view.proofs.SetKeys.{banks_apart, key-is_on, same_transfer-is, same_transfer-itself, text_is, text_itself}
 use Rattle.sct_view.proofs.StandingLemmas.{is_instructed, is_known, is_settled, key_known, settled_instructed}
 use Rattle.sct_view.proofs.BankLemmas.{IsNumber, any_named, has_totals_told, is_nothing-is, is_received, is_received_cents, is_returned_in, is_returned_out, is_sent, is_sent_cents, named, number_of}
 use Rattle.sct_view.proofs.SumLemmas.{AreApart, all_of_each, sum_alike, sum_alike_on, sum_at_one, sum_both, sum_exchanged, sum_kept, sum_none, sum_of_ones}
@@ -298,9 +297,7 @@ none_of_them stands cents = ap counted_in (balanced stands cents).beneficiary
 
 key_is_known : (held : MessageSet) (t : TransferKey) → is_key held t ≡ true → is_known (status_of held t) ≡ true
 key_is_known held t h =
-    key_known held t
-    (ap (λ (p : Draft → Bool). list_any p (set.items held)) (λ i m. (eq_by_cmp_equiv transfer_total).symm (transfer_of m) t i)
-    ∙ sym (any_key (same_transfer t) held) ∙ h)
+    key_known held t (sym (key-is_on held t) ∙ h)
 
 counted : (held : MessageSet) (bank : List ℕ) (t : TransferKey) → is_key held t ≡ true
     → counted_in (share_of held bank t) ≡ (if is_originator bank t then 1 else 0)

@@ -16,7 +16,7 @@ use Rattle.std.proofs.lemmas.List.{length-map}
 use Rattle.std.specs.Arc.{arc_value}
 use Rattle.indexmap.specs.IndexMap.{IndexMap, get, IsUnique}
 use Rattle.sct_message.specs.Ascending.{ascending}
-use Rattle.sct_message.specs.Keys.{transfer_of}
+use Rattle.sct_message.specs.Keys.{transfers_of}
 use Rattle.sct_message.specs.Order.{transfer_order, same_transfer, text_order}
 use Rattle.sct_message.specs.OrderLaws.{message_total, message_same, transfer_total, transfers_same}
 use Rattle.sct_message.specs.Sets.{MessageSet, in_order, is_contradicted}
@@ -24,7 +24,7 @@ use Rattle.sct_message.specs.Transfers.{is_on, keys_of as keys_held}
 use Rattle.sct_message.specs.declared.keys.TransferKey.{TransferKey}
 use Rattle.sct_message.proofs.AscendingLemmas.{ascending-same, ascending-sorted, ascending_rises, any_ascending}
 use Rattle.sct_case.proofs.Judged.{some}
-use Rattle.sct_message.proofs.Members.{list_any-map, tie_is}
+use Rattle.sct_message.proofs.Members.{tie_is}
 use Rattle.sct_view.specs.Kept.{Kept, kept_or_none, same_key, case_at, case_of, totals_or_none, totals_at}
 use Rattle.sct_view.specs.Totals.{is_nothing, totals_of, banks_of}
 use Rattle.sct_view.specs.declared.totals.Totals.{Totals}
@@ -32,6 +32,8 @@ use Rattle.sct_element.specs.Text.{is_text}
 use Rattle.sct_view.proofs.BankLemmas.{banks_have_totals, is_nothing-is}
 use Rattle.sct_view.proofs.ToldLemmas.{texts_same}
 use Rattle.sct_view.proofs.KeyLemmas.{same_key_is}
+use Rattle.sct_view.proofs.PartLemmas.{any_flat_map}
+use Rattle.sct_view.proofs.SetKeys.{on_is}
 use Rattle.sct_view.specs.Listed.{has_messages, is_something, keys_with}
 use Rattle.sct_view.specs.declared.case.Case.{Case}
 
@@ -142,8 +144,8 @@ keys_listed s cases unique are =
     ∙ ap has_kept (are q)
     ∙ has_kept-held s q
     ∙ any_ascending message_total message_same (is_on q) (set.items s)
-    ∙ any_alike (is_on q) (λ m. same_transfer q (transfer_of m)) (λ m. same.symm (transfer_of m) q) (set.items s)
-    ∙ sym (list_any-map (same_transfer q) transfer_of (set.items s)))
+    ∙ any_alike (is_on q) (λ m. list_any (same_transfer q) (transfers_of m)) (on_is q) (set.items s)
+    ∙ sym (any_flat_map (same_transfer q) transfers_of (set.items s)))
 
 -- ---- banks
 

@@ -2,7 +2,7 @@
 use Rattle.std.specs.FinSet as set
 use Rattle.std.specs.FinSet.{contains-empty, contains-union, same_set}
 use Rattle.std.proofs.Common.{◌≡◌, ◌∙◌, refl, sym, ap, subst, ℕ, Bool, true, false, cond, not, ◌||◌, List, [], ◌∷◌, ◌++◌, map, filter, length, take, get_or, ◌+◌, ◌<◌, arith}
-use Rattle.std.specs.List.{list_any, sum_by}
+use Rattle.std.specs.List.{flat_map, list_any, sum_by}
 use Rattle.std.specs.List.Sorted.{IsStrictlySortedBy}
 use Rattle.std.specs.Map.{lookup}
 use Rattle.std.specs.Ordering.{eq_by_cmp}
@@ -11,7 +11,7 @@ use Rattle.std.proofs.lemmas.Grind.{take_at_read}
 use Rattle.std.proofs.lemmas.List.Folds.{list_any-append, list_any_at}
 use Rattle.sct_element.specs.Text.{is_text}
 use Rattle.sct_message.specs.Ascending.{ascending}
-use Rattle.sct_message.specs.Keys.{identity_of, transfer_of}
+use Rattle.sct_message.specs.Keys.{identity_of, transfers_of}
 use Rattle.sct_message.specs.Order.{identity_order, message_order, same_transfer, transfer_order}
 use Rattle.sct_message.specs.OrderLaws.{identity_total, identities_same, message_total, message_same, transfer_total, transfers_same}
 use Rattle.sct_message.specs.Sets.{MessageSet, in_order, is_contradicted}
@@ -19,10 +19,9 @@ use Rattle.sct_message.specs.Transfers.{is_on, instruction_of, keys_of, messages
 use Rattle.sct_message.specs.declared.draft.Draft.{Draft}
 use Rattle.sct_message.specs.declared.keys.TransferKey.{TransferKey}
 use Rattle.sct_message.proofs.AscendingLemmas.{any_ascending, ascending-filter, ascending-same, ascending-sorted}
-use Rattle.sct_message.proofs.Members.{list_any-map}
 use Rattle.sct_message.specs.declared.keys.Identity.{Identity}
 use Rattle.sct_message.specs.declared.keys.RecallKey.{RecallKey}
-use Rattle.sct_case.specs.Statuses.{AreOn, Unknown, recall_status_of, transfer_status_of}
+use Rattle.sct_case.specs.Statuses.{Unknown, recall_status_of, transfer_status_of}
 use Rattle.sct_case.specs.declared.status.RecallStatus.{RecallStatus}
 use Rattle.sct_case.specs.declared.status.RecallStatus.TheVariants as recall
 use Rattle.sct_case.proofs.LookedUp.{recall_clear_by}
@@ -30,14 +29,16 @@ use Rattle.sct_case.proofs.Judged.{found_of_asides, unknown}
 use Rattle.sct_set.proofs.ContentsLemmas.{any_items, union-none}
 use Rattle.sct_set.specs.Contents.{contents_of}
 use Rattle.sct_view.specs.Answers.{recall_of, status_of}
+use Rattle.sct_view.specs.Filed.{HasThose}
 use Rattle.sct_view.specs.Kept.{Kept, AreTotalsOver, IsSmall, IsViewOf, case_at, case_of, instruction_in, kept_or_none, totals_or_none, contradicted_on, no_messages, same_key, share_in, totals_at}
 use Rattle.indexmap.specs.IndexMap.{IndexMap}
 use Rattle.sct_view.specs.declared.case.Case.{Case}
 use Rattle.sct_view.specs.declared.totals.Totals.{Totals}
 use Rattle.sct_view.specs.Totals.{nothing, plus, share, totals_of, totals_over}
-use Rattle.sct_view.proofs.EvaluationLemmas.{filter_swap, on_filtered}
-use Rattle.sct_view.proofs.GatheredLemmas.{gathered}
+use Rattle.sct_view.proofs.EvaluationLemmas.{filter_swap}
+use Rattle.sct_view.proofs.GatheredLemmas.{gathered_those}
 use Rattle.sct_view.proofs.KeyLemmas.{key_itself, keys_apart, same_key_is}
+use Rattle.sct_view.proofs.PartLemmas.{any_flat_map}
 use Rattle.sct_view.proofs.SetKeys.{any_key}
 use Rattle.sct_view.proofs.SumLemmas.{sum_none}
 use Rattle.sct_view.proofs.TotalsLemmas.{Cases, shares_alike, totals_alike, totals_by, totals_same}
@@ -87,7 +88,7 @@ module _ (s : MessageSet) (t : TransferKey) where
   pub among_keys : list_any (λ k. same_key k t) (keys_of s) ≡ list_any (is_on t) (in_order s)
   among_keys =
       any_key (λ k. same_key k t) s
-      ∙ ap (λ (E : TransferKey → TransferKey → Bool). list_any (λ m. E (transfer_of m) t) (set.items s)) same_key_is
+      ∙ ap (λ (E : TransferKey → TransferKey → Bool). list_any (λ m. list_any (λ k. E k t) (transfers_of m)) (set.items s)) same_key_is
       ∙ sym (any_ascending message_total message_same (is_on t) (set.items s))
 
   none_picked : (q : Draft → Bool) → list_any (is_on t) (in_order s) ≡ false → filter (is_on t) (filter q (in_order s)) ≡ []
@@ -153,20 +154,20 @@ in_order-contents s ds e =
     ∙ ap in_order e
 
 -- those on a transfer, put in order, are the set's messages on it
-pub filed-contents : (s : MessageSet) (t : TransferKey) (ds found : List Draft) → contents_of ds ≡ s → found ≡ filter (is_on t) ds
+pub filed-contents : (s : MessageSet) (t : TransferKey) (ds found : List Draft) → contents_of ds ≡ s → HasThose found (filter (is_on t) ds)
     → ascending message_order found ≡ filter (is_on t) (in_order s)
-filed-contents s t ds found e is =
-    ap (ascending message_order) is
+filed-contents s t ds found e those =
+    ascending-same message_total message_same found (filter (is_on t) ds) those
     ∙ ascending-filter message_total message_same (is_on t) ds
     ∙ ap (filter (is_on t)) (in_order-contents s ds e)
 
 -- the transfers of a list of a set's messages are the set's keys
-pub keys-contents : (s : MessageSet) (ds : List Draft) → contents_of ds ≡ s → ascending transfer_order (map transfer_of ds) ≡ keys_of s
+pub keys-contents : (s : MessageSet) (ds : List Draft) → contents_of ds ≡ s → ascending transfer_order (flat_map transfers_of ds) ≡ keys_of s
 keys-contents s ds e =
     ascending-same transfer_total transfers_same _ _ (λ q.
-    list_any-map (same_transfer q) transfer_of ds
-    ∙ sym (any_items (λ d. same_transfer q (transfer_of d)) ds)
-    ∙ sym (list_any-map (same_transfer q) transfer_of (set.items (contents_of ds))))
+    any_flat_map (same_transfer q) transfers_of ds
+    ∙ sym (any_items (λ d. list_any (same_transfer q) (transfers_of d)) ds)
+    ∙ sym (any_flat_map (same_transfer q) transfers_of (set.items (contents_of ds))))
     ∙ ap keys_of e
 
 -- ---- a list, item by item
@@ -239,17 +240,16 @@ module _ (s u : MessageSet) (is : s ≡ u) (t : TransferKey) (kept : Kept) (e : 
 
 -- what is told of a recall by what is kept of its transfer
 pub recall_told : (s u : MessageSet) → s ≡ u → (r : RecallKey) (kept : Kept) → kept ≡ case_of s r.transfer → (stands : RecallStatus)
-    → ((asides : List Identity) → AreOn r.transfer kept.clean → kept.stands ≡ transfer_status_of r.transfer kept.clean asides
+    → ((asides : List Identity) → kept.stands ≡ transfer_status_of r.transfer kept.clean asides
     → stands ≡ recall_status_of r.transfer kept.clean asides r.cxl)
     → stands ≡ recall_of u r
 unfolding case_of status_of recall_of
 recall_told s u is r kept e stands told_by =
     let t = r.transfer in
     let clean : kept.clean ≡ messages_on s t = ap (λ (k : Kept). k.clean) e in
-    let on : AreOn t kept.clean = subst (λ (ms : List Draft). AreOn t ms) (sym clean) (on_filtered t _) in
     let status : kept.stands ≡ transfer_status_of t kept.clean (asides_of s t) =
     ap (λ (k : Kept). k.stands) e ∙ sym (ap (λ (ms : List Draft). transfer_status_of t ms (asides_of s t)) clean) in
-    told_by (asides_of s t) on status
+    told_by (asides_of s t) status
     ∙ ap (λ (ms : List Draft). recall_status_of t ms (asides_of s t) r.cxl) clean
     ∙ ap (λ (v : MessageSet). recall_of v r) is
 
@@ -260,10 +260,10 @@ nothing_recalled t cxl asides stands = recall_clear_by t [] asides cxl Unknown s
 
 -- what is kept of a transfer, and what some fresh messages have on it, are in order all messages on it
 pub gathered_kept : (s f : MessageSet) (t : TransferKey) (kept : Kept) (ns on_it : List Draft) → kept ≡ case_of s t → contents_of ns ≡ f
-    → on_it ≡ filter (is_on t) ns
+    → HasThose on_it (filter (is_on t) ns)
     → ascending message_order (kept.clean ++ kept.contradicted ++ on_it) ≡ filter (is_on t) (in_order (set.union s f))
 unfolding case_of
-gathered_kept s f t kept ns on_it e is on =
-    (λ n. ascending message_order ((e n).clean ++ (e n).contradicted ++ on n))
-    ∙ gathered s ns t
+gathered_kept s f t kept ns on_it e is those =
+    ap (λ (k : Kept). ascending message_order (k.clean ++ k.contradicted ++ on_it)) e
+    ∙ gathered_those s ns t on_it those
     ∙ ap (λ (v : MessageSet). filter (is_on t) (in_order (set.union s v))) is

@@ -1,31 +1,29 @@
--- The transfers of which a set has a message, and the banks that are told: each stands once, and there are no more than
--- messages. Proof plumbing.
-use Rattle.std.proofs.Common.{◌≡◌, ℕ, ◌+◌, ◌≤◌, Bool, true, false, cond, ◌||◌, List, [], ◌∷◌, length, map, refl, sym, ap, subst, ◌∙◌, Ordering, arith}
+-- The transfers of which a set has a message, and the banks that are told: each stands once. Proof plumbing.
+use Rattle.std.proofs.Common.{◌≡◌, ℕ, ◌+◌, ◌≤◌, Bool, true, false, cond, ◌||◌, List, [], ◌∷◌, length, refl, sym, ap, subst, ◌∙◌, Ordering, arith}
 use Rattle.std.specs.FinMap as finite
 use Rattle.std.specs.FinMap.{len-empty, len-entries, len-insert}
 use Rattle.std.specs.FinSet as set
 use Rattle.std.specs.FinSet.{IsAntisymmetric, nat_cmp-IsAntisymmetric, slice_cmp-IsAntisymmetric}
-use Rattle.std.specs.Cmp.{IsTotalOrder}
+use Rattle.std.specs.Cmp.{IsTotalOrder, eq_by_cmp_equiv}
 use Rattle.std.specs.Cmp.Lexicographic.{nat_list_cmp_total, texts_ties}
-use Rattle.std.specs.List.{list_any, AllByRecursion, IsDistinct}
+use Rattle.std.specs.List.{flat_map, list_any, AllByRecursion, IsDistinct}
 use Rattle.std.specs.List.Sorted.{IsStrictlySortedBy}
 use Rattle.std.specs.Ordering.{eq_by_cmp}
 use Rattle.std.proofs.lemmas.List.{length-map}
 use Rattle.std.proofs.lemmas.Map.Keys.{IsDistinct-from_sorted}
 use Rattle.sct_element.specs.Text.{is_text}
 use Rattle.sct_message.specs.Ascending.{ascending, alone}
-use Rattle.sct_message.specs.Keys.{transfer_of}
+use Rattle.sct_message.specs.Keys.{transfers_of}
 use Rattle.sct_message.specs.Order.{same_transfer, text_order, transfer_order}
 use Rattle.sct_message.specs.OrderLaws.{transfer_total, transfers_same, transfer_ties}
 use Rattle.sct_message.specs.Sets.{MessageSet}
-use Rattle.sct_message.specs.Transfers.{keys_of}
+use Rattle.sct_message.specs.Transfers.{is_on, keys_of}
 use Rattle.sct_message.specs.declared.draft.Draft.{Draft}
 use Rattle.sct_message.specs.declared.keys.TransferKey.{TransferKey}
-use Rattle.sct_message.proofs.AscendingLemmas.{any_ascending, ascending-same, ascending_rises}
-use Rattle.sct_message.proofs.Members.{list_any-map, tie_is, ties_itself}
-use Rattle.sct_set.specs.Contents.{contents_of}
-use Rattle.sct_set.proofs.ContentsLemmas.{any_items}
+use Rattle.sct_message.proofs.AscendingLemmas.{any_ascending, ascending_rises}
+use Rattle.sct_message.proofs.Members.{tie_is, ties_itself}
 use Rattle.sct_view.specs.Kept.{same_key}
+use Rattle.sct_view.proofs.PartLemmas.{any_flat_map}
 use Rattle.sct_view.proofs.SumLemmas.{AreApart}
 
 -- ---- lists of keys
@@ -80,28 +78,25 @@ pub same_transfer-itself : (t : TransferKey) → same_transfer t t ≡ true
 same_transfer-itself = ties_itself transfer_total transfers_same
 
 pub keys_rise : (held : MessageSet) → IsStrictlySortedBy transfer_order (keys_of held)
-keys_rise held = ascending_rises transfer_total transfers_same (map transfer_of (set.items held))
+keys_rise held = ascending_rises transfer_total transfers_same (flat_map transfers_of (set.items held))
 
 pub keys_apart : (held : MessageSet) → AreApart same_transfer (keys_of held)
 keys_apart held = apart_from_rises transfer_order (keys_of held) (keys_rise held)
 
--- a test is passed by a key exactly where it is passed by the transfer of a message
-pub any_key : (p : TransferKey → Bool) (held : MessageSet) → list_any p (keys_of held) ≡ list_any (λ m. p (transfer_of m)) (set.items held)
+-- a test is passed by a key exactly where it is passed by a transfer of a message
+pub any_key : (p : TransferKey → Bool) (held : MessageSet)
+    → list_any p (keys_of held) ≡ list_any (λ m. list_any p (transfers_of m)) (set.items held)
 any_key p held =
-    any_ascending transfer_total transfers_same p (map transfer_of (set.items held)) ∙ list_any-map p transfer_of (set.items held)
+    any_ascending transfer_total transfers_same p (flat_map transfers_of (set.items held)) ∙ any_flat_map p transfers_of (set.items held)
 
--- a set has at most as many keys as messages
-pub few_keys : (ds : List Draft) → length (keys_of (contents_of ds)) ≤ length ds
-few_keys ds =
-    let e : keys_of (contents_of ds) ≡ ascending transfer_order (map transfer_of ds) =
-    ascending-same transfer_total transfers_same _ _ (λ q.
-    list_any-map (same_transfer q) transfer_of (set.items (contents_of ds))
-    ∙ any_items (λ d. same_transfer q (transfer_of d)) ds
-    ∙ sym (list_any-map (same_transfer q) transfer_of ds)) in
-    let h : length (ascending transfer_order (map transfer_of ds)) ≤ length (map transfer_of ds) = shorter transfer_total (map transfer_of ds) in
-    let k : length (map transfer_of ds) ≡ length ds = length-map ds transfer_of in
-    let l : length (keys_of (contents_of ds)) ≡ length (ascending transfer_order (map transfer_of ds)) = ap (λ (xs : List TransferKey). length xs) e in
-    omega arith
+-- a message is on the transfers that are its own
+pub on_is : (t : TransferKey) (m : Draft) → is_on t m ≡ list_any (same_transfer t) (transfers_of m)
+on_is t m = λ i. list_any (λ k. (eq_by_cmp_equiv transfer_total).symm k t i) (transfers_of m)
+
+-- a transfer is a key of the set where a message of the set is on it
+pub key-is_on : (held : MessageSet) (t : TransferKey) → list_any (same_transfer t) (keys_of held) ≡ list_any (is_on t) (set.items held)
+key-is_on held t =
+    any_key (same_transfer t) held ∙ ap (λ (p : Draft → Bool). list_any p (set.items held)) (λ i m. sym (on_is t m) i)
 
 -- ---- banks
 

@@ -7,7 +7,7 @@ use Rattle.sct_message.specs.declared.keys.TransferKey.{TransferKey}
 use Rattle.sct_view.specs.Kept.{case_at, kept_in, kept_or_none, same_key}
 use Rattle.sct_view.specs.declared.case.Case.{Case}
 
-none_is : {X : Type 0} (o : Option X) → is_some o ≡ false → o ≡ None
+pub none_is : {X : Type 0} (o : Option X) → is_some o ≡ false → o ≡ None
 none_is None e = refl
 none_is (Some x) e = cc
 

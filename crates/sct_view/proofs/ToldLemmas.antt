@@ -1,5 +1,5 @@
 -- What is told of a transfer by what is kept of it is what is told of it in the set. Proof plumbing.
-use Rattle.std.proofs.Common.{◌≡◌, ◌∙◌, refl, sym, ap, ℕ, ◌||◌, Bool, true, false, cond, not, Option, Some, None, List, [], ◌∷◌, ◌++◌, map, filter, append-nil, append_assoc}
+use Rattle.std.proofs.Common.{◌≡◌, ◌∙◌, refl, sym, ap, ℕ, ◌||◌, Bool, true, false, cond, not, Option, Some, None, List, [], ◌∷◌, ◌++◌, filter, append-nil, append_assoc}
 use Rattle.std.specs.List.{list_any, flat_map}
 use Rattle.std.specs.List.Sorted.{IsStrictlySortedBy}
 use Rattle.std.specs.Ordering.{eq_by_cmp}
@@ -7,7 +7,6 @@ use Rattle.std.specs.Cmp.Lexicographic.{nat_list_cmp_total}
 use Rattle.std.specs.FinSet.{nat_cmp-IsAntisymmetric, slice_cmp-IsAntisymmetric, IsAntisymmetric}
 use Rattle.std.proofs.lemmas.Grind.{flat_map-append}
 use Rattle.sct_reason.specs.declared.reasons.Reason.{Reason}
-use Rattle.sct_message.specs.Drafts.{cancellation_of}
 use Rattle.sct_message.specs.Order.{text_order}
 use Rattle.sct_message.specs.Sets.{MessageSet, in_order, is_contradicted}
 use Rattle.sct_message.specs.Transfers.{is_on, messages_on, asides_of, instruction_of}
@@ -15,10 +14,9 @@ use Rattle.sct_message.specs.declared.draft.Draft.{Draft}
 use Rattle.sct_message.specs.declared.keys.TransferKey.{TransferKey}
 use Rattle.sct_message.proofs.AscendingLemmas.{ascending-same, ascending-sorted}
 use Rattle.sct_case.specs.declared.finding.Finding.{Finding}
-use Rattle.sct_case.specs.Said.{recalls_in as named_in}
-use Rattle.sct_case.specs.Statuses.{AreOn, Standing, Contradicted, Unknown, Missing, Rejected, Returned, Accepted, Investigated, Pending, first_standing, known, confirmed, is_unknown, standing_of, transfer_status_of}
+use Rattle.sct_case.specs.Statuses.{Standing, Contradicted, Unknown, Missing, Rejected, Returned, Accepted, Investigated, Pending, first_standing, known, confirmed, is_unknown, standing_of, transfer_status_of}
 use Rattle.sct_case.specs.Told.{findings_of}
-use Rattle.sct_view.proofs.EvaluationLemmas.{on_filtered}
+use Rattle.sct_view.proofs.NamedLemmas.{none_named}
 use Rattle.sct_view.specs.Answers.{status_of, found_on, cxls_named_by, recalls_of}
 use Rattle.sct_view.specs.Kept.{Kept, no_messages, case_of, contradicted_on, instruction_in}
 use Rattle.sct_view.specs.Listed.{found_in, recalls_in, lines_of_recalls}
@@ -81,15 +79,7 @@ pub instruction_kept : (s : MessageSet) (t : TransferKey) (case : Kept) → case
 unfolding case_of
 instruction_kept s t case is = ap instruction_in is
 
--- the clean messages on a transfer are on it
-pub clean_on : (s : MessageSet) (t : TransferKey) → AreOn t (messages_on s t)
-clean_on s t = on_filtered t (filter (λ m. not (is_contradicted s m)) (in_order s))
-
 -- ---- the recalls that are named
-
--- the recalls that are named where a message is on a transfer
-abbrev cxls_where : Bool → Option (List ℕ) → List (List ℕ)
-cxls_where b o = map (λ named. named.cxl) (cond b (named_in o) [])
 
 -- a message that is not on a transfer names no recall of it
 named_where_on : (t : TransferKey) (ms : List Draft) → flat_map (cxls_named_by t) (filter (is_on t) ms) ≡ flat_map (cxls_named_by t) ms
@@ -97,7 +87,9 @@ named_where_on t [] = refl
 named_where_on t (m ∷ ms) =
     elim (is_on t m) as (λ b. is_on t m ≡ b → flat_map (cxls_named_by t) (cond b (m ∷ filter (is_on t) ms) (filter (is_on t) ms)) ≡ cxls_named_by t m ++ flat_map (cxls_named_by t) ms) [
       | true ↦ λ _. ap (λ (xs : List _). cxls_named_by t m ++ xs) (named_where_on t ms)
-      | false ↦ λ e. named_where_on t ms ∙ ap (λ (b : Bool). cxls_where b (cancellation_of m) ++ flat_map (cxls_named_by t) ms) (sym e)
+      | false ↦ λ e.
+          named_where_on t ms
+          ∙ ap (λ (cxls : List (List ℕ)). cxls ++ flat_map (cxls_named_by t) ms) (sym (none_named t m e))
     ] refl
 
 or_later : (a b c : Bool) → (a || (b || c)) ≡ ((a || b) || c)

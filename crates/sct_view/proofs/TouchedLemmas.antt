@@ -3,7 +3,6 @@ use Rattle.std.proofs.Common.{◌≡◌, ℕ, Bool, true, false, not, ◌&&◌, 
 use Rattle.std.specs.FinSet as set
 use Rattle.std.specs.FinSet.{contains-difference, contains-items, contains-union}
 use Rattle.std.specs.Prelude.{if◌then◌else◌, Contains}
-use Rattle.std.specs.Cmp.{eq_by_cmp_equiv}
 use Rattle.std.specs.Cmp.Lexicographic.{nat_list_cmp_total}
 use Rattle.std.specs.Ordering.{eq_by_cmp}
 use Rattle.std.specs.List.{flat_map, list_any}
@@ -11,8 +10,7 @@ use Rattle.std.proofs.lemmas.Bool.{false≢true}
 use Rattle.std.proofs.lemmas.List.Folds.{list_any-append}
 use Rattle.std.proofs.lemmas.Map.Views.{Contains-from_any}
 use Rattle.sct_message.specs.Ascending.{ascending}
-use Rattle.sct_message.specs.Drafts.{cancellation_of}
-use Rattle.sct_message.specs.Keys.{identity_of, transfer_of}
+use Rattle.sct_message.specs.Keys.{identity_of, transfers_of}
 use Rattle.sct_message.specs.Order.{identity_order, same_message, same_transfer, text_order}
 use Rattle.sct_message.specs.OrderLaws.{message_total, message_same, transfer_total, transfers_same}
 use Rattle.sct_message.specs.Sets.{MessageSet, in_order, is_contradicted}
@@ -20,8 +18,7 @@ use Rattle.sct_message.specs.Transfers.{asides_of, instruction_of, is_instructio
 use Rattle.sct_message.specs.declared.draft.Draft.{Draft}
 use Rattle.sct_message.specs.declared.keys.TransferKey.{TransferKey}
 use Rattle.sct_message.proofs.AscendingLemmas.{any_ascending, ascending-filter, ascending-same}
-use Rattle.sct_message.proofs.Members.{list_any-filter, list_any-found, list_any-map, tie_is, ties_itself}
-use Rattle.sct_case.specs.Said.{recalls_in}
+use Rattle.sct_message.proofs.Members.{list_any-filter, list_any-found, tie_is, ties_itself}
 use Rattle.sct_case.specs.Statuses.{recall_status_of, transfer_status_of}
 use Rattle.sct_case.specs.Told.{findings_of}
 use Rattle.sct_set.proofs.ContentsLemmas.{same_contents}
@@ -29,9 +26,10 @@ use Rattle.sct_view.specs.Answers.{cxls_named_by, found_on, recall_of, recalls_o
 use Rattle.sct_view.specs.Kept.{case_of, contradicted_on}
 use Rattle.sct_view.specs.Totals.{share, share_of}
 use Rattle.sct_view.specs.Touched.{IsToldAlike, UntouchedTransfersStay, fresh_of, is_newly_contradicted, touched_by}
-use Rattle.sct_view.proofs.BankLemmas.{any_flat_map}
+use Rattle.sct_view.proofs.NamedLemmas.{none_named}
+use Rattle.sct_view.proofs.PartLemmas.{any_flat_map}
 use Rattle.sct_view.proofs.EvaluationLemmas.{any_union, contradicted_in_union}
-use Rattle.sct_view.proofs.SetKeys.{same_transfer-is, texts_same}
+use Rattle.sct_view.proofs.SetKeys.{on_is, same_transfer-is, texts_same}
 
 -- ---- messages that pass a test, in order
 
@@ -97,8 +95,8 @@ pub record IsUntouched (s f : MessageSet) (t : TransferKey) : Type 0 where
   pub not_fresh : (m : Draft) → is_on t m ≡ true → set.contains f m ≡ false
   pub not_newly : (m : Draft) → is_on t m ≡ true → set.contains s m ≡ true → is_newly_contradicted s f m ≡ false
 
-swapped : (t : TransferKey) (m : Draft) → is_on t m ≡ true → same_transfer t (transfer_of m) ≡ true
-swapped t m on = (eq_by_cmp_equiv transfer_total).symm t (transfer_of m) ∙ on
+swapped : (t : TransferKey) (m : Draft) → is_on t m ≡ true → list_any (same_transfer t) (transfers_of m) ≡ true
+swapped t m on = sym (on_is t m) ∙ on
 
 not_held : (s : MessageSet) (p : Draft → Bool) (m : Draft) → list_any p (set.items s) ≡ false → p m ≡ true → set.contains s m ≡ false
 not_held s p m none passes =
@@ -114,18 +112,18 @@ and_left false b e h = refl
 pub untouched_where : (s f : MessageSet) (t : TransferKey) → list_any (same_transfer t) (touched_by s f) ≡ false → IsUntouched s f t
 unfolding touched_by
 untouched_where s f t h =
-    let fresh = map transfer_of (set.items f) in
-    let newly = map transfer_of (filter (is_newly_contradicted s f) (set.items s)) in
+    let fresh = flat_map transfers_of (set.items f) in
+    let newly = flat_map transfers_of (filter (is_newly_contradicted s f) (set.items s)) in
     let both = or_false (list_any (same_transfer t) fresh) (list_any (same_transfer t) newly)
     (sym (list_any-append (same_transfer t) fresh newly) ∙ sym (any_ascending transfer_total transfers_same (same_transfer t) (fresh ++ newly)) ∙ h) in
-    let no_fresh = sym (list_any-map (same_transfer t) transfer_of (set.items f)) ∙ both.0 in
-    let no_newly = sym (list_any-filter (λ m. same_transfer t (transfer_of m)) (is_newly_contradicted s f) (set.items s))
-    ∙ sym (list_any-map (same_transfer t) transfer_of (filter (is_newly_contradicted s f) (set.items s))) ∙ both.1 in
+    let no_fresh = sym (any_flat_map (same_transfer t) transfers_of (set.items f)) ∙ both.0 in
+    let no_newly = sym (list_any-filter (λ m. list_any (same_transfer t) (transfers_of m)) (is_newly_contradicted s f) (set.items s))
+    ∙ sym (any_flat_map (same_transfer t) transfers_of (filter (is_newly_contradicted s f) (set.items s))) ∙ both.1 in
     record {
-      not_fresh = λ m on. not_held f (λ m. same_transfer t (transfer_of m)) m no_fresh (swapped t m on);
+      not_fresh = λ m on. not_held f (λ m. list_any (same_transfer t) (transfers_of m)) m no_fresh (swapped t m on);
       not_newly = λ m on held.
-          and_left (is_newly_contradicted s f m) (same_transfer t (transfer_of m))
-          (none_found (λ m. is_newly_contradicted s f m && same_transfer t (transfer_of m)) s m no_newly held) (swapped t m on);
+          and_left (is_newly_contradicted s f m) (list_any (same_transfer t) (transfers_of m))
+          (none_found (λ m. is_newly_contradicted s f m && list_any (same_transfer t) (transfers_of m)) s m no_newly held) (swapped t m on);
     }
 
 agree : (later before other : Bool) → later ≡ (before || other) → (later && not before) ≡ false → later ≡ before
@@ -209,7 +207,7 @@ module _ (s f : MessageSet) (t : TransferKey) (untouched : IsUntouched s f t) wh
   not_named p m held =
       elim (is_on t m) as (λ b. is_on t m ≡ b → list_any p (cxls_named_by t m) ≡ false) [
         | true ↦ λ on. absurd (false≢true (sym (untouched.not_fresh m on) ∙ held))
-        | false ↦ λ off. ap (λ b. list_any p (map (λ named. named.cxl) (if b then recalls_in (cancellation_of m) else []))) off
+        | false ↦ λ off. ap (λ (cxls : List (List ℕ)). list_any p cxls) (none_named t m off)
       ] refl
 
   named_alike : (q : List ℕ) → list_any (eq_by_cmp text_order q) (flat_map (cxls_named_by t) (in_order (set.union s f)))

@@ -1,9 +1,9 @@
 -- What a batch changes in the tables of a view, for those who prove it: for each transfer that it touches, what is to be
 -- kept of it from then on.
-use Rattle.std.specs.Prelude.{ℕ, Bool, List, [], ◌∷◌, ◌&&◌, not, map, filter, if◌then◌else◌}
+use Rattle.std.specs.Prelude.{ℕ, Bool, List, [], ◌∷◌, ◌++◌, ◌&&◌, not, map, filter, flat_map, if◌then◌else◌}
 use Rattle.std.specs.List.{list_all, list_any}
 use Rattle.indexmap.specs.IndexMap.{IndexMap}
-use Rattle.sct_message.specs.Keys.{identity_of, transfer_of}
+use Rattle.sct_message.specs.Keys.{identity_of, transfers_of}
 use Rattle.sct_message.specs.Order.{same_identity}
 use Rattle.sct_message.specs.Sets.{MessageSet, in_order, is_contradicted}
 use Rattle.sct_message.specs.declared.draft.Draft.{Draft}
@@ -36,9 +36,9 @@ abbrev pub newly_contradicted_by : MessageSet → Draft → List Draft
 newly_contradicted_by held m =
     filter (λ other. same_identity (identity_of other) (identity_of m) && not (is_contradicted held other)) (in_order held)
 
--- the transfers that one fresh message touches: its own, and that of the message which it contradicts
+-- the transfers that one fresh message touches: its own, and those of the message which it contradicts
 abbrev pub touched_by_one : MessageSet → Draft → List TransferKey
-touched_by_one held m = transfer_of m ∷ map transfer_of (newly_contradicted_by held m)
+touched_by_one held m = transfers_of m ++ flat_map transfers_of (newly_contradicted_by held m)
 
 -- the tables have a place for each planned case
 abbrev pub is_ready_for : {Y Z : Type 0} → IndexMap TransferKey Case Y → IndexMap (List ℕ) Totals Z → Planned → Bool

@@ -1,9 +1,10 @@
 -- What is listed out of the tables of a view, for those who prove it.
-use Rattle.std.specs.Prelude.{ℕ, ◌==◌, ◌&&◌, ◌++◌, Bool, not, List, [], length, map, filter}
+use Rattle.std.specs.Prelude.{ℕ, ◌==◌, ◌&&◌, ◌++◌, Bool, not, List, [], ◌∷◌, length, map, filter, if◌then◌else◌}
 use Rattle.std.specs.List.{flat_map}
 use Rattle.sct_message.specs.Ascending.{ascending}
-use Rattle.sct_message.specs.Order.{text_order}
+use Rattle.sct_message.specs.Order.{same_transfer, text_order}
 use Rattle.sct_message.specs.Sets.{MessageSet}
+use Rattle.sct_message.specs.declared.keys.RecallKey.{RecallKey}
 use Rattle.sct_message.specs.declared.keys.TransferKey.{TransferKey}
 use Rattle.sct_case.specs.declared.finding.Finding.{Finding}
 use Rattle.sct_case.specs.Statuses.{Standing, Contradicted}
@@ -38,6 +39,10 @@ found_in other = []
 -- the recalls of a transfer that a message kept of it names, contradicted messages too, each once, ascending
 abbrev pub recalls_in : TransferKey → Kept → List (List ℕ)
 recalls_in transfer case = ascending text_order (flat_map (cxls_named_by transfer) (case.clean ++ case.contradicted))
+
+-- the identification of a recall, where it is one of the transfer
+abbrev pub cxls_in : TransferKey → RecallKey → List (List ℕ)
+cxls_in transfer recall = if same_transfer recall.transfer transfer then recall.cxl ∷ [] else []
 
 -- each finding of a transfer beside its key
 abbrev pub beside : TransferKey → List Finding → List (TransferKey × Finding)

@@ -1,9 +1,9 @@
 -- Which transfers a batch touches, for auditors: those of its fresh messages, and those of the messages held before whose
 -- identity the fresh ones contradict. All other transfers stay as they were: a law says so.
 use Rattle.std.specs.FinSet as set
-use Rattle.std.specs.Prelude.{◌≡◌, ◌≤◌, ◌*◌, ◌&&◌, ◌++◌, not, Bool, ℕ, List, length, map, filter, Contains}
+use Rattle.std.specs.Prelude.{◌≡◌, ◌≤◌, ◌*◌, ◌&&◌, ◌++◌, not, true, Bool, ℕ, List, length, filter, flat_map, Contains}
 use Rattle.sct_message.specs.Ascending.{ascending}
-use Rattle.sct_message.specs.Keys.{transfer_of}
+use Rattle.sct_message.specs.Keys.{transfers_of}
 use Rattle.sct_message.specs.Order.{transfer_order}
 use Rattle.sct_message.specs.Sets.{MessageSet, is_contradicted}
 use Rattle.sct_message.specs.Transfers.{asides_of, instruction_of, messages_on}
@@ -20,7 +20,8 @@ is_newly_contradicted held fresh m = is_contradicted (set.union held fresh) m &&
 unfoldable pub touched_by : MessageSet → MessageSet → List TransferKey
 touched_by held fresh =
     ascending transfer_order
-    (map transfer_of (set.items fresh) ++ map transfer_of (filter (is_newly_contradicted held fresh) (set.items held)))
+    (flat_map transfers_of (set.items fresh)
+    ++ flat_map transfers_of (filter (is_newly_contradicted held fresh) (set.items held)))
 
 -- the messages of a batch that are not held
 abbrev pub fresh_of : MessageSet → MessageSet → MessageSet
@@ -48,7 +49,16 @@ UntouchedTransfersStay = (held batch : MessageSet) (transfer : TransferKey)
     → (Contains (touched_by held (fresh_of held batch)) transfer → ⊥)
     → IsToldAlike held (set.union held batch) transfer
 
--- a batch touches at most twice as many transfers as it has fresh messages
+-- the transfers that a message is on, each once, ascending
+abbrev pub keys_in : Draft → List TransferKey
+keys_in m = ascending transfer_order (transfers_of m)
+
+-- each message of the set is on at most so many transfers
+abbrev pub AreOnAtMost : ℕ → MessageSet → Type 0
+AreOnAtMost most held = (m : Draft) → set.contains held m ≡ true → length (keys_in m) ≤ most
+
+-- where each message that is held or in the batch is on at most so many transfers, the batch touches at most twice as many
+-- for each of its fresh messages
 abbrev pub BatchesTouchFew : Type 0
-BatchesTouchFew = (held batch : MessageSet)
-    → length (touched_by held (fresh_of held batch)) ≤ 2 * set.len (fresh_of held batch)
+BatchesTouchFew = (most : ℕ) (held batch : MessageSet) → AreOnAtMost most held → AreOnAtMost most batch
+    → length (touched_by held (fresh_of held batch)) ≤ 2 * most * set.len (fresh_of held batch)

@@ -77,7 +77,7 @@ pub(crate) fn evaluate(
     let sorted = in_order(alloc, messages)?;
     let parted = part(alloc, held, fresh, &sorted)?;
     let asides = identities(alloc, &parted.contradicted)?;
-    let status = transfer_status(alloc, &parted.clean, &asides)?;
+    let status = transfer_status(alloc, transfer, &parted.clean, &asides)?;
     Ok(Case {
         clean: parted.clean,
         contradicted: parted.contradicted,

@@ -1,13 +1,15 @@
 //! Messages in order, and filed by transfer.
 
-ghost use Rattle.std.specs.Prelude.{◌≡◌, List, map, filter, IfOk};
+ghost use Rattle.std.specs.Prelude.{◌≡◌, ◌≤◌, ◌+◌, ◌++◌, ◌∷◌, [], List, length, map, filter, IfOk, OnOk};
+ghost use Rattle.std.specs.Arc.{arc_value};
+ghost use Rattle.std.specs.List.{flat_map};
 ghost use Rattle.sct_message.specs.Ascending.{ascending};
-ghost use Rattle.sct_message.specs.Keys.{identity_of, transfer_of};
-ghost use Rattle.sct_message.specs.Order.{message_order, identity_order, transfer_order, same_transfer};
+ghost use Rattle.sct_message.specs.Keys.{identity_of, transfers_of};
+ghost use Rattle.sct_message.specs.Order.{message_order, identity_order, transfer_order};
 ghost use Rattle.sct_message.specs.Sets.{messages_in};
 ghost use Rattle.sct_message.specs.Transfers.{is_on};
 ghost use Rattle.sct_message.specs.declared.draft.Draft.{Draft as DraftOf};
-ghost use Rattle.sct_set.specs.Drafts.{IsIndexBy};
+ghost use Rattle.sct_view.specs.Filed.{HasThose, IsFiledBy};
 
 use indexmap::IndexMap;
 use rayon::prelude::*;
@@ -52,46 +54,76 @@ pub(crate) fn identities(
     Ok(found)
 }
 
-/// The messages filed by transfer, each list in their order.
+// Files a message under each transfer that it is on.
+fn file_each(
+    alloc: Global,
+    index: &mut IndexMap<TransferKey, Vec<Arc<Message>>>,
+    message: &Arc<Message>,
+) -> Result<(), AllocError>
+    ensures { OnOk result ((ms : List DraftOf) → IsFiledBy index.old ms
+        → IsFiledBy index.new (ms ++ arc_value message.now ∷ [])) }
+{
+    for i in 0..message.transfer_count() {
+        let Some(transfer) = message.transfer(i) else {
+            return Ok(());
+        };
+        file(alloc, index, transfer, message.clone()?)?;
+    }
+    Ok(())
+}
+
+/// The messages filed by transfer: each under every transfer that it is on.
 pub(crate) fn by_transfer(
     alloc: Global,
     messages: &[Arc<Message>],
 ) -> Result<IndexMap<TransferKey, Vec<Arc<Message>>>, AllocError>
-    ensures { IfOk result (λ index. IsIndexBy transfer_of same_transfer index (messages_in messages.now)) }
+    ensures { IfOk result (λ index. IsFiledBy index (messages_in messages.now)) }
 {
-    keys_are_ordered();
     let mut index = IndexMap::new(alloc);
     for message in messages {
-        file(alloc, &mut index, message.transfer(), message.clone()?)?;
+        file_each(alloc, &mut index, message)?;
     }
     Ok(index)
 }
 
-/// The messages of a transfer.
+/// The messages that are filed under a transfer.
 pub(crate) fn on_transfer<'a>(
     index: &'a IndexMap<TransferKey, Vec<Arc<Message>>>,
     transfer: &TransferKey,
 ) -> &'a [Arc<Message>]
-    ensures { (ms : List DraftOf) → IsIndexBy transfer_of same_transfer index.now ms
-        → messages_in result.now ≡ filter (is_on transfer.now) ms }
+    ensures { (ms : List DraftOf) → IsFiledBy index.now ms
+        → HasThose (messages_in result.now) (filter (is_on transfer.now) ms) }
 {
-    keys_are_ordered();
     match index.get(transfer) {
         Some(messages) => messages,
         None => &[],
     }
 }
 
-// The transfer of each message.
-fn transfer_of_each(
+/// Appends the transfers that a message is on.
+pub(crate) fn push_keys(found: &mut Vec<TransferKey>, message: &Message) -> Result<(), AllocError>
+    ensures keys { OnOk result (found.new.items ≡ found.old.items ++ transfers_of message.now) }
+    ensures few { OnOk result (length found.new.items ≤ length found.old.items + 100) }
+{
+    for i in 0..message.transfer_count() {
+        let Some(transfer) = message.transfer(i) else {
+            return Ok(());
+        };
+        found.push(transfer)?;
+    }
+    Ok(())
+}
+
+// The transfers of each message.
+fn transfers_of_each(
     alloc: Global,
     messages: &[Arc<Message>],
 ) -> Result<Vec<TransferKey>, AllocError>
-    ensures { IfOk result (λ found. found.items ≡ map transfer_of (messages_in messages.now)) }
+    ensures { IfOk result (λ found. found.items ≡ flat_map transfers_of (messages_in messages.now)) }
 {
     let mut found = Vec::with_capacity(alloc, messages.len())?;
     for message in messages {
-        found.push(message.transfer())?;
+        push_keys(&mut found, message)?;
     }
     Ok(found)
 }
@@ -102,9 +134,9 @@ pub(crate) fn transfers(
     messages: &[Arc<Message>],
 ) -> Result<Vec<TransferKey>, AllocError>
     ensures { IfOk result (λ found.
-        found.items ≡ ascending transfer_order (map transfer_of (messages_in messages.now))) }
+        found.items ≡ ascending transfer_order (flat_map transfers_of (messages_in messages.now))) }
 {
-    let mut found = transfer_of_each(alloc, messages)?;
+    let mut found = transfers_of_each(alloc, messages)?;
     found.sort()?;
     found.dedup();
     Ok(found)
@@ -117,9 +149,9 @@ pub(crate) fn transfers_in_parts<R: Threads + Sync>(
     messages: &[Arc<Message>],
 ) -> Result<Vec<TransferKey>, AllocError>
     ensures { IfOk result (λ found.
-        found.items ≡ ascending transfer_order (map transfer_of (messages_in messages.now))) }
+        found.items ≡ ascending transfer_order (flat_map transfers_of (messages_in messages.now))) }
 {
-    let mut found = transfer_of_each(alloc, messages)?;
+    let mut found = transfers_of_each(alloc, messages)?;
     par_sort(rt, alloc, &mut found)?;
     found.dedup();
     Ok(found)

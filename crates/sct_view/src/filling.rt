@@ -42,7 +42,7 @@ pub(crate) fn place(
     let Planned { transfer, case } = planned;
     open_total(&mut tables.totals, &transfer.debtor_agent)?;
     open_beneficiary(&mut tables.totals, &case)?;
-    let _messages = archive.messages().len();
+    let _places = tables.cases.len();
     amounts_are_small(&case);
     take_former(&tables.cases, &mut tables.totals, &transfer);
     put_shares(&mut tables.totals, &transfer, &case);

@@ -33,7 +33,7 @@ pub fn untouched_transfers_stay()
     ensures { UntouchedTransfersStay }
 {}
 
-/// A batch touches at most twice as many transfers as it has fresh messages.
+/// Where each message is on at most so many transfers, a batch touches at most twice as many for each fresh message.
 pub fn batches_touch_few()
     ensures { BatchesTouchFew }
 {}

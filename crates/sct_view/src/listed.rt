@@ -3,13 +3,12 @@ ghost use Rattle.std.specs.Prelude.{◌≡◌, ◌++◌, ◌∷◌, ◌||◌, []
 ghost use Rattle.std.specs.List.{flat_map};
 ghost use Rattle.std.specs.Option.{option_copied};
 ghost use Rattle.indexmap.specs.IndexMap.{IsUnique};
-ghost use Rattle.sct_message.specs.Order.{same_transfer};
 ghost use Rattle.sct_message.specs.Sets.{messages_in};
 ghost use Rattle.sct_message.specs.Transfers.{keys_of, instruction_of};
 ghost use Rattle.sct_message.specs.declared.keys.TransferKey.{TransferKey as TransferOf};
 ghost use Rattle.sct_view.specs.Answers.{cxls_named_by, recalls_of, all_findings_of, transfers_of, is_originator, is_beneficiary, found_on};
 ghost use Rattle.sct_view.specs.Kept.{kept_in, kept_or_none, same_key, case_at, case_of, instruction_in};
-ghost use Rattle.sct_view.specs.Listed.{has_messages, keys_with, recalls_in, beside};
+ghost use Rattle.sct_view.specs.Listed.{beside, cxls_in, has_messages, keys_with, recalls_in};
 
 use crate::case::Case;
 use crate::found::{findings_in, push_beside};
@@ -39,8 +38,7 @@ fn push_where_of(
     transfer: &TransferKey,
     recall: RecallKey,
 ) -> Result<(), AllocError>
-    ensures { OnOk result (found.new.items
-        ≡ found.old.items ++ (if same_transfer recall.transfer transfer.now then recall.cxl ∷ [] else [])) }
+    ensures { OnOk result (found.new.items ≡ found.old.items ++ cxls_in transfer.now recall) }
 {
     keys_are_ordered();
     if recall.transfer == *transfer {
@@ -49,7 +47,7 @@ fn push_where_of(
     Ok(())
 }
 
-// Adds the recall of a transfer that a message names.
+// Adds the recalls of a transfer that a message names.
 fn push_named(
     found: &mut Vec<Id35>,
     transfer: &TransferKey,
@@ -57,13 +55,13 @@ fn push_named(
 ) -> Result<(), AllocError>
     ensures { OnOk result (found.new.items ≡ found.old.items ++ cxls_named_by transfer.now message.now) }
 {
-    match message.recall() {
-        Some(recall) => {
-            push_where_of(found, transfer, recall)?;
-            Ok(())
-        }
-        None => Ok(()),
+    for i in 0..message.transfer_count() {
+        let Some(recall) = message.recall(i) else {
+            return Ok(());
+        };
+        push_where_of(found, transfer, recall)?;
     }
+    Ok(())
 }
 
 // Adds the recalls of a transfer that some messages name.

@@ -2,16 +2,16 @@
 
 ghost use Rattle.std.specs.Prelude.{◌≡◌, ◌<◌, map, IfOk};
 ghost use Rattle.std.specs.FinSet as set;
+ghost use Rattle.std.specs.List.{flat_map};
 ghost use Rattle.std.specs.Thread.{IsSync};
 ghost use Rattle.sct_message.specs.Ascending.{ascending};
-ghost use Rattle.sct_message.specs.Keys.{transfer_of};
-ghost use Rattle.sct_message.specs.Order.{same_transfer, transfer_order};
+ghost use Rattle.sct_message.specs.Keys.{transfers_of};
+ghost use Rattle.sct_message.specs.Order.{transfer_order};
 ghost use Rattle.sct_message.specs.Sets.{messages_in};
 ghost use Rattle.sct_message.specs.Transfers.{keys_of};
 ghost use Rattle.sct_set.specs.Contents.{contents_of};
-ghost use Rattle.sct_set.specs.Drafts.{IsIndexBy};
 ghost use Rattle.sct_view.specs.Changes.{change_in, changes_of};
-ghost use Rattle.sct_view.specs.Filed.{IsFiled};
+ghost use Rattle.sct_view.specs.Filed.{IsFiled, IsFiledBy};
 ghost use Rattle.sct_view.specs.Kept.{case_of, IsViewOf};
 
 use crate::case::Planned;
@@ -135,21 +135,21 @@ fn sort_by_transfer<R: Threads + Sync>(
     alloc: Global,
     messages: &[Arc<Message>],
 ) -> Result<Sorted, AllocError>
-    ensures index { IfOk result (λ sorted. IsIndexBy transfer_of same_transfer sorted.index
+    ensures index { IfOk result (λ sorted. IsFiledBy sorted.index
         (messages_in messages.now)) }
     ensures transfers { IfOk result (λ sorted.
-        sorted.transfers.items ≡ ascending transfer_order (map transfer_of (messages_in messages.now))) }
+        sorted.transfers.items ≡ ascending transfer_order (flat_map transfers_of (messages_in messages.now))) }
 {
     let (filed, listed) = join(
         rt,
         || -> Result<IndexMap<TransferKey, Vec<Arc<Message>>>, AllocError>
-            ensures { IfOk result (λ index. IsIndexBy transfer_of same_transfer index
+            ensures { IfOk result (λ index. IsFiledBy index
                 (messages_in messages.entry.now)) }
         { by_transfer(alloc, messages) },
         || -> Result<Vec<TransferKey>, AllocError>
             requires { IsSync R.row }
             ensures { IfOk result (λ found.
-                found.items ≡ ascending transfer_order (map transfer_of (messages_in messages.entry.now))) }
+                found.items ≡ ascending transfer_order (flat_map transfers_of (messages_in messages.entry.now))) }
         { transfers_in_parts(rt, alloc, messages) },
     );
     let index = filed?;
@@ -183,10 +183,10 @@ fn gather<R: Threads + Sync>(
 ) -> Result<Gathered, CaseFault>
     ensures archive { IfOk result (λ gathered. gathered.archive ≡ contents_of (messages_in messages.now)) }
     ensures index { IfOk result (λ gathered.
-        IsIndexBy transfer_of same_transfer gathered.sorted.index (messages_in messages.now)) }
+        IsFiledBy gathered.sorted.index (messages_in messages.now)) }
     ensures transfers { IfOk result (λ gathered.
         gathered.sorted.transfers.items
-        ≡ ascending transfer_order (map transfer_of (messages_in messages.now))) }
+        ≡ ascending transfer_order (flat_map transfers_of (messages_in messages.now))) }
 {
     let (held, sorted) = join(
         rt,
@@ -196,9 +196,9 @@ fn gather<R: Threads + Sync>(
         || -> Result<Sorted, AllocError>
             requires { IsSync R.row }
             ensures { IfOk result (λ sorted.
-                IsIndexBy transfer_of same_transfer sorted.index (messages_in messages.entry.now)
+                IsFiledBy sorted.index (messages_in messages.entry.now)
                 × (sorted.transfers.items
-                ≡ ascending transfer_order (map transfer_of (messages_in messages.entry.now)))) }
+                ≡ ascending transfer_order (flat_map transfers_of (messages_in messages.entry.now)))) }
         { sort_by_transfer(rt, alloc, messages) },
     );
     let archive = held?;

@@ -1,6 +1,6 @@
 //! What a batch brings to a set of messages: which of its messages are fresh, and which transfers these touch.
 
-ghost use Rattle.std.specs.Prelude.{◌≡◌, ◌≤◌, ◌*◌, ◌++◌, true, false, length, if◌then◌else◌, IfOk, OnOk};
+ghost use Rattle.std.specs.Prelude.{◌≡◌, ◌≤◌, ◌+◌, ◌*◌, ◌++◌, true, false, length, if◌then◌else◌, IfOk, OnOk};
 ghost use Rattle.std.specs.Arc.{arc_value};
 ghost use Rattle.std.specs.FinSet as set;
 ghost use Rattle.std.specs.List.{flat_map};
@@ -12,6 +12,7 @@ ghost use Rattle.sct_set.specs.Contents.{contents_of};
 ghost use Rattle.sct_view.specs.Changes.{touched_by_one};
 ghost use Rattle.sct_view.specs.Touched.{fresh_of, touched_by};
 
+use crate::filed::push_keys;
 use sct_case::CaseFault;
 use sct_message::{Message, TransferKey};
 use sct_set::Archive;
@@ -47,19 +48,20 @@ pub(crate) fn fresh_among(
     Ok(fresh)
 }
 
-/// Appends the transfers that one fresh message touches: its own, and that of the message which it contradicts.
+/// Appends the transfers that one fresh message touches: its own, and those of the message which it contradicts.
 fn push_touched(
     held: &Archive,
     found: &mut Vec<TransferKey>,
     message: &Message,
 ) -> Result<(), AllocError>
-    ensures { OnOk result (found.new.items ≡ found.old.items ++ touched_by_one held.now message.now) }
+    ensures touched { OnOk result (found.new.items ≡ found.old.items ++ touched_by_one held.now message.now) }
+    ensures few { OnOk result (length found.new.items ≤ length found.old.items + 200) }
 {
-    found.push(message.transfer())?;
+    push_keys(found, message)?;
     let Some(other) = held.undisputed(&message.identity()) else {
         return Ok(());
     };
-    found.push(other.transfer())?;
+    push_keys(found, other)?;
     Ok(())
 }
 
@@ -69,7 +71,9 @@ fn touched_one_by_one(
     held: &Archive,
     fresh: &[Arc<Message>],
 ) -> Result<Vec<TransferKey>, AllocError>
-    ensures { IfOk result (λ found. found.items ≡ flat_map (touched_by_one held.now) (messages_in fresh.now)) }
+    ensures touched { IfOk result (λ found. found.items
+        ≡ flat_map (touched_by_one held.now) (messages_in fresh.now)) }
+    ensures few { IfOk result (λ found. length found.items ≤ 200 * length fresh.now) }
 {
     let mut found = Vec::new(alloc);
     for message in fresh {
@@ -86,7 +90,7 @@ pub(crate) fn touched(
 ) -> Result<Vec<TransferKey>, AllocError>
     requires fresh { (m : DraftOf) → set.contains fresh.now m ≡ true → set.contains held.now m ≡ false }
     ensures all { IfOk result (λ found. found.items ≡ touched_by held.now fresh.now) }
-    ensures few { IfOk result (λ found. length found.items ≤ 2 * set.len fresh.now) }
+    ensures few { IfOk result (λ found. length found.items ≤ 200 * set.len fresh.now) }
 {
     let mut found = touched_one_by_one(alloc, held, fresh.messages())?;
     found.sort()?;

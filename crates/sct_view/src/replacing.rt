@@ -47,7 +47,8 @@ pub(crate) fn amounts_are_small(case: &Case)
 }
 
 /// Puts a case in the place of its transfer's: the shares of the old one are taken out of the totals of its banks, and those
-/// of the new one put in. The transfer is one of the archive's, which has fewer than 2^64.
+/// of the new one put in. The transfer is one of the archive's. The totals fit, since nothing is kept of a transfer that has
+/// no place, and there are fewer than 2^64 places.
 pub(crate) fn commit_one(
     archive: &Archive,
     cases: &mut IndexMap<TransferKey, Case>,
@@ -69,7 +70,7 @@ pub(crate) fn commit_one(
         transfer,
         case: anew,
     } = planned;
-    let _messages = archive.messages().len();
+    let _places = cases.len();
     amounts_are_small(&anew);
     if let Some(case) = cases.get(&transfer) {
         take_shares(totals, &transfer, case);

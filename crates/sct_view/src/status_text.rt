@@ -38,7 +38,7 @@ fn recall_in(archive: &Archive, transfer: &TransferKey, case: &Case, cxl: &Id35)
     requires { kept_in case.now ≡ case_of archive.now transfer.now }
     ensures { result ≡ recall_of archive.now (record { transfer = transfer.now; cxl = cxl.now }) }
 {
-    recall_status_by(&case.status, &case.clean, cxl)
+    recall_status_by(&case.status, transfer, &case.clean, cxl)
 }
 
 // The R line of each of some recalls of a transfer, by what is kept of it.

@@ -11,7 +11,7 @@ ghost use Rattle.sct_set.specs.Contents.{contents_of};
 ghost use Rattle.sct_set.specs.Pieces.{joined};
 ghost use Rattle.sct_view.specs.Answers.{recall_of, status_of};
 ghost use Rattle.sct_view.specs.Totals.{totals_of};
-ghost use Rattle.sct_view.specs.Touched.{touched_in};
+ghost use Rattle.sct_view.specs.Touched.{AreOnAtMost, touched_in};
 
 use crate::case::Case;
 use crate::commit::commit_all;
@@ -134,7 +134,9 @@ impl View {
         ensures fresh { IfOk result (λ applied. set.len self.new ≡ set.len self.old + applied.fresh) }
         ensures touched { IfOk result (λ applied. applied.touched
             ≡ length (touched_in self.old (contents_of (messages_in messages.now)))) }
-        ensures few { IfOk result (λ applied. applied.touched ≤ 2 * applied.fresh) }
+        ensures few { IfOk result (λ applied. applied.touched ≤ 200 * applied.fresh) }
+        ensures few_of_one { IfOk result (λ applied. AreOnAtMost 1 self.old
+            → AreOnAtMost 1 (contents_of (messages_in messages.now)) → applied.touched ≤ 2 * applied.fresh) }
         ensures err { OnErr result (self.new ≡ self.old) }
     {
         let plan = replan(self.alloc, &self.archive, &self.cases, messages)?;
@@ -171,7 +173,9 @@ impl View {
         ensures { result ≡ recall_of self.now recall.now }
     {
         match self.cases.get(&recall.transfer) {
-            Some(case) => recall_status_by(&case.status, &case.clean, &recall.cxl),
+            Some(case) => {
+                recall_status_by(&case.status, &recall.transfer, &case.clean, &recall.cxl)
+            }
             None => RecallStatus::Unknown,
         }
     }

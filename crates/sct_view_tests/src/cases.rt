@@ -1,11 +1,11 @@
-//! Worked examples of one transfer, with ample memory.
+//! Worked examples of a transfer, with ample memory.
 
 mod scenes;
 
-use scenes::{Row, asides, messages};
+use scenes::{Row, asides, messages, transfer};
 use sct_case::*;
 use sct_element::Id35;
-use sct_message::Message;
+use sct_message::{Message, TransferKey};
 use std::alloc::Global;
 use std::process::Abort;
 use std::sync::Arc;
@@ -78,39 +78,46 @@ fn assert_findings(rt: &impl Abort, found: &[Finding], wanted: &[(&str, &str)]) 
     }
 }
 
-/// Whether these messages and asides give these findings, and so a contradicted transfer and recall.
-fn assert_found(rt: &impl Abort, alloc: Global, case: &Contradicted) -> Result<(), Fail> {
-    let clean = messages(alloc, case.rows)?;
+/// Whether these messages and asides on a transfer give these findings, and so a contradicted transfer and recall.
+fn assert_found(rt: &impl Abort, alloc: Global, tx: &str, case: &Contradicted) -> Result<(), Fail> {
+    let transfer = transfer(tx)?;
+    let clean = messages(alloc, tx, case.rows)?;
     let asides = asides(alloc, case.asides)?;
-    assert_findings(rt, &findings(alloc, &clean, &asides)?, case.found);
-    let status = transfer_status(alloc, &clean, &asides)?;
+    assert_findings(
+        rt,
+        &findings(alloc, &transfer, &clean, &asides)?,
+        case.found,
+    );
+    let status = transfer_status(alloc, &transfer, &clean, &asides)?;
     assert_eq!(rt; word(&status), "CONTRADICTED");
-    let recall = recall_status(alloc, &clean, &asides, &Id35::read("R9")?)?;
+    let recall = recall_status(alloc, &transfer, &clean, &asides, &Id35::read("R9")?)?;
     assert_eq!(rt; recall_word(&recall), "CONTRADICTED");
     Ok(())
 }
 
-/// Whether the recall of these messages stands so.
+/// Whether the recall of a transfer stands so by these messages.
 fn assert_recall(
     rt: &impl Abort,
     alloc: Global,
+    transfer: &TransferKey,
     clean: &[Arc<Message>],
     wanted: &(&str, &str, u64, &str),
 ) -> Result<(), Fail> {
-    let status = recall_status(alloc, clean, &[], &Id35::read(wanted.0)?)?;
+    let status = recall_status(alloc, transfer, clean, &[], &Id35::read(wanted.0)?)?;
     assert_eq!(rt; recall_word(&status), wanted.1);
     assert_eq!(rt; recall_argument(&status), (wanted.2, wanted.3));
     Ok(())
 }
 
-/// Whether the transfer of these messages and its recalls stand so.
-fn assert_standing(rt: &impl Abort, alloc: Global, case: &Standing) -> Result<(), Fail> {
-    let clean = messages(alloc, case.rows)?;
-    let status = transfer_status(alloc, &clean, &[])?;
+/// Whether a transfer and its recalls stand so by these messages.
+fn assert_standing(rt: &impl Abort, alloc: Global, tx: &str, case: &Standing) -> Result<(), Fail> {
+    let transfer = transfer(tx)?;
+    let clean = messages(alloc, tx, case.rows)?;
+    let status = transfer_status(alloc, &transfer, &clean, &[])?;
     assert_eq!(rt; word(&status), case.status.0);
     assert_eq!(rt; argument(&status), (case.status.1, case.status.2));
     for wanted in case.recalls {
-        assert_recall(rt, alloc, &clean, wanted)?;
+        assert_recall(rt, alloc, &transfer, &clean, wanted)?;
     }
     Ok(())
 }
@@ -454,10 +461,244 @@ static STANDING: [Standing; 12] = [
     },
 ];
 
+/// A recall message of two transfers, and one of two recalls of one transfer.
+const PAIR: Row = Row::RecalledAll(
+    "K1",
+    &[
+        ("T1", "R1", "100.00", "FRAD"),
+        ("T2", "R2", "49.00", "DUPL"),
+    ],
+);
+
+const TWICE: Row = Row::RecalledAll(
+    "K1",
+    &[
+        ("T1", "R1", "100.00", "FRAD"),
+        ("T1", "R2", "100.00", "DUPL"),
+    ],
+);
+
+/// What contradicts itself on this transfer, where recall messages have two transactions.
+static CONTRADICTED_BY_LISTS: [(&str, Contradicted); 6] = [
+    // the amount differs in the transaction on this transfer, not in that on the other one
+    (
+        "T2",
+        Contradicted {
+            rows: &[Row::Instructed("M2", "50.00"), Row::Accepted("C2"), PAIR],
+            asides: &[],
+            found: &[("AmountDiffers", "")],
+        },
+    ),
+    // a differing amount in the first of two on one transfer, and in the second
+    (
+        "T1",
+        Contradicted {
+            rows: &[
+                Row::Instructed("M1", "100.00"),
+                Row::RecalledAll(
+                    "K1",
+                    &[
+                        ("T1", "R1", "90.00", "FRAD"),
+                        ("T1", "R2", "100.00", "DUPL"),
+                    ],
+                ),
+            ],
+            asides: &[],
+            found: &[("AmountDiffers", "")],
+        },
+    ),
+    (
+        "T1",
+        Contradicted {
+            rows: &[
+                Row::Instructed("M1", "100.00"),
+                Row::RecalledAll(
+                    "K1",
+                    &[
+                        ("T1", "R1", "100.00", "FRAD"),
+                        ("T1", "R2", "90.00", "DUPL"),
+                    ],
+                ),
+            ],
+            asides: &[],
+            found: &[("AmountDiffers", "")],
+        },
+    ),
+    // differing recalls: the second of two of each message
+    (
+        "T1",
+        Contradicted {
+            rows: &[
+                TWICE,
+                Row::RecalledAll(
+                    "K2",
+                    &[
+                        ("T1", "R1", "100.00", "FRAD"),
+                        ("T1", "R2", "100.00", "CUST"),
+                    ],
+                ),
+            ],
+            asides: &[],
+            found: &[("RecallsDiffer", "R2")],
+        },
+    ),
+    // differing recalls, beside those of another transfer that differ too
+    (
+        "T1",
+        Contradicted {
+            rows: &[
+                PAIR,
+                Row::RecalledAll(
+                    "K2",
+                    &[
+                        ("T2", "R2", "50.00", "FRAD"),
+                        ("T1", "R1", "100.00", "DUPL"),
+                    ],
+                ),
+            ],
+            asides: &[],
+            found: &[("RecallsDiffer", "R1")],
+        },
+    ),
+    // both answers to the second of two recalls
+    (
+        "T1",
+        Contradicted {
+            rows: &[
+                Row::Instructed("M1", "100.00"),
+                Row::Accepted("C1"),
+                TWICE,
+                Row::Refused("N1", "R1", "CUST"),
+                Row::Refused("N2", "R2", "LEGL"),
+                Row::Returned("P1", "XP1", "R2", "100.00", "99.00"),
+            ],
+            asides: &[],
+            found: &[("BothAnswers", "R2")],
+        },
+    ),
+];
+
+/// Where this transfer and its recalls stand, where recall messages have two transactions.
+static STANDING_BY_LISTS: [(&str, Standing); 8] = [
+    // one recall of each of two transfers: that of the other one is none of this
+    (
+        "T1",
+        Standing {
+            rows: &[Row::Instructed("M1", "100.00"), Row::Accepted("C1"), PAIR],
+            status: ("ACCEPTED", 0, ""),
+            recalls: &[("R1", "OPEN", 0, ""), ("R2", "UNKNOWN", 0, "")],
+        },
+    ),
+    (
+        "T1",
+        Standing {
+            rows: &[PAIR],
+            status: ("MISSING", 0, ""),
+            recalls: &[("R1", "OPEN", 0, ""), ("R2", "UNKNOWN", 0, "")],
+        },
+    ),
+    (
+        "T2",
+        Standing {
+            rows: &[PAIR],
+            status: ("MISSING", 0, ""),
+            recalls: &[("R1", "UNKNOWN", 0, ""), ("R2", "OPEN", 0, "")],
+        },
+    ),
+    // answers under the identification of the other transfer's recall
+    (
+        "T1",
+        Standing {
+            rows: &[
+                Row::Instructed("M1", "100.00"),
+                Row::Accepted("C1"),
+                PAIR,
+                Row::Chased("Q1", "R2"),
+                Row::Refused("N1", "R2", "LEGL"),
+            ],
+            status: ("ACCEPTED", 0, ""),
+            recalls: &[("R1", "OPEN", 0, ""), ("R2", "UNASKED", 0, "")],
+        },
+    ),
+    // one identification of the recalls of two transfers
+    (
+        "T1",
+        Standing {
+            rows: &[
+                Row::Instructed("M1", "100.00"),
+                Row::RecalledAll(
+                    "K1",
+                    &[
+                        ("T2", "R1", "49.00", "DUPL"),
+                        ("T1", "R1", "100.00", "FRAD"),
+                    ],
+                ),
+            ],
+            status: ("PENDING", 0, ""),
+            recalls: &[("R1", "OPEN", 0, "")],
+        },
+    ),
+    // recalls of the other transfer that differ, and one of this transfer twice
+    (
+        "T1",
+        Standing {
+            rows: &[
+                Row::Instructed("M1", "100.00"),
+                PAIR,
+                Row::RecalledAll(
+                    "K2",
+                    &[
+                        ("T1", "R3", "100.00", "FRAD"),
+                        ("T2", "R2", "50.00", "FRAD"),
+                    ],
+                ),
+                Row::Recalled("K3", "R1", "100.00", "FRAD"),
+            ],
+            status: ("PENDING", 0, ""),
+            recalls: &[
+                ("R1", "OPEN", 0, ""),
+                ("R2", "UNKNOWN", 0, ""),
+                ("R3", "OPEN", 0, ""),
+            ],
+        },
+    ),
+    // two recalls of one transfer, of which one is chased, and both answered
+    (
+        "T1",
+        Standing {
+            rows: &[
+                Row::Instructed("M1", "100.00"),
+                TWICE,
+                Row::Chased("Q1", "R2"),
+            ],
+            status: ("PENDING", 0, ""),
+            recalls: &[
+                ("R1", "OPEN", 0, ""),
+                ("R2", "CHASED", 0, ""),
+                ("R3", "UNKNOWN", 0, ""),
+            ],
+        },
+    ),
+    (
+        "T1",
+        Standing {
+            rows: &[
+                Row::Instructed("M1", "100.00"),
+                Row::Accepted("C1"),
+                TWICE,
+                Row::Refused("N1", "R2", "LEGL"),
+                Row::Returned("P1", "XP1", "R1", "100.00", "99.00"),
+            ],
+            status: ("RETURNED", 9900, ""),
+            recalls: &[("R1", "RETURNED", 9900, ""), ("R2", "REFUSED", 0, "LEGL")],
+        },
+    ),
+];
+
 #[test]
 fn finds_what_contradicts_itself(rt: HostRuntime) -> Result<(), Fail> {
     for case in &CONTRADICTED {
-        assert_found(&rt, rt.alloc(), case)?;
+        assert_found(&rt, rt.alloc(), "T1", case)?;
     }
     Ok(())
 }
@@ -465,7 +706,23 @@ fn finds_what_contradicts_itself(rt: HostRuntime) -> Result<(), Fail> {
 #[test]
 fn tells_where_transfers_and_recalls_stand(rt: HostRuntime) -> Result<(), Fail> {
     for case in &STANDING {
-        assert_standing(&rt, rt.alloc(), case)?;
+        assert_standing(&rt, rt.alloc(), "T1", case)?;
+    }
+    Ok(())
+}
+
+#[test]
+fn finds_what_contradicts_itself_beside_other_transactions(rt: HostRuntime) -> Result<(), Fail> {
+    for (tx, case) in &CONTRADICTED_BY_LISTS {
+        assert_found(&rt, rt.alloc(), tx, case)?;
+    }
+    Ok(())
+}
+
+#[test]
+fn tells_where_transfers_stand_beside_other_transactions(rt: HostRuntime) -> Result<(), Fail> {
+    for (tx, case) in &STANDING_BY_LISTS {
+        assert_standing(&rt, rt.alloc(), tx, case)?;
     }
     Ok(())
 }

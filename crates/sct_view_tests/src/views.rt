@@ -1,4 +1,4 @@
-//! Two batches that come to a view of no message, and all that it answers afterwards, with ample memory.
+//! Batches that come to a view of no message, and all that it answers afterwards, with ample memory.
 
 mod scenes;
 
@@ -82,6 +82,7 @@ fn word(status: &Status) -> &'static str {
     match status {
         Status::Unknown => "UNKNOWN",
         Status::Missing => "MISSING",
+        Status::Accepted => "ACCEPTED",
         Status::Investigated => "INVESTIGATED",
         Status::Pending => "PENDING",
         Status::Contradicted(_) => "CONTRADICTED",
@@ -135,6 +136,7 @@ fn name_of(finding: &Finding) -> &str {
     match finding {
         Finding::Identity(identity) => identity.msg_id.text(),
         Finding::BothConfirmed => "BothConfirmed",
+        Finding::AmountDiffers => "AmountDiffers",
         _ => "",
     }
 }
@@ -205,8 +207,8 @@ fn assert_at(rt: &impl Abort, view: &View, wanted: &Standing) -> Result<(), Fail
     Ok(())
 }
 
-fn assert_standing(rt: &impl Abort, view: &View) -> Result<(), Fail> {
-    for wanted in &STANDING {
+fn assert_standing(rt: &impl Abort, view: &View, rows: &[Standing]) -> Result<(), Fail> {
+    for wanted in rows {
         assert_at(rt, view, wanted)?;
     }
     Ok(())
@@ -223,7 +225,7 @@ fn assert_answers(rt: &impl Abort, alloc: Global, view: &View) -> Result<(), Fai
     assert_status_text(rt, view, STATUS)?;
     assert_totals_text(rt, view, TOTALS)?;
     assert_listed(rt, alloc, view, LISTED)?;
-    assert_standing(rt, view)?;
+    assert_standing(rt, view, &STANDING)?;
     assert_sums(rt, view)
 }
 
@@ -237,4 +239,83 @@ fn assert_scene(rt: &impl Abort, alloc: Global, view: &mut View) -> Result<(), F
 fn answers_on_messages_of_all_kinds(rt: HostRuntime) -> Result<(), Fail> {
     let mut view = View::new(rt.alloc());
     assert_scene(&rt, rt.alloc(), &mut view)
+}
+
+// Two transfers that are accepted.
+static ACCEPTED: [&str; 4] = [
+    r#"{"MsgNmId":"pacs.008","MsgId":"M1","CreDtTm":"2024-05-02T10:00:00Z","InstgAgt":"BANKDEFF","IntrBkSttlmDt":"2024-05-02","SvcLvl":"SEPA","LclInstrm":"INST","EndToEndId":"E1","TxId":"T1","IntrBkSttlmAmt":"100.00","Ccy":"EUR","ChrgBr":"SLEV","Dbtr":"Anna Weber","DbtrAcct":"DE89370400440532013000","DbtrAgt":"BANKDEFF","CdtrAgt":"BANQFRPP","Cdtr":"Bo Maes","CdtrAcct":"BE68539007547034"}"#,
+    r#"{"MsgNmId":"pacs.002","MsgId":"C1","CreDtTm":"2024-05-02T10:00:02Z","InstgAgt":"BANQFRPP","OrgnlMsgId":"M1","OrgnlMsgNmId":"pacs.008","OrgnlTxId":"T1","TxSts":"ACCP","DbtrAgt":"BANKDEFF"}"#,
+    r#"{"MsgNmId":"pacs.008","MsgId":"M2","CreDtTm":"2024-05-02T10:00:00Z","InstgAgt":"BANKDEFF","IntrBkSttlmDt":"2024-05-02","SvcLvl":"SEPA","LclInstrm":"INST","EndToEndId":"E1","TxId":"T2","IntrBkSttlmAmt":"50.00","Ccy":"EUR","ChrgBr":"SLEV","Dbtr":"Anna Weber","DbtrAcct":"DE89370400440532013000","DbtrAgt":"BANKDEFF","CdtrAgt":"BANQFRPP","Cdtr":"Bo Maes","CdtrAcct":"BE68539007547034"}"#,
+    r#"{"MsgNmId":"pacs.002","MsgId":"C2","CreDtTm":"2024-05-02T10:00:02Z","InstgAgt":"BANQFRPP","OrgnlMsgId":"M1","OrgnlMsgNmId":"pacs.008","OrgnlTxId":"T2","TxSts":"ACCP","DbtrAgt":"BANKDEFF"}"#,
+];
+
+// A recall of both, of which one tells another amount.
+static RECALLED: [&str; 1] = [
+    r#"{"MsgNmId":"camt.056","MsgId":"K1","CreDtTm":"2024-05-03T09:00:00Z","InstgAgt":"BANKDEFF","TxInf":[{"CxlId":"R1","OrgnlMsgId":"M1","OrgnlMsgNmId":"pacs.008","OrgnlTxId":"T1","OrgnlIntrBkSttlmAmt":"100.00","Ccy":"EUR","Rsn":"FRAD","DbtrAgt":"BANKDEFF"},{"CxlId":"R2","OrgnlMsgId":"M1","OrgnlMsgNmId":"pacs.008","OrgnlTxId":"T2","OrgnlIntrBkSttlmAmt":"49.00","Ccy":"EUR","Rsn":"DUPL","DbtrAgt":"BANKDEFF"}]}"#,
+];
+
+// Under its identity the recall of a third transfer.
+static RECALLED_AGAIN: [&str; 1] = [
+    r#"{"MsgNmId":"camt.056","MsgId":"K1","CreDtTm":"2024-05-03T09:00:00Z","InstgAgt":"BANKDEFF","CxlId":"R3","OrgnlMsgId":"M1","OrgnlMsgNmId":"pacs.008","OrgnlTxId":"T3","OrgnlIntrBkSttlmAmt":"1.00","Ccy":"EUR","Rsn":"FRAD","DbtrAgt":"BANKDEFF"}"#,
+];
+
+const RECALLED_STATUS: &str =
+    "T|BANKDEFFXXX|T1|ACCEPTED\nR|BANKDEFFXXX|T1|R1|OPEN\nT|BANKDEFFXXX|T2|CONTRADICTED\nF|BANKDEFFXXX|T2|AmountDiffers\nR|BANKDEFFXXX|T2|R2|CONTRADICTED\n";
+
+const RECALLED_TOTALS: &str =
+    "BANKDEFFXXX|1|100.00|0.00|0|0|0|1|0|0.00|0.00\nBANQFRPPXXX|0|0.00|0.00|0|0|0|0|1|100.00|0.00\n";
+
+const RECALLED_AGAIN_STATUS: &str =
+    "T|BANKDEFFXXX|T1|CONTRADICTED\nF|BANKDEFFXXX|T1|Identity|BANKDEFFXXX|camt.056|K1\nR|BANKDEFFXXX|T1|R1|CONTRADICTED\nT|BANKDEFFXXX|T2|CONTRADICTED\nF|BANKDEFFXXX|T2|Identity|BANKDEFFXXX|camt.056|K1\nR|BANKDEFFXXX|T2|R2|CONTRADICTED\nT|BANKDEFFXXX|T3|CONTRADICTED\nF|BANKDEFFXXX|T3|Identity|BANKDEFFXXX|camt.056|K1\nR|BANKDEFFXXX|T3|R3|CONTRADICTED\n";
+
+const RECALLED_AGAIN_TOTALS: &str = "BANKDEFFXXX|0|0.00|0.00|0|0|0|3|0|0.00|0.00\n";
+
+const RECALLED_LISTED: &str =
+    " BANKDEFFXXX T1 M1 R1\n BANKDEFFXXX T2 M2 R2\n BANKDEFFXXX T1 T2\n BANQFRPPXXX T1 T2\n T2 AmountDiffers\n";
+
+const RECALLED_AGAIN_LISTED: &str =
+    " BANKDEFFXXX T1 M1 R1\n BANKDEFFXXX T2 M2 R2\n BANKDEFFXXX T3 R3\n BANKDEFFXXX T1 T2 T3\n T1 K1\n T2 K1\n T3 K1\n";
+
+// Each recall under its own transfer, and the one of the other transfer nowhere else.
+static RECALLED_STANDING: [Standing; 3] = [
+    ("T1", "R1", "ACCEPTED", "OPEN"),
+    ("T1", "R2", "ACCEPTED", "UNKNOWN"),
+    ("T3", "R3", "UNKNOWN", "UNKNOWN"),
+];
+
+static RECALLED_AGAIN_STANDING: [Standing; 4] = [
+    ("T1", "R1", "CONTRADICTED", "CONTRADICTED"),
+    ("T2", "R2", "CONTRADICTED", "CONTRADICTED"),
+    ("T3", "R3", "CONTRADICTED", "CONTRADICTED"),
+    ("T4", "R3", "UNKNOWN", "UNKNOWN"),
+];
+
+// A recall touches both transfers that it names.
+fn assert_recalled(rt: &impl Abort, alloc: Global, view: &mut View) -> Result<(), Fail> {
+    assert_applied(rt, alloc, view, &RECALLED, (1, 2))?;
+    assert_status_text(rt, view, RECALLED_STATUS)?;
+    assert_totals_text(rt, view, RECALLED_TOTALS)?;
+    assert_listed(rt, alloc, view, RECALLED_LISTED)?;
+    assert_standing(rt, view, &RECALLED_STANDING)
+}
+
+// A recall under its identity contradicts it, and touches these two and its own transfer.
+fn assert_recalled_again(rt: &impl Abort, alloc: Global, view: &mut View) -> Result<(), Fail> {
+    assert_applied(rt, alloc, view, &RECALLED_AGAIN, (1, 3))?;
+    assert_status_text(rt, view, RECALLED_AGAIN_STATUS)?;
+    assert_totals_text(rt, view, RECALLED_AGAIN_TOTALS)?;
+    assert_listed(rt, alloc, view, RECALLED_AGAIN_LISTED)?;
+    assert_standing(rt, view, &RECALLED_AGAIN_STANDING)
+}
+
+fn assert_recalls(rt: &impl Abort, alloc: Global, view: &mut View) -> Result<(), Fail> {
+    assert_applied(rt, alloc, view, &ACCEPTED, (4, 2))?;
+    assert_recalled(rt, alloc, view)?;
+    assert_recalled_again(rt, alloc, view)
+}
+
+#[test]
+fn answers_on_a_recall_of_two_transfers(rt: HostRuntime) -> Result<(), Fail> {
+    let mut view = View::new(rt.alloc());
+    assert_recalls(&rt, rt.alloc(), &mut view)
 }

@@ -1,14 +1,17 @@
-//! Messages on one transfer of Anna Weber's bank, made of the elements of worked examples.
+//! Messages on a transfer of Anna Weber's bank, made of the elements of worked examples.
 
 use sct_element::{Amount, Bic, Code4, Day, ElementFault, Iban, Id35, Name, Stamp};
 use sct_message::{
     CancellationRequest, CreditTransfer, Draft, Head, Identity, Kind, Message, Original,
-    PaymentReturn, Resolution, StatusReport, StatusRequest,
+    PaymentReturn, RecallTx, Resolution, StatusReport, StatusRequest, TransferKey,
 };
 use sct_reason::Reason;
 use std::alloc::Global;
 use std::sync::Arc;
 use std::test::Fail;
+
+/// A transaction of a recall message: its transfer, the identification of the recall, the original amount, and a reason.
+pub(crate) type Tx = (&'static str, &'static str, &'static str, &'static str);
 
 /// A message, by its identification and what else the examples vary.
 pub(crate) enum Row {
@@ -24,6 +27,8 @@ pub(crate) enum Row {
     Chased(&'static str, &'static str),
     /// A recall: its identification, the original amount, and a reason.
     Recalled(&'static str, &'static str, &'static str, &'static str),
+    /// A recall of several transactions.
+    RecalledAll(&'static str, &'static [Tx]),
     /// A return, with an identification of its own: the recall, the original amount, and what comes back.
     Returned(&'static str, &'static str, &'static str, &'static str, &'static str),
     /// A refusal: the recall, and a reason.
@@ -40,12 +45,12 @@ fn head(name: &str, id: &str, sender: &str) -> Result<Head, ElementFault> {
     })
 }
 
-fn original(name: &str) -> Result<Original, ElementFault> {
+fn original(name: &str, tx: &str) -> Result<Original, ElementFault> {
     Ok(Original {
         message_id: Id35::read("M1")?,
         message_name: Id35::read(name)?,
         end_to_end_id: None,
-        transaction_id: Id35::read("T1")?,
+        transaction_id: Id35::read(tx)?,
     })
 }
 
@@ -76,13 +81,13 @@ fn read_parties(alloc: Global) -> Result<Parties, ElementFault> {
     })
 }
 
-fn instructed(alloc: Global, id: &str, amount: &str) -> Result<Draft, ElementFault> {
+fn instructed(alloc: Global, tx: &str, id: &str, amount: &str) -> Result<Draft, ElementFault> {
     let head = head("pacs.008", id, "BANKDEFF")?;
     let settlement_date = Day::read("2024-05-02")?;
     let service_level = Code4::read("SEPA")?;
     let local_instrument = Code4::read("INST")?;
     let end_to_end_id = Id35::read("E1")?;
-    let transaction_id = Id35::read("T1")?;
+    let transaction_id = Id35::read(tx)?;
     let settlement_amount = Amount::read(amount)?;
     let currency = Code4::read("EUR")?;
     let charge_bearer = Code4::read("SLEV")?;
@@ -109,9 +114,14 @@ fn instructed(alloc: Global, id: &str, amount: &str) -> Result<Draft, ElementFau
     }))
 }
 
-fn reported(id: &str, status: &str, reason: Option<Reason>) -> Result<Draft, ElementFault> {
+fn reported(
+    tx: &str,
+    id: &str,
+    status: &str,
+    reason: Option<Reason>,
+) -> Result<Draft, ElementFault> {
     let head = head("pacs.002", id, "BANQFRPP")?;
-    let original = original("pacs.008")?;
+    let original = original("pacs.008", tx)?;
     let status = Code4::read(status)?;
     let debtor_agent = Bic::read("BANKDEFF")?;
     Ok(Draft::StatusReport(StatusReport {
@@ -123,9 +133,14 @@ fn reported(id: &str, status: &str, reason: Option<Reason>) -> Result<Draft, Ele
     }))
 }
 
-fn asked(id: &str, about: &str, cancellation_id: Option<Id35>) -> Result<Draft, ElementFault> {
+fn asked(
+    tx: &str,
+    id: &str,
+    about: &str,
+    cancellation_id: Option<Id35>,
+) -> Result<Draft, ElementFault> {
     let head = head("pacs.028", id, "BANKDEFF")?;
-    let original = original(about)?;
+    let original = original(about, tx)?;
     let debtor_agent = Bic::read("BANKDEFF")?;
     Ok(Draft::StatusRequest(StatusRequest {
         head,
@@ -135,26 +150,36 @@ fn asked(id: &str, about: &str, cancellation_id: Option<Id35>) -> Result<Draft, 
     }))
 }
 
-fn recalled(id: &str, cxl: &str, amount: &str, reason: Reason) -> Result<Draft, ElementFault> {
-    let head = head("camt.056", id, "BANKDEFF")?;
-    let cancellation_id = Id35::read(cxl)?;
-    let original = original("pacs.008")?;
-    let original_amount = Amount::read(amount)?;
-    let currency = Code4::read("EUR")?;
-    let debtor_agent = Bic::read("BANKDEFF")?;
-    Ok(Draft::CancellationRequest(CancellationRequest {
-        head,
-        cancellation_id,
-        original,
-        original_amount,
-        currency,
+fn read_tx(texts: &(&str, &str, &str, &str)) -> Result<RecallTx, ElementFault> {
+    Ok(RecallTx {
+        cancellation_id: Id35::read(texts.1)?,
+        original: original("pacs.008", texts.0)?,
+        original_amount: Amount::read(texts.2)?,
+        currency: Code4::read("EUR")?,
         original_settlement_date: None,
-        reason,
-        debtor_agent,
-    }))
+        reason: reason(texts.3)?,
+        debtor_agent: Bic::read("BANKDEFF")?,
+    })
+}
+
+fn recalled(
+    alloc: Global,
+    id: &str,
+    rows: &[(&str, &str, &str, &str)],
+) -> Result<Draft, ElementFault> {
+    let head = head("camt.056", id, "BANKDEFF")?;
+    let mut txs = Vec::new(alloc);
+    for texts in rows {
+        let tx = read_tx(texts)?;
+        if txs.push(tx).is_err() {
+            return Err(ElementFault::Memory);
+        }
+    }
+    Ok(Draft::CancellationRequest(CancellationRequest { head, txs }))
 }
 
 fn returned(
+    tx: &str,
     id: &str,
     return_id: &str,
     cxl: &str,
@@ -164,7 +189,7 @@ fn returned(
     let head = head("pacs.004", id, "BANQFRPP")?;
     let return_id = Id35::read(return_id)?;
     let cancellation_id = Id35::read(cxl)?;
-    let original = original("pacs.008")?;
+    let original = original("pacs.008", tx)?;
     let original_amount = Amount::read(amount)?;
     let returned_amount = Amount::read(back)?;
     let currency = Code4::read("EUR")?;
@@ -184,11 +209,11 @@ fn returned(
     }))
 }
 
-fn refused(id: &str, cxl: &str, reason: Reason) -> Result<Draft, ElementFault> {
+fn refused(tx: &str, id: &str, cxl: &str, reason: Reason) -> Result<Draft, ElementFault> {
     let head = head("camt.029", id, "BANQFRPP")?;
     let resolution_id = Id35::read("S1")?;
     let cancellation_id = Id35::read(cxl)?;
-    let original = original("pacs.008")?;
+    let original = original("pacs.008", tx)?;
     let confirmation = Code4::read("RJCR")?;
     let debtor_agent = Bic::read("BANKDEFF")?;
     Ok(Draft::Resolution(Resolution {
@@ -206,24 +231,33 @@ fn reason(code: &str) -> Result<Reason, ElementFault> {
     Reason::read(code).ok_or(ElementFault::BadCode)
 }
 
-fn draft(alloc: Global, row: &Row) -> Result<Draft, ElementFault> {
+fn draft(alloc: Global, tx: &str, row: &Row) -> Result<Draft, ElementFault> {
     match row {
-        Row::Instructed(id, amount) => instructed(alloc, id, amount),
-        Row::Accepted(id) => reported(id, "ACCP", None),
-        Row::Rejected(id, code) => reported(id, "RJCT", Some(reason(code)?)),
-        Row::Investigated(id) => asked(id, "pacs.008", None),
-        Row::Chased(id, cxl) => asked(id, "camt.056", Some(Id35::read(cxl)?)),
-        Row::Recalled(id, cxl, amount, code) => recalled(id, cxl, amount, reason(code)?),
-        Row::Returned(id, own, cxl, amount, back) => returned(id, own, cxl, amount, back),
-        Row::Refused(id, cxl, code) => refused(id, cxl, reason(code)?),
+        Row::Instructed(id, amount) => instructed(alloc, tx, id, amount),
+        Row::Accepted(id) => reported(tx, id, "ACCP", None),
+        Row::Rejected(id, code) => reported(tx, id, "RJCT", Some(reason(code)?)),
+        Row::Investigated(id) => asked(tx, id, "pacs.008", None),
+        Row::Chased(id, cxl) => asked(tx, id, "camt.056", Some(Id35::read(cxl)?)),
+        Row::Recalled(id, cxl, amount, code) => recalled(alloc, id, &[(tx, *cxl, *amount, *code)]),
+        Row::RecalledAll(id, txs) => recalled(alloc, id, txs),
+        Row::Returned(id, own, cxl, amount, back) => returned(tx, id, own, cxl, amount, back),
+        Row::Refused(id, cxl, code) => refused(tx, id, cxl, reason(code)?),
     }
 }
 
-/// The messages of some rows.
-pub(crate) fn messages(alloc: Global, rows: &[Row]) -> Result<Vec<Arc<Message>>, Fail> {
+/// A transfer of Anna Weber's bank.
+pub(crate) fn transfer(tx: &str) -> Result<TransferKey, ElementFault> {
+    Ok(TransferKey {
+        debtor_agent: Bic::read("BANKDEFF")?,
+        tx: Id35::read(tx)?,
+    })
+}
+
+/// The messages of some rows, on one transfer.
+pub(crate) fn messages(alloc: Global, tx: &str, rows: &[Row]) -> Result<Vec<Arc<Message>>, Fail> {
     let mut made = Vec::new(alloc);
     for row in rows {
-        made.push(Arc::new(alloc, Message::of(draft(alloc, row)?)?)?)?;
+        made.push(Arc::new(alloc, Message::of(draft(alloc, tx, row)?)?)?)?;
     }
     Ok(made)
 }

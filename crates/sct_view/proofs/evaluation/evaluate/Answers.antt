@@ -5,7 +5,7 @@ use Rattle.sct_message.specs.Keys.{identity_of}
 use Rattle.sct_message.specs.Order.{identity_order}
 use Rattle.sct_message.specs.Sets.{messages_in}
 use Rattle.sct_case.specs.Statuses.{transfer_status_of}
-use Rattle.sct_view.proofs.EvaluationLemmas.{evaluated, clean_on}
+use Rattle.sct_view.proofs.EvaluationLemmas.{evaluated}
 use Rattle.sct_view.proofs.evaluation.evaluate.Goals as goal
 
 pub returns-clause-case : goal.returns-clause-case
@@ -14,5 +14,4 @@ returns-clause-case c =
     let t = c.args.transfer.now in
     evaluated c.args.held.now c.args.fresh.now t _ _ _ c.in_ok-asides.asides.items _ all c.in_ok-parted.ensures.clean c.in_ok-parted.ensures.contradicted
     (c.in_ok-asides.ensures ∙ ap (λ ms. ascending identity_order (map identity_of (messages_in ms))) c.deref-2.ensures.value)
-    (c.in_ok-status.ensures t (clean_on c.args.held.now c.args.fresh.now t _ _ all (ap messages_in c.deref-3.ensures.value ∙ c.in_ok-parted.ensures.clean))
-    ∙ (λ n. transfer_status_of t (messages_in (c.deref-3.ensures.value n)) (c.deref-4.ensures.value n)))
+    (c.in_ok-status.ensures ∙ (λ n. transfer_status_of t (messages_in (c.deref-3.ensures.value n)) (c.deref-4.ensures.value n)))

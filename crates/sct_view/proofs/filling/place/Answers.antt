@@ -2,7 +2,7 @@
 use Rattle.std.proofs.Common.{◌∙◌, refl, sym}
 use Rattle.sct_message.specs.Transfers.{keys_of}
 use Rattle.sct_view.specs.Kept.{case_at, kept_in, totals_at}
-use Rattle.sct_view.proofs.CommitLemmas.{exchanged, few, put_fits, taken_within, with_case}
+use Rattle.sct_view.proofs.CommitLemmas.{exchanged, few_placed, is_placed, none_elsewhere, put_fits, taken_within, with_case}
 use Rattle.sct_view.proofs.SetKeys.{keys_apart_in_table}
 use Rattle.sct_view.proofs.TableLemmas.{shown}
 use Rattle.sct_view.proofs.TotalsLemmas.{shares_alike}
@@ -21,7 +21,8 @@ put_shares-requires-clause-fits c =
     (case_at c.args.tables.now.cases c.args.planned.transfer) (totals_at c.open_beneficiary.new.totals) refl
     (λ p. c.in_ok-open_beneficiary.ensures.same p ∙ c.in_ok-open_total.ensures.same p ∙ c.requires.kept p)
     (keys_apart_in_table c.args.archive.now) (totals_at c.take_former.new.totals) c.take_former.ensures.totals c.requires.small c.amounts_are_small.ensures
-    (few c.args.archive.now c.messages-messages.result.now c.messages-messages.ensures.held c.messages-messages.type_inv.0)
+    (is_placed c.args.tables.now.cases c.args.planned.transfer) (none_elsewhere c.args.tables.now.cases c.args.planned.transfer (kept_in c.args.planned.case))
+    (few_placed c.args.tables.now.cases c.args.planned.transfer c.len-places.result c.len-places.ensures.len c.len-places.ensures.small (keys_of c.args.archive.now) (keys_apart_in_table c.args.archive.now))
 
 pub returns-clause-cases : goal.returns-clause-cases
 returns-clause-cases c = λ t. shown c.args.tables.now.cases c.insert.new.self c.args.planned.transfer c.args.planned.case c.in_ok-insert.ensures.updates t

@@ -8,7 +8,7 @@ use Rattle.sct_view.proofs.parts.planned_on.Goals as goal
 
 pub evaluate-requires-clause-messages : goal.evaluate-requires-clause-messages
 evaluate-requires-clause-messages c =
-    filed-contents c.args.archive.now c.args.transfer.now c.requires.filed.0 _ c.requires.filed.1 (c.on_transfer-messages.ensures _ c.requires.filed.2)
+    filed-contents c.args.archive.now c.args.transfer.now c.requires.filed.0 _ c.requires.filed.1 (c.on_transfer-messages.ensures c.requires.filed.0 c.requires.filed.2)
     ∙ ap (λ (s : MessageSet). filter (is_on c.args.transfer.now) (in_order s)) (sym (union_nothing c.args.archive.now c.args.nothing.now c.requires.nothing))
 
 pub returns : goal.returns

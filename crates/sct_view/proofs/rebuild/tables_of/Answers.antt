@@ -12,7 +12,7 @@ loop-transfer-init c = (built_none c.args.archive.now c.new.result c.new-2.resul
 
 pub keep-requires-clause-messages : goal.keep-requires-clause-messages
 keep-requires-clause-messages c =
-    filed-contents c.args.archive.now c.transfer-item.result (messages_in c.messages.result.now) _ c.messages.ensures.held (c.on_transfer.ensures _ c.in_ok-index.ensures)
+    filed-contents c.args.archive.now c.transfer-item.result (messages_in c.messages.result.now) _ c.messages.ensures.held (c.on_transfer.ensures (messages_in c.messages.result.now) c.in_ok-index.ensures)
 
 pub keep-requires-clause-among : goal.keep-requires-clause-among
 keep-requires-clause-among c =

@@ -2,7 +2,7 @@
 use Rattle.std.proofs.Common.{◌∙◌, ap, sym}
 use Rattle.sct_message.specs.Transfers.{keys_of}
 use Rattle.sct_view.specs.Kept.{case_at, kept_in, kept_or_none, totals_at}
-use Rattle.sct_view.proofs.CommitLemmas.{exchanged, few, put_fits, taken_within, with_case}
+use Rattle.sct_view.proofs.CommitLemmas.{exchanged, few_placed, is_placed, none_elsewhere, put_fits, taken_within, with_case}
 use Rattle.sct_view.proofs.SetKeys.{keys_apart_in_table}
 use Rattle.sct_view.proofs.TotalsLemmas.{shares_alike}
 use Rattle.sct_view.proofs.replacing.commit_one.Goals as goal
@@ -18,7 +18,8 @@ put_shares-requires-clause-fits c =
     put_fits (case_at c.args.cases.now) c.args.planned.transfer (kept_in c.args.planned.case) (keys_of c.args.archive.now) c.requires.among
     (kept_in c.in-Some.case.now) (totals_at c.args.totals.now) (ap kept_or_none (sym c.in-Some.ensures.value)) c.requires.kept
     (keys_apart_in_table c.args.archive.now) (totals_at c.take_shares.new.totals) c.take_shares.ensures.totals c.requires.small c.amounts_are_small.ensures
-    (few c.args.archive.now c.messages-messages.result.now c.messages-messages.ensures.held c.messages-messages.type_inv.0)
+    (is_placed c.args.cases.now c.args.planned.transfer) (none_elsewhere c.args.cases.now c.args.planned.transfer (kept_in c.args.planned.case))
+    (few_placed c.args.cases.now c.args.planned.transfer c.len-places.result c.len-places.ensures.len c.len-places.ensures.small (keys_of c.args.archive.now) (keys_apart_in_table c.args.archive.now))
 
 pub returns-in-Some-clause-kept : goal.returns-in-Some-clause-kept
 returns-in-Some-clause-kept c = λ bank.

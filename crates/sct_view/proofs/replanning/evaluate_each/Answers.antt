@@ -6,4 +6,4 @@ use Rattle.sct_view.proofs.replanning.evaluate_each.Goals as goal
 pub evaluate_anew-requires-clause-messages : goal.evaluate_anew-requires-clause-messages
 evaluate_anew-requires-clause-messages c =
     gathered_kept c.args.held.now c.args.fresh.now c.transfer-item.result _ (messages_in c.messages.result.now) _ (c.requires.kept c.transfer-item.result)
-    c.messages.ensures.held (c.on_transfer-messages.ensures _ c.in_ok-index.ensures)
+    c.messages.ensures.held (c.on_transfer-messages.ensures (messages_in c.messages.result.now) c.in_ok-index.ensures)

@@ -3,7 +3,7 @@ use Rattle.std.proofs.Common.{◌∙◌, ap, sym, ◌+◌}
 use Rattle.std.specs.FinSet as set
 use Rattle.sct_message.specs.Sets.{MessageSet, messages_in}
 use Rattle.sct_set.specs.Contents.{contents_of}
-use Rattle.sct_view.proofs.ApplyLemmas.{joined, len_joined}
+use Rattle.sct_view.proofs.ApplyLemmas.{few_applied, joined, len_joined}
 use Rattle.sct_view.proofs.StepLemmas.{among_in_room, kept_in_room, view_after}
 use Rattle.sct_view.proofs.view.View.apply.Goals as goal
 
@@ -40,3 +40,8 @@ returns-clause-fresh c =
     (c.in_ok-make_room.ensures.joined ∙ ap (λ (v : MessageSet). set.union c.self.inside.archive v) c.in_ok-plan.ensures.fresh)
     ∙ len_joined c.self.inside.archive (contents_of (messages_in c.args.messages.now))
     ∙ (λ n. set.len (c.self.view_is n) + sym (c.brought_by-brought.ensures.fresh ∙ ap (λ (v : MessageSet). set.len v) c.in_ok-plan.ensures.fresh) n)
+
+pub returns-clause-few_of_one : goal.returns-clause-few_of_one
+returns-clause-few_of_one c =
+    few_applied c.self.inside.archive _ c.in_ok-plan.plan.fresh (contents_of (messages_in c.args.messages.now)) c.brought_by-brought.result.touched c.brought_by-brought.result.fresh
+    c.self.view_is c.in_ok-plan.ensures.fresh (c.brought_by-brought.ensures.touched ∙ c.in_ok-plan.ensures.counted) c.brought_by-brought.ensures.fresh
