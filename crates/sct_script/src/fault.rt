@@ -12,7 +12,7 @@ pub enum LineFault {
     /// 64: the line is not of the shape of an event, or its pairs make no version vector.
     #[error("no event")]
     NoEvent,
-    /// 31 to 38: why the message of a take is refused.
+    /// 31 to 38, 46 or 56: why the message of a take is refused.
     #[error("{0}")]
     Message(JsonFault),
 }

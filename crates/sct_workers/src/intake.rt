@@ -2,9 +2,9 @@
 
 ghost use Rattle.std.specs.Arc.{arc_value};
 ghost use Rattle.std.specs.FinSet as set;
-ghost use Rattle.std.specs.Prelude.{◌≡◌, true, IfErr, IfOk, OnOk};
+ghost use Rattle.std.specs.Prelude.{◌≡◌, [], true, IfErr, IfOk, IfSome, OnOk};
 ghost use Rattle.sct_message.specs.Sets.{messages_in};
-ghost use Rattle.sct_receipts.specs.Kept.{AllKeep, AllShown, is_shown};
+ghost use Rattle.sct_receipts.specs.Kept.{AllKeep, AllShown, is_shown, Keeps};
 ghost use Rattle.sct_receipts.specs.declared.fault.WorkFault.TheVariants as fault;
 ghost use Rattle.sct_set.specs.Contents.{contents_of};
 ghost use Rattle.sct_workers.specs.Holds.{EndsWhere};
@@ -42,7 +42,23 @@ fn take_one<J: Site, H: Wait + Drop, R: Wait>(
     Ok(took)
 }
 
-// Publishes, and has the query worker ask for the message's transfer then. A receipt that can't be sent is kept.
+// Has the query worker ask for the message's first transfer, with a receipt. The receipt comes back if it can't be sent.
+fn ask<J: Site, R: Wait>(
+    rt: &R,
+    outlets: &Outlets<J>,
+    receipt: Receipt,
+    message: &Message,
+) -> Option<Receipt>
+    requires { Keeps J.book J.number J.group (contents_of []) receipt }
+    ensures { IfSome result (Keeps J.book J.number J.group (contents_of [])) }
+{
+    match message.transfer(0) {
+        Some(transfer) => outlets.ask(rt, receipt, transfer),
+        None => Some(receipt),
+    }
+}
+
+// Publishes, and has the query worker ask for the message's first transfer then. A receipt that can't be sent is kept.
 #[tactic(auto, using(crate::proofs::MoreKept::shows_more))]
 fn publish<J: Site, H: Wait + Drop, R: Wait>(
     rt: &R,
@@ -60,7 +76,7 @@ fn publish<J: Site, H: Wait + Drop, R: Wait>(
     ensures memory { IfErr result (λ e. e ≡ fault.Memory) }
 {
     let receipt = published(rt, alloc, desk)?;
-    if let Some(back) = outlets.ask(rt, receipt, message.transfer()) {
+    if let Some(back) = ask(rt, outlets, receipt, message) {
         keep::<J>(kept, messages, back)?;
     }
     Ok(())
