@@ -1,5 +1,5 @@
 """inputs.py: what the program is run on, where more than one check of the gate runs it on that."""
-import collections, pathlib
+import collections, json, pathlib
 from generate import messages, samples
 
 EXAMPLES = pathlib.Path(__file__).resolve().parents[2] / "examples"
@@ -22,11 +22,25 @@ def confirmation(number):
     return samples.line(samples.confirmation(MsgId=f"C{number}", OrgnlMsgId=f"M{number}", OrgnlTxId=f"T{number}"))
 
 
+def recall(number, lines):
+    """The line of a recall of all transfers that these lines instruct. Every third recall has another amount for the first
+    transfer. Every fourth has the identification of the one before."""
+    instructed = [message for message in map(json.loads, lines) if message["MsgNmId"] == "pacs.008"]
+    amounts = [message["IntrBkSttlmAmt"] for message in instructed]
+    if number % 3 == 0:
+        amounts[0] = "999999999.99"
+    listed = [samples.transaction(OrgnlTxId=message["TxId"], OrgnlIntrBkSttlmAmt=amount, DbtrAgt=message["DbtrAgt"])
+              for message, amount in zip(instructed, amounts)]
+    return samples.line(samples.recall(listed, MsgId=f"K{number - (number % 4 == 0)}"))
+
+
 def long_input(many):
-    """So many made-up messages, with blank lines and refused ones between them."""
+    """So many made-up messages, with recalls of several transfers, blank lines and refused ones between them."""
     lines = [line[:-1] for line in messages.lines(many)]
     for place in range(0, len(lines), 37):
         lines[place] += ["\nfoo", "\r\n", "\n \t\r\n{}"][place % 3]
+    for place in range(37, len(lines), 37):
+        lines[place] += "\n" + recall(place // 37, lines[place - 20:place])[:-1]
     return "\n".join(lines).encode()
 
 

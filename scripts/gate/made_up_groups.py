@@ -8,12 +8,13 @@ and then from it to each. Of what it tells is then asked, by the sets alone, whe
 """
 from generate.pool import Pool, shuffled
 from reference.replay import counted, place, refusal
-from reference.status import archive_text, read_message, written
+from reference.status import archive_text, read_message, transactions_of, written
 from gate.test_driver import Try
 
 MANY, SEED = 300, 20261124
 TO_MEET = ["SETTLED", "REFUSED|42", "REFUSED|43", "REFUSED|44", "no site", "one site", "two sites of one number",
-           "sites of two groups", "a fork in what is not settled", "entries handed over before a refusal"]
+           "sites of two groups", "a fork in what is not settled", "entries handed over before a refusal",
+           "a recall of several transactions"]
 
 
 class Site:
@@ -165,6 +166,8 @@ def met_in(sites, before, refused):
         yield "a fork in what is not settled"
     if refused and before != [site.held for site in sites]:
         yield "entries handed over before a refusal"
+    if any(len(transactions_of(message)) > 1 for site in sites for _, _, message in site.held):
+        yield "a recall of several transactions"
 
 
 def tries(r, number):

@@ -3,17 +3,21 @@
 Each of 1,000 worlds has 3 to 5 sites and up to 60 events: takes of a few messages that repeat and contradict each other, cuts
 for vectors of all kinds, and hands that come late, again, in any order, to no site and of no delta. Between them stand blank
 lines and lines that are refused, and some inputs are no script. What must be answered is told by reference/replay.py, an
-independent program of the definitions. Each outcome and each reason to refuse an event, a line or an input has to be met.
+independent program of the definitions. Each outcome and each reason to refuse an event, a line or an input has to be met, and so
+has each reason to refuse a list of transactions, also in its second element.
 """
 import re
-from generate.pool import Pool, shuffled, written_out
+from generate.pool import Pool, parts, shuffled, written_out
 from reference.replay import answer
 from gate.test_driver import Try
 
 MANY, SEED = 1000, 20261123
 SEPARATOR = "\x1e"
-TO_MEET = ["TAKEN", "REPEAT", "CUT", "ACCEPTED", "REFUSED|41", "REFUSED|44", "REFUSED|47", "line 64", "line 31", "line 32",
-           "line 33", "line 34", "line 35", "line 36", "line 37", "line 38", "fault 64", "contradicted"]
+SEVERAL = "a recall of several transactions"
+REASONS = ["64", "31", "32", "33", "34", "35", "36", "37", "38", "46 0", "46 1", "46 2", "56 1", "56 2 34", "56 2 35", "56 2 36",
+           "56 2 37", '37 "Ccy"', '37 "TxInf"', "38 11", "38 21", "38 22"]
+TO_MEET = ["TAKEN", "REPEAT", "CUT", "ACCEPTED", "REFUSED|41", "REFUSED|44", "REFUSED|47", "fault 64", "contradicted", SEVERAL,
+           *("line " + reason for reason in REASONS)]
 
 # lines that are no event, whatever the world
 WRONG = [b"take 1", b"take", b"take  1 {}", b"take 01 {}", b"take +1 {}", b"take 65536 {}", b"Take 1 {}", b" take 1 {}",
@@ -35,6 +39,23 @@ def refused_text(r, message):
     others = [{"Purp": "SALA"}, rule, {"DbtrAgt": None}, {"DbtrAgt": "bankdeff"}, {"InstgAgt": 1}, {"MsgNmId": "pain.001"}]
     wrong = [without] + [{**message, **other} for other in others]
     return r.choice([b"", b"{", b"[]", b"{}", b"foo"] + [shuffled(r, one) for one in wrong])
+
+
+def refused_list(r, messages):
+    """One of the recalls with a list that is refused, most often for its second element. Other messages are refused for any list."""
+    recalls = [message for message in messages if message["MsgNmId"] == "camt.056"]
+    if not recalls:
+        return {**r.choice(messages), "TxInf": []}
+    head, [first, *_] = parts(r.choice(recalls))
+    second = {**first, "CxlId": "R9"}
+    no_list = [None, {}, "x", [], [first] * 101, [first] * 100 + [7]]
+    others = [{"CxlId": None}, {"Rsn": "FRAUD"}, {"Purp": "SALA"}, {"MsgId": "K1"}, {"TxInf": []}, {"Ccy": "USD"},
+              {"OrgnlMsgNmId": "camt.056"}, written_out(first)]
+    without = {key: value for key, value in second.items() if key != "CxlId"}
+    seconds = ["x", [], without] + [{**second, **other} for other in others]
+    lists = no_list + [["x", second], [{}, "x"], [without, first]] + [[first, one] for one in seconds]
+    outer = r.choice([{}, {}, {}, {"Ccy": "EUR"}, {"MsgId": "K//1"}])
+    return {**head, "TxInf": r.choice(lists), **outer}
 
 
 def any_vector(r, sites):
@@ -65,6 +86,8 @@ def line(r, sites, messages, cuts):
         return r.choice(WRONG)
     if draw < 0.11:
         return b"take %d " % r.randint(0, sites) + refused_text(r, r.choice(messages))
+    if draw < 0.14:
+        return b"take %d " % r.randint(0, sites) + shuffled(r, refused_list(r, messages))
     return event(r, sites, messages, cuts)
 
 
@@ -84,11 +107,14 @@ def script(r):
 def met_in(text, told):
     """What a right answer shows."""
     yield from re.findall(r"^E\|\d+\|(REFUSED\|\d+|[A-Z]+)", text, re.M)
-    yield from ("line " + number for number in re.findall(r"^line \d+: (\d+)", told, re.M))
+    for refusal in re.findall(r"^line \d+: (.*)", told, re.M):
+        yield from ("line " + reason for reason in REASONS if (refusal + " ").startswith(reason + " "))
     if told == "fault 64\n":
         yield "fault 64"
     if "|CONTRADICTED\n" in text:
         yield "contradicted"
+    if '"TxInf":[' in text:
+        yield SEVERAL
 
 
 def tries(r, number):

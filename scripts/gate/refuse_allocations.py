@@ -1,11 +1,12 @@
 """refuse_allocations.py: runs the program with each of its allocations refused in turn, and fails where it answers anything but the
 right text or what tells that memory, a thread or a place is wanting.
 
-`status` and `archive` run on an example, which has messages of all six kinds and refused lines, and on messages about TRANSFERS
-made-up transfers: enough that threads read, evaluate and write. `run` takes the two small files of scripts/gate/inputs.py, in
-ROUNDS rounds. scripts/gate/refuse_nth.c, which is preloaded, refuses the allocation of one number, whichever thread makes it, and
-counts all. The first run of a round has none refused; then each number has a run of its own, up to the greatest count that was
-seen. What is allocated to start a thread counts too, also by the C library: where that is refused, the thread is not started.
+`status` and `archive` run on two examples, and on messages about TRANSFERS made-up transfers. The examples have messages of all six
+kinds, recalls with lists, and refused lines. The transfers are enough for threads to read, evaluate and write. `run` takes the two
+small files of scripts/gate/inputs.py, in ROUNDS rounds. scripts/gate/refuse_nth.c, which is preloaded, refuses the allocation of one
+number, whichever thread makes it, and counts all. The first run of a round has none refused; then each number has a run of its own,
+up to the greatest count that was seen. What is allocated to start a thread counts too, also by the C library: where that is refused,
+the thread is not started.
 
 A run must write the right text with its refused lines, which scripts/reference/status.py tells from the definitions alone. Where an
 allocation was refused it may instead write nothing but `fault 65`, and end with 3; of `run` it may be `fault 67`, where there is no
@@ -26,7 +27,7 @@ from gate.inputs import EXAMPLES, confirmation, instruction, two_files
 from gate.program import NO_PLACE, NO_WORKER, WANTING, asked, ran
 from reference import status as definitions
 
-EXAMPLE = EXAMPLES / "hub-morning.jsonl"
+READ = ["hub-morning.jsonl", "recall-batch.jsonl"]
 TRANSFERS = 256  # fewer are evaluated and written in one part, as fewer bytes than 65,536 are read in one
 ROUNDS = 8
 SECONDS = 20
@@ -41,9 +42,9 @@ Run = collections.namedtuple("Run", "number answer allocations threads")
 
 
 def small_input():
-    """An example, and an instruction or a confirmation about each of the made-up transfers."""
+    """The examples, and an instruction or a confirmation about each of the made-up transfers."""
     made_up = [instruction(it) if it % 2 else confirmation(it) for it in range(TRANSFERS)]
-    return EXAMPLE.read_bytes() + "".join(made_up).encode()
+    return b"".join((EXAMPLES / name).read_bytes() for name in READ) + "".join(made_up).encode()
 
 
 def commands(folder):

@@ -1,4 +1,4 @@
-"""refuse_growths.py: has each growth of three calls refused once, and says what became of it.
+"""refuse_growths.py: has each growth of some calls refused once, and says what became of it.
 
 Of `Archive::add_all`: `rt try --test --fail-alloc N` refuses the Nth allocation of each test. The tests of
 crates/sct_view_tests/src/archives/refusals.rt do the same after 0, 1, .. 15 other allocations, so one run refuses 16 allocations in a
@@ -15,6 +15,9 @@ view as before (which has its keys, statuses, findings and totals), where the sa
 should; any other answer but that of ample memory has failed. The growths are seen to begin behind one that is refused while
 the messages are read, and to end before one that is refused while the answer is told.
 
+Of `read_message` and `write_message`: the program crates/sct_test_driver reads a recall message of two transactions and writes it,
+in the same way. A refusal has passed that was answered by 30, by either call. Both calls have to be met.
+
 Of `Desk::take`: the program crates/sct_test_driver takes a message at a new desk, after 0, 1, 2 and more other allocations, and
 `rt try --cases` refuses the allocation of one number in each case. A refusal of a growth of `take` has passed that was answered
 by 50, where the desk then did all that it does at first; or by 51 with position 1, where a query then saw nothing and the next
@@ -25,7 +28,7 @@ refused is seen as for `apply`.
 
 The last line is 'N passed, M failed', and the exit status is 0 where growths of all calls have passed and none has failed.
 
-Usage: refuse_growths.py [add_all|apply|take]   (all three, where none is named)
+Usage: refuse_growths.py [add_all|apply|form|take]   (all of them, where none is named)
 """
 import json, pathlib, re, subprocess, sys
 sys.path.insert(0, str(pathlib.Path(__file__).resolve().parents[1]))  # scripts/
@@ -173,6 +176,34 @@ def apply():
     return len(refused), 0
 
 
+# ---- read_message and write_message
+
+BEFORE = 66  # with so many lines first, an allocation is refused before the message is read
+WRITTEN = 68  # with none first, one is refused after it is written
+
+BANK = {"DbtrAgt": "BANKDEFFXXX"}
+PAIR = [samples.transaction(OrgnlTxId="T1", CxlId="R1", **BANK), samples.transaction(OrgnlTxId="T2", CxlId="R2", **BANK)]
+LISTED = samples.recall(PAIR, InstgAgt="BANKDEFFXXX")
+FORM = json.dumps(LISTED, sort_keys=True, separators=(",", ":"))
+FORM_MARKS = {("", 1): "beside", ("unread 30\n", 0): "unread", ("unwritten 30\n", 0): "unwritten", (FORM + "\n", 0): "beside"}
+
+
+def form():
+    """How many growths of a recall message that is read and written were refused as they should be, and how many cases failed."""
+    cases = {many: (["views"], ["tell"] * many + ["form " + json.dumps(LISTED)]) for many in range(BEFORE + 1)}
+    found = marks_of(WRITTEN, cases, lambda many, text, status: FORM_MARKS.get((text, status)))
+    refused = {call: [many for many, mark in found.items() if mark == call] for call in ["unread", "unwritten"]}
+    counts = ", ".join(f"{len(lines)} {call}" for call, lines in refused.items())
+    print(f"form, allocations {WRITTEN - BEFORE} to {WRITTEN}: {counts}", flush=True)
+    right, failed = sum(map(len, refused.values())), list(found.values()).count(None)
+    missed = [call for call, lines in refused.items() if not lines]
+    for call in missed:
+        print(f"not met: {call}")
+    if not failed and not missed and not is_whole(refused["unwritten"] + refused["unread"], BEFORE):
+        crates.stop("the cases do not go from behind the growths to before them")
+    return right, failed + len(missed)
+
+
 # ---- Desk::take
 
 ALLOCATIONS = 66  # with so many first, one is refused before the message is taken
@@ -226,6 +257,7 @@ def take():
 
 
 CALLS = {"add_all": (add_all, "each answered by 39 with nothing changed"), "apply": (apply, "each answered by 39 with nothing changed"),
+         "form": (form, "each answered by 30"),
          "take": (take, "in two cases each, answered by 50 with nothing changed, or by 51 with the arrival pending")}
 
 

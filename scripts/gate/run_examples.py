@@ -20,7 +20,7 @@ those that the words name. examples/test-driver/ has the same for the program cr
 there.
 
 The list of 5,000 rows has a row for each of as many instructions, which is MATCHED, and one that is ONLY_IN_LIST. The longer input is of made-up
-messages, blank lines and refused ones, and is read and written in threads; what must be answered is told by
+messages, recalls of several transfers, blank lines and refused ones, and is read and written in threads; what must be answered is told by
 scripts/reference/status.py, from the definitions alone, and is the same on any number of processors (where there are fewer, on
 as many as there are). Its lines in turn are sixteen files, of which `run` must answer the same status text, again on any number of
 processors. The two small files are taken at two sites side by side: the answer must be one, however these are scheduled.
@@ -40,7 +40,9 @@ from gate.program import asked, ran
 from reference import status as definitions
 
 COMMANDS = {".jsonl": ["status", "archive", "totals"], ".script": ["replay"]}
-REPORTS = {"bank-day": ["LUTEFRPP", "2025-03-10"], "settlement-day": ["BANKDEFF", "2024-05-02"]}  # the bank of each list, and the day
+# the bank of each list, and the day
+REPORTS = {"bank-day": ["LUTEFRPP", "2025-03-10"], "settlement-day": ["BANKDEFF", "2024-05-02"],
+           "recall-batch": ["HANSDEHH", "2025-03-10"]}
 PROCESSORS = [1, 2, 4, 8]
 LONG = 2000  # messages: about a megabyte, which is read in several parts
 ROWS = 5000

@@ -32,16 +32,22 @@ def time_of(i):
     return day, f"{day}T{s // 3600 % 24:02d}:{s // 60 % 60:02d}:{s % 60:02d}Z"
 
 
+def amount(r):
+    """An amount, as it is written."""
+    cents = min(99999999999, int(r.lognormvariate(8.5, 1.6)) + 1)
+    return f"{cents // 100}.{cents % 100:02d}"
+
+
 def instruction(r, pool, i, number):
     """The instruction with this number, in the place i."""
     debtor, debtor_accounts = pool[r.randrange(48)]
     creditor, creditor_accounts = pool[r.randrange(48)]
     day, at = time_of(i)
-    cents = min(99999999999, int(r.lognormvariate(8.5, 1.6)) + 1)
+    sent = amount(r)
     more = {"Ustrd": f"Invoice {r.randrange(10 ** 7)}"} if r.random() < 0.2 else {}
     return samples.instruction(
         MsgId=f"M{number:09d}", CreDtTm=at, InstgAgt=debtor, IntrBkSttlmDt=day, EndToEndId=f"E{number:09d}",
-        TxId=f"T{number:09d}", IntrBkSttlmAmt=f"{cents // 100}.{cents % 100:02d}", Dbtr=r.choice(NAMES),
+        TxId=f"T{number:09d}", IntrBkSttlmAmt=sent, Dbtr=r.choice(NAMES),
         DbtrAcct=r.choice(debtor_accounts), DbtrAgt=debtor, CdtrAgt=creditor, Cdtr=r.choice(NAMES),
         CdtrAcct=r.choice(creditor_accounts), **more)
 

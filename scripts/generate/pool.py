@@ -1,7 +1,7 @@
 """pool.py: messages that meet one another, for tries of any kind.
 
 A few banks, transfers, recalls and identifications stand in each pool, so that messages confirm, recall, return and contradict
-one another.
+one another. Half of the recalls have a list of 1 to 5 transactions, which may be on one transfer or on several.
 """
 import json
 from generate import samples
@@ -10,6 +10,8 @@ BANKS = ["BANKDEFF", "BANQFRPP", "BANKBEBB"]
 CREDITOR_ACCOUNTS = ["BE68539007547034", "NL91ABNA0417164300"]
 AMOUNTS = ["0.01", "1.00", "100.00", "999999999.99"]
 REASONS = ["AC04", "AM04", "ZZ9"]
+HEAD = ["MsgNmId", "MsgId", "CreDtTm", "InstgAgt", "InstdAgt"]
+MOST_LISTED, MOST_TRANSACTIONS = 5, 100
 
 
 class Pool:
@@ -33,10 +35,14 @@ class Pool:
         return {"MsgNmId": kind, "MsgId": f"{letter}{self.r.randint(1, self.numbers)}", "CreDtTm": "2024-05-02T10:00:00Z",
                 "InstgAgt": self.r.choice(self.banks)}
 
+    def original(self, about="pacs.008"):
+        """The elements that name the earlier message and its transfer."""
+        return {"OrgnlMsgId": "M1", "OrgnlMsgNmId": about, "OrgnlTxId": self.r.choice(self.transfers),
+                "DbtrAgt": self.debtor_bank()}
+
     def later(self, kind, letter, about="pacs.008"):
         """The elements that each message about an earlier one has."""
-        return {**self.head(kind, letter), "OrgnlMsgId": "M1", "OrgnlMsgNmId": about, "OrgnlTxId": self.r.choice(self.transfers),
-                "DbtrAgt": self.debtor_bank()}
+        return {**self.head(kind, letter), **self.original(about)}
 
     def instruction(self):
         waiting = [t for t in self.transfers if t not in self.instructed]
@@ -47,7 +53,7 @@ class Pool:
             CdtrAgt=self.r.choice(self.banks), CdtrAcct=self.r.choice(CREDITOR_ACCOUNTS))
 
     def confirmation(self):
-        accepts = self.r.random() < 0.9
+        accepts = self.r.random() < 0.85
         status = samples.ACCEPTED if accepts else {"TxSts": "RJCT", "Rsn": self.r.choice(self.reasons)}
         return {**self.later("pacs.002", "C"), **status}
 
@@ -56,9 +62,27 @@ class Pool:
             return self.later("pacs.028", "Q")
         return {**self.later("pacs.028", "Q", "camt.056"), "OrgnlCxlId": self.r.choice(self.recalls)}
 
+    def transaction(self):
+        """One transaction of a recall."""
+        more = self.r.choice([{}, {}, {"OrgnlEndToEndId": "E1"}, {"OrgnlIntrBkSttlmDt": "2024-05-02"}])
+        return {**self.original(), "CxlId": self.r.choice(self.recalls), "OrgnlIntrBkSttlmAmt": self.r.choice(self.amounts),
+                "Ccy": "EUR", "Rsn": self.r.choice(["FRAD", "DUPL"]), **more}
+
+    def transactions(self):
+        """A list of transactions, no two of which make the same recall."""
+        drawn = [self.transaction() for _ in range(self.r.randint(1, MOST_LISTED))]
+        return list({(one["DbtrAgt"], one["OrgnlTxId"], one["CxlId"]): one for one in drawn}.values())
+
     def recall(self):
-        return {**self.later("camt.056", "K"), "CxlId": self.r.choice(self.recalls),
-                "OrgnlIntrBkSttlmAmt": self.r.choice(self.amounts), "Ccy": "EUR", "Rsn": self.r.choice(["FRAD", "DUPL"])}
+        head = {**self.head("camt.056", "K"), **self.r.choice([{}, {}, {"InstdAgt": "BANQFRPP"}])}
+        return {**head, "TxInf": self.transactions()} if self.r.random() < 0.5 else {**head, **self.transaction()}
+
+    def longest_recalls(self, of_one_transfer):
+        """Two recalls with the longest lists and one identification: of one transfer 200 times, or of 200 transfers."""
+        head, same = {**self.head("camt.056", "K"), "MsgId": "K0"}, self.original()
+        own = lambda place: {**same, "CxlId": f"R{place}"} if of_one_transfer else {"OrgnlTxId": f"T{place}"}
+        every = [{**self.transaction(), **own(place)} for place in range(1, 2 * MOST_TRANSACTIONS + 1)]
+        return [{**head, "TxInf": every[:MOST_TRANSACTIONS]}, {**head, "TxInf": every[MOST_TRANSACTIONS:]}]
 
     def payback(self):
         original = self.r.choice(self.amounts)
@@ -76,13 +100,36 @@ class Pool:
         return self.r.choices(makers, [10, 10, 2, 3, 3, 2])[0]()
 
 
-def written_out(message):
-    """The same message with every BIC of 11 characters."""
-    return {key: value + "XXX" if value in BANKS else value for key, value in message.items()}
+def written_out(value):
+    """The same message, or part of one, with every BIC of 11 characters."""
+    if isinstance(value, dict):
+        return {key: written_out(one) for key, one in value.items()}
+    if isinstance(value, list):
+        return [written_out(one) for one in value]
+    return value + "XXX" if value in BANKS else value
+
+
+def reordered(r, value):
+    """The same message, or part of one, with the keys of each object in any order."""
+    if isinstance(value, dict):
+        return {key: reordered(r, value[key]) for key in r.sample(list(value), len(value))}
+    return [reordered(r, one) for one in value] if isinstance(value, list) else value
 
 
 def shuffled(r, message):
     """A JSON text of the message, with its keys in any order, and on one line."""
-    keys = list(message)
-    r.shuffle(keys)
-    return json.dumps({key: message[key] for key in keys}).encode()
+    return json.dumps(reordered(r, message)).encode()
+
+
+def parts(recall):
+    """The head of a recall, and its transactions."""
+    head = {key: recall[key] for key in HEAD if key in recall}
+    return head, recall.get("TxInf", [{key: value for key, value in recall.items() if key not in HEAD}])
+
+
+def in_other_form(message):
+    """A recall of one transaction in its other form, with or without a list; any other message as it is."""
+    if message["MsgNmId"] != "camt.056" or len(message.get("TxInf", [()])) > 1:
+        return message
+    head, transactions = parts(message)
+    return {**head, **transactions[0]} if "TxInf" in message else {**head, "TxInf": transactions}

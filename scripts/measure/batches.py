@@ -46,7 +46,7 @@ class Trial:
 
     def take(self, lines):
         """The microseconds that it takes over some lines."""
-        before, text = self.settled(), ("\n".join(lines) + "\n").encode()
+        before, text = self.settled(), memoryview(("\n".join(lines) + "\n").encode())
         while text:
             text = text[os.write(self.pipe, text[:1 << 19]):]
         return (self.settled() - before) / 1000

@@ -67,27 +67,30 @@ def reason(s):
 
 NUMBER = {bic: 1, iban: 2, id35: 3, amount: 4, day: 5, name: 6, remittance: 6, stamp: 7, code4: 9, reason: 9}
 
-# ---- the key tables, "?" behind an optional key
+# ---- the key tables, "?" after an optional key: the head of each message, and what each kind has after it
 
 HEAD = [("MsgNmId", id35), ("MsgId", id35), ("CreDtTm", stamp), ("InstgAgt", bic), ("InstdAgt?", bic)]
 ORIGINAL = [("OrgnlMsgId", id35), ("OrgnlMsgNmId", id35), ("OrgnlEndToEndId?", id35), ("OrgnlTxId", id35)]
 TABLE = {
-    "pacs.008": HEAD + [
+    "pacs.008": [
         ("IntrBkSttlmDt", day), ("SvcLvl", code4), ("LclInstrm", code4), ("InstrId?", id35), ("EndToEndId", id35),
         ("TxId", id35), ("IntrBkSttlmAmt", amount), ("Ccy", code4), ("ChrgBr", code4), ("AccptncDtTm?", stamp),
         ("Dbtr", name), ("DbtrAcct", iban), ("DbtrAgt", bic), ("CdtrAgt", bic), ("Cdtr", name), ("CdtrAcct", iban),
         ("Ustrd?", remittance)],
-    "pacs.002": HEAD + ORIGINAL + [("TxSts", code4), ("Rsn?", reason), ("DbtrAgt", bic)],
-    "pacs.028": HEAD + ORIGINAL + [("OrgnlCxlId?", id35), ("DbtrAgt", bic)],
-    "camt.056": HEAD + [("CxlId", id35)] + ORIGINAL + [
+    "pacs.002": ORIGINAL + [("TxSts", code4), ("Rsn?", reason), ("DbtrAgt", bic)],
+    "pacs.028": ORIGINAL + [("OrgnlCxlId?", id35), ("DbtrAgt", bic)],
+    "camt.056": [("CxlId", id35)] + ORIGINAL + [
         ("OrgnlIntrBkSttlmAmt", amount), ("Ccy", code4), ("OrgnlIntrBkSttlmDt?", day), ("Rsn", reason),
         ("DbtrAgt", bic)],
-    "pacs.004": HEAD + [("RtrId", id35), ("OrgnlCxlId", id35)] + ORIGINAL + [
+    "pacs.004": [("RtrId", id35), ("OrgnlCxlId", id35)] + ORIGINAL + [
         ("OrgnlIntrBkSttlmAmt", amount), ("RtrdIntrBkSttlmAmt", amount), ("Ccy", code4), ("IntrBkSttlmDt", day),
         ("Rsn", reason), ("DbtrAgt", bic)],
-    "camt.029": HEAD + [("CxlStsId", id35), ("OrgnlCxlId", id35)] + ORIGINAL + [
+    "camt.029": [("CxlStsId", id35), ("OrgnlCxlId", id35)] + ORIGINAL + [
         ("Conf", code4), ("Rsn", reason), ("DbtrAgt", bic)],
 }
+
+# A recall may have a list of transactions in place of one: the key of the list, and how many it may have
+RECALL, LIST, MOST_TRANSACTIONS = "camt.056", "TxInf", 100
 
 # ---- the reasons that are usual for a rejection, and for the refusal of a recall
 
@@ -144,11 +147,11 @@ def parse(line):
 
 def original_kind(kind, m):
     """The kind of the message that a later message is about."""
-    return "camt.056" if kind == "pacs.028" and "OrgnlCxlId" in m else "pacs.008"
+    return RECALL if kind == "pacs.028" and "OrgnlCxlId" in m else "pacs.008"
 
 
-def broken_rules(kind, m):
-    """The numbers of all rules that a message of the kind breaks."""
+def rules_broken_in(kind, m):
+    """The numbers of the rules that one transaction of a message breaks."""
     has = lambda key, *right: m.get(key) in right
     if kind in ("pacs.008", "camt.056", "pacs.004") and not has("Ccy", "EUR"):
         yield 11
@@ -174,15 +177,21 @@ def broken_rules(kind, m):
         yield 21
 
 
-def read_message(line):
-    v = parse(line)
-    if not isinstance(v, dict):
-        raise Refused("32")
-    kind = kind_named(v["MsgNmId"]) if isinstance(v.get("MsgNmId"), str) else None
-    if kind is None:
-        raise Refused("33")
+def broken_rules(kind, transactions):
+    """The numbers of all rules that a message of the kind breaks."""
+    for m in transactions:
+        yield from rules_broken_in(kind, m)
+    recalls = [recall_key(kind, m) for m in transactions]
+    if len(set(recalls)) < len(recalls):
+        yield 22
+    if not 1 <= len(transactions) <= MOST_TRANSACTIONS:
+        yield 23
+
+
+def elements_of(v, table):
+    """What an object has at the keys of a table, each element as it is kept."""
     m = {}
-    for key, read in TABLE[kind]:
+    for key, read in table:
         optional, key = key.endswith("?"), key.rstrip("?")
         if key not in v:
             if not optional:
@@ -194,26 +203,92 @@ def read_message(line):
         if x is None:
             raise Refused(f"36 {key} {NUMBER[read]}")
         m[key] = x
-    known = {key.rstrip("?") for key, _ in TABLE[kind]}
+    return m
+
+
+def refuse_extra(v, table, *others):
+    """Refuses the first key of an object that is neither in the table nor one of the others."""
+    known = {key.rstrip("?") for key, _ in table}.union(others)
     extra = sorted((k for k in v if k not in known), key=lambda k: k.encode())
     if extra:
         raise Refused("37 " + json.dumps(extra[0], ensure_ascii=False))
-    broken = sorted(broken_rules(kind, m))
+
+
+def objects_in(v):
+    """The objects of a list of transactions."""
+    if not isinstance(v, list) or not 1 <= len(v) <= MOST_TRANSACTIONS:
+        raise Refused("46 0")
+    for place, one in enumerate(v, start=1):
+        if not isinstance(one, dict):
+            raise Refused(f"46 {place}")
+    return v
+
+
+def listed_transaction(place, v):
+    """The transaction at a place of the list, counted from 1."""
+    try:
+        m = elements_of(v, TABLE[RECALL])
+        refuse_extra(v, TABLE[RECALL])
+    except Refused as e:
+        raise Refused(f"56 {place} {e}")
+    return m
+
+
+def frozen(m):
+    """Elements as they are compared and hashed."""
+    return tuple(sorted(m.items()))
+
+
+def read_message(line):
+    """The message of a line: its kind, its head, and its transactions in order. Only a recall has more than one."""
+    v = parse(line)
+    if not isinstance(v, dict):
+        raise Refused("32")
+    kind = kind_named(v["MsgNmId"]) if isinstance(v.get("MsgNmId"), str) else None
+    if kind is None:
+        raise Refused("33")
+    head = elements_of(v, HEAD)
+    if kind == RECALL and LIST in v:
+        transactions = [listed_transaction(*it) for it in enumerate(objects_in(v[LIST]), start=1)]
+        refuse_extra(v, HEAD, LIST)
+    else:
+        transactions = [elements_of(v, TABLE[kind])]
+        refuse_extra(v, HEAD + TABLE[kind])
+    broken = sorted(broken_rules(kind, transactions))
     if broken:
         raise Refused(f"38 {broken[0]}")
-    return kind, tuple(sorted(m.items()))
+    return kind, frozen(head), tuple(map(frozen, transactions))
 
 
 # ---- the set
 
 def identity(msg):
-    kind, m = msg[0], dict(msg[1])
-    return m["InstgAgt"].encode(), kind.encode(), m["MsgId"].encode()
+    kind, head = msg[0], dict(msg[1])
+    return head["InstgAgt"].encode(), kind.encode(), head["MsgId"].encode()
 
 
-def transfer(msg):
-    kind, m = msg[0], dict(msg[1])
+def transfer_key(kind, m):
+    """The transfer that a transaction is about."""
     return m["DbtrAgt"].encode(), m["TxId" if kind == "pacs.008" else "OrgnlTxId"].encode()
+
+
+def recall_named(kind, m):
+    """The identification of the recall that a transaction names, or None."""
+    return m.get("CxlId" if kind == RECALL else "OrgnlCxlId")
+
+
+def recall_key(kind, m):
+    """The recall that a transaction is about: its transfer and the identification."""
+    return transfer_key(kind, m), recall_named(kind, m)
+
+
+def transactions_of(msg):
+    return [dict(m) for m in msg[2]]
+
+
+def transfers(msg):
+    """All transfers that a message is about."""
+    return {transfer_key(msg[0], m) for m in transactions_of(msg)}
 
 
 def euros(cents):
@@ -222,8 +297,10 @@ def euros(cents):
 
 def written(msg):
     """The written form of a message, without a line feed."""
-    elements = {k: euros(x) if isinstance(x, int) else x for k, x in msg[1]}
-    return json.dumps(elements, ensure_ascii=False, separators=(",", ":"), sort_keys=True)
+    text = lambda elements: {k: euros(x) if isinstance(x, int) else x for k, x in elements}
+    head, transactions = text(msg[1]), [text(m) for m in msg[2]]
+    whole = {**head, **transactions[0]} if len(transactions) == 1 else {**head, LIST: transactions}
+    return json.dumps(whole, ensure_ascii=False, separators=(",", ":"), sort_keys=True)
 
 
 def shown(code, usual):
@@ -239,27 +316,40 @@ def contradicted(messages):
     return {i for i, ms in shares.items() if len(ms) > 1}
 
 
-def recall_named(kind, m):
-    """The identification of the recall that a message names, or None."""
-    return m.get("CxlId" if kind == "camt.056" else "OrgnlCxlId")
+def by_transfer(messages):
+    """What is said of each transfer: the messages on it, each with those of its transactions that are about it."""
+    by = {}
+    for msg in messages:
+        about = {}
+        for m in transactions_of(msg):
+            about.setdefault(transfer_key(msg[0], m), []).append(m)
+        for t, transactions in about.items():
+            by.setdefault(t, []).append((msg, transactions))
+    return by
+
+
+def recalls_named(said):
+    """The identifications of the recalls that are named in what is said of a transfer."""
+    return {recall_named(msg[0], m) for msg, transactions in said for m in transactions} - {None}
 
 
 class Clean:
-    """The uncontradicted messages of a transfer, read out by what they say."""
+    """What the uncontradicted messages on a transfer say of it."""
 
-    def __init__(self, clean):
-        of = lambda kind: [dict(m[1]) for m in clean if m[0] == kind]
+    def __init__(self, said, against):
+        said = [(msg, transactions) for msg, transactions in said if identity(msg) not in against]
+        of = lambda kind: [m for msg, transactions in said if msg[0] == kind for m in transactions]
         confirmations = of("pacs.002")
         self.instructions = of("pacs.008")
         self.accepts = [m for m in confirmations if m["TxSts"] == "ACCP"]
         self.reasons = {m["Rsn"] for m in confirmations if m["TxSts"] == "RJCT"}
         self.investigations = [m for m in of("pacs.028") if "OrgnlCxlId" not in m]
         self.chased = {m["OrgnlCxlId"] for m in of("pacs.028") if "OrgnlCxlId" in m}
-        self.recalls = {(m["CxlId"], m["OrgnlIntrBkSttlmAmt"], m["Rsn"]) for m in of("camt.056")}
+        self.recalls = {(m["CxlId"], m["OrgnlIntrBkSttlmAmt"], m["Rsn"]) for m in of(RECALL)}
         self.returns = {(m["RtrId"], m["OrgnlCxlId"], m["RtrdIntrBkSttlmAmt"]) for m in of("pacs.004")}
         self.refusals = {(m["OrgnlCxlId"], m["Rsn"]) for m in of("camt.029")}
-        self.originals = {m["OrgnlIntrBkSttlmAmt"] for m in of("camt.056") + of("pacs.004")}
-        self.named = {recall_named(kind, dict(m)) for kind, m in clean} - {None}
+        self.originals = {m["OrgnlIntrBkSttlmAmt"] for m in of(RECALL) + of("pacs.004")}
+        self.named = recalls_named(said)
 
     def findings(self):
         twice = lambda cxls: sorted({c for c in cxls if cxls.count(c) > 1}, key=str.encode)
@@ -307,21 +397,14 @@ class Clean:
         return "CHASED" if cxl in self.chased else "OPEN"
 
 
-def standing(mine, against):
-    """The words of the T line, of the F lines and of the R lines of a transfer, from all messages about it."""
-    asides = sorted({identity(m) for m in mine if identity(m) in against})
-    clean = Clean([m for m in mine if identity(m) not in against])
-    recalls = sorted({recall_named(kind, dict(m)) for kind, m in mine} - {None}, key=str.encode)
+def standing(said, against):
+    """The words of the T line, of the F lines and of the R lines of a transfer, from what all messages on it say of it."""
+    asides = sorted({identity(msg) for msg, _ in said if identity(msg) in against})
+    clean = Clean(said, against)
+    recalls = sorted(recalls_named(said), key=str.encode)
     found = ["Identity|" + "|".join(p.decode() for p in i) for i in asides] + list(clean.findings())
     status = "CONTRADICTED" if found else clean.status()
     return status, found, [c + "|" + ("CONTRADICTED" if found else clean.recall_status(c)) for c in recalls]
-
-
-def by_transfer(messages):
-    by = {}
-    for m in messages:
-        by.setdefault(transfer(m), []).append(m)
-    return by
 
 
 def status_text(messages):
@@ -349,9 +432,9 @@ def totals_text(messages):
     def add(bank, place, n):
         totals.setdefault(bank.encode(), [0] * 10)[place] += n
 
-    for (bank, _), mine in by_transfer(messages).items():
-        clean = Clean([m for m in mine if identity(m) not in against])
-        word = standing(mine, against)[0].partition("|")[0]
+    for (bank, _), said in by_transfer(messages).items():
+        clean = Clean(said, against)
+        word = standing(said, against)[0].partition("|")[0]
         if word in ("ACCEPTED", "RETURNED"):
             paid, = clean.instructions
             back = sum({amount for _, _, amount in clean.returns}) if word == "RETURNED" else 0

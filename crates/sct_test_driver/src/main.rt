@@ -4,7 +4,8 @@
 //! `views`: lines. A message, in its JSON form, goes into the batch. An empty line applies the batch to the view, and prints
 //! how many of its messages were fresh and how many transfers it touched. `try` does the same, but where memory is wanting
 //! for the batch it prints the number of the fault, and the batch stays. `tell` prints the status text and the totals text of
-//! the view. `new` begins with a view of no message and an empty batch, and prints `new`.
+//! the view. `new` begins with a view of no message and an empty batch, and prints `new`. `form <JSON text>` reads a message, and
+//! prints its written form; else `unread` and the number of the fault, or `unwritten` and it.
 //!
 //! `worlds`: scripts, which a record separator (the byte 30) parts. Of each it prints the lines that tell the refused ones,
 //! or `fault 64` where it is no script, and then its replay, with a line of a record separator behind each of the two.

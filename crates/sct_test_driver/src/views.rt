@@ -1,7 +1,7 @@
 //! A view that is tried, line by line.
 
 use anyhow::Result;
-use sct_json::read_message;
+use sct_json::{JsonFault, read_message, write_message};
 use sct_message::Message;
 use sct_view::{Applied, View};
 use std::alloc::Global;
@@ -66,6 +66,26 @@ impl ViewTrial {
         Ok(Vec::new(self.alloc))
     }
 
+    // Tells the number of a fault, and at which call it came.
+    fn fault(&self, call: &str, fault: &JsonFault) -> Result<Vec<u8>> {
+        Ok(format!(in self.alloc; "{call} {}\n", fault.number())?.into_bytes())
+    }
+
+    // Reads a message and writes it, and tells its written form, or the fault that came in its place.
+    fn form(&self, text: &str) -> Result<Vec<u8>> {
+        let message = match read_message(self.alloc, text.as_bytes()) {
+            Ok(message) => message,
+            Err(fault) => return self.fault("unread", &fault),
+        };
+        match write_message(self.alloc, &message) {
+            Ok(mut written) => {
+                written.push(b'\n')?;
+                Ok(written)
+            }
+            Err(fault) => self.fault("unwritten", &fault),
+        }
+    }
+
     // Does what a line says, and answers what is to be printed of it.
     fn answer(&mut self, line: &str) -> Result<Vec<u8>> {
         match line {
@@ -73,7 +93,10 @@ impl ViewTrial {
             "try" => self.attempt(),
             "new" => self.begin(),
             "tell" => self.tell(),
-            _ => self.push(line),
+            _ => match line.strip_prefix("form ") {
+                Some(text) => self.form(text),
+                None => self.push(line),
+            },
         }
     }
 }
