@@ -1,8 +1,12 @@
 -- The lemmas of entries, deltas and logs.
 pub mod CutLemmas
+pub mod DeltaLemmas
 pub mod EntryLemmas
 pub mod FittingLemmas
 pub mod FormLemmas
+pub mod GroupLemmas
+pub mod GroupReadingLemmas
+pub mod GroupWritingLemmas
 pub mod HeldLemmas
 pub mod JoinLemmas
 pub mod LawLemmas

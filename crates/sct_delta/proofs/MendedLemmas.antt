@@ -9,7 +9,9 @@ use Rattle.std.proofs.lemmas.List.Folds.{list_all-append}
 use Rattle.sct_json.specs.Writing.{has_no_line_feed}
 use Rattle.sct_delta.specs.Entries.{Placed}
 use Rattle.sct_delta.specs.Shapes.{may_be_next}
-use Rattle.sct_delta.specs.DeltaText.{Line, lines_of, lines_as, onto_first, ended, entry_in, is_end_line, end_line, head_line, entries_ended, entries_on, entries_in, delta_of_lines, delta_in, first_wrong_line, AgreeTo, IsDeltaText}
+use Rattle.sct_delta.specs.TextLines.{Line, lines_of, lines_as, onto_first, ended, is_end_line, end_line, entries_ended}
+use Rattle.sct_delta.specs.EntryText.{entry_in, entries_head, entries_on, entries_in}
+use Rattle.sct_delta.specs.DeltaText.{delta_of_lines, delta_in, first_wrong_line, AgreeTo, IsDeltaText}
 use Rattle.sct_delta.proofs.TextLemmas.{same_texts}
 use Rattle.sct_delta.proofs.FormLemmas.{end_is_end, no_entry_at_end, form_from_read}
 use Rattle.sct_delta.proofs.WritingLemmas.{lines_from_text, end_one_line}

@@ -5,7 +5,9 @@ use Rattle.std.specs.Cmp.Lexicographic.{pointwise}
 use Rattle.std.proofs.lemmas.Bool.Decides.{nat_tests}
 use Rattle.sct_delta.specs.Entries.{Placed}
 use Rattle.sct_delta.specs.Shapes.{may_be_next}
-use Rattle.sct_delta.specs.DeltaText.{Line, lines_of, ended_first, onto_first, number_in, after_prefix, entry_in, is_end_line, end_line, head_line, entries_ended, entries_in, delta_of_lines, delta_in}
+use Rattle.sct_delta.specs.TextLines.{Line, lines_of, ended_first, onto_first, number_in, after_prefix, is_end_line, end_line, entries_ended}
+use Rattle.sct_delta.specs.EntryText.{entry_in, entries_in}
+use Rattle.sct_delta.specs.DeltaText.{entries_behind, delta_of_lines, delta_in}
 use Rattle.sct_delta.proofs.TextLemmas.{number_written, number_read, prefix_written, texts_same, same_texts, then_from, lines_of_none}
 
 -- ---- the end line
@@ -109,10 +111,6 @@ pub head_missing : (text : List ℕ) → ended_first (lines_of text) ≡ None �
 unfolding delta_in
 head_missing text none = no_head (lines_of text) none
 
-pub head_wrong : (text line after : List ℕ) → lines_of text ≡ Some line ∷ lines_of after → pointwise nat_eq line head_line ≡ false → delta_in text ≡ Err 1
+pub behind_head : (text line after : List ℕ) → lines_of text ≡ Some line ∷ lines_of after → delta_in text ≡ entries_behind line (lines_of after)
 unfolding delta_in
-head_wrong text line after first other = rw (first, other) refl
-
-pub head_right : (text line after : List ℕ) → lines_of text ≡ Some line ∷ lines_of after → pointwise nat_eq line head_line ≡ true → delta_in text ≡ entries_in 2 0 0 [] (lines_of after)
-unfolding delta_in
-head_right text line after first same = rw (first, same) refl
+behind_head text line after first = rw first refl

@@ -19,8 +19,9 @@ use Rattle.std.specs.Prelude.{option_map, option_and_then, position, codes, nat_
 use Rattle.std.specs.Cmp.Lexicographic.{pointwise, same_text, nat_list_eq_equiv}
 use Rattle.std.specs.List.{position_or_len}
 use Rattle.std.proofs.Common.{drop-cons}
-use Rattle.sct_delta.specs.Sites.{is_site}
-use Rattle.sct_delta.specs.DeltaText.{is_numeral, number_in, begins_right, lines_of, onto_first, ended_first, is_space, Field, number_to, number_before_space, site_in, after_prefix, EntryFields, fields_behind, fields_after, fields_in}
+use Rattle.sct_delta.specs.Sites.{is_site, is_site_of_form_1}
+use Rattle.sct_delta.specs.TextLines.{is_numeral, number_in, begins_right, lines_of, onto_first, ended_first, is_space, Field, number_to, number_before_space, after_prefix}
+use Rattle.sct_delta.specs.EntryText.{site_in, EntryFields, fields_behind, fields_after, fields_in}
 
 abbrev AreDigits : List ℕ → Type 0
 AreDigits text = list_all is_ascii_digit text ≡ true
@@ -223,11 +224,14 @@ field_written text rest n read = field_at text rest n (position is_space text) r
 -- an entry line, by its fields
 pub record HasFields (line : List ℕ) (origin n : ℕ) (json : List ℕ) : Type 0 where
   pub spelled : line ≡ codes "entry " ++ (decimal origin ++ 32 ∷ (decimal n ++ 32 ∷ json))
-  pub site : is_site origin ≡ true
+  pub site : is_site_of_form_1 origin ≡ true
   pub number : n < 2 ^ 64
 
 pub site_below : (origin : ℕ) → is_site origin ≡ true → origin < 2 ^ 64
 site_below origin h = grind (arith, nat_tests, h)
+
+site_of_form_1_below : (origin : ℕ) → is_site_of_form_1 origin ≡ true → origin < 2 ^ 64
+site_of_form_1_below origin h = grind (arith, nat_tests, h)
 
 pub same_texts : (some other : List ℕ) → pointwise nat_eq some other ≡ true → some ≡ other
 same_texts some other h = same_text some other (sym h)
@@ -250,7 +254,7 @@ pub fields_read : (line json : List ℕ) (origin n : ℕ) → HasFields line ori
 unfolding fields_in
 fields_read line json origin n shape =
     let first : number_before_space (decimal origin ++ 32 ∷ (decimal n ++ 32 ∷ json)) ≡ Some (origin, decimal n ++ 32 ∷ json) =
-    field_read _ _ origin (record { spelled = refl; small = site_below origin shape.site }) in
+    field_read _ _ origin (record { spelled = refl; small = site_of_form_1_below origin shape.site }) in
     let second : number_before_space (decimal n ++ 32 ∷ json) ≡ Some (n, json) =
     field_read _ _ n (record { spelled = refl; small = shape.number }) in
     rw (shape.spelled, first, shape.site, second) refl
@@ -261,7 +265,7 @@ then_from f (Some a) y e = (a, refl, e)
 
 -- the word, and the fields behind it, one after another
 fields_joined : (line front behind rest json : List ℕ) (first origin second n : ℕ) → line ≡ codes "entry " ++ front
-    → IsNumbered front first behind → IsNumbered behind second rest → first ≡ origin → second ≡ n → rest ≡ json → is_site first ≡ true
+    → IsNumbered front first behind → IsNumbered behind second rest → first ≡ origin → second ≡ n → rest ≡ json → is_site_of_form_1 first ≡ true
     → HasFields line origin n json
 fields_joined line front behind rest json first origin second n word one two same_origin same_n same_json site = record {
   spelled = word
@@ -283,7 +287,7 @@ fields_written line json origin n read =
     then_from {B = Field} number_before_space (after_prefix (codes "entry ") line) whole.0 whole.1 in
     let origins : (site : ℕ) × (site_in whole.0.0 ≡ Some site) × (fields_behind site whole.0.1 ≡ Some (origin, n, json)) =
     then_from {B = EntryFields} (λ site. fields_behind site whole.0.1) (site_in whole.0.0) (origin, n, json) whole.2 in
-    let is : (is_site whole.0.0 ≡ true) × (Some whole.0.0 ≡ Some origins.0) = passed _ _ _ origins.1 in
+    let is : (is_site_of_form_1 whole.0.0 ≡ true) × (Some whole.0.0 ≡ Some origins.0) = passed _ _ _ origins.1 in
     let site : whole.0.0 ≡ origins.0 = cc in
     let next : (field : Field) × (number_before_space whole.0.1 ≡ Some field) × ((origins.0, field.0, field.1) ≡ (origin, n, json)) =
     mapped_from {A = Field} {B = EntryFields} (λ field. (origins.0, field.0, field.1)) (number_before_space whole.0.1) (origin, n, json) origins.2 in

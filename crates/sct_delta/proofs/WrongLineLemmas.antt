@@ -4,7 +4,9 @@ use Rattle.std.specs.Prelude.{nat_eq}
 use Rattle.std.specs.Cmp.Lexicographic.{pointwise}
 use Rattle.sct_delta.specs.Entries.{Placed}
 use Rattle.sct_delta.specs.Shapes.{may_be_next}
-use Rattle.sct_delta.specs.DeltaText.{Line, lines_of, entry_in, is_end_line, head_line, entries_ended, entries_on, entries_in, delta_of_lines, delta_in, wrong_line, first_wrong_line, AgreeTo}
+use Rattle.sct_delta.specs.TextLines.{Line, lines_of, is_end_line, entries_ended}
+use Rattle.sct_delta.specs.EntryText.{entry_in, entries_head, entries_on, entries_in}
+use Rattle.sct_delta.specs.DeltaText.{delta_of_lines, delta_in, wrong_line, first_wrong_line, AgreeTo}
 
 abbrev pub Read : Type 0
 Read = Result (List Placed) ℕ

@@ -9,4 +9,7 @@ pub mod Vectors
 pub mod Shapes
 pub mod Sites
 pub mod VectorLaws
+pub mod TextLines
+pub mod EntryText
+pub mod GroupText
 pub mod DeltaText

@@ -4,7 +4,7 @@ use Rattle.std.specs.Prelude.{ℕ, ◌+◌, ◌&&◌, Bool, List, [], ◌∷◌,
 use Rattle.std.specs.List.{list_all}
 use Rattle.sct_delta.specs.declared.fault.DeltaFault.{DeltaFault}
 use Rattle.sct_delta.specs.declared.fault.DeltaFault.TheVariants as fault
-use Rattle.sct_delta.specs.Sites.{is_site}
+use Rattle.sct_delta.specs.Sites.{is_site, is_site_of_form_1}
 use Rattle.sct_delta.specs.Entries.{Placed}
 
 -- The entry may stand next to the one before it: it has the next number of the same origin, or it begins a later
@@ -22,6 +22,10 @@ first_break place origin n (entry ∷ entries) =
 -- each entry is of a site
 abbrev pub are_of_sites : List Placed → Bool
 are_of_sites entries = list_all (λ entry. is_site entry.origin) entries
+
+-- each entry is of a site that form 1 of the delta text has
+abbrev pub are_of_form_1 : List Placed → Bool
+are_of_form_1 entries = list_all (λ entry. is_site_of_form_1 entry.origin) entries
 
 -- why entries make no delta: 44 an origin is no site, then 45 with the place, from 1, of the first that breaks the order
 unfoldable pub delta_refusal : List Placed → Option DeltaFault

@@ -85,7 +85,7 @@ fn refusal(entries: &[Entry]) -> Option<DeltaFault>
 }
 
 impl Delta {
-    /// Takes entries as a delta. Refused are 44 (BadSite) an origin outside 1 to 64, and then 45 (BadDelta) with the
+    /// Takes entries as a delta. Refused are 44 (BadSite) an origin outside 1 to 1024, and then 45 (BadDelta) with the
     /// place, from 1, of the first entry that does not ascend by origin and number, leaves a hole behind the one
     /// before it, or has number 0.
     pub fn of(entries: Vec<Entry>) -> Result<Delta, DeltaFault>

@@ -33,7 +33,7 @@ impl Logs {
     ghost use Rattle.sct_delta.specs.declared.fault.DeltaFault.TheVariants as fault;
     ghost use Rattle.sct_delta.specs.Logs.{log_in, room_at, HasRoom, HoldSame};
 
-    /// Empty logs of a group of 1 to 64 sites; any other size is 44 `BadSite`.
+    /// Empty logs of a group of 1 to 1024 sites; any other size is 44 `BadSite`.
     pub fn new(alloc: Global, group: u16) -> Result<Logs, DeltaFault>
         ensures empty { IfOk result (λ logs. (origin : ℕ) → log_in logs origin ≡ []) }
         ensures group { IfOk result (λ logs. logs.group ≡ group) }

@@ -1,8 +1,12 @@
-//! The delta text, form 1: a head line, a line for each entry, and an end line with their number.
+//! The delta text in its two forms. Both begin with a head line and end with the number of the entries. Form 1 has a line
+//! for each entry, form 2 a line for each origin and one for each of its messages.
 
+mod entries;
 pub mod fields;
+mod groups;
 pub mod laws;
 mod lines;
 pub mod numbers;
+mod parts;
 pub mod reading;
 pub mod writing;

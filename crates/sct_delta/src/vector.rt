@@ -81,7 +81,7 @@ fn counted_alike(some: &Vector, other: &Vector) -> bool
 
 impl Vector {
     /// The vector with the counts of these pairs of an origin and a count, which ascend by origin. Refused are 44
-    /// (BadSite) an origin outside 1 to 64, and then 45 (BadDelta) with the place, from 1, of the first pair that does
+    /// (BadSite) an origin outside 1 to 1024, and then 45 (BadDelta) with the place, from 1, of the first pair that does
     /// not ascend.
     pub fn of(alloc: Global, pairs: &[(u16, u64)]) -> Result<Vector, DeltaFault>
         ensures counts { IfOk result (λ vector. (origin : ℕ)

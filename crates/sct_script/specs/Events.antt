@@ -5,7 +5,7 @@ use Rattle.std.specs.List.{slice_split}
 use Rattle.sct_message.specs.declared.draft.Draft.{Draft}
 use Rattle.sct_json.specs.declared.faults.JsonFault.{JsonFault}
 use Rattle.sct_json.specs.Reading.{message_in}
-use Rattle.sct_delta.specs.DeltaText.{Field, after_prefix, number_in, number_before_space}
+use Rattle.sct_delta.specs.TextLines.{Field, after_prefix, number_in, number_before_space}
 use Rattle.sct_delta.specs.Shapes.{count_among, vector_refusal}
 use Rattle.sct_world.specs.Happenings.{Happening, Taken, Cut, Handed, happening_of}
 use Rattle.sct_world.specs.declared.event.Event.{Event}

@@ -3,7 +3,7 @@ use Rattle.std.specs.Prelude.{ℕ, ◌++◌, List, [], ◌∷◌, drop, codes, d
 use Rattle.std.specs.List.{filter_map, flat_map}
 use Rattle.std.specs.Result.{result_ok, result_err}
 use Rattle.sct_lines.specs.Lines.{lines_of, numbered_from, json_fault_text}
-use Rattle.sct_delta.specs.DeltaText.{after_prefix, number_in}
+use Rattle.sct_delta.specs.TextLines.{after_prefix, number_in}
 use Rattle.sct_world.specs.Happenings.{Happening}
 use Rattle.sct_world.specs.States.{is_size}
 use Rattle.sct_script.specs.Events.{happening_in}

@@ -1,6 +1,6 @@
 //! The fields of a line: words, and the numbers of sites.
 ghost use Rattle.std.specs.Prelude.{◌≡◌, option_map};
-ghost use Rattle.sct_delta.specs.DeltaText.{after_prefix};
+ghost use Rattle.sct_delta.specs.TextLines.{after_prefix};
 ghost use Rattle.sct_script.specs.Events.{site_before_space, site_in, site_named};
 
 use sct_delta::{number_before_space, number_of};

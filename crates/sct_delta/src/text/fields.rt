@@ -1,8 +1,9 @@
 //! The fields of an entry line, parted by one space.
 ghost use Rattle.std.specs.Prelude.{◌≡◌, ◌<◌, ◌==◌, length, option_map, IfSome, position, codes};
-ghost use Rattle.sct_delta.specs.DeltaText.{is_space, number_before_space, after_prefix, fields_in, site_in};
+ghost use Rattle.sct_delta.specs.TextLines.{is_space, number_before_space, after_prefix};
+ghost use Rattle.sct_delta.specs.EntryText.{fields_in, site_in};
 
-use crate::sites::is_site;
+use crate::sites::is_site_of_form_1;
 use crate::text::numbers::number_of;
 
 // Where the first space stands.
@@ -15,7 +16,7 @@ fn space(text: &[u8]) -> Option<usize>
 
 /// The number that a text begins with, up to the first space, and what stands behind the space; none where no number
 /// stands before a space.
-#[tactic(auto, unfolding(crate::specs::DeltaText::number_before_space))]
+#[tactic(auto, unfolding(crate::specs::TextLines::number_before_space))]
 pub fn number_before_space(text: &[u8]) -> Option<(u64, &[u8])>
     ensures { option_map (λ field. (field.0, field.1.now)) result ≡ number_before_space text.now }
 {
@@ -26,12 +27,12 @@ pub fn number_before_space(text: &[u8]) -> Option<(u64, &[u8])>
     Some((n, rest))
 }
 
-// The site of that number.
+// The site of that number, where form 1 has it.
 fn site_of(number: u64) -> Option<u16>
     ensures { result ≡ site_in number }
 {
     match u16::try_from(number) {
-        Ok(origin) if is_site(origin) => Some(origin),
+        Ok(origin) if is_site_of_form_1(origin) => Some(origin),
         _ => None,
     }
 }
@@ -44,7 +45,7 @@ fn behind_word(line: &[u8]) -> Option<&[u8]>
 }
 
 /// The origin, the number and the JSON text of an entry line; none where the line is not of this shape.
-#[tactic(auto, unfolding(crate::specs::DeltaText::fields_in))]
+#[tactic(auto, unfolding(crate::specs::EntryText::fields_in))]
 pub fn fields_of(line: &[u8]) -> Option<(u16, u64, &[u8])>
     ensures { option_map (λ fields. (fields.0, fields.1, fields.2.now)) result ≡ fields_in line.now }
 {

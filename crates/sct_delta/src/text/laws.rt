@@ -3,7 +3,8 @@ ghost use Rattle.std.specs.Prelude.{◌≡◌, ◌≢◌, ◌↔◌, ◌<◌, �
 ghost use Rattle.std.specs.List.{list_all};
 ghost use Rattle.sct_json.specs.Writing.{has_no_line_feed};
 ghost use Rattle.sct_delta.specs.Entries.{Placed};
-ghost use Rattle.sct_delta.specs.DeltaText.{AgreeTo, IsDeltaText, delta_in, ended, first_wrong_line, lines_of, lines_as};
+ghost use Rattle.sct_delta.specs.TextLines.{ended, lines_of, lines_as};
+ghost use Rattle.sct_delta.specs.DeltaText.{AgreeTo, IsDeltaText, delta_in, first_wrong_line};
 
 /// The lines of a text are the ones given, each ended by a line feed, exactly where they make the text one after
 /// another and none of them has a line feed of its own.

@@ -1,7 +1,7 @@
 //! Lines of a text.
 ghost use Rattle.std.specs.Prelude.{◌≡◌, ◌+◌, ◌<◌, ◌==◌, ◌∷◌, length, Some, None, MatchOption, IfSome};
 ghost use Rattle.std.specs.List.{position_from};
-ghost use Rattle.sct_delta.specs.DeltaText.{lines_of, ended_first};
+ghost use Rattle.sct_delta.specs.TextLines.{lines_of, ended_first};
 
 // Where the first line feed stands.
 fn line_feed(bytes: &[u8]) -> Option<usize>

@@ -2,7 +2,7 @@
 ghost use Rattle.std.specs.Prelude.{◌≡◌, ◌<◌, ◌&&◌, ◌||◌, ◌==◌, not, IsTrue, length, nat_le, slice_index, option_map, option_copied, MatchOption, IfSome, position};
 ghost use Rattle.std.specs.Char.{is_ascii_digit};
 ghost use Rattle.std.specs.List.{list_all};
-ghost use Rattle.sct_delta.specs.DeltaText.{is_numeral, number_in, begins_right, is_space};
+ghost use Rattle.sct_delta.specs.TextLines.{is_numeral, number_in, begins_right, is_space};
 
 // Digits alone.
 fn are_digits(text: &[u8]) -> bool
@@ -37,7 +37,7 @@ fn number_of_digits(text: &[u8]) -> Option<u64>
 }
 
 /// The number that a text writes in decimal, without a sign or a leading zero; none where it writes none below 2^64.
-#[tactic(auto, unfolding(crate::specs::DeltaText::number_in))]
+#[tactic(auto, unfolding(crate::specs::TextLines::number_in))]
 pub fn number_of(text: &[u8]) -> Option<u64>
     ensures { result ≡ number_in text.now }
 {

@@ -1,10 +1,12 @@
-//! From a delta to its text.
-ghost use Rattle.std.specs.Prelude.{◌≡◌, ◌<◌, ◌^◌, ◌++◌, ◌∷◌, [], Ok, OnOk, IfOk, IfErr, codes, decimal, flat_map, length, string_bytes};
+//! From a delta to its text, of form 2.
+ghost use Rattle.std.specs.Prelude.{◌≡◌, ◌<◌, ◌≤◌, ◌^◌, ◌+◌, ◌++◌, ◌∷◌, [], Ok, OnOk, IfOk, IfErr, codes, decimal, flat_map, length, nat_eq, string_bytes};
 ghost use Rattle.std.specs.List.{All};
 ghost use Rattle.sct_json.specs.Reading.{message_in};
 ghost use Rattle.sct_json.specs.Writing.{written_text};
 ghost use Rattle.sct_delta.specs.declared.fault.DeltaFault.TheVariants as fault;
-ghost use Rattle.sct_delta.specs.DeltaText.{IsDeltaText, TellsEntry, delta_in, end_line, ended, entry_line, written_delta};
+ghost use Rattle.sct_delta.specs.DeltaText.{IsDeltaText, delta_in, written_delta};
+ghost use Rattle.sct_delta.specs.GroupText.{IsWritten, line_before, lines_after, origin_line, run_length};
+ghost use Rattle.sct_delta.specs.TextLines.{end_line, ended};
 
 use crate::delta::Delta;
 use crate::entry::Entry;
@@ -25,23 +27,62 @@ fn text_of(alloc: Global, message: &Message) -> Result<Vec<u8>, DeltaFault>
     }
 }
 
-// An entry line up to the message.
-fn front_of(alloc: Global, origin: u16, n: u64) -> Result<String, AllocError>
-    ensures { IfOk result (λ front. string_bytes front
-        ≡ codes "entry " ++ (decimal origin ++ 32 ∷ (decimal n ++ 32 ∷ []))) }
+// How many entries of an origin there are in front.
+fn run_length(origin: u16, entries: &[Entry]) -> u64
+    ensures run { result ≡ run_length origin entries.now }
+    ensures few { result ≤ length entries.now }
 {
-    format!(in alloc; "entry {origin} {n} ")
+    let mut rest = entries;
+    let mut count = 0;
+    while let Some((entry, after)) = rest.split_first() {
+        if entry.origin != origin {
+            return count;
+        }
+        count += 1;
+        rest = after;
+    }
+    count
 }
 
-// Adds the line of an entry.
-fn push_entry(alloc: Global, text: &mut Vec<u8>, entry: &Entry) -> Result<(), DeltaFault>
-    ensures written { OnOk result (text.new.items ≡ text.old.items ++ ended (entry_line entry.now)) }
-    ensures tells { OnOk result (TellsEntry (entry_line entry.now) entry.now) }
+// The line that begins an origin, with its line feed.
+fn origin_line(alloc: Global, origin: u16, first: u64, count: u64) -> Result<String, AllocError>
+    ensures { IfOk result (λ line. string_bytes line ≡ codes "origin "
+        ++ (decimal origin ++ 32 ∷ (decimal first ++ 32 ∷ (decimal count ++ 10 ∷ [])))) }
+{
+    format!(in alloc; "origin {origin} {first} {count}\n")
+}
+
+// Adds the line that begins an origin, where no entry of the origin comes before the entry.
+fn begin_origin(
+    alloc: Global,
+    text: &mut Vec<u8>,
+    previous: u16,
+    entry: &Entry,
+    after: &[Entry],
+) -> Result<(), DeltaFault>
+    ensures written { OnOk result (text.new.items
+        ≡ text.old.items ++ flat_map ended (line_before previous entry.now after.now)) }
     ensures memory { IfErr result (λ refusal. refusal ≡ fault.Memory) }
 {
-    let front = front_of(alloc, entry.origin, entry.n)?;
+    if entry.origin == previous {
+        return Ok(());
+    }
+    let count = 1 + run_length(entry.origin, after);
+    let line = origin_line(alloc, entry.origin, entry.n, count)?;
+    text.extend_from_slice(line.as_bytes())?;
+    Ok(())
+}
+
+// Adds the line of a message.
+fn push_message(alloc: Global, text: &mut Vec<u8>, entry: &Entry) -> Result<(), DeltaFault>
+    ensures written { OnOk result (text.new.items
+        ≡ text.old.items ++ ended (written_text entry.now.message)) }
+    ensures reads_back { OnOk result (IsWritten entry.now) }
+    ensures memory { IfErr result (λ refusal. refusal ≡ fault.Memory) }
+{
+    // Read for its range alone.
+    let _number = entry.n;
     let message = text_of(alloc, &entry.message)?;
-    text.extend_from_slice(front.as_bytes())?;
     text.extend_from_slice(&message)?;
     text.push(b'\n')?;
     Ok(())
@@ -50,12 +91,17 @@ fn push_entry(alloc: Global, text: &mut Vec<u8>, entry: &Entry) -> Result<(), De
 // Adds the lines of entries.
 fn push_entries(alloc: Global, text: &mut Vec<u8>, entries: &[Entry]) -> Result<(), DeltaFault>
     ensures written { OnOk result (text.new.items
-        ≡ text.old.items ++ flat_map (λ entry. ended (entry_line entry)) entries.now) }
-    ensures tells { OnOk result (All (λ entry. TellsEntry (entry_line entry) entry) entries.now) }
+        ≡ text.old.items ++ flat_map ended (lines_after 0 entries.now)) }
+    ensures reads_back { OnOk result (All IsWritten entries.now) }
     ensures memory { IfErr result (λ refusal. refusal ≡ fault.Memory) }
 {
-    for entry in entries {
-        push_entry(alloc, text, entry)?;
+    let mut rest = entries;
+    let mut previous = 0;
+    while let Some((entry, after)) = rest.split_first() {
+        begin_origin(alloc, text, previous, entry, after)?;
+        push_message(alloc, text, entry)?;
+        previous = entry.origin;
+        rest = after;
     }
     Ok(())
 }
@@ -70,20 +116,22 @@ fn end_of(alloc: Global, count: u64) -> Result<String, AllocError>
 // The written text of entries.
 fn text_of_entries(alloc: Global, entries: &[Entry]) -> Result<Vec<u8>, DeltaFault>
     ensures written { IfOk result (λ text. text.items ≡ written_delta entries.now) }
-    ensures tells { OnOk result (All (λ entry. TellsEntry (entry_line entry) entry) entries.now) }
+    ensures reads_back { OnOk result (All IsWritten entries.now) }
     ensures few { length entries.now < 2 ^ 64 }
     ensures memory { IfErr result (λ refusal. refusal ≡ fault.Memory) }
 {
     let end = end_of(alloc, entries.len() as u64)?;
     let mut text = Vec::new(alloc);
-    text.extend_from_slice(b"delta 1\n")?;
+    text.extend_from_slice(b"delta 2\n")?;
     push_entries(alloc, &mut text, entries)?;
     text.extend_from_slice(end.as_bytes())?;
     Ok(text)
 }
 
-/// Writes the one written text of a delta: the head line, a line with the written form of each message, and the end
-/// line. It is a form of the delta and is read back as it. Only want of memory, 40 (Memory), is a fault.
+/// Writes the one written text of a delta, of form 2: the head line, for each origin a line with its first number and how
+/// many messages follow, the written form of each message on a line, and the end line with the number of all entries. It
+/// is a form of the delta and is read back as it. The only fault is 40 (Memory). The cost is twice one pass over the
+/// entries.
 pub fn write_delta(alloc: Global, delta: &Delta) -> Result<Vec<u8>, DeltaFault>
     ensures written { IfOk result (λ text. text.items ≡ written_delta delta.now) }
     ensures form { IfOk result (λ text. IsDeltaText text.items delta.now) }

@@ -1,5 +1,5 @@
 -- The law, by its lemma.
-use Rattle.sct_delta.proofs.FormLemmas.{one_delta}
+use Rattle.sct_delta.proofs.DeltaLemmas.{one_delta}
 use Rattle.sct_delta.proofs.text.laws.a_text_is_a_form_of_one_delta.Goals as goal
 
 pub returns : goal.returns

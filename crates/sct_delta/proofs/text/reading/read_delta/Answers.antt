@@ -1,9 +1,10 @@
 -- The head line, and what is read behind it.
 use Rattle.std.proofs.Common.{sym, ◌∙◌, ◌≡◌, ap, List, Ok, Err, []}
 use Rattle.sct_delta.specs.Entries.{Placed}
-use Rattle.sct_delta.specs.DeltaText.{Reads, delta_in, entries_in, lines_of}
-use Rattle.sct_delta.proofs.ReadingLemmas.{head_missing, head_wrong, head_right}
-use Rattle.sct_delta.proofs.FormLemmas.{form_from_read, read_refused, refused_at, shape_from_read}
+use Rattle.sct_delta.specs.TextLines.{lines_of}
+use Rattle.sct_delta.specs.DeltaText.{Reads, delta_in, entries_behind}
+use Rattle.sct_delta.proofs.ReadingLemmas.{head_missing, behind_head}
+use Rattle.sct_delta.proofs.DeltaLemmas.{form_from_read, read_refused, refused_at, shape_from_read}
 use Rattle.sct_delta.proofs.text.reading.read_delta.Goals as goal
 
 pub returns-in_default-clause-read : goal.returns-in_default-clause-read
@@ -12,24 +13,12 @@ returns-in_default-clause-read c = head_missing c.args.bytes.now c.in_default.en
 pub returns-in_default-clause-refused : goal.returns-in_default-clause-refused
 returns-in_default-clause-refused c = λ other. refused_at c.args.bytes.now 1 (head_missing c.args.bytes.now c.in_default.ensures.lines)
 
-pub returns-then-not-is_head_line-clause-read : goal.returns-then-not-is_head_line-clause-read
-returns-then-not-is_head_line-clause-read c =
-    head_wrong c.args.bytes.now c.in-Some.line.now c.in-Some.rest.now c.in-Some.ensures.lines
-    (sym c.is_head_line.ensures ∙ c.if-not-is_head_line.true)
-
-pub returns-then-not-is_head_line-clause-refused : goal.returns-then-not-is_head_line-clause-refused
-returns-then-not-is_head_line-clause-refused c = λ other.
-    refused_at c.args.bytes.now 1
-    (head_wrong c.args.bytes.now c.in-Some.line.now c.in-Some.rest.now c.in-Some.ensures.lines
-    (sym c.is_head_line.ensures ∙ c.if-not-is_head_line.true))
-
 pub of_shape-requires : goal.of_shape-requires
-of_shape-requires c = shape_from_read c.in-Some.rest.now c.in-Ok.entries.items c.in-Ok.ensures.read
+of_shape-requires c = shape_from_read c.in-Some.line.now (lines_of c.in-Some.rest.now) c.in-Ok.entries.items c.in-Ok.ensures.read
 
 right : (c : goal.After-of_shape) → delta_in c.args.bytes.now ≡ Ok c.of_shape.result
 right c =
-    head_right c.args.bytes.now c.in-Some.line.now c.in-Some.rest.now c.in-Some.ensures.lines
-    (sym c.is_head_line.ensures ∙ c.if-not-is_head_line.false)
+    behind_head c.args.bytes.now c.in-Some.line.now c.in-Some.rest.now c.in-Some.ensures.lines
     ∙ c.in-Ok.ensures.read
     ∙ ap (λ (entries : List Placed). Ok entries) (sym c.of_shape.ensures)
 
@@ -41,9 +30,8 @@ returns-in-Ok-clause-form c = form_from_read c.args.bytes.now _ (right c)
 
 wrong : (c : goal.In-Err) → Reads (Err c.in-Err.refusal) (delta_in c.args.bytes.now)
 wrong c =
-    let behind : delta_in c.args.bytes.now ≡ entries_in 2 0 0 [] (lines_of c.in-Some.rest.now) =
-    head_right c.args.bytes.now c.in-Some.line.now c.in-Some.rest.now c.in-Some.ensures.lines
-    (sym c.is_head_line.ensures ∙ c.if-not-is_head_line.false) in
+    let behind : delta_in c.args.bytes.now ≡ entries_behind c.in-Some.line.now (lines_of c.in-Some.rest.now) =
+    behind_head c.args.bytes.now c.in-Some.line.now c.in-Some.rest.now c.in-Some.ensures.lines in
     rw behind c.in-Err.ensures.wrong
 
 pub returns-in-Err-clause-read : goal.returns-in-Err-clause-read

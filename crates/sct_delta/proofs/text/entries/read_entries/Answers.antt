@@ -1,9 +1,10 @@
 -- One line more, and the end.
 use Rattle.std.proofs.Common.{sym, ◌∙◌, arith, ap, ◌≡◌, ◌+◌, ◌++◌, ◌∷◌, []}
 use Rattle.sct_delta.specs.Entries.{Placed}
-use Rattle.sct_delta.specs.DeltaText.{entries_in, entries_ended, lines_of}
+use Rattle.sct_delta.specs.TextLines.{entries_ended, lines_of}
+use Rattle.sct_delta.specs.EntryText.{entries_in}
 use Rattle.sct_delta.proofs.ReadingLemmas.{read_entry_more, read_entry_wrong, read_end}
-use Rattle.sct_delta.proofs.text.reading.read_entries.Goals as goal
+use Rattle.sct_delta.proofs.text.entries.read_entries.Goals as goal
 
 at_end : (c : goal.After-ended) → entries_in 2 0 0 [] (lines_of c.args.text.now) ≡ entries_ended c.loop-line.place c.loop-line.entries.items c.in-Some.line.now (lines_of c.in-Some.after.now)
 at_end c = c.loop-line.invariant.left ∙ read_end _ _ _ _ _ _ _ c.in-Some.ensures.lines (sym c.in_default-2.is ∙ c.in_ok-entry.ensures.read)

@@ -1,8 +1,8 @@
 -- The end line stands there, and something behind it or nothing.
 use Rattle.std.proofs.Common.{sym, ap, ◌∙◌, ℕ}
-use Rattle.sct_delta.specs.DeltaText.{is_end_line}
+use Rattle.sct_delta.specs.TextLines.{is_end_line}
 use Rattle.sct_delta.proofs.ReadingLemmas.{ended_here, ended_too_early}
-use Rattle.sct_delta.proofs.text.reading.ended.Goals as goal
+use Rattle.sct_delta.proofs.text.parts.ended.Goals as goal
 
 pub returns-then-not-is_empty-clause-wrong : goal.returns-then-not-is_empty-clause-wrong
 returns-then-not-is_empty-clause-wrong c =

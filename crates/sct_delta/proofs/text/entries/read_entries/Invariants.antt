@@ -1,7 +1,8 @@
 -- What is left decides.
 use Rattle.std.proofs.Common.{◌≡◌, ◌+◌, ◌≤◌, length, []}
-use Rattle.sct_delta.specs.DeltaText.{entries_in, lines_of}
-use Rattle.sct_delta.proofs.text.reading.read_entries.Given as goal
+use Rattle.sct_delta.specs.TextLines.{lines_of}
+use Rattle.sct_delta.specs.EntryText.{entries_in}
+use Rattle.sct_delta.proofs.text.entries.read_entries.Given as goal
 
 abbrev pub invariant-loop-line : goal.invariant-loop-line
 invariant-loop-line l = record {

@@ -1,0 +1,62 @@
+//! Form 1 of the delta text: from its entry lines to the entries.
+ghost use Rattle.std.specs.Prelude.{◌≡◌, ◌+◌, ◌<◌, ◌^◌, [], Ok, Err, IfOk, IfErr, length};
+ghost use Rattle.sct_delta.specs.declared.fault.DeltaFault.TheVariants as fault;
+ghost use Rattle.sct_delta.specs.DeltaText.{Reads};
+ghost use Rattle.sct_delta.specs.EntryText.{entries_in, entry_in};
+ghost use Rattle.sct_delta.specs.TextLines.{lines_of};
+
+use crate::delta::may_be_next;
+use crate::entry::Entry;
+use crate::fault::DeltaFault;
+use crate::text::fields::fields_of;
+use crate::text::lines::first_line;
+use crate::text::parts::{ended, message_of};
+use std::alloc::Global;
+use std::sync::Arc;
+
+// The entry that a line tells; none where it tells none.
+#[tactic(auto, unfolding(crate::specs::EntryText::entry_in))]
+fn read_entry(alloc: Global, line: &[u8]) -> Result<Option<Entry>, DeltaFault>
+    ensures read { IfOk result (λ entry. entry ≡ entry_in line.now) }
+    ensures memory { IfErr result (λ refusal. refusal ≡ fault.Memory) }
+{
+    let Some((origin, n, json)) = fields_of(line) else {
+        return Ok(None);
+    };
+    let Some(message) = message_of(alloc, json)? else {
+        return Ok(None);
+    };
+    let message = Arc::new(alloc, message)?;
+    Ok(Some(Entry { origin, n, message }))
+}
+
+/// Reads what stands behind the head line of form 1: entries, and the end line behind the last one. Refused is 45
+/// (BadDelta) with the first wrong line of the whole text; 40 (Memory) says nothing of the text.
+#[tactic(auto, using(crate::proofs::ReadingLemmas::read_missing))]
+pub fn read_entries(alloc: Global, text: &[u8]) -> Result<Vec<Entry>, DeltaFault>
+    requires { length text.now + 4 < 2 ^ 64 }
+    ensures read { IfOk result (λ entries. entries_in 2 0 0 [] (lines_of text.now) ≡ Ok entries.items) }
+    ensures wrong { IfErr result (λ refusal. Reads (Err refusal) (entries_in 2 0 0 [] (lines_of text.now))) }
+{
+    let mut entries = Vec::new(alloc);
+    let mut rest = text;
+    let mut place = 2;
+    let mut origin = 0;
+    let mut n = 0;
+    while let Some((line, after)) = first_line(rest) {
+        let Some(entry) = read_entry(alloc, line)? else {
+            return ended(entries, place, line, after);
+        };
+        if !may_be_next(origin, n, &entry) {
+            return Err(DeltaFault::BadDelta(place));
+        }
+        place += 1;
+        origin = entry.origin;
+        n = entry.n;
+        entries.push(entry)?;
+        rest = after;
+    }
+    let missing = DeltaFault::BadDelta(place);
+    Err(missing)
+}
+

@@ -1,0 +1,97 @@
+//! Form 2 of the delta text: from its origin lines and message lines to the entries.
+ghost use Rattle.std.specs.Prelude.{◌≡◌, ◌+◌, ◌<◌, ◌^◌, [], Some, None, Ok, Err, IfOk, IfErr, codes, length, if◌then◌else◌, option_map};
+ghost use Rattle.sct_delta.specs.DeltaText.{Reads};
+ghost use Rattle.sct_delta.specs.GroupText.{groups_in, may_begin, origin_in};
+ghost use Rattle.sct_delta.specs.TextLines.{after_prefix, lines_of};
+
+use crate::entry::Entry;
+use crate::fault::DeltaFault;
+use crate::sites::is_site;
+use crate::text::fields::number_before_space;
+use crate::text::lines::first_line;
+use crate::text::numbers::number_of;
+use crate::text::parts::{ended, message_of};
+use std::alloc::Global;
+use std::sync::Arc;
+
+// What stands behind the word that an origin line begins with.
+fn behind_origin(line: &[u8]) -> Option<&[u8]>
+    ensures { option_map (λ rest. rest.now) result ≡ after_prefix (codes "origin ") line.now }
+{
+    line.strip_prefix(b"origin ")
+}
+
+// The origin, the first number and the count of an origin line; none where the line is not of this shape.
+#[tactic(auto, unfolding(crate::specs::GroupText::origin_in))]
+fn origin_of(line: &[u8]) -> Option<(u64, u64, u64)>
+    ensures { result ≡ origin_in line.now }
+{
+    let rest = behind_origin(line)?;
+    let (origin, rest) = number_before_space(rest)?;
+    let (first, rest) = number_before_space(rest)?;
+    let count = number_of(rest)?;
+    Some((origin, first, count))
+}
+
+// The site of an origin that may begin behind another, with so many numbers from the first one on.
+fn site_of_group(before: u16, origin: u64, first: u64, count: u64) -> Option<u16>
+    ensures { result ≡ (if may_begin before origin first count then Some origin else None) }
+{
+    match u16::try_from(origin) {
+        Ok(site)
+            if before < site
+                && is_site(site)
+                && 1 <= first
+                && 1 <= count
+                && first - 1 <= u64::MAX - count =>
+        {
+            Some(site)
+        }
+        _ => None,
+    }
+}
+
+/// Reads what stands behind the head line of form 2: the messages of each origin, and the end line behind the last one.
+/// Refused is 45 (BadDelta) with the first wrong line of the whole text; 40 (Memory) says nothing of the text.
+#[tactic(auto, using(crate::proofs::GroupReadingLemmas::groups_missing))]
+pub fn read_groups(alloc: Global, text: &[u8]) -> Result<Vec<Entry>, DeltaFault>
+    requires { length text.now + 4 < 2 ^ 64 }
+    ensures read { IfOk result (λ entries. groups_in 2 0 1 0 [] (lines_of text.now) ≡ Ok entries.items) }
+    ensures wrong { IfErr result (λ refusal. Reads (Err refusal) (groups_in 2 0 1 0 [] (lines_of text.now))) }
+{
+    let mut entries = Vec::new(alloc);
+    let mut rest = text;
+    let mut place = 2;
+    let mut origin = 0;
+    let mut before = 0;
+    let mut due = 0;
+    while let Some((line, after)) = first_line(rest) {
+        if due == 0 {
+            let Some((number, first, count)) = origin_of(line) else {
+                return ended(entries, place, line, after);
+            };
+            let Some(site) = site_of_group(origin, number, first, count) else {
+                return Err(DeltaFault::BadDelta(place));
+            };
+            origin = site;
+            before = first - 1;
+            due = count;
+        } else {
+            let Some(message) = message_of(alloc, line)? else {
+                return Err(DeltaFault::BadDelta(place));
+            };
+            before += 1;
+            due -= 1;
+            let message = Arc::new(alloc, message)?;
+            entries.push(Entry {
+                origin,
+                n: before,
+                message,
+            })?;
+        }
+        place += 1;
+        rest = after;
+    }
+    let missing = DeltaFault::BadDelta(place);
+    Err(missing)
+}

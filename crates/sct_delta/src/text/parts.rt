@@ -1,0 +1,69 @@
+//! What both forms of the delta text have: messages, and the end line.
+ghost use Rattle.std.specs.Prelude.{◌≡◌, ◌-◌, ◌<◌, ◌^◌, Ok, Err, IfOk, IfErr, codes, option_and_then};
+ghost use Rattle.std.specs.Result.{result_ok};
+ghost use Rattle.sct_json.specs.Reading.{message_in};
+ghost use Rattle.sct_delta.specs.declared.fault.DeltaFault.TheVariants as fault;
+ghost use Rattle.sct_delta.specs.DeltaText.{Reads};
+ghost use Rattle.sct_delta.specs.TextLines.{after_prefix, entries_ended, is_end_line, lines_of, number_in};
+
+use crate::entry::Entry;
+use crate::fault::DeltaFault;
+use crate::text::numbers::number_of;
+use sct_json::{JsonFault, read_message};
+use sct_message::Message;
+use std::alloc::Global;
+
+/// The message of a JSON text; none where it is refused. 40 (Memory) says nothing of the text.
+pub fn message_of(alloc: Global, json: &[u8]) -> Result<Option<Message>, DeltaFault>
+    ensures read { IfOk result (λ message. message ≡ result_ok (message_in json.now)) }
+    ensures memory { IfErr result (λ refusal. refusal ≡ fault.Memory) }
+{
+    match read_message(alloc, json) {
+        Ok(message) => Ok(Some(message)),
+        Err(JsonFault::Memory) => Err(DeltaFault::Memory),
+        Err(_) => Ok(None),
+    }
+}
+
+// The number that an end line tells.
+fn told_count(line: &[u8]) -> Option<u64>
+    ensures { result ≡ option_and_then number_in (after_prefix (codes "end ") line.now) }
+{
+    let number = line.strip_prefix(b"end ")?;
+    number_of(number)
+}
+
+// The line is the end line behind so many entries.
+#[tactic(auto, using(crate::proofs::ReadingLemmas::end_by_count, crate::proofs::ReadingLemmas::no_count_no_end))]
+fn is_end_line(line: &[u8], count: u64) -> bool
+    ensures { result ≡ is_end_line count line.now }
+{
+    match told_count(line) {
+        Some(told) => told == count,
+        None => false,
+    }
+}
+
+/// Ends with a line that tells no entry and begins no origin, with what stands behind it. 45 (BadDelta) where it is not
+/// the end line, or something stands behind it.
+pub fn ended(
+    entries: Vec<Entry>,
+    place: u64,
+    line: &[u8],
+    after: &[u8],
+) -> Result<Vec<Entry>, DeltaFault>
+    requires { place < 2 ^ 64 - 1 }
+    ensures read { IfOk result (λ read. entries_ended place entries.items line.now (lines_of after.now)
+        ≡ Ok read.items) }
+    ensures wrong { IfErr result (λ refusal.
+        Reads (Err refusal) (entries_ended place entries.items line.now (lines_of after.now))) }
+{
+    if !is_end_line(line, entries.len() as u64) {
+        return Err(DeltaFault::BadDelta(place));
+    }
+    if !after.is_empty() {
+        return Err(DeltaFault::BadDelta(place + 1));
+    }
+    Ok(entries)
+}
+
