@@ -274,7 +274,7 @@ begins_read place before n origin first count entries lines begins =
     origin_read origin first count (site_small origin (of_site before origin first count begins)) (omega arith) (omega arith) in
     rw (read, begins) refl
 
-ends_read : (place before n : ℕ) (entries : List Placed) → groups_in place before n 0 entries (Some (end_line (length entries)) ∷ []) ≡ Ok entries
+pub ends_read : (place before n : ℕ) (entries : List Placed) → groups_in place before n 0 entries (Some (end_line (length entries)) ∷ []) ≡ Ok entries
 unfolding groups_in
 ends_read place before n entries = rw (no_origin_at_end (length entries), end_is_end (length entries)) refl
 

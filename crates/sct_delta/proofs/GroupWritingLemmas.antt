@@ -157,7 +157,7 @@ unfolding written_delta
 written_lines entries few sites all =
     lines_from_text (groups_head ∷ lines_after 0 entries ++ end_line (length entries) ∷ [])
     (list_all-append has_no_line_feed (lines_after 0 entries) (end_line (length entries) ∷ [])
-    ∙ and_from _ _ (lines_one 0 entries few sites all) (and_from _ _ (end_one_line (length entries) few) refl))
+    ∙ and_from _ _ (lines_one 0 entries few sites all) (and_from _ _ (end_one_line (length entries) (omega (arith, few))) refl))
 
 no_site_0 : (origin : ℕ) → is_site origin ≡ true → nat_eq origin 0 ≡ false
 no_site_0 origin h = grind (arith, nat_tests, h)

@@ -1,4 +1,4 @@
--- The lines before the first wrong one are those of a form: an end line in its place makes one. Proof plumbing.
+-- The lines before the first wrong one of form 1 are those of a form: an end line in its place makes one. Proof plumbing.
 use Rattle.std.proofs.Common.{ℕ, zero, suc, ◌≡◌, ◌+◌, ◌<◌, ◌≤◌, ◌^◌, ◌++◌, ◌∷◌, [], List, Bool, true, false, cond, Some, None, Ok, Err, ◌==◌, take, length, refl, sym, ap, ◌∙◌, arith, append_assoc}
 use Rattle.std.specs.Prelude.{nat_eq, flat_map}
 use Rattle.std.specs.Cmp.Lexicographic.{pointwise}
@@ -10,20 +10,18 @@ use Rattle.sct_json.specs.Writing.{has_no_line_feed}
 use Rattle.sct_delta.specs.Entries.{Placed}
 use Rattle.sct_delta.specs.Shapes.{may_be_next}
 use Rattle.sct_delta.specs.TextLines.{Line, lines_of, lines_as, onto_first, ended, is_end_line, end_line, entries_ended}
-use Rattle.sct_delta.specs.EntryText.{entry_in, entries_head, entries_on, entries_in}
-use Rattle.sct_delta.specs.DeltaText.{delta_of_lines, delta_in, first_wrong_line, AgreeTo, IsDeltaText}
+use Rattle.sct_delta.specs.EntryText.{entry_in, entries_on, entries_in}
 use Rattle.sct_delta.proofs.TextLemmas.{same_texts}
-use Rattle.sct_delta.proofs.FormLemmas.{end_is_end, no_entry_at_end, form_from_read}
-use Rattle.sct_delta.proofs.WritingLemmas.{lines_from_text, end_one_line}
-use Rattle.sct_delta.proofs.WrongLineLemmas.{Is, told_here, at_least, wrong_is}
+use Rattle.sct_delta.proofs.FormLemmas.{end_is_end, no_entry_at_end}
+use Rattle.sct_delta.proofs.WrongLineLemmas.{Is, told_here, at_least}
 
 -- ---- lines of a text are one line each, and no more than its bytes
 
-abbrev is_one : Line → Bool
+abbrev pub is_one : Line → Bool
 is_one None = true
 is_one (Some line) = has_no_line_feed line
 
-abbrev AreOne : List Line → Type 0
+abbrev pub AreOne : List Line → Type 0
 AreOne lines = list_all is_one lines ≡ true
 
 onto_one : (byte : ℕ) (lines : List Line) → (byte == 10) ≡ false → AreOne lines → AreOne (onto_first byte lines)
@@ -31,7 +29,7 @@ onto_one byte [] other one = refl
 onto_one byte (None ∷ lines) other one = one
 onto_one byte (Some line ∷ lines) other one = rw other one
 
-lines_are_one : (bytes : List ℕ) → AreOne (lines_of bytes)
+pub lines_are_one : (bytes : List ℕ) → AreOne (lines_of bytes)
 unfolding lines_of
 lines_are_one [] = refl
 lines_are_one (byte ∷ bytes) =
@@ -45,7 +43,7 @@ onto_few byte k [] few = omega arith
 onto_few byte k (None ∷ lines) few = omega (arith, few)
 onto_few byte k (Some line ∷ lines) few = omega (arith, few)
 
-few_lines : (bytes : List ℕ) → length (lines_of bytes) ≤ length bytes
+pub few_lines : (bytes : List ℕ) → length (lines_of bytes) ≤ length bytes
 unfolding lines_of
 few_lines [] = omega arith
 few_lines (byte ∷ bytes) =
@@ -65,7 +63,7 @@ pub record Mended (place j origin n : ℕ) (entries : List Placed) (lines : List
   pub one : list_all has_no_line_feed told ≡ true
   pub few : length more ≤ length lines
 
-ends_here : (place origin n : ℕ) (entries : List Placed) → entries_in place origin n entries (Some (end_line (length entries)) ∷ []) ≡ Ok entries
+pub ends_here : (place origin n : ℕ) (entries : List Placed) → entries_in place origin n entries (Some (end_line (length entries)) ∷ []) ≡ Ok entries
 unfolding entries_in
 ends_here place origin n entries = rw (no_entry_at_end (length entries), end_is_end (length entries)) refl
 
@@ -144,66 +142,3 @@ mended place j origin n entries (Some line ∷ lines) one h =
         | false ↦ λ other e. mended_here place j origin n entries (Some line ∷ lines) (omega (arith, told_here place (place + j) e))
       ]) refl
     ]) refl h
-
--- ---- of the whole text
-
--- A text that begins with the same lines, and is a form of a delta.
-pub record IsMended (count : ℕ) (lines : List Line) : Type 0 where
-  pub other : List ℕ
-  pub entries : List Placed
-  pub agree : take count lines ≡ take count (lines_of other)
-  pub form : IsDeltaText other entries
-
-made : (told : List (List ℕ)) (count : ℕ) → count < 2 ^ 64 → list_all has_no_line_feed told ≡ true
-    → lines_of (flat_map ended (head_line ∷ told ++ end_line count ∷ [])) ≡ lines_as (head_line ∷ told ++ end_line count ∷ [])
-made told count few one =
-    lines_from_text (head_line ∷ told ++ end_line count ∷ [])
-    (list_all-append has_no_line_feed told (end_line count ∷ []) ∙ and_from _ _ one (and_from _ _ (end_one_line count few) refl))
-
-read_made : (told : List (List ℕ)) (entries : List Placed) → length entries < 2 ^ 64 → list_all has_no_line_feed told ≡ true
-    → entries_in 2 0 0 [] (lines_as (told ++ end_line (length entries) ∷ [])) ≡ Ok entries
-    → IsDeltaText (flat_map ended (head_line ∷ told ++ end_line (length entries) ∷ [])) entries
-unfolding delta_in
-read_made told entries few one read =
-    form_from_read (flat_map ended (head_line ∷ told ++ end_line (length entries) ∷ [])) entries (ap delta_of_lines (made told (length entries) few one) ∙ read)
-
-whole_mended : (j : ℕ) (lines : List Line) → length lines < 2 ^ 64 → Mended 2 j 0 0 [] lines → IsMended (suc j) (Some head_line ∷ lines)
-whole_mended j lines few m = record {
-  other = flat_map ended (head_line ∷ m.told ++ end_line (length m.more) ∷ []);
-  entries = m.more;
-  agree = ap (λ (ls : List Line). Some head_line ∷ ls) m.agree ∙ ap (take (suc j)) (sym (made m.told (length m.more) (omega (arith, few, m.few)) m.one));
-  form = read_made m.told m.more (omega (arith, few, m.few)) m.one m.read;
-}
-
-nothing_kept : (lines : List Line) → IsMended 0 lines
-nothing_kept lines = record {
-  other = flat_map ended (head_line ∷ [] ++ end_line 0 ∷ []);
-  entries = [];
-  agree = refl;
-  form = read_made [] [] (omega arith) refl (ends_here 2 0 0 []);
-}
-
-headed_as : (line : List ℕ) (count : ℕ) (lines : List Line) → line ≡ head_line → IsMended count (Some head_line ∷ lines) → IsMended count (Some line ∷ lines)
-headed_as line count lines head m = rw head m
-
-lines_mended : (before : ℕ) (lines : List Line) → length lines < 2 ^ 64 → AreOne lines → delta_of_lines lines ≡ Err (suc before) → IsMended before lines
-lines_mended zero lines few one h = nothing_kept lines
-lines_mended (suc j) [] few one h = absurd (omega (arith, told_here 1 (suc (suc j)) h))
-lines_mended (suc j) (None ∷ lines) few one h = absurd (omega (arith, told_here 1 (suc (suc j)) h))
-lines_mended (suc j) (Some line ∷ lines) few one h =
-    let ones : (has_no_line_feed line ≡ true) × AreOne lines = and_parts (has_no_line_feed line) (list_all is_one lines) one in
-    let number : suc (suc j) ≡ 2 + j = omega arith in
-    (elim (pointwise nat_eq line head_line) as (λ head. pointwise nat_eq line head_line ≡ head → Is (cond head (entries_in 2 0 0 [] lines) (Err 1)) (Err (suc (suc j))) → IsMended (suc j) (Some line ∷ lines)) [
-      | true ↦ λ head e. headed_as line (suc j) lines (same_texts line head_line head)
-          (whole_mended j lines (omega (arith, few)) (mended 2 j 0 0 [] lines ones.1 (e ∙ ap (λ (k : ℕ). Err k) number)))
-      | false ↦ λ other e. absurd (omega (arith, told_here 1 (suc (suc j)) e))
-    ]) refl h
-
-pub front_is_right : (bytes : List ℕ) (before : ℕ) → length bytes < 2 ^ 64 → first_wrong_line bytes ≡ Some (before + 1)
-    → (other : List ℕ) × (entries : List Placed) × AgreeTo before bytes other × IsDeltaText other entries
-unfolding delta_in
-front_is_right bytes before few wrong =
-    let number : before + 1 ≡ suc before = omega arith in
-    let read : delta_of_lines (lines_of bytes) ≡ Err (suc before) = wrong_is (delta_of_lines (lines_of bytes)) (before + 1) wrong ∙ ap (λ (k : ℕ). Err k) number in
-    let m : IsMended before (lines_of bytes) = lines_mended before (lines_of bytes) (omega (arith, few, few_lines bytes)) (lines_are_one bytes) read in
-    (m.other, m.entries, m.agree, m.form)

@@ -6,7 +6,7 @@ use Rattle.std.specs.List.{list_all}
 use Rattle.std.specs.Str.Parse.{AllDigits}
 use Rattle.std.proofs.lemmas.Bool.{and_parts, and_from}
 use Rattle.std.proofs.lemmas.Bool.Decides.{nat_tests}
-use Rattle.std.proofs.lemmas.Fmt.{decimal_is_IsNumeral}
+use Rattle.std.proofs.lemmas.Fmt.{decimal_is_IsNumeral, decimal_is_IsNumeral_wide}
 use Rattle.std.proofs.lemmas.List.Folds.{list_all-append}
 use Rattle.sct_json.specs.Writing.{has_no_line_feed}
 use Rattle.sct_delta.specs.TextLines.{Line, lines_of, lines_as, onto_first, ended, end_line}
@@ -101,5 +101,6 @@ decimal_one_line n small = digits_one_line (decimal n) (decimal_is_IsNumeral n s
 pub one_line_appended : (some more : List ℕ) → has_no_line_feed some ≡ true → has_no_line_feed more ≡ true → has_no_line_feed (some ++ more) ≡ true
 one_line_appended some more left right = rw (list_all-append (λ byte. not (byte == 10)) some more, left, right) refl
 
-pub end_one_line : (count : ℕ) → count < 2 ^ 64 → has_no_line_feed (end_line count) ≡ true
-end_one_line count small = decimal_one_line count small
+-- also of two counts below 2^64 together
+pub end_one_line : (count : ℕ) → count < 10 ^ 64 → has_no_line_feed (end_line count) ≡ true
+end_one_line count small = digits_one_line (decimal count) (decimal_is_IsNumeral_wide count small).0.1

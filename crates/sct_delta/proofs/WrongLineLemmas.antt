@@ -1,12 +1,9 @@
 -- The first wrong line rests on the lines up to it alone. Proof plumbing.
 use Rattle.std.proofs.Common.{ℕ, zero, suc, ◌≡◌, ◌+◌, ◌≤◌, ◌++◌, ◌∷◌, [], List, Bool, true, false, cond, Some, None, Result, Ok, Err, take, length, refl, sym, ap, ◌∙◌, arith}
-use Rattle.std.specs.Prelude.{nat_eq}
-use Rattle.std.specs.Cmp.Lexicographic.{pointwise}
 use Rattle.sct_delta.specs.Entries.{Placed}
 use Rattle.sct_delta.specs.Shapes.{may_be_next}
 use Rattle.sct_delta.specs.TextLines.{Line, lines_of, is_end_line, entries_ended}
 use Rattle.sct_delta.specs.EntryText.{entry_in, entries_head, entries_on, entries_in}
-use Rattle.sct_delta.specs.DeltaText.{delta_of_lines, delta_in, wrong_line, first_wrong_line, AgreeTo}
 
 abbrev pub Read : Type 0
 Read = Result (List Placed) ℕ
@@ -17,7 +14,7 @@ Is some other = some ≡ other
 -- ---- lines that agree
 
 -- where the first lines agree, so do the first of them and the others
-same_first : (j : ℕ) (line : Line) (lines other : List Line) → take (suc j) (line ∷ lines) ≡ take (suc j) other
+pub same_first : (j : ℕ) (line : Line) (lines other : List Line) → take (suc j) (line ∷ lines) ≡ take (suc j) other
     → (rest : List Line) × (other ≡ line ∷ rest) × (take j lines ≡ take j rest)
 same_first j line lines [] h = cc
 same_first j line lines (next ∷ rest) h =
@@ -25,7 +22,7 @@ same_first j line lines (next ∷ rest) h =
     let others : take j lines ≡ take j rest = cc in
     (rest, ap (λ (l : Line). l ∷ rest) (sym first), others)
 
-no_lines : (j : ℕ) (other : List Line) → take (suc j) [] ≡ take (suc j) other → other ≡ []
+pub no_lines : (j : ℕ) (other : List Line) → take (suc j) [] ≡ take (suc j) other → other ≡ []
 no_lines j [] h = refl
 no_lines j (line ∷ other) h = cc
 
@@ -34,7 +31,7 @@ no_lines j (line ∷ other) h = cc
 pub told_here : (place k : ℕ) → Is (Err place) (Err k) → place ≡ k
 told_here place k h = cc
 
-ended_at_least : (place k : ℕ) (entries : List Placed) (line : List ℕ) (lines : List Line) → entries_ended place entries line lines ≡ Err k → place ≤ k
+pub ended_at_least : (place k : ℕ) (entries : List Placed) (line : List ℕ) (lines : List Line) → entries_ended place entries line lines ≡ Err k → place ≤ k
 ended_at_least place k entries line [] h =
     (elim (is_end_line (length entries) line) as (λ ends. Is (cond ends (Ok entries) (Err place)) (Err k) → place ≤ k) [
       | true ↦ λ e. cc
@@ -65,7 +62,7 @@ one_of_none : (j : ℕ) (next : Line) (lines : List Line) → j ≡ 1 → take j
 one_of_none zero next lines one h = absurd (omega (arith, one))
 one_of_none (suc j) next lines one h = cc
 
-ended_wrong : (place j : ℕ) (entries : List Placed) (line : List ℕ) (lines rest : List Line) → entries_ended place entries line lines ≡ Err (place + j) → take j lines ≡ take j rest
+pub ended_wrong : (place j : ℕ) (entries : List Placed) (line : List ℕ) (lines rest : List Line) → entries_ended place entries line lines ≡ Err (place + j) → take j lines ≡ take j rest
     → entries_ended place entries line rest ≡ Err (place + j)
 ended_wrong place j entries line [] [] h same = h
 ended_wrong place j entries line [] (next ∷ rest) h same =
@@ -80,11 +77,12 @@ ended_wrong place j entries line (next ∷ lines) [] h same =
     ]) h
 ended_wrong place j entries line (next ∷ lines) (other ∷ rest) h same = h
 
-further : (place j origin n : ℕ) (entries : List Placed) (lines rest : List Line) → entries_in (place + 1) origin n entries lines ≡ Err (place + j) → take j lines ≡ take j rest
-    → ((i : ℕ) → entries_in (place + 1) origin n entries lines ≡ Err (place + 1 + i) → take (suc i) lines ≡ take (suc i) rest → entries_in (place + 1) origin n entries rest ≡ Err (place + 1 + i))
-    → entries_in (place + 1) origin n entries rest ≡ Err (place + j)
-further place zero origin n entries lines rest h same more = absurd (omega (arith, at_least (place + 1) (place + 0) origin n entries lines h))
-further place (suc i) origin n entries lines rest h same more =
+-- One line further, by whatever the lines are read: it is the same later line that is wrong.
+pub further : (place j : ℕ) (read : List Line → Read) (lines rest : List Line) → ((k : ℕ) → read lines ≡ Err k → place + 1 ≤ k) → read lines ≡ Err (place + j) → take j lines ≡ take j rest
+    → ((i : ℕ) → read lines ≡ Err (place + 1 + i) → take (suc i) lines ≡ take (suc i) rest → read rest ≡ Err (place + 1 + i))
+    → read rest ≡ Err (place + j)
+further place zero read lines rest least h same more = absurd (omega (arith, least (place + 0) h))
+further place (suc i) read lines rest least h same more =
     let number : place + 1 + i ≡ place + suc i = omega arith in
     more i (h ∙ ap (λ (k : ℕ). Err k) (sym number)) same ∙ ap (λ (k : ℕ). Err k) number
 
@@ -105,51 +103,8 @@ stays_wrong place j origin n entries (Some line ∷ lines) other h same =
       | Some entry ↦ (elim (may_be_next origin n entry) as (λ next.
           cond next (entries_in (place + 1) entry.origin entry.n (entries ++ entry ∷ []) lines) (Err place) ≡ Err (place + j)
           → cond next (entries_in (place + 1) entry.origin entry.n (entries ++ entry ∷ []) parts.0) (Err place) ≡ Err (place + j)) [
-            | true ↦ λ e. further place j entry.origin entry.n (entries ++ entry ∷ []) lines parts.0 e parts.2 (λ i wrong agree. stays_wrong (place + 1) i entry.origin entry.n (entries ++ entry ∷ []) lines parts.0 wrong agree)
+            | true ↦ λ e. further place j (entries_in (place + 1) entry.origin entry.n (entries ++ entry ∷ [])) lines parts.0 (λ k. at_least (place + 1) k entry.origin entry.n (entries ++ entry ∷ []) lines) e parts.2 (λ i wrong agree. stays_wrong (place + 1) i entry.origin entry.n (entries ++ entry ∷ []) lines parts.0 wrong agree)
             | false ↦ λ e. e
           ])
     ]) h in
     rw parts.1 on
-
--- ---- of the whole text
-
-headed_wrong : (b : Bool) (k : ℕ) (read other : Read) → cond b read (Err 1) ≡ Err k → (read ≡ Err k → other ≡ Err k) → cond b other (Err 1) ≡ Err k
-headed_wrong true k read other h more = more h
-headed_wrong false k read other h more = h
-
-behind_head : (j : ℕ) (lines rest : List Line) → take j lines ≡ take j rest → entries_in 2 0 0 [] lines ≡ Err (suc j) → entries_in 2 0 0 [] rest ≡ Err (suc j)
-behind_head zero lines rest same h = absurd (omega (arith, at_least 2 1 0 0 [] lines h))
-behind_head (suc i) lines rest same h =
-    let number : 2 + i ≡ suc (suc i) = omega arith in
-    let told : entries_in 2 0 0 [] lines ≡ Err (2 + i) = h ∙ ap (λ (k : ℕ). Err k) (sym number) in
-    stays_wrong 2 i 0 0 [] lines rest told same ∙ ap (λ (k : ℕ). Err k) number
-
-pub from_1 : (k : ℕ) (lines : List Line) → delta_of_lines lines ≡ Err k → 1 ≤ k
-from_1 k [] h = omega (arith, told_here 1 k h)
-from_1 k (None ∷ lines) h = omega (arith, told_here 1 k h)
-from_1 k (Some line ∷ lines) h =
-    (elim (pointwise nat_eq line head_line) as (λ head. cond head (entries_in 2 0 0 [] lines) (Err 1) ≡ Err k → 1 ≤ k) [
-      | true ↦ λ e. omega (arith, at_least 2 k 0 0 [] lines e)
-      | false ↦ λ e. omega (arith, told_here 1 k e)
-    ]) h
-
-lines_wrong : (k : ℕ) (lines other : List Line) → delta_of_lines lines ≡ Err k → take k lines ≡ take k other → delta_of_lines other ≡ Err k
-lines_wrong zero lines other h same = absurd (omega (arith, from_1 0 lines h))
-lines_wrong (suc j) [] other h same = rw (no_lines j other same) h
-lines_wrong (suc j) (None ∷ lines) other h same =
-    let parts : (rest : List Line) × (other ≡ None ∷ rest) × (take j lines ≡ take j rest) = same_first j None lines other same in
-    rw parts.1 h
-lines_wrong (suc j) (Some line ∷ lines) other h same =
-    let parts : (rest : List Line) × (other ≡ Some line ∷ rest) × (take j lines ≡ take j rest) = same_first j (Some line) lines other same in
-    let on : delta_of_lines (Some line ∷ parts.0) ≡ Err (suc j) =
-    headed_wrong (pointwise nat_eq line head_line) (suc j) (entries_in 2 0 0 [] lines) (entries_in 2 0 0 [] parts.0) h (behind_head j lines parts.0 parts.2) in
-    rw parts.1 on
-
-pub wrong_is : (read : Read) (line : ℕ) → wrong_line read ≡ Some line → read ≡ Err line
-wrong_is (Ok entries) line h = cc
-wrong_is (Err k) line h = let same : k ≡ line = cc in ap (λ (n : ℕ). Err n) same
-
-pub wrong_by_its_front : (bytes other : List ℕ) (line : ℕ) → first_wrong_line bytes ≡ Some line → AgreeTo line bytes other → first_wrong_line other ≡ Some line
-unfolding delta_in
-wrong_by_its_front bytes other line wrong agree =
-    ap wrong_line (lines_wrong line (lines_of bytes) (lines_of other) (wrong_is (delta_of_lines (lines_of bytes)) line wrong) agree)

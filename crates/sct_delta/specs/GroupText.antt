@@ -120,10 +120,10 @@ groups_in place origin n due entries [] = Err place
 groups_in place origin n due entries (None ∷ lines) = Err place
 groups_in place origin n due entries (Some line ∷ lines) =
     if nat_eq due 0 then
-      origin_on place origin entries line lines
-      (λ fields. groups_in (place + 1) fields.0 fields.1 fields.2 entries lines) (origin_in line)
+    origin_on place origin entries line lines
+    (λ fields. groups_in (place + 1) fields.0 fields.1 fields.2 entries lines) (origin_in line)
     else
-      message_on place
-      (λ message. groups_in (place + 1) origin (n + 1) (due - 1)
-      (entries ++ record { origin = origin; n = n; message = message } ∷ []) lines)
-      (result_ok (message_in line))
+    message_on place
+    (λ message. groups_in (place + 1) origin (n + 1) (due - 1)
+    (entries ++ record { origin = origin; n = n; message = message } ∷ []) lines)
+    (result_ok (message_in line))

@@ -24,8 +24,8 @@ pub use sites::MOST_SITES;
 pub use text::fields::number_before_space;
 pub use text::laws::{
     a_text_is_a_form_of_one_delta, a_text_is_read_where_it_is_a_form,
-    a_wrong_line_goes_by_its_front, a_wrong_line_means_no_form, lines_make_the_text,
-    the_lines_before_a_wrong_one_are_right,
+    a_wrong_line_goes_by_its_front, a_wrong_line_means_no_form, both_forms_are_read_alike,
+    lines_make_the_text, the_lines_before_a_wrong_one_are_right,
 };
 pub use text::numbers::number_of;
 pub use text::reading::read_delta;

@@ -59,4 +59,3 @@ pub fn read_entries(alloc: Global, text: &[u8]) -> Result<Vec<Entry>, DeltaFault
     let missing = DeltaFault::BadDelta(place);
     Err(missing)
 }
-

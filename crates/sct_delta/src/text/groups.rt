@@ -43,10 +43,7 @@ fn site_of_group(before: u16, origin: u64, first: u64, count: u64) -> Option<u16
                 && is_site(site)
                 && 1 <= first
                 && 1 <= count
-                && first - 1 <= u64::MAX - count =>
-        {
-            Some(site)
-        }
+                && first - 1 <= u64::MAX - count => { Some(site) }
         _ => None,
     }
 }

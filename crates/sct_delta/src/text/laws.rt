@@ -1,6 +1,8 @@
 //! What holds of the delta text. These functions do nothing; their contracts are laws.
 ghost use Rattle.std.specs.Prelude.{◌≡◌, ◌≢◌, ◌↔◌, ◌<◌, ◌+◌, ◌^◌, ℕ, List, Some, Ok, IsTrue, flat_map, length};
 ghost use Rattle.std.specs.List.{list_all};
+ghost use Rattle.sct_message.specs.declared.draft.Draft.{Draft};
+ghost use Rattle.sct_json.specs.Reading.{message_in};
 ghost use Rattle.sct_json.specs.Writing.{has_no_line_feed};
 ghost use Rattle.sct_delta.specs.Entries.{Placed};
 ghost use Rattle.sct_delta.specs.TextLines.{ended, lines_of, lines_as};
@@ -25,6 +27,12 @@ pub fn a_text_is_a_form_of_one_delta()
         → IsDeltaText bytes left → IsDeltaText bytes right → left ≡ right }
 {}
 
+/// Texts of one delta are read as it, whatever form each of them has.
+pub fn both_forms_are_read_alike()
+    ensures { (some other : List ℕ) (entries : List Placed)
+        → IsDeltaText some entries → IsDeltaText other entries → delta_in some ≡ delta_in other }
+{}
+
 /// A text with a wrong line is a form of no delta, and each other text is one of some delta.
 pub fn a_wrong_line_means_no_form()
     ensures none { (bytes : List ℕ) (line : ℕ) (entries : List Placed)
@@ -40,8 +48,10 @@ pub fn a_wrong_line_goes_by_its_front()
         → first_wrong_line other ≡ Some line }
 {}
 
-/// The lines before the first wrong one are right: some text that begins with the same lines is a form of a delta.
+/// The lines before the first wrong one are right: where some JSON text on one line is read as a message, some text that
+/// begins with the same lines is a form of a delta. In form 2 it has that line for each message that is still due.
 pub fn the_lines_before_a_wrong_one_are_right()
-    ensures { (bytes : List ℕ) (before : ℕ) → length bytes < 2 ^ 64 → first_wrong_line bytes ≡ Some (before + 1)
+    ensures { (bytes json : List ℕ) (message : Draft) (before : ℕ) → length bytes < 2 ^ 64
+        → IsTrue (has_no_line_feed json) → message_in json ≡ Ok message → first_wrong_line bytes ≡ Some (before + 1)
         → (other : List ℕ) × (entries : List Placed) × AgreeTo before bytes other × IsDeltaText other entries }
 {}

@@ -66,4 +66,3 @@ pub fn ended(
     }
     Ok(entries)
 }
-

@@ -56,3 +56,13 @@ pub static ENTRIES: [(u16, u64, &str); 12] = [
     (64, 18446744073709551614, RESOLUTION_WRITTEN),
     (64, 18446744073709551615, RESOLUTION_WHOLE),
 ];
+
+/// The origin lines of the delta's form 2, each with the number of its messages.
+pub static GROUPS: [(&str, usize); 6] = [
+    ("origin 1 1 2", 2),
+    ("origin 2 5 3", 3),
+    ("origin 3 1 1", 1),
+    ("origin 9 18446744073709551610 2", 2),
+    ("origin 63 100 2", 2),
+    ("origin 64 18446744073709551614 2", 2),
+];

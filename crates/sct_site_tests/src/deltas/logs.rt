@@ -25,7 +25,7 @@ const OF_THREE_ABOVE: &[Row] = &[Row(1, 2, "C2"), Row(3, 1, "C6"), Row(3, 2, "C7
 
 const NONE: &[Row] = &[];
 
-// Whether a group of so many sites is refused as having no such site. A group of 1 to 64 is not.
+// Whether a group of so many sites is refused as having no such site. A group of 1 to 1024 is not.
 fn is_no_group(alloc: Global, size: u16) -> bool {
     match Logs::new(alloc, size) {
         Ok(_) => false,
@@ -34,10 +34,10 @@ fn is_no_group(alloc: Global, size: u16) -> bool {
 }
 
 #[test]
-fn a_group_has_1_to_64_sites(rt: HostRuntime) {
+fn a_group_has_1_to_1024_sites(rt: HostRuntime) {
     assert!(rt; is_no_group(rt.alloc(), 0));
-    assert!(rt; is_no_group(rt.alloc(), 65));
-    assert!(rt; Logs::new(rt.alloc(), 64).is_ok());
+    assert!(rt; is_no_group(rt.alloc(), 1025));
+    assert!(rt; Logs::new(rt.alloc(), 1024).is_ok());
 }
 
 // By which number room is refused for a site, or 0.

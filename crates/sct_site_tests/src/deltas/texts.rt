@@ -1,6 +1,6 @@
 //! The delta text.
 
-use super::forms::{CONFIRMATION, ENTRIES, INSTRUCTION};
+use super::forms::{CONFIRMATION, ENTRIES, GROUPS, INSTRUCTION};
 use super::scenes::push_entry;
 use super::wrong;
 use sct_delta::*;
@@ -17,16 +17,41 @@ fn delta_of(alloc: Global, rows: &[(u16, u64, &str)]) -> Option<Delta> {
     Delta::of(entries).ok()
 }
 
-// The text of a delta of these entries.
-fn text_of(alloc: Global, rows: &[(u16, u64, &str)]) -> Option<String> {
+// Ends a text with the number of entries.
+fn end(alloc: Global, text: &mut String, count: usize) -> Option<()> {
+    let line = format!(in alloc; "end {count}\n").ok()?;
+    text.push_str(line.as_str()).ok()
+}
+
+// The form 1 of a delta of these entries.
+fn form_1_of(alloc: Global, rows: &[(u16, u64, &str)]) -> Option<String> {
     let mut text = String::from_str(alloc, "delta 1\n").ok()?;
     for (origin, n, message) in rows {
         let line = format!(in alloc; "entry {origin} {n} {message}\n").ok()?;
         text.push_str(line.as_str()).ok()?;
     }
-    let count = rows.len();
-    let end = format!(in alloc; "end {count}\n").ok()?;
-    text.push_str(end.as_str()).ok()?;
+    end(alloc, &mut text, rows.len())?;
+    Some(text)
+}
+
+// The form 2 of a delta of these entries, with these origin lines.
+fn form_2_of(
+    alloc: Global,
+    groups: &[(&str, usize)],
+    rows: &[(u16, u64, &str)],
+) -> Option<String> {
+    let mut text = String::from_str(alloc, "delta 2\n").ok()?;
+    let mut left = rows.iter();
+    for (head, count) in groups {
+        let line = format!(in alloc; "{head}\n").ok()?;
+        text.push_str(line.as_str()).ok()?;
+        for _ in 0..*count {
+            let (_, _, message) = left.next()?;
+            let line = format!(in alloc; "{message}\n").ok()?;
+            text.push_str(line.as_str()).ok()?;
+        }
+    }
+    end(alloc, &mut text, rows.len())?;
     Some(text)
 }
 
@@ -79,64 +104,112 @@ fn expect_wrong(rt: &impl Abort, alloc: Global, text: &str, line: u64) {
 }
 
 #[test]
-fn writes_and_reads_every_kind(rt: HostRuntime) {
+fn writes_form_2_and_reads_both_forms(rt: HostRuntime) {
     let alloc = rt.alloc();
     let delta = delta_of(alloc, &ENTRIES).expect(&rt, "a delta");
-    let text = text_of(alloc, &ENTRIES).expect(&rt, "a text");
+    let text = form_2_of(alloc, &GROUPS, &ENTRIES).expect(&rt, "a text");
+    let entries = form_1_of(alloc, &ENTRIES).expect(&rt, "a text");
     assert!(rt; writes(alloc, &delta, text.as_str()) == Some(true));
     assert!(rt; reads(alloc, text.as_bytes(), &ENTRIES) == Some(true));
+    assert!(rt; reads(alloc, entries.as_bytes(), &ENTRIES) == Some(true));
 }
 
 #[test]
 fn writes_and_reads_the_empty_delta(rt: HostRuntime) {
     let alloc = rt.alloc();
     let delta = delta_of(alloc, &[]).expect(&rt, "a delta");
-    assert!(rt; writes(alloc, &delta, "delta 1\nend 0\n") == Some(true));
+    assert!(rt; writes(alloc, &delta, "delta 2\nend 0\n") == Some(true));
+    assert!(rt; reads(alloc, b"delta 2\nend 0\n", &[]) == Some(true));
     assert!(rt; reads(alloc, b"delta 1\nend 0\n", &[]) == Some(true));
 }
 
-// JSON's own white space stands around a message: another space before it, a carriage return behind it.
+// The last site that a group may have.
+#[test]
+fn writes_and_reads_site_1024(rt: HostRuntime) {
+    let alloc = rt.alloc();
+    let rows = [(1024, 1, INSTRUCTION)];
+    let delta = delta_of(alloc, &rows).expect(&rt, "a delta");
+    let text = joined(alloc, "delta 2\norigin 1024 1 1\n", INSTRUCTION, "\nend 1\n").expect(
+        &rt, "a text",
+    );
+    assert!(rt; writes(alloc, &delta, text.as_str()) == Some(true));
+    assert!(rt; reads(alloc, text.as_bytes(), &rows) == Some(true));
+}
+
+// A text of each form for the second entry of site 1.
+#[test]
+fn reads_both_forms_of_one_entry_alike(rt: HostRuntime) {
+    let alloc = rt.alloc();
+    let rows = [(1, 2, CONFIRMATION)];
+    let entry = joined(alloc, "delta 1\nentry 1 2 ", CONFIRMATION, "\nend 1\n").expect(
+        &rt, "a text",
+    );
+    let group = joined(alloc, "delta 2\norigin 1 2 1\n", CONFIRMATION, "\nend 1\n").expect(
+        &rt, "a text",
+    );
+    assert!(rt; reads(alloc, entry.as_bytes(), &rows) == Some(true));
+    assert!(rt; reads(alloc, group.as_bytes(), &rows) == Some(true));
+}
+
+// JSON's own white space comes around a message: another space before it, a carriage return behind it.
 #[test]
 fn reads_any_text_of_a_message(rt: HostRuntime) {
     let alloc = rt.alloc();
-    let text = joined(alloc, "delta 1\nentry 7 3  ", INSTRUCTION, "\t\r\nend 1\n").expect(
+    let rows = [(7, 3, INSTRUCTION)];
+    let entry = joined(alloc, "delta 1\nentry 7 3  ", INSTRUCTION, "\t\r\nend 1\n").expect(
         &rt, "a text",
     );
-    assert!(rt; reads(alloc, text.as_bytes(), &[(7, 3, INSTRUCTION)]) == Some(true));
+    let group = joined(alloc, "delta 2\norigin 7 3 1\n ", INSTRUCTION, "\t\r\nend 1\n").expect(
+        &rt, "a text",
+    );
+    assert!(rt; reads(alloc, entry.as_bytes(), &rows) == Some(true));
+    assert!(rt; reads(alloc, group.as_bytes(), &rows) == Some(true));
 }
 
 #[test]
-fn tells_the_first_wrong_line(rt: HostRuntime) {
+fn reports_the_first_wrong_line(rt: HostRuntime) {
     for (text, line) in &wrong::TEXTS {
+        expect_wrong(&rt, rt.alloc(), text, *line);
+    }
+    for (text, line) in &wrong::GROUP_TEXTS {
         expect_wrong(&rt, rt.alloc(), text, *line);
     }
 }
 
+// A text with one message in it.
+fn expect_wrong_around(rt: &impl Abort, alloc: Global, front: &str, back: &str, line: u64) {
+    let text = joined(alloc, front, INSTRUCTION, back).expect(rt, "a text");
+    expect_wrong(rt, alloc, text.as_str(), line);
+}
+
 #[test]
-fn tells_the_wrong_line_of_one_entry(rt: HostRuntime) {
+fn reports_the_wrong_line_of_one_entry(rt: HostRuntime) {
     let alloc = rt.alloc();
     for (front, back, line) in &wrong::ENTRIES {
-        let text = joined(alloc, front, INSTRUCTION, back).expect(&rt, "a text");
-        expect_wrong(&rt, alloc, text.as_str(), *line);
+        expect_wrong_around(&rt, alloc, front, back, *line);
+    }
+    for (front, back, line) in &wrong::GROUPS {
+        expect_wrong_around(&rt, alloc, front, back, *line);
     }
 }
 
 #[test]
-fn tells_the_wrong_line_of_two_entries(rt: HostRuntime) {
+fn reports_the_wrong_line_of_two_entries(rt: HostRuntime) {
     let alloc = rt.alloc();
     for (first, second, line) in &wrong::PAIRS {
         let front = joined(alloc, first, INSTRUCTION, second).expect(&rt, "a text");
         let text = joined(alloc, front.as_str(), CONFIRMATION, "\nend 2\n").expect(&rt, "a text");
         expect_wrong(&rt, alloc, text.as_str(), *line);
     }
+    for (first, second, back, line) in &wrong::GROUP_PAIRS {
+        let front = joined(alloc, first, INSTRUCTION, second).expect(&rt, "a text");
+        let text = joined(alloc, front.as_str(), CONFIRMATION, back).expect(&rt, "a text");
+        expect_wrong(&rt, alloc, text.as_str(), *line);
+    }
 }
 
 // Each proper prefix of a text breaks off in its last line.
-#[test]
-fn refuses_a_text_that_breaks_off(rt: HostRuntime) {
-    let alloc = rt.alloc();
-    let whole = text_of(alloc, &[(1, 2, CONFIRMATION)]).expect(&rt, "a text");
-    let bytes = whole.as_bytes();
+fn expect_no_front(rt: &impl Abort, alloc: Global, bytes: &[u8]) {
     let mut line = 1u64;
     for end in 0..bytes.len() {
         assert!(rt; refused(alloc, &bytes[..end]) == (45, line));
@@ -144,4 +217,16 @@ fn refuses_a_text_that_breaks_off(rt: HostRuntime) {
             line = line.saturating_add(1);
         }
     }
+}
+
+#[test]
+fn refuses_a_text_that_breaks_off(rt: HostRuntime) {
+    let alloc = rt.alloc();
+    let rows = [(1, 2, CONFIRMATION), (1, 3, INSTRUCTION), (5, 1, CONFIRMATION)];
+    let heads = [("origin 1 2 2", 2), ("origin 5 1 1", 1)];
+    let entries = form_1_of(alloc, &rows).expect(&rt, "a text");
+    let groups = form_2_of(alloc, &heads, &rows).expect(&rt, "a text");
+    assert!(rt; reads(alloc, groups.as_bytes(), &rows) == Some(true));
+    expect_no_front(&rt, alloc, entries.as_bytes());
+    expect_no_front(&rt, alloc, groups.as_bytes());
 }

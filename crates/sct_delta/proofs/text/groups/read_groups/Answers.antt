@@ -44,7 +44,7 @@ loop-line-preserved c =
             fits = let due_is : c.if-due-eq0.due ≡ w.in-Some-origin_of.count = w.due-is in omega (arith, above, last, before_is, due_is);
             left =
                 let more = c.loop-line.invariant.left
-                    ∙ read_origin_more _ _ _ _ _ _ _ _ w.in-Some-origin_of.number w.in-Some-origin_of.first w.in-Some-origin_of.count c.in-Some.ensures.lines w.if-due-eq0.true w.in-Some-origin_of.ensures begins.0 in
+                ∙ read_origin_more _ _ _ _ _ _ _ _ w.in-Some-origin_of.number w.in-Some-origin_of.first w.in-Some-origin_of.count c.in-Some.ensures.lines w.if-due-eq0.true w.in-Some-origin_of.ensures begins.0 in
                 rw (number, w.origin-is, begins.1, w.due-is, w.entries-is) more;
           }
       | else-due-eq0+in_ok-message+in-Some-2+in_ok-message-2+in_ok-push w ↦
@@ -55,7 +55,7 @@ loop-line-preserved c =
             fits = let some : c.loop-line.due ≡ 0 → ⊥ = w.if-due-eq0.false in grind (arith, some, before_is, due_is, c.loop-line.invariant.fits);
             left =
                 let more = c.loop-line.invariant.left
-                    ∙ read_message_more _ _ _ _ _ _ _ _ w.in-Some-2.message c.in-Some.ensures.lines w.if-due-eq0.false (sym w.in-Some-2.is ∙ w.in_ok-message.ensures.read) in
+                ∙ read_message_more _ _ _ _ _ _ _ _ w.in-Some-2.message c.in-Some.ensures.lines w.if-due-eq0.false (sym w.in-Some-2.is ∙ w.in_ok-message.ensures.read) in
                 let shared : arc_value w.in_ok-message-2.message ≡ w.in-Some-2.message = w.in_ok-message-2.ensures.ok in
                 rw (before_is, due_is, w.origin-is, w.entries-is, w.in_ok-push.ensures.items, shared) more;
           }
