@@ -1,5 +1,5 @@
 -- A text is read as a delta exactly where one of the two forms makes it a form of it. Proof plumbing.
-use Rattle.std.proofs.Common.{ℕ, ◌≡◌, ◌≢◌, ◌∷◌, ◌⊎◌, inl, inr, [], List, true, false, cond, Some, None, Result, Ok, Err, refl}
+use Rattle.std.proofs.Common.{ℕ, ◌≡◌, ◌≢◌, ◌∷◌, inl, inr, [], List, true, false, cond, Some, None, Result, Ok, Err, refl}
 use Rattle.std.specs.Prelude.{nat_eq}
 use Rattle.std.specs.Cmp.Lexicographic.{pointwise}
 use Rattle.sct_delta.specs.declared.fault.DeltaFault.{DeltaFault}

@@ -1,5 +1,5 @@
 -- The first wrong line of a text, of either form, rests on the lines up to it alone. Proof plumbing.
-use Rattle.std.proofs.Common.{ℕ, zero, suc, ◌≡◌, ◌+◌, ◌≤◌, ◌∷◌, [], List, Bool, true, false, cond, Some, None, Result, Ok, Err, take, sym, ap, ◌∙◌, arith}
+use Rattle.std.proofs.Common.{ℕ, zero, suc, ◌≡◌, ◌+◌, ◌≤◌, ◌∷◌, [], List, true, false, cond, Some, None, Ok, Err, take, sym, ap, ◌∙◌, arith}
 use Rattle.std.specs.Prelude.{nat_eq}
 use Rattle.std.specs.Cmp.Lexicographic.{pointwise}
 use Rattle.sct_delta.specs.TextLines.{Line, lines_of}

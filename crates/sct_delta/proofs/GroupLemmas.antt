@@ -1,6 +1,6 @@
 -- A text of form 2 is read as a delta exactly where it is a form of it. Proof plumbing.
-use Rattle.std.proofs.Common.{ℕ, ◌≡◌, ◌+◌, ◌-◌, ◌<◌, ◌≤◌, ◌^◌, ◌++◌, ◌∷◌, [], List, Bool, true, false, cond, Option, Some, None, Result, Ok, Err, length, map, refl, sym, ap, ◌∙◌, append_assoc, subst, arith}
-use Rattle.std.specs.Prelude.{nat_eq, nat_le, nat_lt, decimal, flat_map, codes, option_and_then, option_map}
+use Rattle.std.proofs.Common.{ℕ, ◌≡◌, ◌+◌, ◌-◌, ◌<◌, ◌≤◌, ◌^◌, ◌++◌, ◌∷◌, [], List, true, false, cond, Option, Some, None, Result, Ok, length, refl, sym, ap, ◌∙◌, append_assoc, arith}
+use Rattle.std.specs.Prelude.{nat_eq, nat_le, nat_lt, decimal, flat_map, codes, option_and_then}
 use Rattle.std.specs.Cmp.Lexicographic.{pointwise}
 use Rattle.std.specs.Result.{result_ok}
 use Rattle.std.proofs.lemmas.Bool.Decides.{nat_tests}
@@ -10,7 +10,7 @@ use Rattle.sct_message.specs.declared.draft.Draft.{Draft}
 use Rattle.sct_json.specs.Reading.{message_in}
 use Rattle.sct_delta.specs.Sites.{is_site}
 use Rattle.sct_delta.specs.Entries.{Placed, IsDelta, numbered}
-use Rattle.sct_delta.specs.Shapes.{may_be_next, first_break, are_of_sites}
+use Rattle.sct_delta.specs.Shapes.{first_break, are_of_sites}
 use Rattle.sct_delta.specs.TextLines.{Line, lines_of, lines_as, is_end_line, end_line, entries_ended, Field, number_in, number_before_space, after_prefix}
 use Rattle.sct_delta.specs.GroupText.{Group, origin_line, group_lines, group_entries, TellMessages, may_begin, AreGroups, groups_head, IsGroupText, OriginFields, count_behind, numbers_behind, origin_in, origin_on, message_on, groups_in}
 use Rattle.sct_delta.proofs.TextLemmas.{IsNumbered, field_read, field_written, number_read, number_written, prefix_written, mapped_from, then_from, same_texts}

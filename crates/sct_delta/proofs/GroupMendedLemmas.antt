@@ -1,6 +1,6 @@
 -- The lines before the first wrong one of form 2 are those of a form: messages, as many as are due, and an end line in its
 -- place make one. Proof plumbing.
-use Rattle.std.proofs.Common.{ℕ, zero, suc, ◌≡◌, ◌+◌, ◌-◌, ◌<◌, ◌≤◌, ◌^◌, ◌++◌, ◌∷◌, [], List, Bool, true, false, cond, Option, Some, None, Ok, Err, take, length, refl, sym, ap, ◌∙◌, arith, append_assoc, subst, eqb-true}
+use Rattle.std.proofs.Common.{ℕ, zero, suc, ◌≡◌, ◌+◌, ◌-◌, ◌≤◌, ◌^◌, ◌++◌, ◌∷◌, [], List, true, false, cond, Some, None, Ok, Err, take, length, refl, sym, ap, ◌∙◌, arith, append_assoc, subst, eqb-true}
 use Rattle.std.specs.Prelude.{nat_eq}
 use Rattle.std.specs.Cmp.Lexicographic.{pointwise}
 use Rattle.std.specs.List.{list_all}
@@ -14,7 +14,7 @@ use Rattle.sct_delta.specs.Entries.{Placed, numbered}
 use Rattle.sct_delta.specs.TextLines.{Line, lines_as, is_end_line, end_line, entries_ended}
 use Rattle.sct_delta.specs.GroupText.{TellMessages, may_begin, origin_in, groups_in}
 use Rattle.sct_delta.proofs.TextLemmas.{same_texts}
-use Rattle.sct_delta.proofs.GroupLemmas.{messages_read, ends_read, last_below, first_above_0}
+use Rattle.sct_delta.proofs.GroupLemmas.{messages_read, ends_read, last_below}
 use Rattle.sct_delta.proofs.WrongLineLemmas.{Read, Is, told_here}
 use Rattle.sct_delta.proofs.GroupWrongLemmas.{OnOrigin, OnMessage, groups_at_least}
 use Rattle.sct_delta.proofs.MendedLemmas.{is_one, AreOne}

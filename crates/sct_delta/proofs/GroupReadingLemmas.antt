@@ -1,5 +1,5 @@
 -- What lines of form 2 are read as, one after another. Proof plumbing.
-use Rattle.std.proofs.Common.{ℕ, ◌≡◌, ◌+◌, ◌-◌, ◌++◌, ◌∷◌, [], List, Bool, true, false, cond, Option, Some, None, Ok, Err, refl, eqb-true}
+use Rattle.std.proofs.Common.{ℕ, ◌≡◌, ◌+◌, ◌-◌, ◌++◌, ◌∷◌, [], List, Bool, true, false, cond, Some, None, Err, refl, eqb-true}
 use Rattle.std.specs.Prelude.{nat_eq}
 use Rattle.std.specs.Result.{result_ok}
 use Rattle.sct_message.specs.declared.draft.Draft.{Draft}

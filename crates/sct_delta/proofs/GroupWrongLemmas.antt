@@ -1,5 +1,5 @@
 -- The first wrong line of form 2 rests on the lines up to it alone. Proof plumbing.
-use Rattle.std.proofs.Common.{ℕ, suc, ◌≡◌, ◌+◌, ◌-◌, ◌≤◌, ◌++◌, ◌∷◌, [], List, true, false, cond, Option, Some, None, Result, Ok, Err, take, arith}
+use Rattle.std.proofs.Common.{ℕ, suc, ◌≡◌, ◌+◌, ◌-◌, ◌≤◌, ◌++◌, ◌∷◌, [], List, true, false, cond, Option, Some, None, Err, take, arith}
 use Rattle.std.specs.Prelude.{nat_eq}
 use Rattle.std.specs.Result.{result_ok}
 use Rattle.sct_message.specs.declared.draft.Draft.{Draft}

@@ -1,15 +1,14 @@
 -- The lines before the first wrong one of form 1 are those of a form: an end line in its place makes one. Proof plumbing.
-use Rattle.std.proofs.Common.{ℕ, zero, suc, ◌≡◌, ◌+◌, ◌<◌, ◌≤◌, ◌^◌, ◌++◌, ◌∷◌, [], List, Bool, true, false, cond, Some, None, Ok, Err, ◌==◌, take, length, refl, sym, ap, ◌∙◌, arith, append_assoc}
-use Rattle.std.specs.Prelude.{nat_eq, flat_map}
+use Rattle.std.proofs.Common.{ℕ, zero, suc, ◌≡◌, ◌+◌, ◌≤◌, ◌++◌, ◌∷◌, [], List, Bool, true, false, cond, Some, None, Ok, Err, ◌==◌, take, length, refl, sym, ap, ◌∙◌, arith, append_assoc}
+use Rattle.std.specs.Prelude.{nat_eq}
 use Rattle.std.specs.Cmp.Lexicographic.{pointwise}
 use Rattle.std.specs.List.{list_all}
-use Rattle.std.proofs.lemmas.Bool.{and_parts, and_from}
+use Rattle.std.proofs.lemmas.Bool.{and_parts}
 use Rattle.std.proofs.lemmas.List.{append-nil}
-use Rattle.std.proofs.lemmas.List.Folds.{list_all-append}
 use Rattle.sct_json.specs.Writing.{has_no_line_feed}
 use Rattle.sct_delta.specs.Entries.{Placed}
 use Rattle.sct_delta.specs.Shapes.{may_be_next}
-use Rattle.sct_delta.specs.TextLines.{Line, lines_of, lines_as, onto_first, ended, is_end_line, end_line, entries_ended}
+use Rattle.sct_delta.specs.TextLines.{Line, lines_of, lines_as, onto_first, is_end_line, end_line, entries_ended}
 use Rattle.sct_delta.specs.EntryText.{entry_in, entries_on, entries_in}
 use Rattle.sct_delta.proofs.TextLemmas.{same_texts}
 use Rattle.sct_delta.proofs.FormLemmas.{end_is_end, no_entry_at_end}

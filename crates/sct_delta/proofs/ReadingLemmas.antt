@@ -1,7 +1,6 @@
 -- What lines are read as, one after another. Proof plumbing.
 use Rattle.std.proofs.Common.{ℕ, ◌≡◌, ◌+◌, ◌<◌, ◌^◌, ◌++◌, ◌∷◌, [], List, true, false, cond, Option, Some, None, Ok, Err, ◌==◌, length, refl, sym, ap, ◌∙◌, arith, eqb-true}
 use Rattle.std.specs.Prelude.{nat_eq, decimal, option_and_then, codes}
-use Rattle.std.specs.Cmp.Lexicographic.{pointwise}
 use Rattle.std.proofs.lemmas.Bool.Decides.{nat_tests}
 use Rattle.sct_delta.specs.Entries.{Placed}
 use Rattle.sct_delta.specs.Shapes.{may_be_next}

@@ -1,5 +1,5 @@
 -- The lines of a text that is made of lines. Proof plumbing.
-use Rattle.std.proofs.Common.{ℕ, ◌≡◌, ◌<◌, ◌^◌, ◌++◌, ◌∷◌, [], List, Bool, true, false, cond, Some, None, ◌==◌, not, length, refl, sym, ap, ◌∙◌, arith, map, append_assoc, eqb-true, All, ◌↔◌}
+use Rattle.std.proofs.Common.{ℕ, ◌≡◌, ◌<◌, ◌^◌, ◌++◌, ◌∷◌, [], List, Bool, true, false, cond, Some, None, ◌==◌, not, refl, ap, ◌∙◌, arith, append_assoc, eqb-true, ◌↔◌}
 use Rattle.std.specs.Prelude.{decimal, flat_map}
 use Rattle.std.specs.Char.{digit_value}
 use Rattle.std.specs.List.{list_all}

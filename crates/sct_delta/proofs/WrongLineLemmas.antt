@@ -1,9 +1,9 @@
 -- The first wrong line rests on the lines up to it alone. Proof plumbing.
-use Rattle.std.proofs.Common.{ℕ, zero, suc, ◌≡◌, ◌+◌, ◌≤◌, ◌++◌, ◌∷◌, [], List, Bool, true, false, cond, Some, None, Result, Ok, Err, take, length, refl, sym, ap, ◌∙◌, arith}
+use Rattle.std.proofs.Common.{ℕ, zero, suc, ◌≡◌, ◌+◌, ◌≤◌, ◌++◌, ◌∷◌, [], List, true, false, cond, Some, None, Result, Ok, Err, take, length, refl, sym, ap, ◌∙◌, arith}
 use Rattle.sct_delta.specs.Entries.{Placed}
 use Rattle.sct_delta.specs.Shapes.{may_be_next}
-use Rattle.sct_delta.specs.TextLines.{Line, lines_of, is_end_line, entries_ended}
-use Rattle.sct_delta.specs.EntryText.{entry_in, entries_head, entries_on, entries_in}
+use Rattle.sct_delta.specs.TextLines.{Line, is_end_line, entries_ended}
+use Rattle.sct_delta.specs.EntryText.{entry_in, entries_on, entries_in}
 
 abbrev pub Read : Type 0
 Read = Result (List Placed) ℕ

@@ -4,7 +4,8 @@ use Rattle.std.specs.BTreeMap.{get}
 use Rattle.std.specs.Ordering.{nat_cmp}
 use Rattle.sct_message.specs.declared.draft.Draft.{Draft}
 use Rattle.sct_delta.specs.Entries.{Placed, held_from}
-use Rattle.sct_delta.specs.Shelves.{log_on, places_at}
+use Rattle.sct_delta.specs.Shelves.{log_on, places_at, HasNoEmptyLog}
+use Rattle.sct_delta.specs.Vectors.{HasNoZero}
 use Rattle.sct_delta.specs.declared.logs.Logs.{Logs}
 
 -- the messages held of an origin, in the order of their numbers
@@ -26,3 +27,7 @@ HasRoomFor logs entries = (origin : ℕ) → held_from origin entries ≤ room_a
 -- the same messages are held
 abbrev pub HoldSame : Logs → Logs → Type 0
 HoldSame a b = (origin : ℕ) → log_in a origin ≡ log_in b origin
+
+-- a log and a count are kept for origins alone of which a message is held
+abbrev pub KeepsNoEmpty : Logs → Type 0
+KeepsNoEmpty logs = HasNoEmptyLog logs.shelf × HasNoZero logs.vector

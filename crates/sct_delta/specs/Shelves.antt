@@ -1,12 +1,12 @@
 -- Logs as they are kept, read as the messages of each origin. Read by an auditor.
-use Rattle.std.specs.Prelude.{ℕ, ◌-◌, ◌+◌, List, [], map, drop, Option, Some, None, vec_len, vec_capacity}
+use Rattle.std.specs.Prelude.{ℕ, ◌-◌, ◌+◌, ◌≤◌, length, List, [], map, drop, Option, Some, None, vec_len, vec_capacity}
 use Rattle.std.specs.Global.{Vec, Global}
 use Rattle.std.specs.Arc.{arc_value}
 use Rattle.std.specs.declared.sync.Arc.{Arc}
 use Rattle.std.specs.BTreeMap.{get}
 use Rattle.std.specs.Ordering.{nat_cmp}
 use Rattle.sct_message.specs.declared.draft.Draft.{Draft}
-use Rattle.std.specs.List.{flat_map}
+use Rattle.std.specs.List.{flat_map, All}
 use Rattle.sct_delta.specs.Entries.{Placed, numbered}
 use Rattle.sct_delta.specs.declared.shelf.Shelf.{Shelf}
 
@@ -23,6 +23,10 @@ places_on (Some log) = vec_capacity log - vec_len log
 -- the log of an origin, in the order of its numbers
 abbrev pub log_on : Shelf → ℕ → List Draft
 log_on shelf origin = messages_on (get nat_cmp shelf.logs origin)
+
+-- each log that is kept has a message
+abbrev pub HasNoEmptyLog : Shelf → Type 0
+HasNoEmptyLog shelf = All (λ kept. 1 ≤ length kept.1.items) shelf.logs.entries
 
 -- how many more messages the log of an origin takes before it asks for memory
 abbrev pub places_at : Shelf → ℕ → ℕ

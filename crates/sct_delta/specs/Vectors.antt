@@ -1,6 +1,6 @@
 -- Version vectors, read as counts. Read by an auditor.
-use Rattle.std.specs.Prelude.{◌≡◌, ◌&&◌, ℕ, Bool, Option, Some, None, is_some, nat_eq, true}
-use Rattle.std.specs.List.{list_all}
+use Rattle.std.specs.Prelude.{◌≡◌, ◌≤◌, ◌&&◌, ℕ, Bool, Option, Some, None, is_some, nat_eq, true}
+use Rattle.std.specs.List.{list_all, All}
 use Rattle.std.specs.BTreeMap.{get, keys}
 use Rattle.std.specs.Ordering.{nat_cmp}
 use Rattle.sct_delta.specs.declared.vector.Vector.{Vector}
@@ -21,6 +21,10 @@ CountAlike a b = (origin : ℕ) → count_in a origin ≡ count_in b origin
 -- the vector has a place for the count of the origin, which may be 0
 abbrev pub Names : Vector → ℕ → Type 0
 Names vector origin = is_some (get nat_cmp vector.counts origin) ≡ true
+
+-- each count that is kept is at least 1
+abbrev pub HasNoZero : Vector → Type 0
+HasNoZero vector = All (λ kept. 1 ≤ kept.1) vector.counts.entries
 
 -- both count the same at each origin that the first one names
 abbrev pub counted_alike : Vector → Vector → Bool

@@ -11,11 +11,11 @@ impl Logs {
     ghost use Rattle.std.specs.List.{list_any};
     ghost use Rattle.sct_delta.specs.declared.fault.DeltaFault.TheVariants as fault;
     ghost use Rattle.sct_delta.specs.Entries.{held_from, log_of};
-    ghost use Rattle.sct_delta.specs.Logs.{log_in, room_at, HasRoomFor, HoldSame};
+    ghost use Rattle.sct_delta.specs.Logs.{log_in, room_at, HasRoomFor, HoldSame, KeepsNoEmpty};
     ghost use Rattle.sct_delta.specs.Refusals.{first_refusal, fresh_in, is_held, is_outside, joined};
 
-    /// Makes room for the entries of a delta: joining it then asks for no memory.
-    pub fn reserve(&mut self, delta: &Delta) -> Result<(), DeltaFault>
+    // Makes room for the entries of a delta. Where memory is refused some of it may be made.
+    fn room_for_each(&mut self, delta: &Delta) -> Result<(), DeltaFault>
         ensures group { self.new.group ≡ self.old.group }
         ensures same { HoldSame self.new self.old }
         ensures ok { OnOk result (HasRoomFor self.new delta.now) }
@@ -31,6 +31,24 @@ impl Logs {
             }
             places += 1;
             self.room_for(entry.origin, places)?;
+        }
+        Ok(())
+    }
+
+    /// Makes room for the entries of a delta: joining it then asks for no memory. Where memory is refused, 40 `Memory`,
+    /// the logs keep nothing of an origin of which no message is held. The room is kept until a `join`, or until
+    /// `drop_empty` where nothing is joined.
+    pub fn reserve(&mut self, delta: &Delta) -> Result<(), DeltaFault>
+        ensures group { self.new.group ≡ self.old.group }
+        ensures same { HoldSame self.new self.old }
+        ensures ok { OnOk result (HasRoomFor self.new delta.now) }
+        ensures err { IfErr result (λ refusal. refusal ≡ fault.Memory) }
+        ensures there { HasRoomFor self.old delta.now → IsOk result }
+        ensures filled { OnErr result (KeepsNoEmpty self.new) }
+    {
+        if let Err(refusal) = self.room_for_each(delta) {
+            self.drop_empty();
+            return Err(refusal);
         }
         Ok(())
     }

@@ -31,7 +31,7 @@ pub struct Logs {
 
 impl Logs {
     ghost use Rattle.sct_delta.specs.declared.fault.DeltaFault.TheVariants as fault;
-    ghost use Rattle.sct_delta.specs.Logs.{log_in, room_at, HasRoom, HoldSame};
+    ghost use Rattle.sct_delta.specs.Logs.{log_in, room_at, HasRoom, HoldSame, KeepsNoEmpty};
 
     /// Empty logs of a group of 1 to 1024 sites; any other size is 44 `BadSite`.
     pub fn new(alloc: Global, group: u16) -> Result<Logs, DeltaFault>
@@ -102,23 +102,41 @@ impl Logs {
         Ok(())
     }
 
+    /// Drops the logs and the counts of origins of which no message is held, and the room in them. It asks for no memory.
+    /// Its cost is one pass over the origins.
+    pub fn drop_empty(&mut self)
+        ensures group { self.new.group ≡ self.old.group }
+        ensures same { HoldSame self.new self.old }
+        ensures filled { KeepsNoEmpty self.new }
+    {
+        self.shelf.drop_empty();
+        self.vector.drop_zeros();
+    }
+
     /// Makes room for one more message of the origin: a `push` at that origin then asks for no memory. An origin that
-    /// the group does not have is 44 `BadSite`.
+    /// the group does not have is 44 `BadSite`. Where memory is refused, 40 `Memory`, the logs keep nothing of an origin
+    /// of which no message is held. The room is kept until a `push`, or until `drop_empty` where nothing is pushed.
     pub fn room(&mut self, origin: u16) -> Result<(), DeltaFault>
         ensures group { self.new.group ≡ self.old.group }
         ensures same { HoldSame self.new self.old }
         ensures ok { OnOk result (HasRoom self.new origin) }
         ensures site { OnOk result (has_site self.old.group origin ≡ true) }
         ensures err { IfErr result (λ refusal. refusal ≡ refusal_at self.old.group origin) }
+        ensures filled { IfErr result (λ refusal. refusal ≡ fault.Memory → KeepsNoEmpty self.new) }
     {
         if !self.has_site(origin) {
             return Err(DeltaFault::BadSite);
         }
-        self.room_for(origin, 1)
+        if let Err(refusal) = self.room_for(origin, 1) {
+            self.drop_empty();
+            return Err(refusal);
+        }
+        Ok(())
     }
 
     /// Appends a message as the next entry of its origin, and tells the number of that entry. An origin that the group
-    /// does not have is 44 `BadSite`. Right after `room` of the origin it asks for no memory.
+    /// does not have is 44 `BadSite`. Right after `room` of the origin it asks for no memory. Where memory is refused, 40
+    /// `Memory`, the logs keep nothing of an origin of which no message is held.
     pub fn push(&mut self, origin: u16, message: Arc<Message>) -> Result<u64, DeltaFault>
         ensures group { self.new.group ≡ self.old.group }
         ensures answer { IfOk result (λ n. n ≡ vector_of (log_in self.old) origin + 1) }
@@ -128,11 +146,18 @@ impl Logs {
         ensures err { IfErr result (λ refusal. refusal ≡ refusal_at self.old.group origin) }
         ensures unchanged { OnErr result (HoldSame self.new self.old) }
         ensures room { HasRoom self.old origin → IfErr result (λ refusal. refusal ≢ fault.Memory) }
+        ensures filled { IfErr result (λ refusal. refusal ≡ fault.Memory → KeepsNoEmpty self.new) }
     {
         if !self.has_site(origin) {
             return Err(DeltaFault::BadSite);
         }
-        self.append(origin, message)
+        match self.append(origin, message) {
+            Ok(n) => Ok(n),
+            Err(refusal) => {
+                self.drop_empty();
+                Err(refusal)
+            }
+        }
     }
 
     // Appends a message as the next entry of its origin, a site of the group.

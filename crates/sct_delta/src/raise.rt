@@ -7,7 +7,7 @@ use std::alloc::{AllocError, Global};
 use std::collections::BTreeMap;
 
 impl Vector {
-    ghost use Rattle.sct_delta.specs.Vectors.{count_in, Names};
+    ghost use Rattle.sct_delta.specs.Vectors.{count_in, HasNoZero, Names};
 
     // A vector that counts nothing.
     pub(crate) fn empty(alloc: Global) -> Vector
@@ -43,5 +43,13 @@ impl Vector {
     {
         self.counts.insert(origin, count)?;
         Ok(())
+    }
+
+    // Drops the counts of 0.
+    pub(crate) fn drop_zeros(&mut self)
+        ensures same { (k : ℕ) → count_in self.new k ≡ count_in self.old k }
+        ensures counted { HasNoZero self.new }
+    {
+        self.counts.retain(|_, count| *count > 0);
     }
 }

@@ -45,7 +45,7 @@ pub struct Shelf {
 }
 
 impl Shelf {
-    ghost use Rattle.sct_delta.specs.Shelves.{log_on, places_at, above_in};
+    ghost use Rattle.sct_delta.specs.Shelves.{log_on, places_at, above_in, HasNoEmptyLog};
     ghost use Rattle.sct_delta.specs.Vectors.{count_in};
 
     pub fn new(alloc: Global) -> Shelf
@@ -115,6 +115,14 @@ impl Shelf {
         log.push(message)?;
         self.logs.insert(origin, log)?;
         Ok(())
+    }
+
+    /// Drops the logs without a message, and the room in them. It asks for no memory.
+    pub fn drop_empty(&mut self)
+        ensures same { (k : ℕ) → log_on self.new k ≡ log_on self.old k }
+        ensures filled { HasNoEmptyLog self.new }
+    {
+        self.logs.retain(|_, log| !log.is_empty());
     }
 
     /// The entries of each origin that are numbered above the vector's count, by origin and number.

@@ -1,7 +1,6 @@
 -- One line more, and the end.
-use Rattle.std.proofs.Common.{sym, ◌∙◌, arith, ap, ◌≡◌, ◌≤◌, ◌+◌, ◌-◌, ◌^◌, ◌++◌, ◌∷◌, [], ℕ, true}
+use Rattle.std.proofs.Common.{sym, ◌∙◌, arith, ◌≡◌, ◌≤◌, ◌+◌, ◌-◌, ◌^◌, [], true}
 use Rattle.std.specs.Arc.{arc_value}
-use Rattle.sct_delta.specs.Entries.{Placed}
 use Rattle.sct_delta.specs.GroupText.{groups_in, may_begin}
 use Rattle.sct_delta.specs.TextLines.{lines_of, entries_ended}
 use Rattle.sct_delta.proofs.GroupReadingLemmas.{read_message_more, read_message_wrong, begun, not_begun, read_origin_more, read_origin_wrong, read_groups_end}

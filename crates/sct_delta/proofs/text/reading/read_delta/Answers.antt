@@ -1,5 +1,5 @@
 -- The head line, and what is read behind it.
-use Rattle.std.proofs.Common.{sym, ◌∙◌, ◌≡◌, ap, List, Ok, Err, []}
+use Rattle.std.proofs.Common.{sym, ◌∙◌, ◌≡◌, ap, List, Ok, Err}
 use Rattle.sct_delta.specs.Entries.{Placed}
 use Rattle.sct_delta.specs.TextLines.{lines_of}
 use Rattle.sct_delta.specs.DeltaText.{Reads, delta_in, entries_behind}

@@ -2,7 +2,7 @@
 use Rattle.std.proofs.Common.{◌≡◌, ◌≤◌, ◌<◌, ℕ, take, drop}
 use Rattle.sct_delta.specs.Entries.{held_from}
 use Rattle.sct_delta.specs.Logs.{room_at, HasRoomFor, HoldSame}
-use Rattle.sct_delta.proofs.logs.Logs.reserve.Given as goal
+use Rattle.sct_delta.proofs.logs.Logs.room_for_each.Given as goal
 
 abbrev pub invariant-loop-entry : goal.invariant-loop-entry
 invariant-loop-entry l = record {

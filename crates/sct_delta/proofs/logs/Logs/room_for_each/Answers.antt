@@ -4,8 +4,8 @@ use Rattle.std.proofs.lemmas.Bool.{false≢true}
 use Rattle.sct_delta.specs.Entries.{Placed, held_from}
 use Rattle.sct_delta.specs.Logs.{room_at}
 use Rattle.sct_delta.proofs.RoomLemmas.{none_before, Counted, same_origin, new_origin, places_more, places_fit, later_more, room_more, after}
-use Rattle.sct_delta.proofs.logs.Logs.reserve.Goals as goal
-use Rattle.sct_delta.proofs.logs.Logs.reserve.Goals.{then-entry-previous, else-entry-previous}
+use Rattle.sct_delta.proofs.logs.Logs.room_for_each.Goals as goal
+use Rattle.sct_delta.proofs.logs.Logs.room_for_each.Goals.{then-entry-previous, else-entry-previous}
 
 pub loop-entry-preserved : goal.loop-entry-preserved
 loop-entry-preserved c =
