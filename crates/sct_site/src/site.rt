@@ -40,7 +40,7 @@ impl Model for SiteCore {
 }
 
 impl SiteCore {
-    /// The site `number` of a group of `group` sites, with no entry. 44 `BadSite` where the group is not one of 1 to 64
+    /// The site `number` of a group of `group` sites, with no entry. 44 `BadSite` where the group is not one of 1 to 1024
     /// sites, or has no such site.
     pub fn open(alloc: Global, number: u16, group: u16) -> Result<SiteCore, DeltaFault>
         ensures ok { IfOk result (λ core. core ≡ record { number = number; group = group; arrivals = [] }) }
@@ -115,6 +115,7 @@ impl SiteCore {
         self.arrivals.reserve(1)?;
         self.logs.room(self.number)?;
         if let Err(_) = self.archive.add(held) {
+            self.logs.drop_empty();
             return Err(DeltaFault::Memory);
         }
         let n = self.logs.push(self.number, logged)?;
@@ -154,6 +155,7 @@ impl SiteCore {
         self.arrivals.reserve(fresh.len())?;
         self.logs.reserve(&copy)?;
         if let Err(_) = self.archive.add_all(&messages) {
+            self.logs.drop_empty();
             return Err(DeltaFault::Memory);
         }
         let count = self.logs.join(self.number, copy)?;
