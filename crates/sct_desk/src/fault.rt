@@ -8,7 +8,7 @@ use thiserror::Error;
 /// Why a call of a desk or of a query is refused.
 #[derive(Clone, Copy, Debug, PartialEq, Eq, Error)]
 pub enum DeskFault {
-    /// 44: a group is of 1 to 64 sites, and has no such site.
+    /// 44: a group is of 1 to 1024 sites, and has no such site.
     #[error("no such site")]
     BadSite,
     /// 50: memory is wanting. What the desk holds and shows is what it was.

@@ -116,7 +116,7 @@ fn queries(
 
 impl<J: Site, R: Wait + Drop> Desk<J, R> {
     /// Opens the desk of the site `number` of a group of `group` sites, on a history that was just opened, with so many
-    /// queries. Refused are 44 (`BadSite`) a group that is not of 1 to 64 sites, or has no such site, then 52 (`NoPlace`)
+    /// queries. Refused are 44 (`BadSite`) a group that is not of 1 to 1024 sites, or has no such site, then 52 (`NoPlace`)
     /// a number of places that is not 1 to 16. The desk keeps `rt`, to wait for readers when it is dropped.
     pub fn open(
         rt: R,

@@ -15,6 +15,7 @@ use Rattle.sct_message.specs.OrderLaws.{message_total}
 use Rattle.sct_message.specs.Sets.{MessageSet}
 use Rattle.sct_delta.specs.Entries.{Placed, holds, messages_of, same_entry}
 use Rattle.sct_delta.specs.Refusals.{has_site}
+use Rattle.sct_delta.specs.Sites.{most_sites}
 use Rattle.sct_delta.proofs.HeldLemmas.{and_first, one_entry}
 use Rattle.sct_site.specs.Cores.{Core, is_open}
 use Rattle.sct_site.proofs.AcceptLemmas.{messages-append}
@@ -121,7 +122,7 @@ shown_holds book own size held es (r ∷ rs) m kept begin shown =
 
 -- the site of an open core is one of its group
 own_inside : (own size : ℕ) → is_open own size ≡ true → has_site size own ≡ true
-own_inside own size opened = and_first (has_site size own) (not (nat_lt 64 size)) opened
+own_inside own size opened = and_first (has_site size own) (not (nat_lt most_sites size)) opened
 
 comes_inside : (own size : ℕ) (held : MessageSet) (e : Placed) → has_site size own ≡ true → MayCome own size held e → (b : Bool) → nat_eq e.origin own ≡ b
     → has_site size e.origin ≡ true

@@ -59,7 +59,7 @@ fn text_of(alloc: Global, ran: &Ran) -> Result<Vec<u8>, WorldFault>
 
 /// What happens in a new world of so many sites by the events: a line for each event, numbered from 1, with how it ended,
 /// and then for each site a line with its number, its archive text, its status text and its totals text. Refused are 44
-/// (BadSite) a number of sites that is not 1 to 64, and 40 alone.
+/// (BadSite) a number of sites that is not 1 to 1024, and 40 alone.
 #[tactic(auto, unfolding(crate::specs::Replays::replay_text))]
 pub fn replay(alloc: Global, sites: u16, events: &[Event]) -> Result<Vec<u8>, WorldFault>
     ensures text { IfOk result (λ text. text.items ≡ replay_text sites (happenings_of events.now)) }

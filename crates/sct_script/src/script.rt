@@ -142,7 +142,7 @@ fn read_lines(alloc: Global, sites: u16, before: u64, text: &[u8]) -> Result<Scr
     Ok(script)
 }
 
-/// Reads a script. Its first line that is not blank tells how many sites there are, 1 to 64; each further one tells an
+/// Reads a script. Its first line that is not blank tells how many sites there are, 1 to 1024; each further one tells an
 /// event, or is refused. An input whose first line tells no such number, or that has none, is no script: `NoScript`.
 /// `Memory` says nothing of the input.
 #[tactic(auto, unfolding(crate::specs::Scripts::sites_told))]

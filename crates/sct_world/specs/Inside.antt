@@ -18,7 +18,7 @@ held_by cores = map (λ core. core.arrivals) cores
 abbrev pub state_of : List Core → List (List Placed) → State
 state_of cores deltas = record { held = held_by cores; deltas = deltas }
 
--- The sites are numbered from 1, 64 at the most, and each entry stands in its own origin's log.
+-- The sites are numbered from 1, 1024 at the most, and each entry stands in its own origin's log.
 pub record IsWorld (cores : List Core) (deltas : List (List Placed)) : Type 0 where
   pub size : is_size (length cores) ≡ true
   pub numbered : cores ≡ cores_from 1 (length cores) (held_by cores)

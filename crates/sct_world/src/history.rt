@@ -49,7 +49,7 @@ fn outcome(world: &mut World, event: &Event) -> Result<Outcome, WorldFault>
 }
 
 /// Runs events, one after the other, in a new world of so many sites. Each event has its outcome, be it done or refused;
-/// `run` itself is refused by 44 `BadSite`, where the number of sites is not 1 to 64, and by 40 alone.
+/// `run` itself is refused by 44 `BadSite`, where the number of sites is not 1 to 1024, and by 40 alone.
 ///
 /// The clause `exactly` is the promise of convergence: the messages that a site holds after the events are exactly those
 /// that it took or accepted, as events, outcomes and deltas tell them.

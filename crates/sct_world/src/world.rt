@@ -88,7 +88,7 @@ impl World {
     ghost use Rattle.sct_world.specs.Histories.{step_of, step_at, world_after, after_at};
     ghost use Rattle.sct_world.specs.States.{opened, is_no_site, held_at};
 
-    /// A world of 1 to 64 sites, without an entry or a delta. Any other number of sites is 44 `BadSite`.
+    /// A world of 1 to 1024 sites, without an entry or a delta. Any other number of sites is 44 `BadSite`.
     pub fn open(alloc: Global, sites: u16) -> Result<World, WorldFault>
         ensures ok { IfOk result (λ world. world ≡ opened sites) }
         ensures size { OnOk result (is_size sites ≡ true) }
