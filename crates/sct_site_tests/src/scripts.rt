@@ -72,7 +72,7 @@ fn replays_a_script(rt: HostRuntime) {
 
 #[test]
 fn replays_nothing_at_no_site(rt: HostRuntime) {
-    for sites in [0, 65] {
+    for sites in [0, 1025] {
         assert_eq!(rt;
             replay(rt.alloc(), sites, &[])
                 .err()

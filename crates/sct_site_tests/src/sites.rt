@@ -47,7 +47,7 @@ static BY_AND_BY: [Row; 4] = [
 static ABOVE: [Row; 3] = [Row(1, 2, "C2"), Row(1, 3, "C3"), Row(2, 1, "C5")];
 
 // Numbers and groups that are none.
-static NO_SITES: [(u16, u16); 5] = [(0, 3), (4, 3), (1, 0), (1, 65), (65, 65)];
+static NO_SITES: [(u16, u16); 5] = [(0, 3), (4, 3), (1, 0), (1, 1025), (1025, 1025)];
 
 // The number and the group of a new site, and how many entries it has of its own.
 fn opened(alloc: Global, number: u16, group: u16) -> Result<(u16, u16, u64), DeltaFault> {
@@ -61,7 +61,7 @@ fn sites_are_numbered_within_their_group(rt: HostRuntime) {
         let refused = opened(rt.alloc(), *number, *group);
         assert!(rt; refused == Err(DeltaFault::BadSite));
     }
-    assert!(rt; opened(rt.alloc(), 64, 64) == Ok((64, 64, 0)));
+    assert!(rt; opened(rt.alloc(), 1024, 1024) == Ok((1024, 1024, 0)));
 }
 
 // How many arrivals the site has, and how many messages.

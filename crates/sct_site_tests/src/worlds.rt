@@ -101,17 +101,17 @@ fn expect_outcome(rt: &impl Abort, world: &mut World, event: &Event, wanted: &Ou
 }
 
 #[test]
-fn worlds_have_1_to_64_sites(rt: HostRuntime) {
-    for sites in [0, 65] {
+fn worlds_have_1_to_1024_sites(rt: HostRuntime) {
+    for sites in [0, 1025] {
         let refusal = World::open(rt.alloc(), sites)
             .err()
             .expect(&rt, "a refusal");
         assert_eq!(rt; refusal.number(), 44);
     }
-    let world = World::open(rt.alloc(), 64).expect(&rt, "a world");
-    assert_eq!(rt; world.sites(), 64);
+    let world = World::open(rt.alloc(), 1024).expect(&rt, "a world");
+    assert_eq!(rt; world.sites(), 1024);
     assert!(rt; world.archive(0).is_err());
-    assert!(rt; world.archive(65).is_err());
+    assert!(rt; world.archive(1025).is_err());
 }
 
 #[test]

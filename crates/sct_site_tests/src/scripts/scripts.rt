@@ -20,9 +20,9 @@ pub static REFUSED: [Refused; 6] = [
         told: b"line 2: 64\nline 3: 64\nline 4: 64\nline 5: 64\nline 6: 64\n",
         refused: 5,
     },
-    // vectors with an empty pair, a hole, an origin twice, in descending order, and past 64
+    // vectors with an empty pair, a hole, an origin twice, in descending order, and past 1024
     Refused {
-        script: b"sites 3\ncut 1 1:1,\ncut 1 1\ncut 1 1:1,1:1\ncut 1 2:1,1:1\ncut 1 65:1\ncut 1 0:1\ncut 1 1:01\n",
+        script: b"sites 3\ncut 1 1:1,\ncut 1 1\ncut 1 1:1,1:1\ncut 1 2:1,1:1\ncut 1 1025:1\ncut 1 0:1\ncut 1 1:01\n",
         told: b"line 2: 64\nline 3: 64\nline 4: 64\nline 5: 64\nline 6: 64\nline 7: 64\nline 8: 64\n",
         refused: 7,
     },
@@ -61,13 +61,13 @@ pub static TAKEN: [Taken; 4] = [
         events: 0,
     },
     Taken {
-        script: b"sites 64\n",
-        sites: 64,
+        script: b"sites 1024\n",
+        sites: 1024,
         events: 0,
     },
     // a take, a cut of nothing and above a vector, and a hand
     Taken {
-        script: b"sites 2\ntake 1 {\"MsgNmId\":\"pacs.008\",\"MsgId\":\"M1\",\"CreDtTm\":\"2024-05-02T10:00:00Z\",\"InstgAgt\":\"BANKDEFF\",\"IntrBkSttlmDt\":\"2024-05-02\",\"SvcLvl\":\"SEPA\",\"LclInstrm\":\"INST\",\"EndToEndId\":\"E1\",\"TxId\":\"T1\",\"IntrBkSttlmAmt\":\"1.00\",\"Ccy\":\"EUR\",\"ChrgBr\":\"SLEV\",\"Dbtr\":\"Anna Weber\",\"DbtrAcct\":\"DE89370400440532013000\",\"DbtrAgt\":\"BANKDEFF\",\"CdtrAgt\":\"BANQFRPP\",\"Cdtr\":\"Bo Maes\",\"CdtrAcct\":\"BE68539007547034\"}\ncut 1 -\ncut 2 1:0,2:18446744073709551615,64:7\nhand 1 2",
+        script: b"sites 2\ntake 1 {\"MsgNmId\":\"pacs.008\",\"MsgId\":\"M1\",\"CreDtTm\":\"2024-05-02T10:00:00Z\",\"InstgAgt\":\"BANKDEFF\",\"IntrBkSttlmDt\":\"2024-05-02\",\"SvcLvl\":\"SEPA\",\"LclInstrm\":\"INST\",\"EndToEndId\":\"E1\",\"TxId\":\"T1\",\"IntrBkSttlmAmt\":\"1.00\",\"Ccy\":\"EUR\",\"ChrgBr\":\"SLEV\",\"Dbtr\":\"Anna Weber\",\"DbtrAcct\":\"DE89370400440532013000\",\"DbtrAgt\":\"BANKDEFF\",\"CdtrAgt\":\"BANQFRPP\",\"Cdtr\":\"Bo Maes\",\"CdtrAcct\":\"BE68539007547034\"}\ncut 1 -\ncut 2 1:0,2:18446744073709551615,1024:7\nhand 1 2",
         sites: 2,
         events: 4,
     },
@@ -85,7 +85,12 @@ pub struct Ended {
     pub outcomes: &'static [u8],
 }
 
-pub static ENDED: [Ended; 3] = [
+pub static ENDED: [Ended; 4] = [
+    // the greatest number of sites: the last one takes a message, and another one is handed it
+    Ended {
+        script: b"sites 1024\ntake 1024 {\"MsgNmId\":\"pacs.008\",\"MsgId\":\"M1\",\"CreDtTm\":\"2024-05-02T10:00:00Z\",\"InstgAgt\":\"BANKDEFF\",\"IntrBkSttlmDt\":\"2024-05-02\",\"SvcLvl\":\"SEPA\",\"LclInstrm\":\"INST\",\"EndToEndId\":\"E1\",\"TxId\":\"T1\",\"IntrBkSttlmAmt\":\"1.00\",\"Ccy\":\"EUR\",\"ChrgBr\":\"SLEV\",\"Dbtr\":\"Anna Weber\",\"DbtrAcct\":\"DE89370400440532013000\",\"DbtrAgt\":\"BANKDEFF\",\"CdtrAgt\":\"BANQFRPP\",\"Cdtr\":\"Bo Maes\",\"CdtrAcct\":\"BE68539007547034\"}\ncut 1024 -\nhand 1 700\n",
+        outcomes: b"E|1|TAKEN|1\nE|2|CUT|1|1\nE|3|ACCEPTED|1\n",
+    },
     // a message held already, from whatever origin
     Ended {
         script: b"sites 2\ntake 1 {\"MsgNmId\":\"pacs.008\",\"MsgId\":\"M1\",\"CreDtTm\":\"2024-05-02T10:00:00Z\",\"InstgAgt\":\"BANKDEFF\",\"IntrBkSttlmDt\":\"2024-05-02\",\"SvcLvl\":\"SEPA\",\"LclInstrm\":\"INST\",\"EndToEndId\":\"E1\",\"TxId\":\"T1\",\"IntrBkSttlmAmt\":\"1.00\",\"Ccy\":\"EUR\",\"ChrgBr\":\"SLEV\",\"Dbtr\":\"Anna Weber\",\"DbtrAcct\":\"DE89370400440532013000\",\"DbtrAgt\":\"BANKDEFF\",\"CdtrAgt\":\"BANQFRPP\",\"Cdtr\":\"Bo Maes\",\"CdtrAcct\":\"BE68539007547034\"}\ntake 1 {\"MsgNmId\":\"pacs.008\",\"MsgId\":\"M1\",\"CreDtTm\":\"2024-05-02T10:00:00Z\",\"InstgAgt\":\"BANKDEFF\",\"IntrBkSttlmDt\":\"2024-05-02\",\"SvcLvl\":\"SEPA\",\"LclInstrm\":\"INST\",\"EndToEndId\":\"E1\",\"TxId\":\"T1\",\"IntrBkSttlmAmt\":\"1.00\",\"Ccy\":\"EUR\",\"ChrgBr\":\"SLEV\",\"Dbtr\":\"Anna Weber\",\"DbtrAcct\":\"DE89370400440532013000\",\"DbtrAgt\":\"BANKDEFF\",\"CdtrAgt\":\"BANQFRPP\",\"Cdtr\":\"Bo Maes\",\"CdtrAcct\":\"BE68539007547034\"}\ncut 1 -\nhand 1 2\ntake 2 {\"MsgNmId\":\"pacs.008\",\"MsgId\":\"M1\",\"CreDtTm\":\"2024-05-02T10:00:00Z\",\"InstgAgt\":\"BANKDEFF\",\"IntrBkSttlmDt\":\"2024-05-02\",\"SvcLvl\":\"SEPA\",\"LclInstrm\":\"INST\",\"EndToEndId\":\"E1\",\"TxId\":\"T1\",\"IntrBkSttlmAmt\":\"1.00\",\"Ccy\":\"EUR\",\"ChrgBr\":\"SLEV\",\"Dbtr\":\"Anna Weber\",\"DbtrAcct\":\"DE89370400440532013000\",\"DbtrAgt\":\"BANKDEFF\",\"CdtrAgt\":\"BANQFRPP\",\"Cdtr\":\"Bo Maes\",\"CdtrAcct\":\"BE68539007547034\"}\ntake 2 {\"MsgNmId\":\"pacs.002\",\"MsgId\":\"C1\",\"CreDtTm\":\"2024-05-02T10:00:02Z\",\"InstgAgt\":\"BANQFRPP\",\"OrgnlMsgId\":\"M1\",\"OrgnlMsgNmId\":\"pacs.008\",\"OrgnlTxId\":\"T1\",\"TxSts\":\"ACCP\",\"DbtrAgt\":\"BANKDEFF\"}\ncut 2 1:1\n",
@@ -108,7 +113,7 @@ pub static NO_SCRIPTS: [&[u8]; 12] = [
     b"",
     b"\n\n",
     b"sites 0\n",
-    b"sites 65\n",
+    b"sites 1025\n",
     b"sites 03\n",
     b"sites 3 \n",
     b"sites 3\r\n",
