@@ -6,6 +6,8 @@ one number; entries ahead of the site that they come from; two sites of one numb
 work of a program of the definitions, over sites as sets of entries (reference/replay.py): whole sets are handed to the first site
 and then from it to each. Of what it tells is then asked, by the sets alone, whether settling may end so (judged).
 """
+from itertools import groupby
+
 from generate.pool import Pool, shuffled
 from reference.replay import counted, place, refusal
 from reference.status import archive_text, read_message, transactions_of, written
@@ -142,15 +144,19 @@ def judged(sites, before, refused):
 
 # ---- tries
 
-def entry_line(entry):
-    return f"entry {entry[0]} {entry[1]} {written(entry[2])}\n"
+def group_lines(origin, entries):
+    """The lines of an origin in form 2 of the delta text."""
+    messages = "".join(f"{written(message)}\n" for _, _, message in entries)
+    return f"origin {origin} {entries[0][1]} {len(entries)}\n{messages}"
 
 
 def held_text(site):
     """What a site holds, as a delta text and as an archive text."""
-    entries = "".join(entry_line(entry) for entry in sorted(site.held, key=place))
+    held = sorted(site.held, key=place)
+    groups = groupby(held, key=lambda entry: entry[0])
+    lines = "".join(group_lines(origin, list(entries)) for origin, entries in groups)
     archive = archive_text({message for _, _, message in site.held})
-    return f"C|{site.number}\ndelta 1\n{entries}end {len(site.held)}\n{archive}"
+    return f"C|{site.number}\ndelta 2\n{lines}end {len(held)}\n{archive}"
 
 
 def met_in(sites, before, refused):

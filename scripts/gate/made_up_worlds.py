@@ -21,12 +21,12 @@ TO_MEET = ["TAKEN", "REPEAT", "CUT", "ACCEPTED", "REFUSED|41", "REFUSED|44", "RE
 
 # lines that are no event, whatever the world
 WRONG = [b"take 1", b"take", b"take  1 {}", b"take 01 {}", b"take +1 {}", b"take 65536 {}", b"Take 1 {}", b" take 1 {}",
-         b"cut 1", b"cut 1 ", b"cut 1  -", b"cut 1 - ", b"cut 1 --", b"cut 1 2:1,1:1", b"cut 1 1:1,1:2", b"cut 1 65:1",
+         b"cut 1", b"cut 1 ", b"cut 1  -", b"cut 1 - ", b"cut 1 --", b"cut 1 2:1,1:1", b"cut 1 1:1,1:2", b"cut 1 1025:1",
          b"cut 1 0:1", b"cut 1 1:01", b"cut 1 1:18446744073709551616", b"cut 1 1:1,", b"cut 1 1", b"cut 01 -", b"hand 1",
          b"hand 1 ", b"hand 1 1 ", b"hand 1 01", b"hand -1 1", b"hand 1 65536", b"hand 18446744073709551616 1", b"sites 3",
          b"hold 1 1", b"\xef\xbb\xbfcut 1 -", b"cut 1 -\r", b"\x0c", b"hand 1 \xb2"]
 # inputs that are no script begin so
-NO_SCRIPT = [b"sites 0", b"sites 65", b"sites 03", b"sites 3 ", b"sites 3\r", b" sites 3", b"sites", b"sites x", b"site 3",
+NO_SCRIPT = [b"sites 0", b"sites 1025", b"sites 03", b"sites 3 ", b"sites 3\r", b" sites 3", b"sites", b"sites x", b"site 3",
              b"\xef\xbb\xbfsites 3", b"take 1 {}", b"cut 1 -", b""]
 
 

@@ -9,7 +9,7 @@ import pathlib, re, sys
 sys.path.insert(0, str(pathlib.Path(__file__).resolve().parents[1]))  # scripts/
 from reference.status import Refused, archive_text, lines_of, read_message, status_text, totals_text, write_answer
 
-MOST_SITES = 64
+MOST_SITES = 1024
 
 
 class NoEvent(Exception):
