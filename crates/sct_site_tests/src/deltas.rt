@@ -1,6 +1,6 @@
 //! Logs, deltas, vectors and the delta text on worked examples, with ample memory.
 
-mod forms;
+pub(crate) mod forms;
 mod logs;
 mod scenes;
 mod shapes;

@@ -3,9 +3,12 @@
 mod scenes;
 
 use scenes::{Row, expect_accepted, expect_held, expect_refused, expect_taken, site_of};
-use sct_delta::DeltaFault;
+use crate::deltas::forms::INSTRUCTION;
+use sct_delta::{DeltaFault, Vector, write_delta};
+use sct_json::read_message;
 use sct_site::*;
 use std::alloc::Global;
+use std::sync::Arc;
 
 static NONE: [Row; 0] = [];
 
@@ -119,4 +122,28 @@ fn cuts_what_came_from_others(rt: HostRuntime) {
     expect_accepted(&rt, rt.alloc(), &mut site, &THREE, 0);
     expect_held(&rt, rt.alloc(), &site, &BY_AND_BY, &[(1, 1)], &ABOVE);
     assert_eq!(rt; site.vector().get(1), 3);
+}
+
+// What the last site of the largest group took, as another site's whole cut writes it.
+fn handed_on(alloc: Global) -> Option<Vec<u8>> {
+    let message = read_message(alloc, INSTRUCTION.as_bytes()).ok()?;
+    let message = Arc::new(alloc, message).ok()?;
+    let nothing = Vector::of(alloc, &[]).ok()?;
+    let mut last = SiteCore::open(alloc, 1024, 1024).ok()?;
+    let mut other = SiteCore::open(alloc, 700, 1024).ok()?;
+    last.take(message).ok()?;
+    let delta = last.cut(&nothing).ok()?;
+    other.accept(&delta).ok()?;
+    let whole = other.cut(&nothing).ok()?;
+    write_delta(alloc, &whole).ok()
+}
+
+#[test]
+fn hands_on_what_site_1024_took(rt: HostRuntime) {
+    let alloc = rt.alloc();
+    let text = handed_on(alloc).expect(&rt, "a text");
+    let wanted = format!(in alloc;
+        "delta 2\norigin 1024 1 1\n{INSTRUCTION}\nend 1\n"
+    ).expect(&rt, "a text");
+    assert!(rt; text.as_slice() == wanted.as_bytes());
 }

@@ -201,3 +201,9 @@ fn desk_answers(rt: HostRuntime) {
     let (history, track) = History::open();
     expect_answers::<Brand, HostRuntime>(&rt, rt.alloc(), history, track, 2);
 }
+
+#[test]
+fn desk_answers_in_a_group_of_1024(rt: HostRuntime) {
+    let (history, track) = History::open();
+    expect_answers::<Brand, HostRuntime>(&rt, rt.alloc(), history, track, 1024);
+}
