@@ -15,6 +15,7 @@ CHECKS = {
     "run_examples": "runs the program on the examples",
     "refuse_memory": "runs the program in too little memory",
     "refuse_allocations": "refuses each allocation of the program",
+    "group_memory": "compares what sites allocate in a small group and in a large one",
     "made_up": "compares made-up sets, worlds and groups with the definitions",
 }
 

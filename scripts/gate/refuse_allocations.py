@@ -32,13 +32,13 @@ TRANSFERS = 256  # fewer are evaluated and written in one part, as fewer bytes t
 ROUNDS = 8
 SECONDS = 20
 LATE = (b"", b"", f"none in {SECONDS} seconds")
-COUNTS = struct.Struct("@LL")
+COUNTS = struct.Struct("@LLL")
 
 # what is run, in how many rounds, the right answer, and what may be answered where an allocation was refused
 Command = collections.namedtuple("Command", "words input rounds right wanting")
 
-# the number to be refused, what was answered, how many allocations came, and from how many threads
-Run = collections.namedtuple("Run", "number answer allocations threads")
+# the number to be refused, what was answered, how many allocations came, from how many threads, and the bytes that they asked for
+Run = collections.namedtuple("Run", "number answer allocations threads bytes")
 
 
 def small_input():

@@ -1,8 +1,9 @@
-/* refuse_nth.c: refuses one allocation of a program, and counts all of them. scripts/gate/refuse_allocations.py preloads it.
+/* refuse_nth.c: refuses one allocation of a program, and counts all of them. scripts/gate/refuse_allocations.py and
+ * scripts/gate/group_memory.py preload it.
  *
  * It stands before malloc, calloc and realloc of the GNU C library, in all threads. The allocation whose number REFUSE_NUMBER
  * tells, from 1 in the order in which they come, is answered NULL; where the number is 0, none is. The file REFUSE_COUNTS has room
- * for two unsigned longs: how many allocations came, and from how many threads. It is mapped, so they stand in it however the
+ * for three unsigned longs: how many allocations came, from how many threads, and how many bytes they asked for together. It is mapped, so they stand in it however the
  * program ends. What the C library allocates by these three counts too, as for the start of a thread; a thread's stack, which it
  * maps, does not.
  */
@@ -18,7 +19,7 @@ extern void *__libc_calloc(size_t many, size_t size);
 extern void *__libc_realloc(void *old, size_t size);
 
 struct counts {
-    atomic_ulong allocations, threads;
+    atomic_ulong allocations, threads, bytes;
 };
 
 /* Before `begin` there is no number, and the counts go nowhere. */
@@ -35,16 +36,17 @@ __attribute__((constructor)) static void begin(void) {
     number = strtoul(getenv("REFUSE_NUMBER"), NULL, 10);
 }
 
-static int is_refused(void) {
+static int is_refused(size_t size) {
     if (!has_allocated) {
         has_allocated = 1;
         atomic_fetch_add(&counts->threads, 1);
     }
+    atomic_fetch_add(&counts->bytes, size);
     if (atomic_fetch_add(&counts->allocations, 1) + 1 != number) return 0;
     errno = ENOMEM; /* pthread_create answers it where its own allocation is refused */
     return 1;
 }
 
-void *malloc(size_t size) { return is_refused() ? NULL : __libc_malloc(size); }
-void *calloc(size_t many, size_t size) { return is_refused() ? NULL : __libc_calloc(many, size); }
-void *realloc(void *old, size_t size) { return is_refused() ? NULL : __libc_realloc(old, size); }
+void *malloc(size_t size) { return is_refused(size) ? NULL : __libc_malloc(size); }
+void *calloc(size_t many, size_t size) { return is_refused(many * size) ? NULL : __libc_calloc(many, size); }
+void *realloc(void *old, size_t size) { return is_refused(size) ? NULL : __libc_realloc(old, size); }

@@ -70,7 +70,7 @@ pub fn run(alloc: Global, sites: u16, events: &[Event]) -> Result<Ran, WorldFaul
     Ok(Ran { world, outcomes })
 }
 
-/// What a site answers after events in a new world of so many sites. 44 `BadSite` where the number of sites is not 1 to 64,
+/// What a site answers after events in a new world of so many sites. 44 `BadSite` where the number of sites is not 1 to 1024,
 /// or there is no such site among them, and else nothing but want of memory (40) refuses it.
 ///
 /// This is the promise of convergence whole: each text is that of exactly the messages that the site took or accepted.
