@@ -2,8 +2,8 @@
 
 mod scenes;
 
-use scenes::{Row, expect_accepted, expect_held, expect_refused, expect_taken, site_of};
 use crate::deltas::forms::INSTRUCTION;
+use scenes::{Row, expect_accepted, expect_held, expect_refused, expect_taken, site_of};
 use sct_delta::{DeltaFault, Vector, write_delta};
 use sct_json::read_message;
 use sct_site::*;
@@ -142,8 +142,8 @@ fn handed_on(alloc: Global) -> Option<Vec<u8>> {
 fn hands_on_what_site_1024_took(rt: HostRuntime) {
     let alloc = rt.alloc();
     let text = handed_on(alloc).expect(&rt, "a text");
-    let wanted = format!(in alloc;
-        "delta 2\norigin 1024 1 1\n{INSTRUCTION}\nend 1\n"
-    ).expect(&rt, "a text");
+    let wanted = format!(in alloc; "delta 2\norigin 1024 1 1\n{INSTRUCTION}\nend 1\n").expect(
+        &rt, "a text",
+    );
     assert!(rt; text.as_slice() == wanted.as_bytes());
 }

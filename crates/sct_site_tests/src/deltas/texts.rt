@@ -35,11 +35,7 @@ fn form_1_of(alloc: Global, rows: &[(u16, u64, &str)]) -> Option<String> {
 }
 
 // The form 2 of a delta of these entries, with these origin lines.
-fn form_2_of(
-    alloc: Global,
-    groups: &[(&str, usize)],
-    rows: &[(u16, u64, &str)],
-) -> Option<String> {
+fn form_2_of(alloc: Global, groups: &[(&str, usize)], rows: &[(u16, u64, &str)]) -> Option<String> {
     let mut text = String::from_str(alloc, "delta 2\n").ok()?;
     let mut left = rows.iter();
     for (head, count) in groups {
@@ -129,9 +125,13 @@ fn writes_and_reads_site_1024(rt: HostRuntime) {
     let alloc = rt.alloc();
     let rows = [(1024, 1, INSTRUCTION)];
     let delta = delta_of(alloc, &rows).expect(&rt, "a delta");
-    let text = joined(alloc, "delta 2\norigin 1024 1 1\n", INSTRUCTION, "\nend 1\n").expect(
-        &rt, "a text",
-    );
+    let text = joined(
+        alloc,
+        "delta 2\norigin 1024 1 1\n",
+        INSTRUCTION,
+        "\nend 1\n",
+    )
+    .expect(&rt, "a text");
     assert!(rt; writes(alloc, &delta, text.as_str()) == Some(true));
     assert!(rt; reads(alloc, text.as_bytes(), &rows) == Some(true));
 }
@@ -159,9 +159,13 @@ fn reads_any_text_of_a_message(rt: HostRuntime) {
     let entry = joined(alloc, "delta 1\nentry 7 3  ", INSTRUCTION, "\t\r\nend 1\n").expect(
         &rt, "a text",
     );
-    let group = joined(alloc, "delta 2\norigin 7 3 1\n ", INSTRUCTION, "\t\r\nend 1\n").expect(
-        &rt, "a text",
-    );
+    let group = joined(
+        alloc,
+        "delta 2\norigin 7 3 1\n ",
+        INSTRUCTION,
+        "\t\r\nend 1\n",
+    )
+    .expect(&rt, "a text");
     assert!(rt; reads(alloc, entry.as_bytes(), &rows) == Some(true));
     assert!(rt; reads(alloc, group.as_bytes(), &rows) == Some(true));
 }
@@ -222,7 +226,11 @@ fn expect_no_front(rt: &impl Abort, alloc: Global, bytes: &[u8]) {
 #[test]
 fn refuses_a_text_that_breaks_off(rt: HostRuntime) {
     let alloc = rt.alloc();
-    let rows = [(1, 2, CONFIRMATION), (1, 3, INSTRUCTION), (5, 1, CONFIRMATION)];
+    let rows = [
+        (1, 2, CONFIRMATION),
+        (1, 3, INSTRUCTION),
+        (5, 1, CONFIRMATION),
+    ];
     let heads = [("origin 1 2 2", 2), ("origin 5 1 1", 1)];
     let entries = form_1_of(alloc, &rows).expect(&rt, "a text");
     let groups = form_2_of(alloc, &heads, &rows).expect(&rt, "a text");

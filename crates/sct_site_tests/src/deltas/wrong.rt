@@ -164,17 +164,62 @@ pub static GROUPS: [(&str, &str, u64); 41] = [
 
 /// Texts of form 2 with two messages: what is before the first, between them, and behind the second.
 pub static GROUP_PAIRS: [(&str, &str, &str, u64); 13] = [
-    ("delta 2\norigin 1 1 1\n", "\norigin 1 2 1\n", "\nend 2\n", 4),
-    ("delta 2\norigin 1 1 1\n", "\norigin 1 1 1\n", "\nend 2\n", 4),
-    ("delta 2\norigin 2 1 1\n", "\norigin 1 1 1\n", "\nend 2\n", 4),
-    ("delta 2\norigin 2 1 1\n", "\norigin 3 0 1\n", "\nend 2\n", 4),
-    ("delta 2\norigin 2 1 1\n", "\norigin 1025 1 1\n", "\nend 2\n", 4),
-    ("delta 2\norigin 2 1 1\n", "\norigin 3 1 0\n", "\nend 2\n", 4),
+    (
+        "delta 2\norigin 1 1 1\n",
+        "\norigin 1 2 1\n",
+        "\nend 2\n",
+        4,
+    ),
+    (
+        "delta 2\norigin 1 1 1\n",
+        "\norigin 1 1 1\n",
+        "\nend 2\n",
+        4,
+    ),
+    (
+        "delta 2\norigin 2 1 1\n",
+        "\norigin 1 1 1\n",
+        "\nend 2\n",
+        4,
+    ),
+    (
+        "delta 2\norigin 2 1 1\n",
+        "\norigin 3 0 1\n",
+        "\nend 2\n",
+        4,
+    ),
+    (
+        "delta 2\norigin 2 1 1\n",
+        "\norigin 1025 1 1\n",
+        "\nend 2\n",
+        4,
+    ),
+    (
+        "delta 2\norigin 2 1 1\n",
+        "\norigin 3 1 0\n",
+        "\nend 2\n",
+        4,
+    ),
     ("delta 2\norigin 1 1 1\n", "\n", "\nend 2\n", 4),
-    ("delta 2\norigin 1 1 2\n", "\norigin 2 1 1\n", "\nend 2\n", 4),
+    (
+        "delta 2\norigin 1 1 2\n",
+        "\norigin 2 1 1\n",
+        "\nend 2\n",
+        4,
+    ),
     ("delta 2\norigin 1 1 2\n", "\n", "\nend 1\n", 5),
     ("delta 2\norigin 1 1 2\n", "\n", "\nend 3\n", 5),
     ("delta 2\norigin 1 1 3\n", "\n", "\nend 2\n", 5),
-    ("delta 2\norigin 1 1 1\n", "\norigin 2 1 2\n", "\nend 2\n", 6),
-    ("delta 2\norigin 1 1 1\n", "\norigin 2 1 1\n", "\nend 1\n", 6),
+    (
+        "delta 2\norigin 1 1 1\n",
+        "\norigin 2 1 2\n",
+        "\nend 2\n",
+        6,
+    ),
+    (
+        "delta 2\norigin 1 1 1\n",
+        "\norigin 2 1 1\n",
+        "\nend 1\n",
+        6,
+    ),
 ];
