@@ -15,7 +15,7 @@ use Rattle.sct_delta.specs.Sites.{is_site}
 use Rattle.sct_delta.specs.Entries.{Placed, IsDelta, numbered}
 use Rattle.sct_delta.specs.Shapes.{may_be_next, first_break, are_of_sites}
 use Rattle.sct_delta.specs.TextLines.{lines_of, lines_as, ended, end_line}
-use Rattle.sct_delta.specs.GroupText.{Group, origin_line, group_lines, group_entries, TellMessages, may_begin, AreGroups, groups_head, IsGroupText, run_length, line_before, lines_after, IsWritten}
+use Rattle.sct_delta.specs.GroupText.{Group, origin_line, group_lines, group_entries, TellMessages, may_begin, AreGroups, groups_head, IsGroupText, run_length, lines_after, IsWritten}
 use Rattle.sct_delta.specs.DeltaText.{written_delta}
 use Rattle.sct_delta.proofs.ShapeLemmas.{Behind, behind_from, delta_unbroken}
 use Rattle.sct_delta.proofs.TextLemmas.{site_below}
@@ -186,18 +186,6 @@ origin_spelled origin first count =
     ap (λ (t : List ℕ). codes "origin " ++ t)
     (ap (λ (t : List ℕ). decimal origin ++ 32 ∷ t) (sym (append_assoc (decimal first) (32 ∷ decimal count) (10 ∷ [])))
     ∙ sym (append_assoc (decimal origin) (32 ∷ (decimal first ++ 32 ∷ decimal count)) (10 ∷ [])))
-
--- the first entry more, with the line before it where it begins its origin
-pub one_more_written : (text begun more : List ℕ) (previous : ℕ) (entry : Placed) (after : List Placed) → begun ≡ text ++ flat_map ended (line_before previous entry after) → more ≡ begun ++ ended (written_text entry.message)
-    → more ++ flat_map ended (lines_after entry.origin after) ≡ text ++ flat_map ended (lines_after previous (entry ∷ after))
-one_more_written text begun more previous entry after one two =
-    let before : List ℕ = flat_map ended (line_before previous entry after) in
-    let line : List ℕ = ended (written_text entry.message) in
-    let behind : List ℕ = flat_map ended (lines_after entry.origin after) in
-    ap (λ (t : List ℕ). t ++ behind) (two ∙ ap (λ (t : List ℕ). t ++ line) one)
-    ∙ append_assoc (text ++ before) line behind
-    ∙ append_assoc text before (line ++ behind)
-    ∙ ap (λ (t : List ℕ). text ++ t) (sym (flat_map-append ended (line_before previous entry after) (written_text entry.message ∷ lines_after entry.origin after)))
 
 pub whole_written : (head with_lines whole end : List ℕ) (entries : List Placed) → head ≡ ended groups_head → with_lines ≡ head ++ flat_map ended (lines_after 0 entries) → end ≡ ended (end_line (length entries)) → whole ≡ with_lines ++ end → whole ≡ written_delta entries
 unfolding written_delta

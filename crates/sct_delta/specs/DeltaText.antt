@@ -33,7 +33,7 @@ delta_of_lines [] = Err 1
 delta_of_lines (None ∷ lines) = Err 1
 delta_of_lines (Some line ∷ lines) = entries_behind line lines
 
--- the delta of which a text is a form, or its first wrong line
+-- the delta that a text is a form of, or its first wrong line
 unfoldable pub delta_in : List ℕ → Result (List Placed) ℕ
 delta_in bytes = delta_of_lines (lines_of bytes)
 
@@ -49,7 +49,7 @@ first_wrong_line bytes = wrong_line (delta_in bytes)
 abbrev pub AgreeTo : ℕ → List ℕ → List ℕ → Type 0
 AgreeTo count some other = take count (lines_of some) ≡ take count (lines_of other)
 
--- A call answers what a text is read as, or want of memory.
+-- A call answers what a text is read as, or is out of memory.
 abbrev pub Reads : Result (List Placed) DeltaFault → Result (List Placed) ℕ → Type 0
 Reads (Ok entries) read = read ≡ Ok entries
 Reads (Err fault.Memory) read = ⊤

@@ -44,7 +44,7 @@ numbered origin n (message ∷ rest) = record { origin = origin; n = n; message 
 abbrev pub same_entry : Placed → Placed → Bool
 same_entry a b = nat_eq a.origin b.origin && (nat_eq a.n b.n && same_message a.message b.message)
 
--- the entry stands in the list
+-- the entry is in the list
 abbrev pub holds : List Placed → Placed → Bool
 holds entries entry = list_any (λ held. same_entry held entry) entries
 
@@ -54,11 +54,11 @@ messages_of entries = set.from_list (map (λ entry. entry.message) entries)
 
 -- ---- the shapes of lists of entries
 
--- Arrivals: each origin's entries stand in the list as 1, 2, 3 and on.
+-- Arrivals: each origin's entries are in the list as 1, 2, 3 and on.
 abbrev pub IsArrivals : List Placed → Type 0
 IsArrivals entries = (origin : ℕ) → entries_from origin entries ≡ numbered origin 1 (log_of origin entries)
 
--- The entries of an origin stand in the list with numbers that follow each other without a hole, none of them 0.
+-- The entries of an origin are in the list with numbers that follow each other without a hole. No number is 0.
 pub record IsRun (origin : ℕ) (entries : List Placed) : Type 0 where
   pub first : ℕ
   pub above_0 : 1 ≤ first

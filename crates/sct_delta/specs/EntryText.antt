@@ -9,15 +9,15 @@ use Rattle.sct_delta.specs.TextLines.{Line, lines_of, lines_as, end_line, entrie
 
 -- ---- the form of a delta, as a relation
 
--- The line tells the entry: the word `entry`, its origin and its number in decimal, and a JSON text that is read as its
--- message, parted by one space (32).
+-- The line has the entry: the word `entry`, its origin and its number in decimal, and a JSON text that is read as its
+-- message, separated by one space (32).
 pub record TellsEntry (line : List ℕ) (entry : Placed) : Type 0 where
   pub json : List ℕ
   pub fields : line ≡ codes "entry " ++ (decimal entry.origin ++ 32 ∷ (decimal entry.n ++ 32 ∷ json))
   pub number : entry.n < 2 ^ 64
   pub message : message_in json ≡ Ok entry.message
 
--- each line tells the entry at its place
+-- each line has the entry at its place
 abbrev pub TellEntries : List (List ℕ) → List Placed → Type 0
 TellEntries [] [] = ⊤
 TellEntries [] (entry ∷ entries) = ⊥
@@ -57,7 +57,7 @@ fields_after first = option_and_then (λ origin. fields_behind origin first.1) (
 unfoldable pub fields_in : List ℕ → Option EntryFields
 fields_in line = option_and_then fields_after (option_and_then number_before_space (after_prefix (codes "entry ") line))
 
--- the entry that a line tells
+-- the entry of a line
 abbrev pub entry_of : EntryFields → Option Placed
 entry_of fields =
     option_map (λ message. record { origin = fields.0; n = fields.1; message = message }) (result_ok (message_in fields.2))
@@ -74,7 +74,7 @@ entries_on place origin n entries line lines more None = entries_ended place ent
 entries_on place origin n entries line lines more (Some entry) =
     if may_be_next origin n entry then more entry else Err place
 
--- What the lines from a place on are read as, behind these entries, the last of which has this origin and number.
+-- What the lines from a place on are read as, after these entries. The last of these has this origin and number.
 unfoldable pub entries_in : ℕ → ℕ → ℕ → List Placed → List Line → Result (List Placed) ℕ
 entries_in place origin n entries [] = Err place
 entries_in place origin n entries (None ∷ lines) = Err place

@@ -3,7 +3,7 @@ use Rattle.std.specs.Prelude.{ℕ}
 use Rattle.sct_delta.specs.declared.fault.DeltaFault.{DeltaFault}
 use Rattle.sct_delta.specs.declared.fault.DeltaFault.TheVariants as fault
 
--- the number by which a fault is told
+-- the number of a fault
 abbrev pub delta_fault_number : DeltaFault → ℕ
 delta_fault_number fault.Memory = 40
 delta_fault_number (fault.Gap origin have first) = 41

@@ -1,4 +1,4 @@
--- Form 2 of the delta text: the messages of each origin behind a line that names it. Read by an auditor.
+-- Form 2 of the delta text: the messages of each origin after a line that names it. Read by an auditor.
 use Rattle.std.specs.Prelude.{◌≡◌, ℕ, ◌+◌, ◌-◌, ◌^◌, ◌<◌, ◌&&◌, Bool, List, [], ◌∷◌, ◌++◌, length, flat_map, nat_eq, nat_le, nat_lt, Option, Some, None, option_map, option_and_then, Result, Ok, Err, codes, decimal, if◌then◌else◌, true, ⊤}
 use Rattle.std.specs.Result.{result_ok}
 use Rattle.sct_message.specs.declared.draft.Draft.{Draft}
@@ -10,7 +10,7 @@ use Rattle.sct_delta.specs.TextLines.{Line, lines_of, lines_as, end_line, entrie
 
 -- ---- the form of a delta, as a relation
 
--- the line that begins an origin: its first number, and how many messages follow, in decimal, each behind one space (32)
+-- the line that begins an origin: its first number, and how many messages follow, in decimal, each after one space (32)
 abbrev pub origin_line : ℕ → ℕ → ℕ → List ℕ
 origin_line origin first count = codes "origin " ++ (decimal origin ++ 32 ∷ (decimal first ++ 32 ∷ decimal count))
 
@@ -34,13 +34,13 @@ TellMessages [] (message ∷ messages) = ⊥
 TellMessages (text ∷ texts) [] = ⊥
 TellMessages (text ∷ texts) (message ∷ messages) = (message_in text ≡ Ok message) × TellMessages texts messages
 
--- A group may begin behind the groups up to an origin: its origin is a later site, it has at least one message, its
+-- A group may begin after the groups up to an origin: its origin is a later site, it has at least one message, its
 -- numbers begin at 1 at the least, and the last of them is at most 18446744073709551615.
 abbrev pub may_begin : ℕ → ℕ → ℕ → ℕ → Bool
 may_begin before origin first count =
     nat_lt before origin && (is_site origin && (nat_le 1 first && (nat_le 1 count && nat_le (first + count) (2 ^ 64))))
 
--- each group may begin behind the one before it, and its texts tell its messages
+-- each group may begin after the one before it, and its texts are read as its messages
 abbrev pub AreGroups : ℕ → List Group → Type 0
 AreGroups before [] = ⊤
 AreGroups before (group ∷ groups) =
@@ -72,7 +72,7 @@ line_before previous entry entries =
     if nat_eq entry.origin previous then []
     else origin_line entry.origin entry.n (1 + run_length entry.origin entries) ∷ []
 
--- the lines of entries behind an entry of an origin, each message in its written form
+-- the lines of entries after an entry of an origin, each message in its written form
 abbrev pub lines_after : ℕ → List Placed → List (List ℕ)
 lines_after previous [] = []
 lines_after previous (entry ∷ entries) =
@@ -113,7 +113,7 @@ abbrev pub message_on : ℕ → (Draft → Result (List Placed) ℕ) → Option 
 message_on place more None = Err place
 message_on place more (Some message) = more message
 
--- What the lines from a place on are read as, behind these entries: so many messages are due, of this origin, the next
+-- What the lines from a place on are read as, after these entries: so many messages are due, of this origin, the next
 -- one of this number.
 unfoldable pub groups_in : ℕ → ℕ → ℕ → ℕ → List Placed → List Line → Result (List Placed) ℕ
 groups_in place origin n due entries [] = Err place

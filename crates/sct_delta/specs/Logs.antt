@@ -28,6 +28,6 @@ HasRoomFor logs entries = (origin : ℕ) → held_from origin entries ≤ room_a
 abbrev pub HoldSame : Logs → Logs → Type 0
 HoldSame a b = (origin : ℕ) → log_in a origin ≡ log_in b origin
 
--- a log and a count are kept for origins alone of which a message is held
+-- a log and a count are kept for those origins alone that hold a message
 abbrev pub KeepsNoEmpty : Logs → Type 0
 KeepsNoEmpty logs = HasNoEmptyLog logs.shelf × HasNoZero logs.vector

@@ -42,7 +42,7 @@ appended log at message origin = if nat_eq at origin then log origin ++ message 
 abbrev pub has_site : ℕ → ℕ → Bool
 has_site group site = nat_lt 0 site && not (nat_lt group site)
 
--- why there is no room for an entry of a site: 40 memory is wanting, or 44 the group does not have the site
+-- why there is no room for an entry of a site: 40 out of memory, or 44 the group does not have the site
 abbrev pub refusal_at : ℕ → ℕ → DeltaFault
 refusal_at group site = if has_site group site then fault.Memory else fault.BadSite
 
@@ -68,7 +68,7 @@ firsts_after previous [] = []
 firsts_after previous (entry ∷ rest) =
     if nat_eq entry.origin previous then firsts_after previous rest else entry ∷ firsts_after entry.origin rest
 
--- the refusal that an entry, where there is one, tells
+-- the refusal for an entry, if there is one
 abbrev pub told : (Placed → DeltaFault) → Option Placed → Option DeltaFault
 told tells None = None
 told tells (Some entry) = Some (tells entry)

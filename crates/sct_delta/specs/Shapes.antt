@@ -7,13 +7,13 @@ use Rattle.sct_delta.specs.declared.fault.DeltaFault.TheVariants as fault
 use Rattle.sct_delta.specs.Sites.{is_site, is_site_of_form_1}
 use Rattle.sct_delta.specs.Entries.{Placed}
 
--- The entry may stand next to the one before it: it has the next number of the same origin, or it begins a later
--- origin. No number is 0. Where none stands before it, origin and number before it are 0.
+-- The entry may come next after the one before it: it has the next number of the same origin, or it begins a later
+-- origin. No number is 0. If no entry comes before it, origin and number before it are 0.
 abbrev pub may_be_next : ℕ → ℕ → Placed → Bool
 may_be_next origin n entry =
     nat_le 1 entry.n && (if nat_eq origin entry.origin then nat_eq (n + 1) entry.n else nat_lt origin entry.origin)
 
--- the place of the first entry that may not stand where it stands, where the first entry has the place given
+-- the place of the first entry that may not come where it is; the first entry has the place given
 abbrev pub first_break : ℕ → ℕ → ℕ → List Placed → Option ℕ
 first_break place origin n [] = None
 first_break place origin n (entry ∷ entries) =

@@ -13,13 +13,13 @@ use Rattle.sct_delta.specs.Entries.{Placed}
 abbrev pub Line : Type 0
 Line = Option (List ℕ)
 
--- the lines where a byte that is no line feed stands before them: it begins the first
+-- the lines after a byte that is no line feed: it begins the first
 abbrev pub onto_first : ℕ → List Line → List Line
 onto_first byte [] = None ∷ []
 onto_first byte (None ∷ lines) = None ∷ lines
 onto_first byte (Some line ∷ lines) = Some (byte ∷ line) ∷ lines
 
--- the lines of a text: what stands before each line feed, and, where something stands behind the last one, a last line
+-- the lines of a text: what comes before each line feed, and, if something comes after the last one, a last line
 -- that none ends (law `lines_make_the_text`)
 unfoldable pub lines_of : List ℕ → List Line
 lines_of [] = []
@@ -40,7 +40,7 @@ lines_as lines = map (λ line. Some line) lines
 
 -- ---- the fields of a line
 
--- at least one character, and a zero (48) in front only where it stands alone
+-- at least one character, and a zero (48) in front only if it is alone
 abbrev pub begins_right : List ℕ → Bool
 begins_right text = length text == 1 || nat_lt 1 (length text) && not (slice_index text 0 == 48)
 
@@ -52,7 +52,7 @@ unfoldable pub number_in : List ℕ → Option ℕ
 number_in text =
     if is_numeral text then (if nat_lt (digits_value 10 text) (2 ^ 64) then Some (digits_value 10 text) else None) else None
 
--- a number, and what stands behind the space after it
+-- a number, and what comes after the space after it
 abbrev pub Field : Type 0
 Field = ℕ × List ℕ
 
@@ -63,11 +63,11 @@ abbrev pub number_to : Option ℕ → List ℕ → Option Field
 number_to None text = None
 number_to (Some at) text = option_map (λ n. (n, drop (at + 1) text)) (number_in (take at text))
 
--- the number that stands before the first space, and what stands behind it
+-- the number that comes before the first space, and what comes after it
 unfoldable pub number_before_space : List ℕ → Option Field
 number_before_space text = number_to (position is_space text) text
 
--- what stands behind the word that a line begins with
+-- what comes after the word that a line begins with
 abbrev pub after_prefix : List ℕ → List ℕ → Option (List ℕ)
 after_prefix prefix text =
     if pointwise nat_eq (take (length prefix) text) prefix then Some (drop (length prefix) text) else None
@@ -81,7 +81,7 @@ end_line count = codes "end " ++ decimal count
 unfoldable pub is_end_line : ℕ → List ℕ → Bool
 is_end_line count line = pointwise nat_eq line (end_line count)
 
--- Ends with a line that tells no entry. It is the end line, and no line stands behind it.
+-- Ends with a line that is no entry. It is the end line, and no line comes after it.
 abbrev pub entries_ended : ℕ → List Placed → List ℕ → List Line → Result (List Placed) ℕ
 entries_ended place entries line [] = if is_end_line (length entries) line then Ok entries else Err place
 entries_ended place entries line (next ∷ lines) =

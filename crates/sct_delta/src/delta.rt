@@ -38,7 +38,7 @@ fn are_of_sites(entries: &[Entry]) -> bool
     entries.iter().all(|entry| is_site(entry.origin))
 }
 
-/// The entry may stand behind an entry of that origin and number; behind none where both are 0.
+/// The entry may come after an entry of that origin and number, or be the first if both are 0.
 pub(crate) fn may_be_next(origin: u16, n: u64, entry: &Entry) -> bool
     ensures { result ≡ may_be_next origin n entry.now }
 {
@@ -52,7 +52,7 @@ pub(crate) fn may_be_next(origin: u16, n: u64, entry: &Entry) -> bool
     }
 }
 
-// The place, from 1, of the first entry that may not stand where it stands.
+// The place, from 1, of the first entry that may not come where it is.
 fn first_break(entries: &[Entry]) -> Option<u64>
     ensures { result ≡ first_break 1 0 0 entries.now }
 {

@@ -9,7 +9,7 @@ use thiserror::Error;
 /// Why entries, a delta or a version vector are refused. What was asked for has changed nothing.
 #[derive(Debug, Drop, PartialEq, Eq, Error)]
 pub enum DeltaFault {
-    /// 40: memory is wanting.
+    /// 40: out of memory.
     #[error("memory is wanting")]
     Memory,
     /// 41: of this origin only `have` entries are held, and the delta begins at number `first`, past the next one.
@@ -32,7 +32,7 @@ pub enum DeltaFault {
 impl DeltaFault {
     ghost use Rattle.sct_delta.specs.Faults.{delta_fault_number};
 
-    /// The number by which the fault is told, 40 to 45.
+    /// The number of the fault, 40 to 45.
     pub fn number(&self) -> u8
         ensures { result ≡ delta_fault_number self.now }
     {

@@ -36,7 +36,7 @@ impl Logs {
     }
 
     /// Makes room for the entries of a delta: joining it then asks for no memory. Where memory is refused, 40 `Memory`,
-    /// the logs keep nothing of an origin of which no message is held. The room is kept until a `join`, or until
+    /// the logs keep nothing of an origin that holds no message. The room is kept until a `join`, or until
     /// `drop_empty` where nothing is joined.
     pub fn reserve(&mut self, delta: &Delta) -> Result<(), DeltaFault>
         ensures group { self.new.group ≡ self.old.group }
@@ -85,7 +85,7 @@ impl Logs {
         Ok(())
     }
 
-    /// Joins a delta that fits the site `own`, and tells how many of its entries were not held. A delta that does not
+    /// Joins a delta that fits the site `own`, and returns how many of its entries were not held. A delta that does not
     /// fit is refused as `fits` refuses it, and dropped; the logs are then what they were. Right after `reserve` of the
     /// delta it asks for no memory.
     pub fn join(&mut self, own: u16, delta: Delta) -> Result<u64, DeltaFault>

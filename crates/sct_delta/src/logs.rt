@@ -102,7 +102,7 @@ impl Logs {
         Ok(())
     }
 
-    /// Drops the logs and the counts of origins of which no message is held, and the room in them. It asks for no memory.
+    /// Drops the logs and the counts of origins that hold no message, and the room in them. It asks for no memory.
     /// Its cost is one pass over the origins.
     pub fn drop_empty(&mut self)
         ensures group { self.new.group ≡ self.old.group }
@@ -115,7 +115,7 @@ impl Logs {
 
     /// Makes room for one more message of the origin: a `push` at that origin then asks for no memory. An origin that
     /// the group does not have is 44 `BadSite`. Where memory is refused, 40 `Memory`, the logs keep nothing of an origin
-    /// of which no message is held. The room is kept until a `push`, or until `drop_empty` where nothing is pushed.
+    /// that holds no message. The room is kept until a `push`, or until `drop_empty` if nothing is pushed.
     pub fn room(&mut self, origin: u16) -> Result<(), DeltaFault>
         ensures group { self.new.group ≡ self.old.group }
         ensures same { HoldSame self.new self.old }
@@ -134,9 +134,9 @@ impl Logs {
         Ok(())
     }
 
-    /// Appends a message as the next entry of its origin, and tells the number of that entry. An origin that the group
+    /// Appends a message as the next entry of its origin, and returns the number of that entry. An origin that the group
     /// does not have is 44 `BadSite`. Right after `room` of the origin it asks for no memory. Where memory is refused, 40
-    /// `Memory`, the logs keep nothing of an origin of which no message is held.
+    /// `Memory`, the logs keep nothing of an origin that holds no message.
     pub fn push(&mut self, origin: u16, message: Arc<Message>) -> Result<u64, DeltaFault>
         ensures group { self.new.group ≡ self.old.group }
         ensures answer { IfOk result (λ n. n ≡ vector_of (log_in self.old) origin + 1) }

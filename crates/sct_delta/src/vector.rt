@@ -14,7 +14,7 @@ use crate::sites::is_site;
 use std::alloc::Global;
 use std::collections::BTreeMap;
 
-/// How many entries of each origin are held. An origin of which none is held counts 0, whether it is named or not.
+/// How many entries of each origin are held. An origin that holds no entry counts 0, whether it is named or not.
 #[derive(Drop)]
 pub struct Vector {
     pub(crate) counts: BTreeMap<u16, u64>,

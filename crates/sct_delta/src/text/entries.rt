@@ -14,7 +14,7 @@ use crate::text::parts::{ended, message_of};
 use std::alloc::Global;
 use std::sync::Arc;
 
-// The entry that a line tells; none where it tells none.
+// The entry of a line; `None` if it is no entry line.
 #[tactic(auto, unfolding(crate::specs::EntryText::entry_in))]
 fn read_entry(alloc: Global, line: &[u8]) -> Result<Option<Entry>, DeltaFault>
     ensures read { IfOk result (λ entry. entry ≡ entry_in line.now) }
@@ -30,7 +30,7 @@ fn read_entry(alloc: Global, line: &[u8]) -> Result<Option<Entry>, DeltaFault>
     Ok(Some(Entry { origin, n, message }))
 }
 
-/// Reads what stands behind the head line of form 1: entries, and the end line behind the last one. Refused is 45
+/// Reads what comes after the head line of form 1: entries, and the end line after the last one. Refused is 45
 /// (BadDelta) with the first wrong line of the whole text; 40 (Memory) says nothing of the text.
 #[tactic(auto, using(crate::proofs::ReadingLemmas::read_missing))]
 pub fn read_entries(alloc: Global, text: &[u8]) -> Result<Vec<Entry>, DeltaFault>

@@ -1,4 +1,4 @@
-//! The fields of an entry line, parted by one space.
+//! The fields of an entry line, separated by one space.
 ghost use Rattle.std.specs.Prelude.{◌≡◌, ◌<◌, ◌==◌, length, option_map, IfSome, position, codes};
 ghost use Rattle.sct_delta.specs.TextLines.{is_space, number_before_space, after_prefix};
 ghost use Rattle.sct_delta.specs.EntryText.{fields_in, site_in};
@@ -6,7 +6,7 @@ ghost use Rattle.sct_delta.specs.EntryText.{fields_in, site_in};
 use crate::sites::is_site_of_form_1;
 use crate::text::numbers::number_of;
 
-// Where the first space stands.
+// Where the first space is.
 fn space(text: &[u8]) -> Option<usize>
     ensures place { result ≡ position is_space text.now }
     ensures within { IfSome result (λ at. at < length text.now) }
@@ -14,8 +14,8 @@ fn space(text: &[u8]) -> Option<usize>
     text.iter().position(|byte| *byte == b' ')
 }
 
-/// The number that a text begins with, up to the first space, and what stands behind the space; none where no number
-/// stands before a space.
+/// The number that a text begins with, up to the first space, and what comes after the space; `None` if no number
+/// comes before a space.
 #[tactic(auto, unfolding(crate::specs::TextLines::number_before_space))]
 pub fn number_before_space(text: &[u8]) -> Option<(u64, &[u8])>
     ensures { option_map (λ field. (field.0, field.1.now)) result ≡ number_before_space text.now }
@@ -37,7 +37,7 @@ fn site_of(number: u64) -> Option<u16>
     }
 }
 
-// What stands behind the word that an entry line begins with.
+// What comes after the word that an entry line begins with.
 fn behind_word(line: &[u8]) -> Option<&[u8]>
     ensures { option_map (λ rest. rest.now) result ≡ after_prefix (codes "entry ") line.now }
 {

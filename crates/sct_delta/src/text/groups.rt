@@ -14,7 +14,7 @@ use crate::text::parts::{ended, message_of};
 use std::alloc::Global;
 use std::sync::Arc;
 
-// What stands behind the word that an origin line begins with.
+// What comes after the word that an origin line begins with.
 fn behind_origin(line: &[u8]) -> Option<&[u8]>
     ensures { option_map (λ rest. rest.now) result ≡ after_prefix (codes "origin ") line.now }
 {
@@ -48,7 +48,7 @@ fn site_of_group(before: u16, origin: u64, first: u64, count: u64) -> Option<u16
     }
 }
 
-/// Reads what stands behind the head line of form 2: the messages of each origin, and the end line behind the last one.
+/// Reads what comes after the head line of form 2: the messages of each origin, and the end line after the last one.
 /// Refused is 45 (BadDelta) with the first wrong line of the whole text; 40 (Memory) says nothing of the text.
 #[tactic(auto, using(crate::proofs::GroupReadingLemmas::groups_missing))]
 pub fn read_groups(alloc: Global, text: &[u8]) -> Result<Vec<Entry>, DeltaFault>

@@ -5,11 +5,12 @@ ghost use Rattle.sct_message.specs.declared.draft.Draft.{Draft};
 ghost use Rattle.sct_json.specs.Reading.{message_in};
 ghost use Rattle.sct_json.specs.Writing.{has_no_line_feed};
 ghost use Rattle.sct_delta.specs.Entries.{Placed};
-ghost use Rattle.sct_delta.specs.TextLines.{ended, lines_of, lines_as};
+ghost use Rattle.sct_delta.specs.TextLines.{ended, ended_first, lines_of, lines_as};
+ghost use Rattle.sct_delta.specs.GroupText.{groups_head};
 ghost use Rattle.sct_delta.specs.DeltaText.{AgreeTo, IsDeltaText, delta_in, first_wrong_line};
 
 /// The lines of a text are the ones given, each ended by a line feed, exactly where they make the text one after
-/// another and none of them has a line feed of its own.
+/// another and no line has a line feed of its own.
 pub fn lines_make_the_text()
     ensures { (bytes : List ℕ) (lines : List (List ℕ)) → (lines_of bytes ≡ lines_as lines)
         ↔ ((bytes ≡ flat_map ended lines) × IsTrue (list_all has_no_line_feed lines)) }
@@ -48,10 +49,13 @@ pub fn a_wrong_line_goes_by_its_front()
         → first_wrong_line other ≡ Some line }
 {}
 
-/// The lines before the first wrong one are right: where some JSON text on one line is read as a message, some text that
-/// begins with the same lines is a form of a delta. In form 2 it has that line for each message that is still due.
+/// The lines before the first wrong one are right: some text that begins with the same lines is a form of a delta. In form 2
+/// messages may still be due there. So it takes a JSON text on one line that is read as a message, and has that line for each.
 pub fn the_lines_before_a_wrong_one_are_right()
-    ensures { (bytes json : List ℕ) (message : Draft) (before : ℕ) → length bytes < 2 ^ 64
+    ensures entries { (bytes : List ℕ) (before : ℕ) → length bytes < 2 ^ 64
+        → ended_first (lines_of bytes) ≢ Some groups_head → first_wrong_line bytes ≡ Some (before + 1)
+        → (other : List ℕ) × (entries : List Placed) × AgreeTo before bytes other × IsDeltaText other entries }
+    ensures groups { (bytes json : List ℕ) (message : Draft) (before : ℕ) → length bytes < 2 ^ 64
         → IsTrue (has_no_line_feed json) → message_in json ≡ Ok message → first_wrong_line bytes ≡ Some (before + 1)
         → (other : List ℕ) × (entries : List Placed) × AgreeTo before bytes other × IsDeltaText other entries }
 {}

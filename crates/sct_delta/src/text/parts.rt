@@ -25,7 +25,7 @@ pub fn message_of(alloc: Global, json: &[u8]) -> Result<Option<Message>, DeltaFa
     }
 }
 
-// The number that an end line tells.
+// The number in an end line.
 fn told_count(line: &[u8]) -> Option<u64>
     ensures { result ≡ option_and_then number_in (after_prefix (codes "end ") line.now) }
 {
@@ -44,8 +44,8 @@ fn is_end_line(line: &[u8], count: u64) -> bool
     }
 }
 
-/// Ends with a line that tells no entry and begins no origin, with what stands behind it. 45 (BadDelta) where it is not
-/// the end line, or something stands behind it.
+/// Ends with a line that is no entry and begins no origin, with what comes after it. 45 (BadDelta) if it is not
+/// the end line, or something comes after it.
 pub fn ended(
     entries: Vec<Entry>,
     place: u64,

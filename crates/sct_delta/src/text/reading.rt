@@ -1,4 +1,4 @@
-//! From a text to the delta of which it is a form, or to its first wrong line.
+//! From a text to the delta that it is a form of, or to its first wrong line.
 ghost use Rattle.std.specs.Prelude.{◌≡◌, ◌≢◌, ◌+◌, ◌<◌, ◌^◌, List, Ok, Err, IfOk, IfErr, length, nat_eq};
 ghost use Rattle.std.specs.Cmp.Lexicographic.{pointwise};
 ghost use Rattle.sct_delta.specs.declared.fault.DeltaFault.TheVariants as fault;
@@ -30,7 +30,7 @@ fn heads_groups(line: &[u8]) -> bool
     line == b"delta 2".as_slice()
 }
 
-// Reads what stands behind a head line, by the form that it names.
+// Reads what comes after a head line, by the form that it names.
 fn read_behind(alloc: Global, head: &[u8], text: &[u8]) -> Result<Vec<Entry>, DeltaFault>
     requires { length text.now + 4 < 2 ^ 64 }
     ensures read { IfOk result (λ entries. entries_behind head.now (lines_of text.now) ≡ Ok entries.items) }
@@ -45,7 +45,7 @@ fn read_behind(alloc: Global, head: &[u8], text: &[u8]) -> Result<Vec<Entry>, De
     Err(DeltaFault::BadDelta(1))
 }
 
-/// Reads a text of form 1 or of form 2 as the delta of which it is a form, each message put into its `Arc` once. Refused
+/// Reads a text of form 1 or of form 2 as the delta that it is a form of, each message put into its `Arc` once. Refused
 /// is 45 (BadDelta) with the number, from 1, of the first line that is wrong:
 /// - it is not of its shape, it is missing, or no line feed ends it;
 /// - its origin is outside 1 to 64 in form 1, or outside 1 to 1024 in form 2;
