@@ -1,28 +1,29 @@
 //! The entries of a delta that a site does not hold.
 
-ghost use Rattle.std.specs.Prelude.{◌≡◌, not, map, IfOk};
+ghost use Rattle.std.specs.Prelude.{◌≡◌, map, IfOk};
 ghost use Rattle.sct_delta.specs.Logs.{log_in};
-ghost use Rattle.sct_delta.specs.Refusals.{is_held, fresh_in};
 ghost use Rattle.sct_set.specs.Drafts.{drafts_in};
+ghost use Rattle.sct_site.specs.Inside.{is_new, new_in};
 
 use sct_delta::{Entry, Logs};
 use sct_message::Message;
 use std::alloc::{AllocError, Global};
 use std::sync::Arc;
 
-// Whether the entry is not held.
+// Whether the number of an entry is not held.
 fn is_new(logs: &Logs, entry: &Entry) -> bool
-    ensures { result ≡ not (is_held (log_in logs.now) entry.now) }
+    ensures { result ≡ is_new (log_in logs.now) entry.now }
 {
     match logs.get(entry.origin, entry.n) {
-        Some(held) => **held != *entry.message,
+        Some(_) => false,
         None => true,
     }
 }
 
-/// The entries that are not held, in their order, with their messages shared.
-pub fn fresh_in(alloc: Global, logs: &Logs, entries: &[Entry]) -> Result<Vec<Entry>, AllocError>
-    ensures { IfOk result (λ fresh. fresh.items ≡ fresh_in (log_in logs.now) entries.now) }
+/// The entries whose numbers are not held, in their order, with their messages shared. They are the entries that are not
+/// held if no number is held with another message.
+pub fn new_in(alloc: Global, logs: &Logs, entries: &[Entry]) -> Result<Vec<Entry>, AllocError>
+    ensures { IfOk result (λ fresh. fresh.items ≡ new_in (log_in logs.now) entries.now) }
 {
     let mut fresh = Vec::new(alloc);
     for entry in entries {

@@ -8,7 +8,7 @@ ghost use Rattle.sct_delta.specs.declared.fault.DeltaFault.TheVariants as fault;
 ghost use Rattle.sct_site.specs.Cores.{Core, IsSite, is_open, took_by, arrivals_taken, refusal_by, fresh_of, arrivals_joined, entries_above};
 
 use crate::answers::{Accepted, Took};
-use crate::fresh::{fresh_in, messages_in};
+use crate::fresh::{messages_in, new_in};
 use sct_delta::{Delta, DeltaFault, Entry, Logs, Vector};
 use sct_message::Message;
 use sct_set::Archive;
@@ -149,8 +149,11 @@ impl SiteCore {
         ensures err { IfErr result (λ refusal. refusal ≡ fault.Memory) }
         ensures unchanged { OnErr result (self.new ≡ self.old) }
     {
+        let mut fresh = new_in(self.alloc, &self.logs, delta.entries())?;
+        if fresh.is_empty() {
+            return Ok(Accepted { fresh: 0 });
+        }
         let copy = delta.share(self.alloc)?;
-        let mut fresh = fresh_in(self.alloc, &self.logs, delta.entries())?;
         let messages = messages_in(self.alloc, &fresh)?;
         self.arrivals.reserve(fresh.len())?;
         self.logs.reserve(&copy)?;

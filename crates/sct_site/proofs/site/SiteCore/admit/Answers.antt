@@ -1,5 +1,6 @@
 -- A delta that nothing refuses comes to logs, arrivals and archive alike; right after `reserve` its joining cannot fail.
-use Rattle.std.proofs.Common.{◌≡◌, ap, subst, ◌∙◌, ◌++◌, map, List}
+use Rattle.std.proofs.Common.{◌≡◌, ap, arith, eqb-true, length, subst, sym, ◌∙◌, ◌++◌, map, List}
+use Rattle.std.specs.Prelude.{vec_len}
 use Rattle.std.specs.FinSet as set
 use Rattle.sct_message.specs.declared.draft.Draft.{Draft}
 use Rattle.sct_set.specs.Contents.{contents_of}
@@ -7,7 +8,10 @@ use Rattle.sct_set.specs.Drafts.{drafts_in}
 use Rattle.sct_delta.specs.Entries.{Placed, IsDelta, messages_of}
 use Rattle.sct_delta.specs.Logs.{log_in}
 use Rattle.sct_delta.specs.Refusals.{fresh_in, joined}
-use Rattle.sct_site.proofs.AcceptLemmas.{none_is, memory_alone, IsCore-joined, none_inside}
+use Rattle.sct_site.specs.Cores.{Core, fresh_of}
+use Rattle.sct_site.specs.Inside.{new_in}
+use Rattle.sct_site.proofs.AcceptLemmas.{none_is, memory_alone, IsCore-joined, none_inside, new_is_fresh, came_is_fresh, nothing_joined}
+use Rattle.sct_site.proofs.JoinLemmas.{fits}
 use Rattle.sct_site.proofs.site.SiteCore.admit.Goals as goal
 
 impossible : (c : goal.After-drop-fresh-in_err-count) → ⊥
@@ -23,9 +27,43 @@ invariant_of-self-in_err-count c = absurd (impossible c)
 pub returns-in_err-count-clause-err : goal.returns-in_err-count-clause-err
 returns-in_err-count-clause-err c = absurd (impossible c)
 
--- the new entries, as the site's own logs tell them
+-- ---- nothing of the delta is new
+
+no_new : (c : goal.After-drop-fresh) → length c.in_ok-fresh.fresh.items ≡ 0
+no_new c = omega (arith, c.in_ok-fresh.fresh.ok, eqb-true (vec_len c.in_ok-fresh.fresh) 0 (sym c.is_empty.ensures ∙ c.if-is_empty.true))
+
+old_is : (c : goal.After-drop-fresh) → c.in_ok-fresh.fresh.items ≡ fresh_of c.args.self.now.arrivals c.args.delta.now
+old_is c =
+    came_is_fresh c.args.self.now c.self.inside.number c.self.inside.group c.self.inside.logs c.self.inside.arrivals.items _ c.args.delta.now _ c.self.inside.archive
+    c.self.view_is c.self.invariant c.requires c.entries.ensures.entries c.in_ok-fresh.ensures
+
+pub returns-then-is_empty-clause-answer : goal.returns-then-is_empty-clause-answer
+returns-then-is_empty-clause-answer c = sym (no_new c) ∙ ap length (old_is c)
+
+pub returns-then-is_empty-clause-ok : goal.returns-then-is_empty-clause-ok
+returns-then-is_empty-clause-ok c = nothing_joined c.args.self.now.arrivals c.args.delta.now c.in_ok-fresh.fresh.items (no_new c) (old_is c)
+
+-- ---- something is
+
+-- the new entries
+new_is : (c : goal.After-drop-fresh-2) → c.in_ok-fresh.fresh.items ≡ fresh_of c.args.self.now.arrivals c.args.delta.now
+new_is c =
+    came_is_fresh c.args.self.now c.self.inside.number c.self.inside.group c.self.inside.logs c.self.inside.arrivals.items _ c.args.delta.now _ c.self.inside.archive
+    c.self.view_is c.self.invariant c.requires c.entries.ensures.entries c.in_ok-fresh.ensures
+
+pub returns-clause-ok : goal.returns-clause-ok
+returns-clause-ok c =
+    c.in_ok-append.ensures.items
+    ∙ (λ i. c.in_ok-reserve.ensures.items i ++ new_is c i)
+    ∙ ap (λ (core : Core). core.arrivals ++ fresh_of c.args.self.now.arrivals c.args.delta.now) c.self.view_is
+
+-- the new entries, as the site's own logs have them
 fresh_is : (c : goal.After-drop-fresh-2) → c.in_ok-fresh.fresh.items ≡ fresh_in (log_in c.self.inside.logs) c.args.delta.now
-fresh_is c = c.in_ok-fresh.ensures ∙ ap (fresh_in (log_in c.self.inside.logs)) c.entries.ensures.entries
+fresh_is c =
+    c.in_ok-fresh.ensures ∙ ap (new_in (log_in c.self.inside.logs)) c.entries.ensures.entries
+    ∙ new_is_fresh (log_in c.self.inside.logs) c.args.delta.now
+    (fits c.self.inside.number c.self.inside.logs.group (log_in c.self.inside.logs) c.args.delta.now
+    (none_inside c.args.self.now c.self.inside.number c.self.inside.group c.self.inside.logs c.self.inside.arrivals.items c.args.delta.now c.self.inside.archive c.self.view_is c.self.invariant c.requires)).no_fork
 
 -- the logs right after room was made for the delta
 logs_held : (c : goal.After-drop-fresh-2) → log_in c.reserve-2.new.self ≡ log_in c.self.inside.logs
