@@ -5,6 +5,7 @@ ghost use Rattle.sct_desk.specs.Passes.{IsOf};
 ghost use Rattle.sct_desk.specs.Tilings.{AreOurs};
 
 mod answers;
+mod pending;
 mod scenes;
 mod shared;
 

@@ -17,6 +17,13 @@ static THRICE: [Row; 3] = [Row(1, 1, "C1"), Row(1, 1, "C1"), Row(1, 1, "C1")];
 
 static THRICE_ANSWERS: [Took; 3] = [Took::Taken { n: 1 }, Took::Repeat, Took::Repeat];
 
+// One credit transfer three times: with banks of 8 characters, of 11, and of 8 again.
+static SPELLED: [&str; 3] = [
+    r#"{"MsgNmId":"pacs.008","MsgId":"M1","CreDtTm":"2024-05-02T10:00:00Z","InstgAgt":"BANKDEFF","IntrBkSttlmDt":"2024-05-02","SvcLvl":"SEPA","LclInstrm":"INST","EndToEndId":"E1","TxId":"T1","IntrBkSttlmAmt":"0.01","Ccy":"EUR","ChrgBr":"SLEV","Dbtr":"Anna Weber","DbtrAcct":"DE89370400440532013000","DbtrAgt":"BANKDEFF","CdtrAgt":"BANQFRPP","Cdtr":"Bo Maes","CdtrAcct":"BE68539007547034"}"#,
+    r#"{"MsgNmId":"pacs.008","MsgId":"M1","CreDtTm":"2024-05-02T10:00:00Z","InstgAgt":"BANKDEFFXXX","IntrBkSttlmDt":"2024-05-02","SvcLvl":"SEPA","LclInstrm":"INST","EndToEndId":"E1","TxId":"T1","IntrBkSttlmAmt":"0.01","Ccy":"EUR","ChrgBr":"SLEV","Dbtr":"Anna Weber","DbtrAcct":"DE89370400440532013000","DbtrAgt":"BANKDEFFXXX","CdtrAgt":"BANQFRPPXXX","Cdtr":"Bo Maes","CdtrAcct":"BE68539007547034"}"#,
+    r#"{"MsgNmId":"pacs.008","MsgId":"M1","CreDtTm":"2024-05-02T10:00:00Z","InstgAgt":"BANKDEFF","IntrBkSttlmDt":"2024-05-02","SvcLvl":"SEPA","LclInstrm":"INST","EndToEndId":"E1","TxId":"T1","IntrBkSttlmAmt":"0.01","Ccy":"EUR","ChrgBr":"SLEV","Dbtr":"Anna Weber","DbtrAcct":"DE89370400440532013000","DbtrAgt":"BANKDEFF","CdtrAgt":"BANQFRPP","Cdtr":"Bo Maes","CdtrAcct":"BE68539007547034"}"#,
+];
+
 static ONE: [Row; 1] = [Row(1, 1, "C1")];
 
 static REPEAT: [Took; 1] = [Took::Repeat];
@@ -31,6 +38,8 @@ static OTHER_SECOND: [Row; 1] = [Row(1, 2, "C9")];
 static NINTH: [Row; 1] = [Row(1, 9, "C9")];
 
 static OF_SITE_4: [Row; 1] = [Row(4, 1, "C4")];
+
+static LARGEST: [Row; 1] = [Row(1, 18446744073709551615, "C9")];
 
 // One message that two sites took.
 static TAKEN_TWICE: [Row; 2] = [Row(1, 1, "C1"), Row(2, 1, "C1")];
@@ -80,6 +89,24 @@ fn takes_a_message_once(rt: HostRuntime) {
     assert_eq!(rt; site.archive().len(), 1);
 }
 
+// What a new site answers to each message.
+fn taken_by_a_new_site(alloc: Global, texts: &[&str]) -> Option<Vec<Took>> {
+    let mut site = SiteCore::open(alloc, 1, 3).ok()?;
+    let mut answers = Vec::new(alloc);
+    for text in texts {
+        let message = read_message(alloc, text.as_bytes()).ok()?;
+        let took = site.take(Arc::new(alloc, message).ok()?).ok()?;
+        answers.push(took).ok()?;
+    }
+    Some(answers)
+}
+
+#[test]
+fn takes_a_message_once_however_its_banks_are_written(rt: HostRuntime) {
+    let answers = taken_by_a_new_site(rt.alloc(), &SPELLED).expect(&rt, "answers");
+    assert_eq!(rt; answers.as_slice(), &THRICE_ANSWERS);
+}
+
 #[test]
 fn a_message_of_two_sites_is_two_entries(rt: HostRuntime) {
     let mut site = site_of(rt.alloc(), 3, &NONE).expect(&rt, "a site");
@@ -110,6 +137,35 @@ fn refuses_own_entries_ahead_and_strange_origins(rt: HostRuntime) {
         &DeltaFault::OwnAhead { n: 9 },
     );
     expect_refused(&rt, rt.alloc(), &mut site, &OF_SITE_4, &DeltaFault::BadSite);
+    expect_held(&rt, rt.alloc(), &site, &THREE, &[], &THREE);
+}
+
+#[test]
+fn refuses_the_largest_number_of_another_site(rt: HostRuntime) {
+    let mut site = site_of(rt.alloc(), 2, &NONE).expect(&rt, "a site");
+    let gap = DeltaFault::Gap {
+        origin: 1,
+        have: 0,
+        first: 18446744073709551615,
+    };
+    expect_refused(&rt, rt.alloc(), &mut site, &LARGEST, &gap);
+    expect_held(&rt, rt.alloc(), &site, &NONE, &[], &NONE);
+}
+
+#[test]
+fn refuses_the_largest_own_number(rt: HostRuntime) {
+    let mut site = site_of(rt.alloc(), 1, &NONE).expect(&rt, "a site");
+    let ahead = DeltaFault::OwnAhead {
+        n: 18446744073709551615,
+    };
+    expect_refused(&rt, rt.alloc(), &mut site, &LARGEST, &ahead);
+    expect_held(&rt, rt.alloc(), &site, &NONE, &[], &NONE);
+}
+
+#[test]
+fn accepts_the_empty_delta(rt: HostRuntime) {
+    let mut site = site_of(rt.alloc(), 1, &THREE).expect(&rt, "a site");
+    expect_accepted(&rt, rt.alloc(), &mut site, &NONE, 0);
     expect_held(&rt, rt.alloc(), &site, &THREE, &[], &THREE);
 }
 

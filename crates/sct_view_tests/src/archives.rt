@@ -83,6 +83,9 @@ static SECOND: [Row; 2] = [
 
 static THIRD: [Row; 1] = [Row::StatusReport("C1", "T2")];
 
+// Another site that shares the second message of the second site, and has one more.
+static SHARING: [Row; 2] = [Row::StatusReport("C1", "T1"), Row::StatusReport("C2", "T2")];
+
 // Adds messages to an empty archive, and compares the answers.
 fn add_each(rt: &impl Abort, alloc: Global, rows: &[Row], wanted: &[Added]) -> Archive {
     let mut archive = Archive::new(alloc);
@@ -193,6 +196,37 @@ fn merges_in_another_order_write_the_same(rt: HostRuntime) {
     let text = text_of_both(&rt, rt.alloc(), &SECOND, &THIRD, 1);
     let same = text_of_both(&rt, rt.alloc(), &THIRD, &SECOND, 2);
     assert_eq!(rt; text.as_slice(), same.as_slice());
+}
+
+// The archive of the first site, merged with what the second and the third hold together.
+fn first_with_the_others(rt: &impl Abort, alloc: Global) -> Archive {
+    let mut archive = archive_of(alloc, &FIRST).expect(rt, "an archive");
+    let mut others = archive_of(alloc, &SECOND).expect(rt, "another archive");
+    merge_rows(rt, alloc, &mut others, &THIRD, 1);
+    let new = archive.merge(&others).expect(rt, "memory");
+    assert_eq!(rt; new, 2);
+    archive
+}
+
+#[test]
+fn merges_of_merges_write_the_same(rt: HostRuntime) {
+    let mut archive = archive_of(rt.alloc(), &FIRST).expect(&rt, "an archive");
+    merge_rows(&rt, rt.alloc(), &mut archive, &SECOND, 1);
+    merge_rows(&rt, rt.alloc(), &mut archive, &SECOND, 0);
+    merge_rows(&rt, rt.alloc(), &mut archive, &THIRD, 1);
+    let other = first_with_the_others(&rt, rt.alloc());
+    let text = archive.text().expect(&rt, "a text");
+    let same = other.text().expect(&rt, "a text");
+    assert_eq!(rt; text.as_slice(), same.as_slice());
+    assert_eq!(rt; (archive.len(), other.len()), (3, 3));
+    expect_contradicted(&rt, &other);
+}
+
+#[test]
+fn a_shared_message_is_not_new(rt: HostRuntime) {
+    let mut archive = archive_of(rt.alloc(), &SECOND).expect(&rt, "an archive");
+    merge_rows(&rt, rt.alloc(), &mut archive, &SHARING, 1);
+    assert_eq!(rt; archive.len(), 3);
 }
 
 #[test]

@@ -319,3 +319,64 @@ fn answers_on_a_recall_of_two_transfers(rt: HostRuntime) -> Result<(), Fail> {
     let mut view = View::new(rt.alloc());
     assert_recalls(&rt, rt.alloc(), &mut view)
 }
+
+// A confirmation of the second transfer under the identity of the first one's, and then of a third transfer.
+static CONFIRMED_AGAIN: [&str; 1] = [
+    r#"{"MsgNmId":"pacs.002","MsgId":"C1","CreDtTm":"2024-05-02T10:00:02Z","InstgAgt":"BANQFRPP","OrgnlMsgId":"M1","OrgnlMsgNmId":"pacs.008","OrgnlTxId":"T2","TxSts":"ACCP","DbtrAgt":"BANKDEFF"}"#,
+];
+
+static CONFIRMED_A_THIRD_TIME: [&str; 1] = [
+    r#"{"MsgNmId":"pacs.002","MsgId":"C1","CreDtTm":"2024-05-02T10:00:02Z","InstgAgt":"BANQFRPP","OrgnlMsgId":"M1","OrgnlMsgNmId":"pacs.008","OrgnlTxId":"T3","TxSts":"ACCP","DbtrAgt":"BANKDEFF"}"#,
+];
+
+const ACCEPTED_TOTALS: &str =
+    "BANKDEFFXXX|2|150.00|0.00|0|0|0|0|0|0.00|0.00\nBANQFRPPXXX|0|0.00|0.00|0|0|0|0|2|150.00|0.00\n";
+
+const CONFIRMED_AGAIN_STATUS: &str =
+    "T|BANKDEFFXXX|T1|CONTRADICTED\nF|BANKDEFFXXX|T1|Identity|BANQFRPPXXX|pacs.002|C1\nT|BANKDEFFXXX|T2|CONTRADICTED\nF|BANKDEFFXXX|T2|Identity|BANQFRPPXXX|pacs.002|C1\n";
+
+const CONFIRMED_AGAIN_TOTALS: &str = "BANKDEFFXXX|0|0.00|0.00|0|0|0|2|0|0.00|0.00\n";
+
+const CONFIRMED_A_THIRD_TIME_TOTALS: &str = "BANKDEFFXXX|0|0.00|0.00|0|0|0|3|0|0.00|0.00\n";
+
+// The beneficiary bank is not listed: all its totals are 0.
+const CONFIRMED_AGAIN_LISTED: &str =
+    " BANKDEFFXXX T1 M1\n BANKDEFFXXX T2 M2\n BANKDEFFXXX T1 T2\n T1 C1\n T2 C1\n";
+
+// The bank has the same transfers all the same.
+const TRANSFERS_OF_THE_OTHER: &str = " BANQFRPPXXX T1 T2\n";
+
+fn assert_transfers_of(
+    rt: &impl Abort,
+    alloc: Global,
+    view: &View,
+    bank: &str,
+    wanted: &str,
+) -> Result<(), Fail> {
+    let mut text = Vec::new(alloc);
+    push_bank(&mut text, view, &Bic::read(bank)?)?;
+    assert!(rt; text.as_slice() == wanted.as_bytes());
+    Ok(())
+}
+
+fn assert_contradicted(rt: &impl Abort, alloc: Global, view: &View) -> Result<(), Fail> {
+    assert_status_text(rt, view, CONFIRMED_AGAIN_STATUS)?;
+    assert_totals_text(rt, view, CONFIRMED_AGAIN_TOTALS)?;
+    assert_listed(rt, alloc, view, CONFIRMED_AGAIN_LISTED)?;
+    assert_transfers_of(rt, alloc, view, "BANQFRPP", TRANSFERS_OF_THE_OTHER)
+}
+
+fn assert_confirmed(rt: &impl Abort, alloc: Global, view: &mut View) -> Result<(), Fail> {
+    assert_applied(rt, alloc, view, &ACCEPTED, (4, 2))?;
+    assert_totals_text(rt, view, ACCEPTED_TOTALS)?;
+    assert_applied(rt, alloc, view, &CONFIRMED_AGAIN, (1, 2))?;
+    assert_contradicted(rt, alloc, view)?;
+    assert_applied(rt, alloc, view, &CONFIRMED_A_THIRD_TIME, (1, 1))?;
+    assert_totals_text(rt, view, CONFIRMED_A_THIRD_TIME_TOTALS)
+}
+
+#[test]
+fn a_bank_without_totals_is_not_listed(rt: HostRuntime) -> Result<(), Fail> {
+    let mut view = View::new(rt.alloc());
+    assert_confirmed(&rt, rt.alloc(), &mut view)
+}

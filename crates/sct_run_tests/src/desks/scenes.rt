@@ -67,8 +67,8 @@ pub(crate) fn take_some<J: Site, H: Wait + Drop, W: Wait>(
     Some(kept)
 }
 
-// How many arrivals a site has, and how many messages.
-fn sizes_of(core: &SiteCore) -> (usize, usize) {
+/// How many arrivals a site has, and how many messages.
+pub(crate) fn sizes_of(core: &SiteCore) -> (usize, usize) {
     (core.arrivals().len(), core.archive().len())
 }
 

@@ -3,11 +3,13 @@
 ghost use Rattle.std.specs.Prelude.{◌≡◌, [], IfSome};
 ghost use Rattle.sct_desk.specs.Tilings.{AreOurs};
 
-use super::scenes::{first_transfer, open_one, sizes_closed, take_some};
+use super::pending::{all_pending, status_of};
+use super::scenes::{first_transfer, open_one, sizes_of, take_some};
 use sct_case::Status;
 use sct_desk::{Desk, Query, Receipt, Site};
 use sct_history::{History, Track};
 use sct_message::TransferKey;
+use sct_site::SiteCore;
 use std::alloc::Global;
 use std::marker::Brand;
 use std::process::Abort;
@@ -98,6 +100,14 @@ fn three_threads<J: Site + Send + Sync, H: Wait + Drop + Send + Sync, R: Threads
     )
 }
 
+// The site has 100 arrivals, and all its 100 transfers are pending.
+fn expect_pending(rt: &impl Abort, alloc: Global, core: &SiteCore) {
+    assert!(rt; sizes_of(core) == (100, 100));
+    let text = status_of(alloc, core).expect(rt, "a status text");
+    let wanted = all_pending(alloc).expect(rt, "a status text");
+    assert!(rt; text.as_slice() == wanted.as_bytes());
+}
+
 fn expect_shared<J: Site + Send + Sync, R: Threads + Wait + Abort + Sync>(
     rt: &R,
     alloc: Global,
@@ -113,10 +123,10 @@ fn expect_shared<J: Site + Send + Sync, R: Threads + Wait + Abort + Sync>(
     let (rose, kept) = three_threads(rt, alloc, &desk, query, transfer);
     assert!(rt; rose, "a front fell, or T1 was not seen");
     let receipts = kept.expect(rt, "receipts of all calls");
-    let Ok(sizes) = sizes_closed(desk, receipts) else {
+    let Ok(core) = desk.close(receipts) else {
         panic!(rt; "a desk that is not closed");
     };
-    assert!(rt; sizes == (100, 100));
+    expect_pending(rt, alloc, &core);
 }
 
 #[test]

@@ -1,6 +1,6 @@
 //! What logs hold, cut, take and refuse.
 
-use super::scenes::{Row, cuts, joined, logs_of, refusal};
+use super::scenes::{Row, cuts, entries_of, joined, logs_of, refusal};
 use sct_delta::*;
 use std::alloc::Global;
 
@@ -58,6 +58,23 @@ fn room_is_for_sites_of_the_group(rt: HostRuntime) {
     );
     assert!(rt; refusals == (44, 0, 44));
     assert!(rt; (logs.vector().get(1), logs.vector().get(3)) == (2, 0));
+}
+
+// The number that a message of an origin gets, or why it is refused.
+fn pushed(alloc: Global, logs: &mut Logs, origin: u16) -> Option<Result<u64, DeltaFault>> {
+    let entry = entries_of(alloc, SECOND)?.pop()?;
+    Some(logs.push(origin, entry.message))
+}
+
+#[test]
+fn messages_are_of_sites_of_the_group(rt: HostRuntime) {
+    let mut logs = logs_of(rt.alloc(), TWO).expect(&rt, "logs");
+    for origin in [0, 4] {
+        let answer = pushed(rt.alloc(), &mut logs, origin);
+        assert!(rt; answer == Some(Err(DeltaFault::BadSite)));
+    }
+    assert!(rt; cuts(rt.alloc(), &logs, &[], TWO));
+    assert!(rt; pushed(rt.alloc(), &mut logs, 3) == Some(Ok(1)));
 }
 
 // Whether the message of this identification is held under this number.
