@@ -104,7 +104,7 @@ fn taken_by_a_new_site(alloc: Global, texts: &[&str]) -> Option<Vec<Took>> {
 #[test]
 fn takes_a_message_once_however_its_banks_are_written(rt: HostRuntime) {
     let answers = taken_by_a_new_site(rt.alloc(), &SPELLED).expect(&rt, "answers");
-    assert_eq!(rt; answers.as_slice(), &THRICE_ANSWERS);
+    assert_eq!(rt; answers.as_slice(), THRICE_ANSWERS.as_slice());
 }
 
 #[test]
