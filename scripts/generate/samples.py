@@ -1,4 +1,4 @@
-"""samples.py: a valid instruction, a valid confirmation of it and valid recalls. Other elements may be given by their keys."""
+"""samples.py: a valid message of each kind. Other elements may be given by their keys."""
 import json
 
 ACCEPTED = {"TxSts": "ACCP"}
@@ -17,6 +17,29 @@ def confirmation(status=ACCEPTED, **elements):
     return {
         "MsgNmId": "pacs.002", "MsgId": "C1", "CreDtTm": "2024-05-02T10:00:02Z", "InstgAgt": "BANQFRPP", "OrgnlMsgId": "M1",
         "OrgnlMsgNmId": "pacs.008", "OrgnlTxId": "T1", **status, "DbtrAgt": "BANKDEFF", **elements}
+
+
+def request(**elements):
+    """A request for the status of the instruction."""
+    return {
+        "MsgNmId": "pacs.028", "MsgId": "Q1", "CreDtTm": "2024-05-02T10:00:30Z", "InstgAgt": "BANKDEFF", "OrgnlMsgId": "M1",
+        "OrgnlMsgNmId": "pacs.008", "OrgnlTxId": "T1", "DbtrAgt": "BANKDEFF", **elements}
+
+
+def payback(**elements):
+    """A return after a recall."""
+    return {
+        "MsgNmId": "pacs.004", "MsgId": "P1", "CreDtTm": "2024-05-04T09:00:00Z", "InstgAgt": "BANQFRPP", "RtrId": "XP1",
+        "OrgnlCxlId": "R1", "OrgnlMsgId": "M1", "OrgnlMsgNmId": "pacs.008", "OrgnlTxId": "T1", "OrgnlIntrBkSttlmAmt": "1.00",
+        "RtrdIntrBkSttlmAmt": "1.00", "Ccy": "EUR", "IntrBkSttlmDt": "2024-05-04", "Rsn": "FOCR", "DbtrAgt": "BANKDEFF", **elements}
+
+
+def refusal(**elements):
+    """The refusal of a recall."""
+    return {
+        "MsgNmId": "camt.029", "MsgId": "N1", "CreDtTm": "2024-05-04T09:00:00Z", "InstgAgt": "BANQFRPP", "CxlStsId": "S1",
+        "OrgnlCxlId": "R1", "OrgnlMsgId": "M1", "OrgnlMsgNmId": "pacs.008", "OrgnlTxId": "T1", "Conf": "RJCR", "Rsn": "CUST",
+        "DbtrAgt": "BANKDEFF", **elements}
 
 
 def transaction(**elements):
