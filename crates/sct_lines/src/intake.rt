@@ -13,6 +13,7 @@ ghost use Rattle.sct_lines.specs.Parts.{IsReadAfter};
 ghost use Rattle.sct_message.specs.Sets.{messages_in};
 
 use crate::lines::{first_line, is_blank_line};
+use crate::shortage::Shortage;
 use crate::told::push_refusal;
 use sct_json::{JsonFault, read_message};
 use sct_message::Message;
@@ -120,12 +121,14 @@ fn ask_ahead(alloc: Global, number: u64) {
     }
 }
 
-// Reads a part of an input, before which so many lines stand. Each line that tells a refused one has a text in front.
+// Reads a part of an input, before which so many lines stand. Each line that tells a refused one has a text in front. The
+// part ends early if another part is out of memory.
 pub(crate) fn read_part(
     alloc: Global,
     front: &str,
     before: u64,
     part: &[u8],
+    shortage: &Shortage,
 ) -> Result<Intake, AllocError>
     requires { before + length part.now < 2 ^ 64 }
     ensures { IfOk result (IsReadAfter front.now before part.now) }
@@ -134,6 +137,7 @@ pub(crate) fn read_part(
     let mut number = before;
     let mut rest = part;
     while let Some((line, after)) = first_line(rest) {
+        shortage.check()?;
         ask_ahead(alloc, number);
         number += 1;
         intake.take(alloc, front, number, line)?;
@@ -150,5 +154,5 @@ pub fn read_lines_after(alloc: Global, front: &str, input: &[u8]) -> Result<Inta
         ≡ told_after front.now (refusals_told input.now)) }
     ensures refused { IfOk result (λ intake. intake.refused ≡ length (refusals_told input.now)) }
 {
-    read_part(alloc, front, 0, input)
+    read_part(alloc, front, 0, input, &Shortage::none())
 }

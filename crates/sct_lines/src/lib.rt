@@ -11,6 +11,7 @@
 mod intake;
 mod lines;
 mod parts;
+mod shortage;
 mod told;
 
 pub use intake::{Intake, read_line, read_lines_after};

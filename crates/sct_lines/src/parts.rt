@@ -7,6 +7,7 @@ ghost use Rattle.sct_message.specs.Sets.{messages_in};
 
 use crate::intake::{Intake, read_part};
 use crate::lines::line_feed;
+use crate::shortage::Shortage;
 use memchr::memchr_iter;
 use std::alloc::{AllocError, Global};
 use std::thread::{Threads, available_parallelism, join};
@@ -74,7 +75,8 @@ pub(crate) fn cut_from(text: &[u8], place: usize) -> Option<(&[u8], &[u8])>
     Some(text.split_at(at + 1))
 }
 
-// Reads a part of an input, before which so many lines stand, by halves of halves.
+// Reads a part of an input, before which so many lines stand, by halves of halves. A half that is out of memory ends the
+// others.
 #[cycle(halves)]
 fn read_by_halves<R: Threads + Sync>(
     rt: &R,
@@ -82,15 +84,16 @@ fn read_by_halves<R: Threads + Sync>(
     before: u64,
     part: &[u8],
     halvings: u32,
+    shortage: &Shortage,
 ) -> Result<Intake, AllocError>
     requires { before + length part.now < 2 ^ 64 }
     ensures { IfOk result (IsReadAfter [] before part.now) }
 {
     if halvings == 0 {
-        return read_part(alloc, "", before, part);
+        return read_part(alloc, "", before, part, shortage);
     }
     let Some((front, back)) = cut_from(part, part.len() / 2) else {
-        return read_part(alloc, "", before, part);
+        return read_part(alloc, "", before, part, shortage);
     };
     let behind = before + count_by_halves(rt, front, halvings);
     let (first, second) = join(
@@ -98,11 +101,11 @@ fn read_by_halves<R: Threads + Sync>(
         || -> Result<Intake, AllocError>
             requires { IsSync R.row × (0 < halvings) × (before + length front.now < 2 ^ 64) }
             ensures { IfOk result (IsReadAfter [] before front.entry.now) }
-        { read_by_halves(rt, alloc, before, front, halvings - 1) },
+        { shortage.noted(read_by_halves(rt, alloc, before, front, halvings - 1, shortage)) },
         || -> Result<Intake, AllocError>
             requires { IsSync R.row × (0 < halvings) × (behind + length back.now < 2 ^ 64) }
             ensures { IfOk result (IsReadAfter [] behind back.entry.now) }
-        { read_by_halves(rt, alloc, behind, back, halvings - 1) },
+        { shortage.noted(read_by_halves(rt, alloc, behind, back, halvings - 1, shortage)) },
     );
     let mut intake = first?;
     intake.append(second?)?;
@@ -133,7 +136,8 @@ pub fn read_lines_by_halves<R: Threads + Sync>(
     ensures told { IfOk result (λ intake. string_bytes intake.told ≡ told_text_of (refusals_told input.now)) }
     ensures refused { IfOk result (λ intake. intake.refused ≡ length (refusals_told input.now)) }
 {
-    read_by_halves(rt, alloc, 0, input, halvings.min(MOST_HALVINGS))
+    let shortage = Shortage::none();
+    read_by_halves(rt, alloc, 0, input, halvings.min(MOST_HALVINGS), &shortage)
 }
 
 /// Goes over the lines of an input once, which count from 1, in as many threads as there are processors. Only want of
