@@ -11,7 +11,8 @@ if sys.version_info < (3, 8):
 from gate import verdict
 
 CHECKS = {
-    "refuse_growths": "refuses each growth of an archive, of a view, of a list that is read and written, and of a take at a desk",
+    "refuse_growths": "refuses each growth of an archive, of a view, and of a take at a desk",
+    "refuse_forms": "refuses each growth of a message of each form that is read and written",
     "run_examples": "runs the program on the examples",
     "refuse_memory": "runs the program in too little memory",
     "refuse_allocations": "refuses each allocation of the program",

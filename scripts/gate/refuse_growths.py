@@ -15,10 +15,6 @@ view as before (which has its keys, statuses, findings and totals), where the sa
 should; any other answer but that of ample memory has failed. The growths are seen to begin behind one that is refused while
 the messages are read, and to end before one that is refused while the answer is told.
 
-Of `read_message` and `write_message`: the program crates/sct_test_driver reads a message of each kind and writes it, in the same way:
-with and without a reason or a recall, and a recall in both its forms, with lists of one and of two transactions. A refusal has
-passed if it was answered by 30. Each form has to meet one of either call.
-
 Of `Desk::take`: the program crates/sct_test_driver takes a message at a new desk, after 0, 1, 2 and more other allocations, and
 `rt try --cases` refuses the allocation of one number in each case. A refusal of a growth of `take` has passed that was answered
 by 50, where the desk then did all that it does at first; or by 51 with position 1, where a query then saw nothing and the next
@@ -29,13 +25,13 @@ refused is seen as for `apply`.
 
 The last line is 'N passed, M failed', and the exit status is 0 where growths of all calls have passed and none has failed.
 
-Usage: refuse_growths.py [add_all|apply|form|take]   (all of them, where none is named)
+Usage: refuse_growths.py [add_all|apply|take]   (all of them, where none is named)
 """
 import json, pathlib, re, subprocess, sys
 sys.path.insert(0, str(pathlib.Path(__file__).resolve().parents[1]))  # scripts/
 import crates
 from gate import test_driver, verdict
-from generate import pool, samples
+from generate import samples
 
 
 # ---- Archive::add_all
@@ -177,63 +173,6 @@ def apply():
     return len(refused), 0
 
 
-# ---- read_message and write_message
-
-BEFORE = 66  # with so many lines first, an allocation is refused before a message is read
-WRITTEN = 68  # with none first, one is refused after each message is written
-
-RECALLED = [samples.transaction(), samples.transaction(OrgnlTxId="T2", CxlId="R2")]
-HEAD_OF_RECALL = {key: value for key, value in samples.recall(RECALLED).items() if key != "TxInf"}
-# each form of each kind, and what is written where that is another form
-FORMS = {
-    "instruction": samples.instruction(),
-    "confirmation": samples.confirmation(),
-    "rejection": samples.confirmation({"TxSts": "RJCT", "Rsn": "AC04"}),
-    "request": samples.request(),
-    "request about a recall": samples.request(OrgnlMsgNmId="camt.056", OrgnlCxlId="R1"),
-    "recall": samples.recall(RECALLED[:1]),
-    "recall with a list of one": {**HEAD_OF_RECALL, "TxInf": RECALLED[:1]},
-    "recall with a list of two": samples.recall(RECALLED),
-    "return": samples.payback(),
-    "refusal": samples.refusal(),
-}
-WRITTEN_FLAT = {"recall with a list of one": FORMS["recall"]}
-
-
-def written(name):
-    """The written form of a message."""
-    return json.dumps(pool.written_out(WRITTEN_FLAT.get(name, FORMS[name])), sort_keys=True, separators=(",", ":")) + "\n"
-
-
-def form_mark_of(case, text, status):
-    """At which call a growth of the case was refused, or that it was refused beside them; None where the answer is wrong."""
-    name, _ = case
-    return {("", 1): "beside", ("unread 30\n", 0): "unread", ("unwritten 30\n", 0): "unwritten", (written(name), 0): "beside"}.get((text, status))
-
-
-def form_counts(name, found):
-    """How many growths of a form were refused, and how many cases failed or calls were not met."""
-    marks = [found[name, many] for many in range(BEFORE + 1)]
-    refused = {call: [many for many, mark in enumerate(marks) if mark == call] for call in ["unwritten", "unread"]}
-    failed, missed = marks.count(None), [call for call, lines in refused.items() if not lines]
-    counts = ", ".join(f"{len(lines)} {call}" for call, lines in refused.items())
-    print(f"form of a {name}, allocations {WRITTEN - BEFORE} to {WRITTEN}: {counts}", flush=True)
-    for call in missed:
-        print(f"not met: {call}")
-    if not failed and not missed and not is_whole(sum(refused.values(), []), BEFORE):
-        crates.stop("the cases do not go from behind the growths to before them")
-    return sum(map(len, refused.values())), failed + len(missed)
-
-
-def form():
-    """How many growths of messages that are read and written were refused as they should be, and how many cases failed."""
-    cases = {(name, many): (["views"], ["tell"] * many + ["form " + json.dumps(message)])
-             for name, message in FORMS.items() for many in range(BEFORE + 1)}
-    found = marks_of(WRITTEN, cases, form_mark_of)
-    right, failed = zip(*[form_counts(name, found) for name in FORMS])
-    return sum(right), sum(failed)
-
-
 # ---- Desk::take
 
 ALLOCATIONS = 66  # with so many first, one is refused before the message is taken
@@ -287,7 +226,6 @@ def take():
 
 
 CALLS = {"add_all": (add_all, "each answered by 39 with nothing changed"), "apply": (apply, "each answered by 39 with nothing changed"),
-         "form": (form, "each answered by 30"),
          "take": (take, "in two cases each, answered by 50 with nothing changed, or by 51 with the arrival pending")}
 
 
