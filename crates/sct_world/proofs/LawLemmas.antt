@@ -143,6 +143,7 @@ none_at (suc n) (suc i) none = none_at n i none
 pub closed_opened : (n : ℕ) → IsClosed (opened n)
 closed_opened n = record {
   arrivals = λ site. subst (λ (l : List Placed). IsArrivals l) (sym (none_at n (site - 1) [])) (λ o. refl);
+  inside = λ site e held. absurd (false≢true (ap (λ (l : List Placed). holds l e) (sym (none_at n (site - 1) [])) ∙ held));
   runs = λ k o. record { first = 1; above_0 = omega arith; follow = refl };
   held = λ site e held. absurd (false≢true (ap (λ (l : List Placed). holds l e) (sym (none_at n (site - 1) [])) ∙ held));
   cut = λ k e held. absurd (false≢true held);

@@ -5,7 +5,7 @@ use Rattle.std.specs.List.{list_any, find, slice_get}
 use Rattle.std.specs.Option.{option_or}
 use Rattle.std.proofs.lemmas.Bool.Decides.{nat_tests}
 use Rattle.std.proofs.lemmas.Bool.{false≢true}
-use Rattle.std.proofs.lemmas.List.{get_or-set_same, get_or-set_other}
+use Rattle.std.proofs.lemmas.List.{get_or-set_same, get_or-set_other, length-set}
 use Rattle.std.proofs.lemmas.List.Folds.{list_any-append}
 use Rattle.std.proofs.lemmas.Option.{slice_get_within}
 use Rattle.sct_message.specs.declared.draft.Draft.{Draft}
@@ -14,7 +14,7 @@ use Rattle.sct_message.specs.Order.{same_message}
 use Rattle.sct_message.proofs.AscendingLemmas.{any_ascending, ascending-filter, ascending-sorted}
 use Rattle.sct_set.proofs.ContentsLemmas.{same_itself}
 use Rattle.sct_delta.specs.Entries.{Placed, is_from, log_of, same_entry, holds, IsArrivals, IsRun}
-use Rattle.sct_delta.specs.Refusals.{message_at, is_other_than, is_held, is_fork, is_ahead, is_past, is_outside, firsts_after, told, first_refusal, outside_refusal, ahead_refusal, gap_refusal, vector_of}
+use Rattle.sct_delta.specs.Refusals.{message_at, is_other_than, is_held, is_fork, is_ahead, is_past, is_outside, has_site, firsts_after, told, first_refusal, outside_refusal, ahead_refusal, gap_refusal, vector_of}
 use Rattle.sct_delta.specs.declared.fault.DeltaFault.{DeltaFault}
 use Rattle.sct_delta.specs.declared.fault.DeltaFault.TheVariants as fault
 use Rattle.sct_delta.proofs.EntryLemmas.{rises-numbered, run_is}
@@ -96,13 +96,18 @@ module _ (w : State) (closed : IsClosed w) (s : ℕ) where
         | false ↦ λ other. refl
       ] refl
 
-  -- so a site refuses a delta neither for a fork nor for an entry ahead of its owner
-  pub no_fork_here : (group k : ℕ) → IfSome (first_refusal s group (logs_of (held_at w s)) (slice_index_or w.deltas k [])) IsNoFork
+  -- an entry that its origin holds is of a site of the world
+  not_outside : (e : Placed) → holds (held_at w e.origin) e ≡ true → is_outside (length w.held) e ≡ false
+  not_outside e own = ap not (closed.inside e.origin e own)
+
+  -- so a site refuses a delta neither for a fork nor for an entry ahead of its owner, nor for one of no site
+  pub no_fork_here : (k : ℕ) → IfSome (first_refusal s (length w.held) (logs_of (held_at w s)) (slice_index_or w.deltas k [])) IsNoFork
   unfolding first_refusal
-  no_fork_here group k =
+  no_fork_here k =
+      let group : ℕ = length w.held in
       let d : List Placed = slice_index_or w.deltas k [] in
       let log : ℕ → List Draft = logs_of (held_at w s) in
-      or_else IsNoFork (outside_refusal group d) _ (told_all IsNoFork (λ e. fault.BadSite) (is_outside group) d (λ e. tt) (find (is_outside group) d))
+      or_else IsNoFork (outside_refusal group d) _ (told_never IsNoFork (λ e. fault.BadSite) (is_outside group) d (λ e held. not_outside e (closed.cut k e held)))
       (or_else IsNoFork (ahead_refusal s log d) _ (told_never IsNoFork (λ e. fault.OwnAhead e.n) (is_ahead s log) d (λ e held. not_ahead e (closed.cut k e held)))
       (or_else IsNoFork (gap_refusal log d) _ (told_all IsNoFork (λ e. fault.Gap e.origin (vector_of log e.origin) e.n) (is_past log) (firsts_after 0 d) (λ e. tt) (find (is_past log) (firsts_after 0 d)))
       (told_never IsNoFork (λ e. fault.Fork e.origin e.n) (is_fork log) d (λ e held. no_other e (closed.cut k e held) (message_at (log e.origin) e.n) refl))))
@@ -111,6 +116,9 @@ module _ (w : State) (closed : IsClosed w) (s : ℕ) where
 
 inside : (n site : ℕ) → (nat_lt site 1 || nat_lt n site) ≡ false → site - 1 < n
 inside n site there = grind (arith, nat_tests)
+
+has_it : (n site : ℕ) → (nat_lt site 1 || nat_lt n site) ≡ false → has_site n site ≡ true
+has_it n site there = grind (arith, nat_tests)
 
 pub number_is : (a b : ℕ) → nat_eq a b ≡ true → a ≡ b
 number_is a b e = grind (arith, nat_tests)
@@ -148,12 +156,27 @@ module _ (w : State) (closed : IsClosed w) (s : ℕ) (there : is_no_site w s ≡
         | inr own ↦ ap (λ (o : ℕ). holds (held_at (with_held w s es) o) e) own ∙ ap (λ (l : List Placed). holds l e) (held-with_same w s es there) ∙ in_list
       ]
 
+  of_world : (e : Placed) → holds es e ≡ true → has_site (length w.held) e.origin ≡ true
+  of_world e in_list =
+      elim (owned e in_list) as (λ c. has_site (length w.held) e.origin ≡ true) [
+        | inl held ↦ closed.inside e.origin e held
+        | inr own ↦ ap (has_site (length w.held)) own ∙ has_it (length w.held) s there
+      ]
+
+  in_world : (x : ℕ) (e : Placed) → holds (held_at (with_held w s es) x) e ≡ true → has_site (length w.held) e.origin ≡ true
+  in_world x e in_list =
+      elim (held_where w s there es x) as (λ c. has_site (length w.held) e.origin ≡ true) [
+        | inl at ↦ of_world e (ap (λ (l : List Placed). holds l e) (sym at.0) ∙ in_list)
+        | inr other ↦ closed.inside x e (ap (λ (l : List Placed). holds l e) (sym other) ∙ in_list)
+      ]
+
   pub closed_with : IsClosed (with_held w s es)
   closed_with = record {
     arrivals = λ x. elim (held_where w s there es x) as (λ c. IsArrivals (held_at (with_held w s es) x)) [
       | inl at ↦ subst (λ (l : List Placed). IsArrivals l) (sym at.0) arrive
       | inr other ↦ subst (λ (l : List Placed). IsArrivals l) (sym other) (closed.arrivals x)
     ];
+    inside = λ x e in_list. ap (λ (n : ℕ). has_site n e.origin) (length-set w.held (s - 1) es) ∙ in_world x e in_list;
     runs = closed.runs;
     held = λ x e in_list. elim (held_where w s there es x) as (λ c. holds (held_at (with_held w s es) e.origin) e ≡ true) [
       | inl at ↦ at_own e (ap (λ (l : List Placed). holds l e) (sym at.0) ∙ in_list)
@@ -233,6 +256,7 @@ last_or (d ∷ ds) x (suc k) = last_or ds x k
 pub closed_cut : (w : State) → IsClosed w → (s : ℕ) (count : ℕ → ℕ) → IsClosed (record { held = w.held; deltas = w.deltas ++ entries_above count (held_at w s) ∷ [] })
 closed_cut w closed s count = record {
   arrivals = closed.arrivals;
+  inside = closed.inside;
   runs = λ k o. elim (last_or w.deltas (entries_above count (held_at w s)) k) as (λ c. IsRun o (get_or (w.deltas ++ entries_above count (held_at w s) ∷ []) k [])) [
     | inl old ↦ subst (λ (l : List Placed). IsRun o l) (sym old) (closed.runs k o)
     | inr new ↦ subst (λ (l : List Placed). IsRun o l) (sym new) (run_above count (held_at w s) (closed.arrivals s) o)

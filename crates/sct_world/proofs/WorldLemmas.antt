@@ -100,7 +100,7 @@ module _ (cores : List Core) (deltas : List (List Placed)) (w : State) (view : s
       hand_no_fork refusal told =
           told_no_fork (refusal_by (core_at w site) d) refusal
           (subst (λ (c : Core). MatchOption (refusal_by c d) (refusal ≡ delta.Memory) (λ first. refusal ≡ first)) old_is told)
-          (subst (λ (l : List Placed). IfSome (refusal_by (core_at w site) l) IsNoFork) at_place (no_fork_here w closed_now site (length w.held) (number - 1)))
+          (subst (λ (l : List Placed). IfSome (refusal_by (core_at w site) l) IsNoFork) at_place (no_fork_here w closed_now site (number - 1)))
 
       module _ (none : refusal_by old d ≡ None) where
         not_refused : refusal_by (core_at w site) d ≡ None

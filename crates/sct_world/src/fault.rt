@@ -10,16 +10,19 @@ use sct_set::SetFault;
 use std::alloc::{AllocError, AllocFailed};
 use thiserror::Error;
 
-/// Why an event is refused, or a world could not be made. The world is then what it was.
+/// Why an event is refused, or why a world could not be made. The world is then what it was.
+///
+/// Two values have the number 44, `BadSite` and `Delta(DeltaFault::BadSite)`. A call of a world returns the first alone.
 #[derive(Debug, Drop, PartialEq, Eq, Error)]
 pub enum WorldFault {
-    /// 44: the world has no such site, or a world of so many sites there is not.
+    /// 44: the world has no such site, or no world has so many sites.
     #[error("no such site")]
     BadSite,
     /// 47: no delta of that number was cut.
     #[error("no such delta")]
     NoSuchDelta,
-    /// 40 to 44: what a site answered. 40 is want of memory, whatever was asked for.
+    /// What a site answered. A call of a world returns 40, out of memory, and 41, a gap. The other values of `DeltaFault`
+    /// are 42 to 45, and in a world no site answers them.
     #[error("{0}")]
     Delta(DeltaFault),
 }
