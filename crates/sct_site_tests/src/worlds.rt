@@ -1,5 +1,6 @@
 //! Histories of worlds, with ample memory.
 
+mod contradicted;
 mod reporting;
 mod scenes;
 mod settling;
@@ -156,7 +157,8 @@ fn three_sites_answer_alike(rt: HostRuntime) {
 #[test]
 fn a_site_answers_after_a_night(rt: HostRuntime) {
     let events = events_of(rt.alloc(), &NIGHT).expect(&rt, "events");
-    let answers = answers_after(rt.alloc(), 3, &events, 2).expect(&rt, "answers");
-    expect_night(&rt, &answers);
+    let after = answers_after(rt.alloc(), 3, &events, 2).expect(&rt, "answers");
+    expect_night(&rt, &after.answers);
+    assert!(rt; after.contradictions.is_empty());
     assert!(rt; answers_after(rt.alloc(), 3, &events, 4).is_err());
 }

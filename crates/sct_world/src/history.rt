@@ -4,7 +4,7 @@ ghost use Rattle.std.specs.Prelude.{◌≡◌, ◌≢◌, ℕ, false, All, OnOk,
 ghost use Rattle.sct_delta.specs.Entries.{messages_of};
 ghost use Rattle.sct_delta.specs.declared.fault.DeltaFault.TheVariants as delta;
 ghost use Rattle.sct_reconcile.specs.Reports.{report_of};
-ghost use Rattle.sct_set.specs.Archive.{archive_text_of};
+ghost use Rattle.sct_set.specs.Archive.{archive_text_of, contradicted_identities};
 ghost use Rattle.sct_view.specs.StatusText.{status_text_of};
 ghost use Rattle.sct_view.specs.TotalsText.{totals_text_of};
 ghost use Rattle.sct_world.specs.Faults.{IsNoForkOutcome};
@@ -19,6 +19,7 @@ use crate::event::{Event, Outcome};
 use crate::fault::WorldFault;
 use crate::world::World;
 use sct_element::{Bic, Day};
+use sct_message::Identity;
 use sct_reconcile::{List, Report};
 use std::alloc::Global;
 use std::thread::Threads;
@@ -28,6 +29,15 @@ use std::thread::Threads;
 pub struct Ran {
     pub world: World,
     pub outcomes: Vec<Outcome>,
+}
+
+/// What a site answers after a list of events.
+#[derive(Drop)]
+pub struct AnswersAfter {
+    /// The three texts of the messages that the site holds.
+    pub answers: Answers,
+    /// The contradicted identities, in ascending order. The site holds two different messages of each.
+    pub contradictions: Vec<Identity>,
 }
 
 // How an event ends. Want of memory alone is no outcome.
@@ -70,28 +80,37 @@ pub fn run(alloc: Global, sites: u16, events: &[Event]) -> Result<Ran, WorldFaul
     Ok(Ran { world, outcomes })
 }
 
-/// What a site answers after events in a new world of so many sites. 44 `BadSite` where the number of sites is not 1 to 1024,
-/// or there is no such site among them, and else nothing but want of memory (40) refuses it.
+/// Runs events in a new world of so many sites, and returns what one of the sites then answers. The refusal is 44
+/// (`BadSite`) if the number of sites is not 1 to 1024, or if the world has no such site. Any other refusal is 40, out of
+/// memory.
 ///
-/// This is the promise of convergence whole: each text is that of exactly the messages that the site took or accepted.
+/// This is the whole promise of convergence. The texts and the contradictions are those of exactly the messages that the
+/// site took or accepted.
 pub fn answers_after(
     alloc: Global,
     sites: u16,
     events: &[Event],
     site: u16,
-) -> Result<Answers, WorldFault>
-    ensures archive { IfOk result (λ answers. answers.archive.items
+) -> Result<AnswersAfter, WorldFault>
+    ensures archive { IfOk result (λ after. after.answers.archive.items
         ≡ archive_text_of (taken_in sites events.now site)) }
-    ensures statuses { IfOk result (λ answers. answers.statuses.items
+    ensures statuses { IfOk result (λ after. after.answers.statuses.items
         ≡ status_text_of (taken_in sites events.now site)) }
-    ensures totals { IfOk result (λ answers. answers.totals.items
+    ensures totals { IfOk result (λ after. after.answers.totals.items
         ≡ totals_text_of (taken_in sites events.now site)) }
+    ensures contradictions { IfOk result (λ after. after.contradictions.items
+        ≡ contradicted_identities (taken_in sites events.now site)) }
     ensures there { OnOk result (is_no_site (history sites events.now) site ≡ false) }
     ensures err { IfErr result (λ refusal. refusal ≢ fault.Delta delta.Memory
         → (refusal ≡ fault.BadSite) × IsNoPlace sites events.now site) }
 {
     let ran = run(alloc, sites, events)?;
-    ran.world.answers(site)
+    let answers = ran.world.answers(site)?;
+    let contradictions = ran.world.contradictions(site)?;
+    Ok(AnswersAfter {
+        answers,
+        contradictions,
+    })
 }
 
 /// The report on a bank's list for a settlement day that a site gives after events in a new world of so many sites: that

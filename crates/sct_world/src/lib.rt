@@ -13,6 +13,6 @@ mod world;
 pub use answers::Answers;
 pub use event::{Event, Outcome, Step};
 pub use fault::WorldFault;
-pub use history::{Ran, answers_after, report_after, run};
+pub use history::{AnswersAfter, Ran, answers_after, report_after, run};
 pub use settling::settle;
 pub use world::World;

@@ -4,7 +4,7 @@ ghost use Rattle.std.specs.Prelude.{◌≡◌, ◌≢◌, ℕ, [], true, false, 
 ghost use Rattle.sct_delta.specs.Entries.{messages_of};
 ghost use Rattle.sct_delta.specs.Vectors.{count_in};
 ghost use Rattle.sct_reconcile.specs.Reports.{report_of};
-ghost use Rattle.sct_set.specs.Archive.{archive_text_of};
+ghost use Rattle.sct_set.specs.Archive.{archive_text_of, contradicted_identities};
 ghost use Rattle.sct_view.specs.StatusText.{status_text_of};
 ghost use Rattle.sct_view.specs.TotalsText.{totals_text_of};
 ghost use Rattle.sct_delta.specs.declared.fault.DeltaFault.TheVariants as delta;
@@ -19,7 +19,7 @@ use crate::event::{Event, Step};
 use crate::fault::WorldFault;
 use sct_delta::{Delta, DeltaFault, MOST_SITES, Vector};
 use sct_element::{Bic, Day};
-use sct_message::Message;
+use sct_message::{Identity, Message};
 use sct_reconcile::{List, Report};
 use sct_set::Archive;
 use sct_site::{SiteCore, Took};
@@ -148,6 +148,21 @@ impl World {
         answers_of(self.alloc, archive)
     }
 
+    /// The contradicted identities of a site, in ascending order. The site holds two different messages of each. The
+    /// refusal is 44 (`BadSite`) if there is no such site, and otherwise 40, out of memory.
+    pub fn contradictions(&self, site: u16) -> Result<Vec<Identity>, WorldFault>
+        ensures identities { IfOk result (λ identities. identities.items
+            ≡ contradicted_identities (messages_of (held_at self.now site))) }
+        ensures there { OnOk result (is_no_site self.now site ≡ false) }
+        ensures err { IfErr result (λ refusal. refusal
+            ≡ (if is_no_site self.now site then fault.BadSite else fault.Delta delta.Memory)) }
+    {
+        let Ok(archive) = self.archive(site) else {
+            return Err(WorldFault::BadSite);
+        };
+        Ok(archive.contradictions()?)
+    }
+
     /// The report on a bank's list for a settlement day, over the messages that a site holds. 44 `BadSite` where there is
     /// no such site, and else nothing but want of memory (40) refuses it.
     pub fn report<R: Threads + Sync>(
@@ -234,9 +249,9 @@ impl World {
         })
     }
 
-    /// One event. It is refused by 44 `BadSite` where there is no such site, then by 47 `NoSuchDelta`, then by what the
-    /// site answers to the delta: 41 `Gap`. Neither 42 nor 43 comes in a world. 40 is want of memory. A refused event
-    /// leaves the world as it was.
+    /// Runs one event. The refusals come in this order: 44 (`BadSite`) if there is no such site, 47 (`NoSuchDelta`) if no
+    /// delta of that number was cut, and 41 (`Gap`) if the site answers it to the delta. In a world no site answers 42 to
+    /// 45. 40 means out of memory. A refused event leaves the world as it was.
     #[tactic(auto, unfolding(crate::specs::Histories::step_of, crate::specs::Histories::world_after))]
     pub fn step(&mut self, event: &Event) -> Result<Step, WorldFault>
         ensures answer { IfOk result (λ step. step_of self.old event.now ≡ Ok step) }
