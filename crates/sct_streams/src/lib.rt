@@ -6,11 +6,13 @@
 #![tactic(auto)]
 
 mod failures;
+mod files;
 mod sink;
 mod source;
 mod whole;
 
 pub use failures::Failures;
+pub use files::{Files, HostFiles};
 pub use sink::{Sink, Writing};
 pub use source::{Failed, Reading, Source};
 pub use whole::{ReadFault, read_all, write_all};
