@@ -22,6 +22,15 @@ def confirmation(number):
     return samples.line(samples.confirmation(MsgId=f"C{number}", OrgnlMsgId=f"M{number}", OrgnlTxId=f"T{number}"))
 
 
+def returned():
+    """An accepted transfer of 100 euro that was recalled, and of which 99 euro were returned."""
+    whole = {"OrgnlIntrBkSttlmAmt": "100.00"}
+    messages = [samples.instruction(IntrBkSttlmAmt="100.00"), samples.confirmation(), samples.recall([samples.transaction(**whole)]),
+                samples.payback(RtrdIntrBkSttlmAmt="99.00", **whole)]
+    text = b"T|BANKDEFFXXX|T1|RETURNED|99.00\nR|BANKDEFFXXX|T1|R1|RETURNED|99.00\n"
+    return case("a return", ["status"], "".join(map(samples.line, messages)).encode(), text, b"")
+
+
 def recall(number, lines):
     """The line of a recall of all transfers that these lines instruct. Every third recall has another amount for the first
     transfer. Every fourth has the identification of the one before."""

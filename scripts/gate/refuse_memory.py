@@ -3,8 +3,8 @@ tells that memory, a thread or a place is wanting.
 
 What limits a run is how many bytes it may map to write in, the stacks of its threads included; the limit grows by STEP bytes up to
 MOST. The first thread's own stack is not counted: a process whose first stack may not grow is ended by the system, and can say
-nothing. `status` and `archive` run on made-up messages, blank lines and refused ones, which threads read, evaluate and write. With
-the small limits no thread has room for its stack, with the others some thread, or some allocation in one of several, is refused,
+nothing. `status`, `archive` and `totals` run on made-up messages, blank lines and refused ones, which threads read, evaluate and
+write. With the small limits no thread has room for its stack, with the others some thread, or some allocation in one of several, is refused,
 and which one is theirs to settle; with the largest there is room for all. A run must write the right text, which
 scripts/reference/status.py tells from the definitions alone, or nothing but `fault 65`, and then end with 3. The two small files of
 scripts/gate/inputs.py are taken by `run` in the same way: here `fault 67` may come too, where there is no thread for a worker, and
@@ -46,7 +46,7 @@ def tried(program, words, data, right, wanting):
 def tries(program):
     """The numbers of each command."""
     data = long_input(MESSAGES)
-    for command in ["status", "archive"]:
+    for command in ["status", "archive", "totals"]:
         text, refused, _ = definitions.answer(command, data)
         right = (text.encode(), refused.encode(), 1)
         yield tried(program, [command], data, right, [WANTING])
