@@ -1,6 +1,7 @@
 -- The lemmas of the program.
 mod AgainLemmas
 mod CommandLineLemmas
+mod FileLemmas
 mod PieceLemmas
 mod Prefixes
 mod RunFaults

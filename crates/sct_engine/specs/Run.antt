@@ -90,9 +90,9 @@ pub record IsAnswered (task : Task) (before after : Streams) (ended : Result End
 
 -- what was asked for, with the bytes of its files; a command line that could not be had or that asks for nothing ends the
 -- run at once
-abbrev pub IsPreparedIfAsked : Result Request ProgramFault → Result Task ProgramFault → Type 0
-IsPreparedIfAsked (Ok request) prepared = IsPrepared request prepared
-IsPreparedIfAsked (Err fault) prepared = prepared ≡ Err fault
+abbrev pub IsPreparedIfAsked : (List ℕ → Option (List ℕ)) → Result Request ProgramFault → Result Task ProgramFault → Type 0
+IsPreparedIfAsked gives (Ok request) prepared = IsPrepared gives request prepared
+IsPreparedIfAsked gives (Err fault) prepared = prepared ≡ Err fault
 
 -- how that is answered; files that could not be read end the run at once
 abbrev pub IsAnsweredIfPrepared : Result Task ProgramFault → Streams → Streams → Result Ending ProgramFault → Type 0
@@ -104,15 +104,15 @@ abbrev pub IsAskedBy : Result (List (List ℕ)) ProgramFault → Result Request 
 IsAskedBy (Err fault) asked = asked ≡ Err fault
 IsAskedBy (Ok words) asked = AreAsking words asked
 
--- One run: it asks what the words ask for, reads the files that are named there, answers that, tells its end on standard
--- error, and gives the exit status of its end
-pub record IsRun (words : Result (List (List ℕ)) ProgramFault) (before after : Streams) (status : ℕ) : Type 0 where
+-- One run: it asks what the words ask for, reads the files that are named there, which give these bytes, answers that, prints its
+-- end on standard error, and gives the exit status of its end
+pub record IsRun (gives : List ℕ → Option (List ℕ)) (words : Result (List (List ℕ)) ProgramFault) (before after : Streams) (status : ℕ) : Type 0 where
   pub asked : Result Request ProgramFault
   pub prepared : Result Task ProgramFault
   pub answered : Streams
   pub ended : Result Ending ProgramFault
   pub is_asked : IsAskedBy words asked
-  pub is_prepared : IsPreparedIfAsked asked prepared
+  pub is_prepared : IsPreparedIfAsked gives asked prepared
   pub is_answered : IsAnsweredIfPrepared prepared before answered ended
   pub is_told : IsWrittenOrCutOff answered.err_failed after.err_failed answered.err after.err (Some (ending_text_of ended))
   pub others : (after.left ≡ answered.left) × (after.out ≡ answered.out) × (after.out_failed ≡ answered.out_failed)

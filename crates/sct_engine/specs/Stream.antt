@@ -1,5 +1,6 @@
 -- Which faults may end the reading and the writing of a stream. Read by an auditor.
-use Rattle.std.specs.Prelude.{ℕ, List, Option}
+use Rattle.std.specs.Prelude.{ℕ, ◌<◌, List, length, Option, IfSome}
+use Rattle.std.specs.List.{Contains}
 use Rattle.sct_engine.specs.declared.fault.ProgramFault.{ProgramFault}
 use Rattle.sct_engine.specs.declared.fault.ProgramFault.TheVariants.{TooLong, Read, Write, Memory}
 use Rattle.sct_streams.specs.Whole as whole
@@ -18,9 +19,16 @@ abbrev pub EndsWriting : ProgramFault → Type 0
 EndsWriting Write = Unit {0}
 EndsWriting _ = ⊥
 
--- what may end the reading of a file: it cannot be opened or a read fails, it is too long, or memory is wanting
-abbrev pub EndsFile : ProgramFault → Type 0
-EndsFile Read = Unit {0}
-EndsFile TooLong = Unit {0}
-EndsFile Memory = Unit {0}
-EndsFile _ = ⊥
+-- what may end the reading of a file that gives these bytes, if they are known: it cannot be opened or a read fails, it has more
+-- than 1,073,741,824 bytes, or memory is out
+abbrev pub EndsFile : Option (List ℕ) → ProgramFault → Type 0
+EndsFile bytes Read = Unit {0}
+EndsFile bytes TooLong = IfSome bytes (λ known. 1073741824 < length known)
+EndsFile bytes Memory = Unit {0}
+EndsFile bytes _ = ⊥
+
+-- the file of one of the paths ends the reading of all
+pub record EndsFiles (gives : List ℕ → Option (List ℕ)) (paths : List (List ℕ)) (fault : ProgramFault) : Type 0 where
+  pub path : List ℕ
+  pub named : Contains paths path
+  pub ends : EndsFile (gives path) fault

@@ -1,5 +1,5 @@
 -- What is to be done once the files are read that the command line names, and what a run then writes. Read by an auditor.
-use Rattle.std.specs.Prelude.{ℕ, ◌≡◌, List, [], length, Option, Some, None, IfSome, Result, Ok, Err, string_bytes}
+use Rattle.std.specs.Prelude.{ℕ, ◌≡◌, List, [], map, Option, Some, None, IfSome, Result, Ok, Err, string_bytes}
 use Rattle.sct_receipts.specs.Faults.{IsRefusalNumber}
 use Rattle.sct_run.specs.Runs.{set_of_all}
 use Rattle.sct_view.specs.StatusText.{status_text_of}
@@ -16,34 +16,36 @@ use Rattle.sct_engine.specs.declared.request.Request.TheVariants as request
 use Rattle.sct_engine.specs.declared.task.Task.{Task}
 use Rattle.sct_engine.specs.declared.task.Task.TheVariants.{Work, Settle, Help, Mistake}
 use Rattle.sct_engine.specs.Engine.{bad_row_of, job_text_if_told, refused_of, told_text_if_told}
-use Rattle.sct_engine.specs.Stream.{EndsFile}
+use Rattle.sct_engine.specs.Stream.{EndsFile, EndsFiles}
+use Rattle.sct_streams.specs.Files.{AreGiven, IsGiven}
 
 -- ---- the files
 
--- the job compares with some list for the bank and the day: which list, lies with the file
-abbrev pub IsReportWith : Reconciliation → Job → Type 0
-IsReportWith with (Report bank day list) = (bank ≡ with.bank) × (day ≡ with.day)
-IsReportWith with _ = ⊥
+-- the job compares with the list in the file of the path, for the bank and the day
+abbrev pub IsReportWith : (List ℕ → Option (List ℕ)) → Reconciliation → Job → Type 0
+IsReportWith gives with (Report bank day list) = (bank ≡ with.bank) × (day ≡ with.day) × IsGiven gives with.list.now list.items
+IsReportWith gives with _ = ⊥
 
--- What a request is with the bytes of its files, whatever these are: of `run` as many inputs as files.
-abbrev pub IsTaskOf : Request → Task → Type 0
-IsTaskOf (request.Run job) (Work work) = work ≡ job
-IsTaskOf (request.Reconcile with) (Work work) = IsReportWith with work
-IsTaskOf (request.Settle files) (Settle inputs) = length inputs.items ≡ length files.items
-IsTaskOf (request.Help text) (Help told) = told ≡ text
-IsTaskOf (request.Mistake text) (Mistake told) = told ≡ text
-IsTaskOf _ _ = ⊥
+-- What a request is with the bytes of its files: of `report` the list is what its file gives, and of `run` the inputs are what
+-- the files give, in the order of the paths.
+abbrev pub IsTaskOf : (List ℕ → Option (List ℕ)) → Request → Task → Type 0
+IsTaskOf gives (request.Run job) (Work work) = work ≡ job
+IsTaskOf gives (request.Reconcile with) (Work work) = IsReportWith gives with work
+IsTaskOf gives (request.Settle files) (Settle inputs) = AreGiven gives (map (λ path. path.now) files.items) (bytes_of inputs.items)
+IsTaskOf gives (request.Help text) (Help told) = told ≡ text
+IsTaskOf gives (request.Mistake text) (Mistake told) = told ≡ text
+IsTaskOf gives _ _ = ⊥
 
--- a file that cannot be read ends a request that names one
-abbrev pub EndsFilesOf : Request → ProgramFault → Type 0
-EndsFilesOf (request.Reconcile with) fault = EndsFile fault
-EndsFilesOf (request.Settle files) fault = EndsFile fault
-EndsFilesOf _ fault = ⊥
+-- a file that cannot be read ends a request that names it
+abbrev pub EndsFilesOf : (List ℕ → Option (List ℕ)) → Request → ProgramFault → Type 0
+EndsFilesOf gives (request.Reconcile with) fault = EndsFile (gives with.list.now) fault
+EndsFilesOf gives (request.Settle files) fault = EndsFiles gives (map (λ path. path.now) files.items) fault
+EndsFilesOf gives _ fault = ⊥
 
 -- what a request is with the bytes of its files, or why these could not be had
-abbrev pub IsPrepared : Request → Result Task ProgramFault → Type 0
-IsPrepared request (Ok task) = IsTaskOf request task
-IsPrepared request (Err fault) = EndsFilesOf request fault
+abbrev pub IsPrepared : (List ℕ → Option (List ℕ)) → Request → Result Task ProgramFault → Type 0
+IsPrepared gives request (Ok task) = IsTaskOf gives request task
+IsPrepared gives request (Err fault) = EndsFilesOf gives request fault
 
 -- ---- what is written
 

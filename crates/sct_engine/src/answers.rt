@@ -13,28 +13,28 @@ ghost use Rattle.sct_view.specs.TotalsText.{totals_text_of};
 
 use crate::fault::ProgramFault;
 use crate::holding::archive_pieces;
+use crate::release::Release;
 use sct_element::{Bic, Day};
 use sct_lines::{Intake, read_lines};
 use sct_message::Message;
 use sct_reconcile::{List, reconcile};
 use sct_view::View;
 use std::alloc::Global;
-use std::mem;
 use std::sync::Arc;
 use std::thread::Threads;
 
-// The view of the messages, made in as many threads as there are processors. The messages are left to the end of the
-// program, which gives back all at once what would be given back message by message here.
+// The view of the messages, made in as many threads as there are processors.
 fn view_of<T: Threads + Sync>(
     rt: &T,
     alloc: Global,
+    release: Release,
     messages: Vec<Arc<Message>>,
 ) -> Result<View, ProgramFault>
     ensures held { IfOk result (λ view. view ≡ contents_of (messages_in messages.items)) }
     ensures memory { IfErr result (λ e. e ≡ fault.Memory) }
 {
     let view = View::of_messages(rt, alloc, &messages)?;
-    mem::forget(messages);
+    release.let_go(messages);
     Ok(view)
 }
 
@@ -71,20 +71,21 @@ fn report_text_of<T: Threads + Sync>(
     Ok(report.write()?)
 }
 
-// The status text of the set of some messages, which may stand in any order and more than once, in pieces. Only want of
-// memory is a fault. The view is left to the end of the program too.
+// The status text of the set of some messages, which may stand in any order and more than once, in pieces. Only out of
+// memory is a fault.
 fn status_pieces<T: Threads + Sync>(
     rt: &T,
     alloc: Global,
+    release: Release,
     messages: Vec<Arc<Message>>,
 ) -> Result<Vec<Vec<u8>>, ProgramFault>
     ensures text { IfOk result (λ pieces. joined pieces.items
         ≡ status_text_of (contents_of (messages_in messages.items))) }
     ensures memory { IfErr result (λ e. e ≡ fault.Memory) }
 {
-    let view = view_of(rt, alloc, messages)?;
+    let view = view_of(rt, alloc, release, messages)?;
     let pieces = status_pieces_of(rt, &view);
-    mem::forget(view);
+    release.let_go(view);
     pieces
 }
 
@@ -92,20 +93,24 @@ fn status_pieces<T: Threads + Sync>(
 fn totals_text<T: Threads + Sync>(
     rt: &T,
     alloc: Global,
+    release: Release,
     messages: Vec<Arc<Message>>,
 ) -> Result<Vec<u8>, ProgramFault>
     ensures text { IfOk result (λ text. text.items
         ≡ totals_text_of (contents_of (messages_in messages.items))) }
     ensures memory { IfErr result (λ e. e ≡ fault.Memory) }
 {
-    let view = view_of(rt, alloc, messages)?;
-    totals_text_of(&view)
+    let view = view_of(rt, alloc, release, messages)?;
+    let text = totals_text_of(&view);
+    release.let_go(view);
+    text
 }
 
 // The report of the same set on a bank's list for a settlement day. Only want of memory is a fault.
 fn report_text<T: Threads + Sync>(
     rt: &T,
     alloc: Global,
+    release: Release,
     messages: Vec<Arc<Message>>,
     bank: &Bic,
     day: &Day,
@@ -115,8 +120,10 @@ fn report_text<T: Threads + Sync>(
         ≡ report_text_of (report_of (contents_of (messages_in messages.items)) bank.now day.now list.now)) }
     ensures memory { IfErr result (λ e. e ≡ fault.Memory) }
 {
-    let view = view_of(rt, alloc, messages)?;
-    report_text_of(rt, alloc, &view, bank, day, list)
+    let view = view_of(rt, alloc, release, messages)?;
+    let text = report_text_of(rt, alloc, &view, bank, day, list);
+    release.let_go(view);
+    text
 }
 
 /// What is asked of messages.
@@ -158,6 +165,7 @@ pub fn one_piece(alloc: Global, text: Vec<u8>) -> Result<Vec<Vec<u8>>, ProgramFa
 fn asked_pieces<T: Threads + Sync>(
     rt: &T,
     alloc: Global,
+    release: Release,
     question: &Question<'_>,
     messages: Vec<Arc<Message>>,
 ) -> Result<Vec<Vec<u8>>, ProgramFault>
@@ -166,21 +174,22 @@ fn asked_pieces<T: Threads + Sync>(
     ensures memory { IfErr result (λ e. e ≡ fault.Memory) }
 {
     let text = match question {
-        Question::Archive => return archive_pieces(rt, alloc, messages),
-        Question::Status => return status_pieces(rt, alloc, messages),
-        Question::Totals => totals_text(rt, alloc, messages)?,
+        Question::Archive => return archive_pieces(rt, alloc, release, messages),
+        Question::Status => return status_pieces(rt, alloc, release, messages),
+        Question::Totals => totals_text(rt, alloc, release, messages)?,
         Question::Report { bank, day, list } => {
-            report_text(rt, alloc, messages, bank, day, list)?
+            report_text(rt, alloc, release, messages, bank, day, list)?
         }
     };
     one_piece(alloc, text)
 }
 
 /// What is asked of the messages of an input, whose bytes are read in as many threads as there are processors, and dropped
-/// before the text is made. Only want of memory is a fault.
+/// before the text is made. What the text was made of is then let go. Only out of memory is a fault.
 pub fn answer_of_messages<T: Threads + Sync>(
     rt: &T,
     alloc: Global,
+    release: Release,
     question: Question<'_>,
     input: Vec<u8>,
 ) -> Result<Answer, ProgramFault>
@@ -196,7 +205,8 @@ pub fn answer_of_messages<T: Threads + Sync>(
         refused,
     } = read_lines(rt, alloc, &input)?;
     drop(input);
-    let pieces = asked_pieces(rt, alloc, &question, messages)?;
+    let pieces = asked_pieces(rt, alloc, release, &question, messages)?;
+    release.let_go(question);
     Ok(Answer {
         pieces,
         told,

@@ -1,18 +1,19 @@
 //! Files that the command line names, each read whole.
-ghost use Rattle.std.specs.Prelude.{◌≡◌, ◌<◌, ◌≤◌, Err, length, vec_len, IfErr, IfOk, IfSome};
-ghost use Rattle.sct_engine.specs.declared.fault.ProgramFault.TheVariants as fault;
-ghost use Rattle.sct_engine.specs.Stream.{EndsFile};
+ghost use Rattle.std.specs.Prelude.{◌≡◌, ◌≤◌, map, vec_len, IfErr, IfOk, IfSome};
+ghost use Rattle.sct_engine.specs.Stream.{EndsFile, EndsFiles};
+ghost use Rattle.sct_streams.specs.Files.{AreGiven, IsGiven};
+ghost use Rattle.sct_workers.specs.Files.{bytes_of};
 
 use crate::fault::ProgramFault;
 use crate::transfer::{MOST_BYTES, read_all};
-use sct_streams::Reading;
+use sct_streams::{Files, Reading};
 use std::alloc::Global;
+use std::io;
 use std::marker::Brand;
-use std::rt::Files;
 use std::sync::ledger::{Blank, Ledger};
-use std::{fs, io};
 
 // Reads what a reader has left.
+#[tactic(auto, using(crate::proofs::FileLemmas::reading_ends))]
 fn read_left<R: io::Read + Drop, L: Ledger>(
     alloc: Global,
     reader: R,
@@ -23,34 +24,35 @@ fn read_left<R: io::Read + Drop, L: Ledger>(
     requires one_part { blank.parts ≡ 1 }
     ensures whole { IfOk result (λ v. IfSome (R.remaining reader) (λ bytes. bytes ≡ v.items)) }
     ensures within { IfOk result (λ v. vec_len v ≤ 1073741824) }
-    ensures too_long { result ≡ Err fault.TooLong
-        → IfSome (R.remaining reader) (λ bytes. 1073741824 < length bytes) }
-    ensures faults { IfErr result EndsFile }
+    ensures faults { IfErr result (EndsFile (R.remaining reader)) }
 {
     let mut source = Reading::<R, L>::new(reader, blank);
     read_all(alloc, &mut source, MOST_BYTES)
 }
 
-/// Reads the file of a path: 62 Read where it cannot be opened or a read fails, 60 TooLong where it has more than 1 GiB, of
-/// which one byte more is read, 65 Memory. Of a reader that tells its bytes they are all of these.
+/// Reads the file of a path. If it cannot be opened or a read fails, the fault is 62 Read. If it has more than 1 GiB, the fault is
+/// 60 TooLong, and one byte past the limit was read. Out of memory is 65 Memory.
+#[tactic(auto, using(crate::proofs::FileLemmas::file_ends))]
 pub fn read_file<R: Files>(alloc: Global, files: &R, path: &str) -> Result<Vec<u8>, ProgramFault>
+    ensures given { IfOk result (λ v. IsGiven (R.gives files.now) path.now v.items) }
     ensures within { IfOk result (λ v. vec_len v ≤ 1073741824) }
-    ensures faults { IfErr result EndsFile }
+    ensures faults { IfErr result (EndsFile (R.gives files.now path.now)) }
 {
-    let Ok(file) = fs::open(files, path) else {
+    let Ok(file) = files.open(path) else {
         return Err(ProgramFault::Read);
     };
     read_left::<R::File, Brand>(alloc, file, Blank::new(1))
 }
 
-/// Reads the files of some paths, one after the other, up to the first that is refused.
+/// Reads the files of some paths in their order. The first that cannot be read ends this.
 pub fn read_files<R: Files>(
     alloc: Global,
     files: &R,
     paths: &[&str],
 ) -> Result<Vec<Vec<u8>>, ProgramFault>
-    ensures each { IfOk result (λ inputs. length inputs.items ≡ length paths.now) }
-    ensures faults { IfErr result EndsFile }
+    ensures given { IfOk result (λ inputs. AreGiven (R.gives files.now)
+        (map (λ path. path.now) paths.now) (bytes_of inputs.items)) }
+    ensures faults { IfErr result (EndsFiles (R.gives files.now) (map (λ path. path.now) paths.now)) }
 {
     let mut inputs = Vec::new(alloc);
     for path in paths {

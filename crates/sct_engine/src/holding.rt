@@ -8,10 +8,10 @@ ghost use Rattle.sct_engine.specs.Again.{ArchiveGivesBack, GivesBack};
 ghost use Rattle.sct_engine.specs.declared.fault.ProgramFault.TheVariants as fault;
 
 use crate::fault::ProgramFault;
+use crate::release::Release;
 use sct_message::Message;
 use sct_set::Ordered;
 use std::alloc::Global;
-use std::mem;
 use std::sync::Arc;
 use std::thread::Threads;
 
@@ -20,12 +20,12 @@ fn the_archive_text_gives_the_set_back()
     ensures { ArchiveGivesBack }
 {}
 
-/// Each message once, written on a line of its own, by identity and then by text, in pieces that are made in as many threads
-/// as there are processors. Only want of memory is a fault. What is held is left to the end of the program, which gives back
-/// all at once what would be given back message by message here.
+/// Each message once, written on a line of its own, by identity and then by text. The text is in pieces, which are made in as
+/// many threads as there are processors. Only out of memory is a fault.
 pub fn archive_pieces<T: Threads + Sync>(
     rt: &T,
     alloc: Global,
+    release: Release,
     messages: Vec<Arc<Message>>,
 ) -> Result<Vec<Vec<u8>>, ProgramFault>
     ensures text { IfOk result (λ pieces. joined pieces.items
@@ -37,7 +37,7 @@ pub fn archive_pieces<T: Threads + Sync>(
     the_archive_text_gives_the_set_back();
     let ordered = Ordered::of(rt, alloc, &messages)?;
     let pieces = ordered.text_in_pieces(rt)?;
-    mem::forget(messages);
-    mem::forget(ordered);
+    release.let_go(messages);
+    release.let_go(ordered);
     Ok(pieces)
 }

@@ -41,6 +41,7 @@ ghost use Rattle.sct_streams.specs.Stream.{HasTakenIfTold};
 
 use crate::answers::{Answer, Question, answer_of_messages};
 use crate::fault::ProgramFault;
+use crate::release::Release;
 use crate::replays::answer_of_script;
 use crate::transfer::{MOST_BYTES, read_all, write_all, write_pieces};
 use sct_element::{Bic, Day};
@@ -87,6 +88,7 @@ fn list_for(alloc: Global, job: &Job) -> Result<Option<List>, ProgramFault>
 fn answer<T: Threads + Sync>(
     rt: &T,
     alloc: Global,
+    release: Release,
     job: &Job,
     list: Option<List>,
     input: Vec<u8>,
@@ -100,24 +102,33 @@ fn answer<T: Threads + Sync>(
         → (e ≡ fault.Usage) × IsNoInputOf job.now input.items) }
 {
     match (job, list) {
-        (Job::Status, _) => answer_of_messages(rt, alloc, Question::Status, input),
-        (Job::Archive, _) => answer_of_messages(rt, alloc, Question::Archive, input),
-        (Job::Totals, _) => answer_of_messages(rt, alloc, Question::Totals, input),
-        (Job::Replay, _) => answer_of_script(alloc, &input),
+        (Job::Status, _) => answer_of_messages(rt, alloc, release, Question::Status, input),
+        (Job::Archive, _) => answer_of_messages(rt, alloc, release, Question::Archive, input),
+        (Job::Totals, _) => answer_of_messages(rt, alloc, release, Question::Totals, input),
+        (Job::Replay, _) => answer_of_script(alloc, release, &input),
         (Job::Report { bank, day, .. }, Some(list)) => {
-            answer_of_messages(rt, alloc, Question::Report { bank, day, list }, input)
+            answer_of_messages(
+                rt,
+                alloc,
+                release,
+                Question::Report { bank, day, list },
+                input,
+            )
         }
         (Job::Report { .. }, None) => unreachable!(),
     }
 }
 
-/// Reads the job's list, if it has one, then the whole input, and then writes the lines that tell its refused lines to `err` and the job's text to `out`. An
-/// input that the job does not take is 64 Usage, told after it was read.
+/// Reads the job's list, if it has one, and then the whole input. Then it writes the lines that tell its refused lines to `err` and
+/// the job's text to `out`. An input that the job does not take is 64 Usage, after it was read. With `Release::AtOnce` all memory
+/// that the job took is given back. With `Release::AtExit` the messages, the view, the list or the events stay until the
+/// process ends, for each job alike.
 pub fn engine<T: Threads + Sync, R: Source, O: Sink, E: Sink>(
     rt: &T,
     alloc: Global,
     job: &Job,
     limit: u64,
+    release: Release,
     reader: &mut R,
     out: &mut O,
     err: &mut E,
@@ -172,7 +183,7 @@ pub fn engine<T: Threads + Sync, R: Source, O: Sink, E: Sink>(
         pieces,
         told,
         refused,
-    } = answer(rt, alloc, job, list, input)?;
+    } = answer(rt, alloc, release, job, list, input)?;
     write_all(err, told.as_bytes())?;
     write_pieces(out, &pieces)?;
     Ok(Done { refused })

@@ -6,14 +6,14 @@ ghost use Rattle.sct_engine.specs.Run.{streams, words_told, IsAnswered, IsAnswer
 use crate::ending::{Ending, conclude};
 use crate::fault::ProgramFault;
 use crate::jobs::{Job, engine};
+use crate::release::Release;
 use crate::request::{Request, read_request};
 use crate::settling::settle_inputs;
 use crate::task::{Task, prepare};
 use crate::transfer::{MOST_BYTES, write_all};
-use sct_streams::{Reading, Sink, Source, Writing};
+use sct_streams::{Files, Reading, Sink, Source, Writing};
 use std::alloc::Global;
 use std::io;
-use std::rt::Files;
 use std::sync::Wait;
 use std::sync::ledger::{Blank, Ledger};
 use std::thread::Threads;
@@ -22,6 +22,7 @@ use std::thread::Threads;
 fn work<T: Threads + Sync, R: Source, O: Sink, E: Sink>(
     rt: &T,
     alloc: Global,
+    release: Release,
     job: Job,
     reader: &mut R,
     out: &mut O,
@@ -34,7 +35,7 @@ fn work<T: Threads + Sync, R: Source, O: Sink, E: Sink>(
         (E.held err.new) (E.failures err.new))
         result }
 {
-    match engine(rt, alloc, &job, MOST_BYTES, reader, out, err) {
+    match engine(rt, alloc, &job, MOST_BYTES, release, reader, out, err) {
         Ok(done) => Ok(Ending::Done(done)),
         Err(fault) => Err(fault),
     }
@@ -44,6 +45,7 @@ fn work<T: Threads + Sync, R: Source, O: Sink, E: Sink>(
 fn perform<T: Threads + Wait + Sync, R: Source, O: Sink, E: Sink>(
     rt: &T,
     alloc: Global,
+    release: Release,
     task: Task,
     reader: &mut R,
     out: &mut O,
@@ -57,7 +59,7 @@ fn perform<T: Threads + Wait + Sync, R: Source, O: Sink, E: Sink>(
         result }
 {
     match task {
-        Task::Work(job) => work(rt, alloc, job, reader, out, err),
+        Task::Work(job) => work(rt, alloc, release, job, reader, out, err),
         Task::Settle(inputs) => match settle_inputs(rt, alloc, inputs, out, err) {
             Ok(done) => Ok(Ending::Done(done)),
             Err(fault) => Err(fault),
@@ -89,7 +91,7 @@ fn make_ready<F: Files>(
     files: &F,
     asked: Result<Request<'_>, ProgramFault>,
 ) -> Result<Task, ProgramFault>
-    ensures { IsPreparedIfAsked asked.entry result }
+    ensures { IsPreparedIfAsked (F.gives files.now) asked.entry result }
 {
     match asked {
         Ok(request) => prepare(alloc, files, request),
@@ -101,6 +103,7 @@ fn make_ready<F: Files>(
 fn perform_ready<T: Threads + Wait + Sync, R: Source, O: Sink, E: Sink>(
     rt: &T,
     alloc: Global,
+    release: Release,
     ready: Result<Task, ProgramFault>,
     reader: &mut R,
     out: &mut O,
@@ -114,24 +117,25 @@ fn perform_ready<T: Threads + Wait + Sync, R: Source, O: Sink, E: Sink>(
         result }
 {
     match ready {
-        Ok(task) => perform(rt, alloc, task, reader, out, err),
+        Ok(task) => perform(rt, alloc, release, task, reader, out, err),
         Err(fault) => Err(fault),
     }
 }
 
-/// Runs the program: reads the words of the command line and the files that they name, answers what they ask for, tells the
-/// end of the run on `err`, and answers the exit status: 0 where all lines were taken or help was shown, 1 where some line was
-/// refused, 3 at want of memory (65), and 2 at any other fault.
+/// Runs the program: reads the words of the command line and the files that they name, answers what they ask for, prints the
+/// end of the run on `err`, and returns the exit status. It is 0 if all lines were taken or help was shown, 1 if some line was
+/// refused, 3 if memory is out (65), and 2 at any other fault. `release` says when a job's memory is given back.
 pub fn run<T: Threads + Wait + Sync, F: Files, R: Source, O: Sink, E: Sink>(
     rt: &T,
     alloc: Global,
+    release: Release,
     files: &F,
     words: Result<Vec<String>, ProgramFault>,
     reader: &mut R,
     out: &mut O,
     err: &mut E,
 ) -> u8
-    ensures { IsRun (words_told words)
+    ensures { IsRun (F.gives files.now) (words_told words)
         (streams (R.left reader.old) (R.failures reader.old) (O.held out.old) (O.failures out.old)
         (E.held err.old) (E.failures err.old))
         (streams (R.left reader.new) (R.failures reader.new) (O.held out.new) (O.failures out.new)
@@ -140,11 +144,11 @@ pub fn run<T: Threads + Wait + Sync, F: Files, R: Source, O: Sink, E: Sink>(
 {
     let asked = ask(alloc, &words);
     let ready = make_ready(alloc, files, asked);
-    let ended = perform_ready(rt, alloc, ready, reader, out, err);
+    let ended = perform_ready(rt, alloc, release, ready, reader, out, err);
     conclude(&ended, err)
 }
 
-/// The same over readers and writers of std, each with a ledger of its own for its failures.
+/// Runs the program over readers and writers of std, each with a ledger of its own for its failures.
 pub fn run_over_std<
     T: Threads + Wait + Sync,
     F: Files,
@@ -157,6 +161,7 @@ pub fn run_over_std<
 >(
     rt: &T,
     alloc: Global,
+    release: Release,
     files: &F,
     words: Result<Vec<String>, ProgramFault>,
     stdin: (R, Blank),
@@ -172,11 +177,20 @@ pub fn run_over_std<
     requires stderr_name { stderr.1.name ≡ C.name }
     requires stderr_parts { stderr.1.parts ≡ C.parts }
     requires stderr_part { stderr.1.parts ≡ 1 }
-    ensures { (after : Streams) × IsRun (words_told words)
+    ensures { (after : Streams) × IsRun (F.gives files.now) (words_told words)
         (streams (R.remaining stdin.0) 0 (O.contents stdout.0) 0 (E.contents stderr.0) 0) after result }
 {
     let mut reader = Reading::<R, A>::new(stdin.0, stdin.1);
     let mut out = Writing::<O, B>::new(stdout.0, stdout.1);
     let mut err = Writing::<E, C>::new(stderr.0, stderr.1);
-    run(rt, alloc, files, words, &mut reader, &mut out, &mut err)
+    run(
+        rt,
+        alloc,
+        release,
+        files,
+        words,
+        &mut reader,
+        &mut out,
+        &mut err,
+    )
 }

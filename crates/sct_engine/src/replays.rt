@@ -9,6 +9,7 @@ ghost use Rattle.sct_engine.specs.declared.fault.ProgramFault.TheVariants as fau
 
 use crate::answers::{Answer, one_piece};
 use crate::fault::ProgramFault;
+use crate::release::Release;
 use sct_script::{Script, ScriptFault, read_script, replay};
 use std::alloc::Global;
 
@@ -41,9 +42,13 @@ fn replay_text(alloc: Global, script: &Script) -> Result<Vec<u8>, ProgramFault>
     }
 }
 
-/// What an input is answered that is a script: how its events end, and what each site then holds, and the lines that are
-/// refused. One that is no script is 64 Usage; else only want of memory is a fault.
-pub fn answer_of_script(alloc: Global, input: &[u8]) -> Result<Answer, ProgramFault>
+/// What an input is answered that is a script: how its events end, what each site then holds, and the lines that are refused.
+/// The events are then let go. One that is no script is 64 Usage. Else only out of memory is a fault.
+pub fn answer_of_script(
+    alloc: Global,
+    release: Release,
+    input: &[u8],
+) -> Result<Answer, ProgramFault>
     ensures text { IfOk result (λ answer. joined answer.pieces.items ≡ replay_of input.now) }
     ensures told { IfOk result (λ answer. string_bytes answer.told ≡ told_text_of (refusals_told input.now)) }
     ensures refused { IfOk result (λ answer. answer.refused ≡ length (refusals_told input.now)) }
@@ -53,7 +58,13 @@ pub fn answer_of_script(alloc: Global, input: &[u8]) -> Result<Answer, ProgramFa
     let script = script_of(alloc, input)?;
     let text = replay_text(alloc, &script)?;
     let pieces = one_piece(alloc, text)?;
-    let Script { told, refused, .. } = script;
+    let Script {
+        events,
+        told,
+        refused,
+        ..
+    } = script;
+    release.let_go(events);
     Ok(Answer {
         pieces,
         told,

@@ -6,8 +6,8 @@ use crate::fault::ProgramFault;
 use crate::files::{read_file, read_files};
 use crate::jobs::Job;
 use crate::request::Request;
+use sct_streams::Files;
 use std::alloc::Global;
-use std::rt::Files;
 
 /// A request, with the bytes of the files that it names.
 #[derive(Drop)]
@@ -22,14 +22,14 @@ pub enum Task {
     Mistake(String),
 }
 
-/// Reads the files that a request names. A file that cannot be read ends the program before anything else is read: 62 Read,
-/// 60 TooLong or 65 Memory.
+/// Reads the files that a request names, each by its own path. A file that cannot be read ends the program before anything else
+/// is read: 62 Read, 60 TooLong or 65 Memory.
 pub fn prepare<R: Files>(
     alloc: Global,
     files: &R,
     request: Request<'_>,
 ) -> Result<Task, ProgramFault>
-    ensures { IsPrepared request.entry result }
+    ensures { IsPrepared (R.gives files.now) request.entry result }
 {
     match request {
         Request::Run(job) => Ok(Task::Work(job)),

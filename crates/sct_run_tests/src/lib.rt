@@ -4,6 +4,8 @@
 #[cfg(test)]
 mod desks;
 #[cfg(test)]
+mod fakes;
+#[cfg(test)]
 mod program;
 #[cfg(test)]
 mod receipts;

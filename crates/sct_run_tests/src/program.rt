@@ -1,10 +1,13 @@
 //! Whole runs over known words and bytes: what no clause says is that memory is there, and how clap's texts read.
 mod commands;
+mod files;
+mod hostile;
 mod runs;
 
 use commands::{BOTH, Command, JOBS, WORDS};
 use runs::{answer_within, run_program};
 use sct_engine::{Done, MOST_BYTES, ProgramFault};
+use sct_streams::HostFiles;
 use std::alloc::{AllocError, Global};
 use std::process::Abort;
 use std::rt::Files;
@@ -23,7 +26,7 @@ fn words(alloc: Global, words: &[&str]) -> Result<Vec<String>, AllocError> {
 // A run writes what the command says, and ends so.
 fn does(rt: &(impl Threads + Wait + Files + Sync), alloc: Global, command: &Command) -> bool {
     let asked = words(alloc, command.words).map_err(ProgramFault::from);
-    let ran = run_program(rt, alloc, asked, command.input);
+    let ran = run_program(rt, alloc, &HostFiles::new(rt), asked, command.input);
     ran.status == command.status
         && ran.out.as_slice() == command.out
         && ran.err.as_slice() == command.err
@@ -56,7 +59,7 @@ fn status_unasked(
     fault: ProgramFault,
     err: &[u8],
 ) -> Option<u8> {
-    let ran = run_program(rt, alloc, Err(fault), BOTH);
+    let ran = run_program(rt, alloc, &HostFiles::new(rt), Err(fault), BOTH);
     (ran.out.is_empty() && ran.err.as_slice() == err).then_some(ran.status)
 }
 

@@ -2,58 +2,11 @@
 
 ghost use Rattle.std.specs.Prelude.{◌≡◌};
 
+use crate::fakes::{Giving, Taking};
 use sct_streams::{Failed, ReadFault, Reading, Writing, read_all, write_all};
 use std::alloc::Global;
-use std::io;
 use std::marker::Brand;
 use std::sync::ledger::{Blank, Ledger};
-
-// Gives its bytes one at a time, and then ends or fails.
-#[derive(Drop)]
-struct Giving {
-    left: &'static [u8],
-    fails: bool,
-}
-
-impl io::Read for Giving {
-    fn read(&mut self, piece: &mut [u8]) -> io::Result<usize> {
-        if piece.is_empty() {
-            return Ok(0);
-        }
-        match self.left.split_first() {
-            Some((first, rest)) => {
-                piece[0] = *first;
-                self.left = rest;
-                Ok(1)
-            }
-            None if self.fails => Err(io::Error::from(io::ErrorKind::Unsupported)),
-            None => Ok(0),
-        }
-    }
-}
-
-// Takes one byte at a time, as many as there is room for.
-#[derive(Drop)]
-struct Taking {
-    held: Vec<u8>,
-    room: usize,
-}
-
-impl io::Write for Taking {
-    fn write(&mut self, piece: &[u8]) -> io::Result<usize> {
-        let Some(first) = piece.first().copied() else {
-            return Ok(0);
-        };
-        if self.held.len() >= self.room || self.held.push(first).is_err() {
-            return Err(io::Error::from(io::ErrorKind::StorageFull));
-        }
-        Ok(1)
-    }
-
-    fn flush(&mut self) -> io::Result<()> {
-        Ok(())
-    }
-}
 
 // The bytes that a read fails after or not, and what comes of them under a limit: what is read, and how many are left.
 struct Limited {

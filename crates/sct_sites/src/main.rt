@@ -1,7 +1,9 @@
-//! The program: answers on the messages of standard input, or of files, as the command line asks.
+//! The program: answers on the messages of standard input, or of files, as the command line asks. The process ends after one
+//! run, so it leaves its memory to its end.
 #![tactic(auto)]
 
-use sct_engine::{read_words, run_over_std};
+use sct_engine::{Release, read_words, run_over_std};
+use sct_streams::HostFiles;
 use std::env;
 use std::marker::Brand;
 use std::process::ExitCode;
@@ -11,7 +13,8 @@ fn main(rt: HostRuntime) -> ExitCode {
     ExitCode::from(run_over_std::<_, _, _, _, _, Brand, Brand, Brand>(
         &rt,
         rt.alloc(),
-        &rt,
+        Release::AtExit,
+        &HostFiles::new(&rt),
         read_words(rt.alloc(), env::args(&rt)),
         (rt.stdin(), Blank::new(1)),
         (rt.stdout(), Blank::new(1)),

@@ -1,11 +1,11 @@
 //! Runs of the program over known words and bytes.
 ghost use Rattle.std.specs.Prelude.{◌≡◌};
 
-use sct_engine::{Done, Job, ProgramFault, engine, run_over_std};
-use sct_streams::{Reading, Writing};
+use sct_engine::{Done, Job, ProgramFault, Release, engine, run_over_std};
+use sct_streams::{Files, Reading, Writing};
 use std::alloc::Global;
+use std::io;
 use std::marker::Brand;
-use std::rt::Files;
 use std::sync::Wait;
 use std::sync::ledger::{Blank, Ledger};
 use std::thread::Threads;
@@ -18,10 +18,11 @@ pub struct Ran {
     pub err: Vec<u8>,
 }
 
-// A run of the program on this input.
+// A run of the program on this input and these files.
 pub(super) fn run_program(
-    rt: &(impl Threads + Wait + Files + Sync),
+    rt: &(impl Threads + Wait + Sync),
     alloc: Global,
+    files: &impl Files,
     words: Result<Vec<String>, ProgramFault>,
     input: &[u8],
 ) -> Ran {
@@ -30,7 +31,8 @@ pub(super) fn run_program(
     let status = run_over_std::<_, _, _, _, _, Brand, Brand, Brand>(
         rt,
         alloc,
-        rt,
+        Release::AtOnce,
+        files,
         words,
         (input, Blank::new(1)),
         (&mut out, Blank::new(1)),
@@ -39,11 +41,18 @@ pub(super) fn run_program(
     Ran { status, out, err }
 }
 
-fn answer_over<A: Ledger, B: Ledger, C: Ledger>(
+fn answer_over<
+    R: io::Read + Drop,
+    O: io::Write + Drop,
+    E: io::Write + Drop,
+    A: Ledger,
+    B: Ledger,
+    C: Ledger,
+>(
     rt: &(impl Threads + Sync),
     alloc: Global,
     limit: u64,
-    input: &[u8],
+    streams: (R, O, E),
     blanks: (Blank, Blank, Blank),
 ) -> Result<Done, ProgramFault>
     requires reader_name { blanks.0.name ≡ A.name }
@@ -56,18 +65,32 @@ fn answer_over<A: Ledger, B: Ledger, C: Ledger>(
     requires err_parts { blanks.2.parts ≡ C.parts }
     requires err_part { blanks.2.parts ≡ 1 }
 {
-    let mut reader = Reading::<_, A>::new(input, blanks.0);
-    let mut out = Writing::<_, B>::new(Vec::new(alloc), blanks.1);
-    let mut err = Writing::<_, C>::new(Vec::new(alloc), blanks.2);
+    let mut reader = Reading::<R, A>::new(streams.0, blanks.0);
+    let mut out = Writing::<O, B>::new(streams.1, blanks.1);
+    let mut err = Writing::<E, C>::new(streams.2, blanks.2);
     engine(
         rt,
         alloc,
         &Job::Status,
         limit,
+        Release::AtOnce,
         &mut reader,
         &mut out,
         &mut err,
     )
+}
+
+// How `status` ends over these streams, on at most so many bytes.
+pub(super) fn status_over<R: io::Read + Drop, O: io::Write + Drop, E: io::Write + Drop>(
+    rt: &(impl Threads + Sync),
+    alloc: Global,
+    limit: u64,
+    reader: R,
+    out: O,
+    err: E,
+) -> Result<Done, ProgramFault> {
+    let blanks = (Blank::new(1), Blank::new(1), Blank::new(1));
+    answer_over::<R, O, E, Brand, Brand, Brand>(rt, alloc, limit, (reader, out, err), blanks)
 }
 
 // How `status` ends on an input of at most so many bytes.
@@ -77,6 +100,5 @@ pub(super) fn answer_within(
     limit: u64,
     input: &[u8],
 ) -> Result<Done, ProgramFault> {
-    let blanks = (Blank::new(1), Blank::new(1), Blank::new(1));
-    answer_over::<Brand, Brand, Brand>(rt, alloc, limit, input, blanks)
+    status_over(rt, alloc, limit, input, Vec::new(alloc), Vec::new(alloc))
 }

@@ -5,5 +5,5 @@ use Rattle.sct_engine.proofs.answers.report_text.Goals as goal
 
 pub returns-clause-text : goal.returns-clause-text
 returns-clause-text g c =
-    subst (λ held. IfOk c.report_text_of.result (λ text. text.items ≡ report_text_of (report_of held c.args.bank.now c.args.day.now c.args.list.now)))
-    c.in_ok-view.ensures.held c.report_text_of.ensures.text
+    subst (λ held. IfOk c.report_text_of-text.result (λ text. text.items ≡ report_text_of (report_of held c.args.bank.now c.args.day.now c.args.list.now)))
+    c.in_ok-view.ensures.held c.report_text_of-text.ensures.text

@@ -5,5 +5,5 @@ use Rattle.sct_engine.proofs.answers.totals_text.Goals as goal
 
 pub returns-clause-text : goal.returns-clause-text
 returns-clause-text g c =
-    subst (λ held. IfOk c.totals_text_of.result (λ text. text.items ≡ totals_text_of held))
-    c.in_ok-view.ensures.held c.totals_text_of.ensures.text
+    subst (λ held. IfOk c.totals_text_of-text.result (λ text. text.items ≡ totals_text_of held))
+    c.in_ok-view.ensures.held c.totals_text_of-text.ensures.text

@@ -1,5 +1,5 @@
 -- Each stream has a ledger of its own for its failures.
-use Rattle.sct_run_tests.proofs.program.runs.answer_within.Given as goal
+use Rattle.sct_run_tests.proofs.program.runs.status_over.Given as goal
 
 abbrev pub ghosts-answer_over-A-Ledger : goal.ghosts-answer_over-A-Ledger
 ghosts-answer_over-A-Ledger g a = record { name = a.blanks.0.name; parts = a.blanks.0.parts }

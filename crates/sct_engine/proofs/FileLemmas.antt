@@ -1,0 +1,66 @@
+-- Files that are read, one path more at a time, and what ends this. Proof plumbing.
+use Rattle.std.proofs.Common.{◌≡◌, ℕ, ◌+◌, ◌<◌, List, [], ◌∷◌, ◌++◌, Option, Some, None, Result, Ok, Err, length, take, map, get_or, IfSome, IfErr, sym, ap, ◌∙◌, subst, arith}
+use Rattle.std.proofs.lemmas.Grind.{take_at_read}
+use Rattle.std.proofs.lemmas.List.{length-map, map-append}
+use Rattle.std.proofs.lemmas.List.Elements.{Contains-get_or}
+use Rattle.std.specs.List.{Contains}
+use Rattle.sct_streams.specs.Files.{AreGiven, IsGiven}
+use Rattle.sct_engine.specs.Stream.{EndsFile, EndsFiles, EndsReading}
+use Rattle.sct_engine.specs.declared.fault.ProgramFault.{ProgramFault}
+use Rattle.sct_engine.specs.declared.fault.ProgramFault.TheVariants as fault
+
+-- the file of one path more
+one_more : (gives : List ℕ → Option (List ℕ)) (paths inputs : List (List ℕ)) (path bytes : List ℕ) → AreGiven gives paths inputs → IsGiven gives path bytes
+    → AreGiven gives (paths ++ path ∷ []) (inputs ++ bytes ∷ [])
+one_more gives [] [] path bytes so_far now = (now, tt)
+one_more gives (p ∷ ps) (b ∷ bs) path bytes so_far now = (so_far.0, one_more gives ps bs path bytes so_far.1 now)
+one_more gives [] (b ∷ bs) path bytes so_far now = absurd so_far
+one_more gives (p ∷ ps) [] path bytes so_far now = absurd so_far
+
+-- the same, by the path at a place
+pub file_more : {X Y : Type 0} (gives : List ℕ → Option (List ℕ)) (name : X → List ℕ) (items : Y → List ℕ) (paths : List X) (inputs : List Y) (n : ℕ) (d : X) (input : Y)
+    → n < length paths → AreGiven gives (map name (take n paths)) (map items inputs) → IsGiven gives (name (get_or paths n d)) (items input)
+    → AreGiven gives (map name (take (n + 1) paths)) (map items (inputs ++ input ∷ []))
+file_more gives name items paths inputs n d input below so_far given =
+    let path = get_or paths n d in
+    let longer : map name (take n paths) ++ name path ∷ [] ≡ map name (take (n + 1) paths) =
+    sym (ap (map name) (take_at_read paths n d below).1 ∙ map-append name (take n paths) (path ∷ [])) in
+    subst (λ ps. AreGiven gives ps (map items (inputs ++ input ∷ []))) longer
+    (subst (AreGiven gives (map name (take n paths) ++ name path ∷ [])) (sym (map-append items inputs (input ∷ [])))
+    (one_more gives (map name (take n paths)) (map items inputs) (name path) (items input) so_far given))
+
+-- what ends a reading of at most 1 GiB, ends that of a file
+pub reading_ends : (e : ProgramFault) (before after : Option (List ℕ)) → EndsReading e 1073741824 before after → EndsFile before e
+reading_ends fault.Read before after ends = tt
+reading_ends fault.Memory before after ends = tt
+reading_ends fault.TooLong None after ends = tt
+reading_ends fault.TooLong (Some bytes) after ends = let long = ends.0 in omega (arith, long)
+reading_ends fault.Write before after ends = absurd ends
+reading_ends fault.Usage before after ends = absurd ends
+reading_ends (fault.BadList row) before after ends = absurd ends
+reading_ends fault.Held before after ends = absurd ends
+reading_ends (fault.Refused number) before after ends = absurd ends
+reading_ends fault.NoWorker before after ends = absurd ends
+
+-- what ends a reader that has the bytes of a file left, ends the reading of the file
+pub file_ends : (given left : Option (List ℕ)) (e : ProgramFault) → IfSome given (λ bytes. left ≡ Some bytes) → EndsFile left e → EndsFile given e
+file_ends given left fault.Read opened ends = tt
+file_ends given left fault.Memory opened ends = tt
+file_ends None left fault.TooLong opened ends = tt
+file_ends (Some bytes) left fault.TooLong opened ends = subst (λ l. EndsFile l fault.TooLong) opened ends
+file_ends given left fault.Write opened ends = absurd ends
+file_ends given left fault.Usage opened ends = absurd ends
+file_ends given left (fault.BadList row) opened ends = absurd ends
+file_ends given left fault.Held opened ends = absurd ends
+file_ends given left (fault.Refused number) opened ends = absurd ends
+file_ends given left fault.NoWorker opened ends = absurd ends
+
+-- memory may be out at any path
+pub memory_ends : {T X : Type 0} (result : Result T ProgramFault) (gives : List ℕ → Option (List ℕ)) (name : X → List ℕ) (paths : List X) (n : ℕ)
+    → n < length paths → IfErr result (λ e. e ≡ fault.Memory) → IfErr result (EndsFiles gives (map name paths))
+memory_ends (Ok done) gives name paths n below memory = tt
+memory_ends (Err e) gives name paths n below memory = record {
+  path = get_or (map name paths) n [];
+  named = Contains-get_or (map name paths) n [] (subst (λ m. n < m) (sym (length-map paths name)) below);
+  ends = subst (EndsFile (gives (get_or (map name paths) n []))) (sym memory) tt;
+}
