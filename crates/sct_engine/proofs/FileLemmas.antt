@@ -3,7 +3,6 @@ use Rattle.std.proofs.Common.{◌≡◌, ℕ, ◌+◌, ◌<◌, List, [], ◌∷
 use Rattle.std.proofs.lemmas.Grind.{take_at_read}
 use Rattle.std.proofs.lemmas.List.{length-map, map-append}
 use Rattle.std.proofs.lemmas.List.Elements.{Contains-get_or}
-use Rattle.std.specs.List.{Contains}
 use Rattle.sct_streams.specs.Files.{AreGiven, IsGiven}
 use Rattle.sct_engine.specs.Stream.{EndsFile, EndsFiles, EndsReading}
 use Rattle.sct_engine.specs.declared.fault.ProgramFault.{ProgramFault}
