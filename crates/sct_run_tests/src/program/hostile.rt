@@ -51,7 +51,7 @@ fn run_over(
 }
 
 // A run ended so, and wrote this.
-fn is(ended: &Ended, answer: Result<Done, ProgramFault>, out: &[u8], err: &[u8]) -> bool {
+fn ended_so(ended: &Ended, answer: Result<Done, ProgramFault>, out: &[u8], err: &[u8]) -> bool {
     ended.answer == answer && ended.out.as_slice() == out && ended.err.as_slice() == err
 }
 
@@ -62,17 +62,17 @@ static ELEVEN: &[u8] = b"\n\n\n\n\n\n\n\n\n\n\n";
 #[test]
 fn takes_line_feeds_up_to_the_limit(rt: HostRuntime) {
     let ten = run_over(&rt, rt.alloc(), 10, TEN, AMPLE);
-    assert!(rt; is(&ten, Ok(Done { refused: 0 }), b"", b""));
+    assert!(rt; ended_so(&ten, Ok(Done { refused: 0 }), b"", b""));
     let eleven = run_over(&rt, rt.alloc(), 10, ELEVEN, AMPLE);
-    assert!(rt; is(&eleven, Err(ProgramFault::TooLong), b"", b""));
+    assert!(rt; ended_so(&eleven, Err(ProgramFault::TooLong), b"", b""));
 }
 
 #[test]
 fn an_input_without_end_is_too_long(rt: HostRuntime) {
     let endless = run_over(&rt, rt.alloc(), 10, LineFeeds, AMPLE);
-    assert!(rt; is(&endless, Err(ProgramFault::TooLong), b"", b""));
+    assert!(rt; ended_so(&endless, Err(ProgramFault::TooLong), b"", b""));
     let longer = run_over(&rt, rt.alloc(), 200_000, LineFeeds, AMPLE);
-    assert!(rt; is(&longer, Err(ProgramFault::TooLong), b"", b""));
+    assert!(rt; ended_so(&longer, Err(ProgramFault::TooLong), b"", b""));
 }
 
 // An accepted transfer that was recalled and returned, and its status text.
@@ -84,11 +84,12 @@ static RETURNED_TEXT: &[u8] =
 
 #[test]
 fn a_read_that_fails_leaves_nothing_written(rt: HostRuntime) {
-    for length in 0..RETURNED.len() + 1 {
-        let (left, _) = RETURNED.split_at(length);
+    let input = RETURNED;
+    for length in 0..input.len() + 1 {
+        let (left, _) = input.split_at(length);
         let failing = Giving { left, fails: true };
         let failed = run_over(&rt, rt.alloc(), MOST_BYTES, failing, AMPLE);
-        assert!(rt; is(&failed, Err(ProgramFault::Read), b"", b""));
+        assert!(rt; ended_so(&failed, Err(ProgramFault::Read), b"", b""));
     }
 }
 
@@ -100,14 +101,15 @@ fn run_on(rt: &(impl Threads + Sync), alloc: Global, left: &'static [u8], rooms:
 
 #[test]
 fn a_full_output_gets_a_prefix(rt: HostRuntime) {
-    for out in 0..RETURNED_TEXT.len() {
+    let text = RETURNED_TEXT;
+    for out in 0..text.len() {
         let cut = run_on(&rt, rt.alloc(), RETURNED, Rooms { out, ..AMPLE });
-        let (front, _) = RETURNED_TEXT.split_at(out);
-        assert!(rt; is(&cut, Err(ProgramFault::Write), front, b""));
+        let (front, _) = text.split_at(out);
+        assert!(rt; ended_so(&cut, Err(ProgramFault::Write), front, b""));
     }
-    let out = RETURNED_TEXT.len();
+    let out = text.len();
     let whole = run_on(&rt, rt.alloc(), RETURNED, Rooms { out, ..AMPLE });
-    assert!(rt; is(&whole, Ok(Done { refused: 0 }), RETURNED_TEXT, b""));
+    assert!(rt; ended_so(&whole, Ok(Done { refused: 0 }), text, b""));
 }
 
 // A line that is no object, and then an instruction.
@@ -120,12 +122,13 @@ static REFUSED_TEXT: &[u8] = b"T|BANKDEFFXXX|T1|PENDING\n";
 
 #[test]
 fn a_full_error_output_leaves_the_output_empty(rt: HostRuntime) {
-    for err in 0..REFUSED_TOLD.len() {
+    let told = REFUSED_TOLD;
+    for err in 0..told.len() {
         let cut = run_on(&rt, rt.alloc(), REFUSED, Rooms { err, ..AMPLE });
-        let (front, _) = REFUSED_TOLD.split_at(err);
-        assert!(rt; is(&cut, Err(ProgramFault::Write), b"", front));
+        let (front, _) = told.split_at(err);
+        assert!(rt; ended_so(&cut, Err(ProgramFault::Write), b"", front));
     }
-    let err = REFUSED_TOLD.len();
+    let err = told.len();
     let whole = run_on(&rt, rt.alloc(), REFUSED, Rooms { err, ..AMPLE });
-    assert!(rt; is(&whole, Ok(Done { refused: 1 }), REFUSED_TEXT, REFUSED_TOLD));
+    assert!(rt; ended_so(&whole, Ok(Done { refused: 1 }), REFUSED_TEXT, told));
 }
