@@ -1,5 +1,5 @@
 -- How a desk opens. Read by an auditor.
-use Rattle.std.specs.Prelude.{◌≡◌, ℕ, [], true, false}
+use Rattle.std.specs.Prelude.{◌≡◌, ◌<◌, ◌≤◌, ◌⊎◌, ℕ, [], true, false}
 use Rattle.logbook.specs.Pages.{Book}
 use Rattle.sct_site.specs.Cores.{is_open}
 use Rattle.sct_desk.specs.Passes.{Asked}
@@ -10,9 +10,10 @@ use Rattle.sct_desk.specs.declared.fault.DeskFault.TheVariants as fault
 abbrev pub IsNewQuery : Book → ℕ → Asked → Type 0
 IsNewQuery book number query = query ≡ record { site = number; book = book; seen = [] }
 
--- why a desk does not open: there is no such site; there is, and no place for the queries, or memory is wanting
-abbrev pub FailsToOpen : ℕ → ℕ → DeskFault → Type 0
-FailsToOpen number group fault.BadSite = is_open number group ≡ false
-FailsToOpen number group fault.NoPlace = is_open number group ≡ true
-FailsToOpen number group fault.Memory = is_open number group ≡ true
-FailsToOpen number group other = ⊥
+-- Why a desk does not open. There is no such site (44). Or there is, and the places are fewer than 1 or more than 16 (52). Or
+-- the site and the places are right, and memory is wanting (50).
+abbrev pub FailsToOpen : ℕ → ℕ → ℕ → DeskFault → Type 0
+FailsToOpen number group places fault.BadSite = is_open number group ≡ false
+FailsToOpen number group places fault.NoPlace = (is_open number group ≡ true) × ((places < 1) ⊎ (16 < places))
+FailsToOpen number group places fault.Memory = (is_open number group ≡ true) × (1 ≤ places) × (places ≤ 16)
+FailsToOpen number group places other = ⊥

@@ -1,6 +1,6 @@
 -- The rule of the published view, and what its steps tell. Read by an auditor.
 use Rattle.std.specs.FinSet as set
-use Rattle.std.specs.Prelude.{◌≡◌, ℕ, List, Option, Some, MatchOption, fold, option_map}
+use Rattle.std.specs.Prelude.{◌≡◌, ℕ, List, [], Option, Some, None, MatchOption, if◌then◌else◌, fold, length, nat_lt}
 use mathlib.Core.List.{IsPrefix}
 use mathlib.Core.Option.{some}
 use lib.ListN.{get_elem?}
@@ -12,34 +12,49 @@ use Rattle.sct_history.specs.Sights.{Sight}
 use Rattle.sct_desk.specs.declared.shown.Shown.{Shown}
 use Rattle.sct_desk.specs.declared.shown.Batch.{Batch}
 
+-- ---- what seats know
+
+-- What a seat knows: a list of the site's arrivals, and of which history these are, if it knows of one.
+pub record Known : Type 0 where
+  pub book : Option Book
+  pub log : List Placed
+
+-- a seat that was just taken: the empty list, and no history yet
+abbrev pub nothing_known : Known
+nothing_known = record { book = None; log = [] }
+
+-- a seat that knows a beginning of a history
+abbrev pub known_of : Sight → Known
+known_of sight = record { book = Some sight.book; log = sight.log }
+
+-- what the longer of two lists is known of, the second of two that are equally long
+abbrev pub longer_known : Known → Known → Known
+longer_known v w = if nat_lt (length w.log) (length v.log) then v else w
+
 -- ---- the rule
 
--- what a seat knows, if anything, is a beginning of what is published
-abbrev pub Knows : Sight → Option Sight → Type 0
-Knows s v = MatchOption v (Unit {0}) (λ u. (u.book ≡ s.book) × IsPrefix u.log s.log)
+-- the seat knows a beginning of what is published, and of no other history
+abbrev pub Knows : Sight → Known → Type 0
+Knows s v = MatchOption v.book (Unit {0}) (λ book. book ≡ s.book) × IsPrefix v.log s.log
 
 -- what each seat knows is a beginning of what is published
-abbrev pub AllKnow : Sight → List (Option Sight) → Type 0
-AllKnow s views = (seat : ℕ) (v : Option Sight) → get_elem? views seat ≡ some v → Knows s v
+abbrev pub AllKnow : Sight → List Known → Type 0
+AllKnow s views = (seat : ℕ) (v : Known) → get_elem? views seat ≡ some v → Knows s v
 
 -- the published view is the view of the published arrivals, and what each seat knows is a beginning of these
-abbrev pub Keeps : Shown → List (Option Sight) → Type 0
+abbrev pub Keeps : Shown → List Known → Type 0
 Keeps x views = (x.view ≡ messages_of x.track.log) × AllKnow x.track views
 
 -- ---- its steps
 
 -- A publication or an entry: what the seat knows afterwards is what y shows, which is the view of its arrivals, and
 -- begins with what the seat knew.
-abbrev pub Shows : Option Sight → Shown → Shown → Option Sight → Type 0
-Shows v x y w = (w ≡ Some y.track) × (y.view ≡ messages_of y.track.log) × Knows y.track v
+abbrev pub Shows : Known → Shown → Shown → Known → Type 0
+Shows v x y w = (w ≡ known_of y.track) × (y.view ≡ messages_of y.track.log) × Knows y.track v
 
 -- y shows the view of arrivals of the same history that begin with those of x
 abbrev pub GoesOn : Shown → Shown → Type 0
 GoesOn x y = (x.track.book ≡ y.track.book) × IsPrefix x.track.log y.track.log × (y.view ≡ messages_of y.track.log)
-
--- the history that a seat knows of
-abbrev pub book_known : Option Sight → Option Book
-book_known v = option_map (λ u. u.book) v
 
 -- ---- what is published
 

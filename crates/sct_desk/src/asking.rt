@@ -3,7 +3,7 @@
 ghost use Rattle.std.specs.Prelude.{◌≡◌, ◌⊎◌, length, IfOk, IfErr};
 ghost use mathlib.Core.List.{IsPrefix};
 ghost use Rattle.sct_case.specs.Statuses.{told};
-ghost use Rattle.sct_delta.specs.Entries.{messages_of};
+ghost use Rattle.sct_delta.specs.Entries.{IsArrivals, messages_of};
 ghost use Rattle.sct_view.specs.Answers.{status_of, found_on, recall_of};
 ghost use Rattle.sct_view.specs.Totals.{totals_of};
 ghost use Rattle.sct_desk.specs.declared.fault.DeskFault.TheVariants as fault;
@@ -27,6 +27,7 @@ impl Query {
     ) -> Result<Answer<Status>, DeskFault>
         ensures same { (self.new.site ≡ self.old.site) × (self.new.book ≡ self.old.book) }
         ensures later { IsPrefix self.old.seen self.new.seen }
+        ensures order { IsArrivals self.new.seen }
         ensures front { IfOk result (λ answer. answer.front ≡ length self.new.seen) }
         ensures value { IfOk result (λ answer. told answer.value
             ≡ status_of (messages_of self.new.seen) transfer.now) }
@@ -46,6 +47,7 @@ impl Query {
     ) -> Result<Answer<Vec<Finding>>, DeskFault>
         ensures same { (self.new.site ≡ self.old.site) × (self.new.book ≡ self.old.book) }
         ensures later { IsPrefix self.old.seen self.new.seen }
+        ensures order { IsArrivals self.new.seen }
         ensures front { IfOk result (λ answer. answer.front ≡ length self.new.seen) }
         ensures value { IfOk result (λ answer. answer.value.items
             ≡ found_on (messages_of self.new.seen) transfer.now) }
@@ -60,6 +62,7 @@ impl Query {
     pub fn recall(&mut self, recall: &RecallKey) -> Result<Answer<RecallStatus>, DeskFault>
         ensures same { (self.new.site ≡ self.old.site) × (self.new.book ≡ self.old.book) }
         ensures later { IsPrefix self.old.seen self.new.seen }
+        ensures order { IsArrivals self.new.seen }
         ensures front { IfOk result (λ answer. answer.front ≡ length self.new.seen) }
         ensures value { IfOk result (λ answer. answer.value
             ≡ recall_of (messages_of self.new.seen) recall.now) }
@@ -76,6 +79,7 @@ impl Query {
     pub fn totals(&mut self, bank: &Bic) -> Result<Answer<Totals>, DeskFault>
         ensures same { (self.new.site ≡ self.old.site) × (self.new.book ≡ self.old.book) }
         ensures later { IsPrefix self.old.seen self.new.seen }
+        ensures order { IsArrivals self.new.seen }
         ensures front { IfOk result (λ answer. answer.front ≡ length self.new.seen) }
         ensures value { IfOk result (λ answer. answer.value ≡ totals_of (messages_of self.new.seen) bank.now) }
         ensures refused { IfErr result (λ refusal. refusal ≡ fault.Closed) }

@@ -1,12 +1,12 @@
 //! How a desk is opened.
 
-ghost use Rattle.std.specs.Prelude.{◌≡◌, ◌≤◌, ◌<◌, ◌^◌, ◌⊎◌, [], Some, true, drop, vec_len, IfOk, IfErr, OnOk};
+ghost use Rattle.std.specs.Prelude.{◌≡◌, ◌≤◌, ◌<◌, ◌^◌, [], Some, true, drop, vec_len, IfOk, IfErr, OnOk};
 ghost use Rattle.sct_desk.specs.declared.fault.DeskFault.TheVariants as fault;
 ghost use Rattle.std.specs.List.{All};
 ghost use Rattle.left_right.specs.Sides.{view as seat_view};
 ghost use Rattle.sct_site.specs.Cores.{is_open};
 ghost use Rattle.sct_desk.specs.Openings.{FailsToOpen, IsNewQuery};
-ghost use Rattle.sct_desk.specs.Rules.{book_known, view_of};
+ghost use Rattle.sct_desk.specs.Rules.{view_of};
 
 use crate::desk::Desk;
 use crate::fault::DeskFault;
@@ -47,7 +47,7 @@ fn writer<R: Wait>(
     requires places { (0 < places) × (places < 2 ^ 32) }
     ensures shown { IfOk result (λ w. w.desk.shown.value ≡ view_of track.now.book []) }
     ensures none { IfOk result (λ w. drop w.behind w.log.items ≡ []) }
-    ensures book { IfOk result (λ w. book_known (seat_view w.desk.place) ≡ Some track.now.book) }
+    ensures book { IfOk result (λ w. (seat_view w.desk.place).book ≡ Some track.now.book) }
     ensures refused { IfErr result (λ refusal. refusal ≡ fault.Memory) }
 {
     let first = nothing(alloc, track);
@@ -65,19 +65,20 @@ fn writer<R: Wait>(
     }
 }
 
-// One more query, which knows the history and has seen nothing.
+// One more query, which knows the history and has seen nothing. The writer has a place for each query of its desk, so a
+// reader is refused only if memory is: its owners can't be counted any further.
 fn query(writer: &mut ShownWriter, number: u16, track: &Track) -> Result<Query, DeskFault>
-    requires { book_known (seat_view writer.old.desk.place) ≡ Some track.now.book }
+    requires { (seat_view writer.old.desk.place).book ≡ Some track.now.book }
     ensures shown { writer.new.desk.shown ≡ writer.old.desk.shown }
     ensures pending { drop writer.new.behind writer.new.log.items
         ≡ drop writer.old.behind writer.old.log.items }
     ensures knows { seat_view writer.new.desk.place ≡ seat_view writer.old.desk.place }
     ensures query { IfOk result (λ q. q
         ≡ record { site = number; book = track.now.book; seen = track.now.log }) }
-    ensures refused { IfErr result (λ refusal. refusal ≡ fault.NoPlace) }
+    ensures refused { IfErr result (λ refusal. refusal ≡ fault.Memory) }
 {
     let Ok(mut reader) = writer.factory().reader() else {
-        return Err(DeskFault::NoPlace);
+        return Err(DeskFault::Memory);
     };
     reader.learn::<Notes>(writer.tell::<Notes>());
     Ok(Query {
@@ -95,14 +96,14 @@ fn queries(
     track: &Track,
     places: usize,
 ) -> Result<Vec<Query>, DeskFault>
-    requires { book_known (seat_view writer.old.desk.place) ≡ Some track.now.book }
+    requires { (seat_view writer.old.desk.place).book ≡ Some track.now.book }
     ensures shown { writer.new.desk.shown ≡ writer.old.desk.shown }
     ensures pending { drop writer.new.behind writer.new.log.items
         ≡ drop writer.old.behind writer.old.log.items }
     ensures len { IfOk result (λ qs. vec_len qs ≡ places) }
     ensures queries { IfOk result (λ qs. All (λ q. q
         ≡ record { site = number; book = track.now.book; seen = track.now.log }) qs.items) }
-    ensures refused { IfErr result (λ refusal. (refusal ≡ fault.NoPlace) ⊎ (refusal ≡ fault.Memory)) }
+    ensures refused { IfErr result (λ refusal. refusal ≡ fault.Memory) }
 {
     let mut queries = Vec::new(alloc);
     for _ in 0..places {
@@ -116,8 +117,9 @@ fn queries(
 
 impl<J: Site, R: Wait + Drop> Desk<J, R> {
     /// Opens the desk of the site `number` of a group of `group` sites, on a history that was just opened, with so many
-    /// queries. Refused are 44 (`BadSite`) a group that is not of 1 to 1024 sites, or has no such site, then 52 (`NoPlace`)
-    /// a number of places that is not 1 to 16. The desk keeps `rt`, to wait for readers when it is dropped.
+    /// queries. Refused are 44 (`BadSite`) a group that is not of 1 to 1024 sites, or has no such site; then 52 (`NoPlace`)
+    /// fewer than 1 or more than 16 places, and no other number of them; then 50 (`Memory`). The desk keeps `rt`, to wait
+    /// for readers when it is dropped.
     pub fn open(
         rt: R,
         alloc: Global,
@@ -135,7 +137,7 @@ impl<J: Site, R: Wait + Drop> Desk<J, R> {
         ensures places { OnOk result ((1 ≤ places) × (places ≤ 16)) }
         ensures len { IfOk result (λ d. vec_len d.1 ≡ places) }
         ensures queries { IfOk result (λ d. All (IsNewQuery J.book J.number) d.1.items) }
-        ensures refused { IfErr result (FailsToOpen number group) }
+        ensures refused { IfErr result (FailsToOpen number group places) }
     {
         let Ok(core) = SiteCore::open(alloc, number, group) else {
             return Err(DeskFault::BadSite);

@@ -2,7 +2,7 @@
 
 ghost use Rattle.std.specs.Prelude.{◌≡◌, ◌≢◌, ◌⊎◌, length, IfOk, IfErr};
 ghost use mathlib.Core.List.{IsPrefix};
-ghost use Rattle.sct_delta.specs.Entries.{messages_of};
+ghost use Rattle.sct_delta.specs.Entries.{IsArrivals, messages_of};
 ghost use Rattle.sct_history.specs.Sights.{IsLonger};
 ghost use Rattle.sct_desk.specs.declared.fault.DeskFault.TheVariants as fault;
 
@@ -33,13 +33,12 @@ impl Model for Query {
     ghost use Rattle.std.specs.Prelude.{◌≡◌, Some};
     ghost use Rattle.left_right.specs.Sides.{view as seat_view};
     ghost use Rattle.sct_desk.specs.Passes.{Asked};
-    ghost use Rattle.sct_desk.specs.Rules.{book_known};
 
     ghost Value = { Asked };
 
     ghost view = { λ q. record { site = q.site; book = q.track.book; seen = q.track.log } };
 
-    ghost invariant = { λ q. book_known (seat_view q.reader.place) ≡ Some q.track.book };
+    ghost invariant = { λ q. (seat_view q.reader.place).book ≡ Some q.track.book };
 }
 
 impl Query {
@@ -50,10 +49,12 @@ impl Query {
         ensures longer { receipt.now.site ≡ self.old.site
             → IsLonger self.old.seen receipt.now.shown self.new.seen }
         ensures other { receipt.now.site ≢ self.old.site → self.new.seen ≡ self.old.seen }
+        ensures order { IsArrivals self.new.seen }
     {
         if receipt.site == self.site {
             self.track = self.track.longer(&receipt.track);
         }
+        let _seen = self.track.len();
     }
 
     /// Asks what is published. The query comes back, with what it has seen then.
@@ -63,6 +64,7 @@ impl Query {
     ) -> (Query, Result<Answer<Q::Value>, DeskFault>)
         ensures same { (result.0.site ≡ self.site) × (result.0.book ≡ self.book) }
         ensures later { IsPrefix self.seen result.0.seen }
+        ensures order { IsArrivals result.0.seen }
         ensures value { IfOk result.1 (λ a. (a.front ≡ length result.0.seen)
             × Q.is_answer question.now (messages_of result.0.seen) a.value) }
         ensures refused { IfErr result.1 (λ refusal. (refusal ≡ fault.Closed)
@@ -73,6 +75,7 @@ impl Query {
             reader,
             track,
         } = self;
+        let _known = track.len();
         let reading = match reader.enter_as::<Sees>() {
             Ok(reading) => reading,
             Err(reader) => {

@@ -7,45 +7,60 @@ use crossbeam_utils::rule::{Outcome, Protocol};
 use left_right::reader::Reader;
 use left_right::writer::Writer;
 use sct_history::Track;
+use std::marker::Model;
 
-/// The rule: what is published is the view of its arrivals, and each seat knows a beginning of these.
+/// What a seat knows of the published arrivals. Seats have it in proofs alone.
+pub struct Glimpse {
+    track: Option<Track>,
+}
+
+impl Model for Glimpse {
+    ghost use Rattle.std.specs.Prelude.{option_map, unwrap_or};
+    ghost use Rattle.sct_desk.specs.Rules.{Known, known_of, nothing_known};
+
+    ghost Value = { Known };
+
+    ghost view = { λ g. unwrap_or (option_map known_of g.track) nothing_known };
+}
+
+/// The rule: what is published is the view of its arrivals, and each seat knows a beginning of these. A seat that was just
+/// taken knows the empty list.
 pub struct Published;
 
-impl Protocol<Shown, Option<Track>> for Published {
-    ghost use Rattle.std.specs.Prelude.{None};
-    ghost use Rattle.sct_desk.specs.Rules.{Keeps};
+impl Protocol<Shown, Glimpse> for Published {
+    ghost use Rattle.sct_desk.specs.Rules.{Keeps, nothing_known};
 
     ghost holds = { Keeps };
 
-    ghost first = { None };
+    ghost first = { nothing_known };
 }
 
 /// A publication, and the entry of a query.
 pub struct Sees;
 
-impl Outcome<Shown, Option<Track>> for Sees {
+impl Outcome<Shown, Glimpse> for Sees {
     ghost use Rattle.sct_desk.specs.Rules.{Shows};
 
     ghost then = { Shows };
 }
 
-/// What the writer tells a reader: all that it knows.
+/// What the writer reports to a reader: all that it knows. The reader knows the longer of two lists from then on.
 pub struct Notes;
 
-impl Split<Option<Track>> for Notes {
+impl Split<Glimpse> for Notes {
     ghost left = { λ v. v };
 
     ghost right = { λ v. v };
 }
 
-impl Join<Option<Track>> for Notes {
-    ghost use Rattle.std.specs.Prelude.{None};
+impl Join<Glimpse> for Notes {
+    ghost use Rattle.sct_desk.specs.Rules.{longer_known, nothing_known};
 
-    ghost both = { λ v w. w };
+    ghost both = { longer_known };
 
-    ghost spent = { None };
+    ghost spent = { nothing_known };
 }
 
-pub type ShownWriter = Writer<Shown, Batch, Option<Track>, Published>;
+pub type ShownWriter = Writer<Shown, Batch, Glimpse, Published>;
 
-pub type ShownReader = Reader<Shown, Option<Track>, Published>;
+pub type ShownReader = Reader<Shown, Glimpse, Published>;
