@@ -1,6 +1,8 @@
 -- What the events of a site leave under a desk's lock.
 use Rattle.std.proofs.Common.{◌≡◌, ◌∙◌, refl, ap, sym, subst, ℕ, ◌≤◌, ◌+◌, ◌-◌, Bool, true, false, not, List, [], ◌∷◌, take, length, arith, length-append, nat_eq}
-use Rattle.std.specs.Prelude.{◌≢◌, Option, Some, None, MatchOption, Result, Ok, Err, IfOk, IfErr, OnOk, OnErr}
+use Rattle.std.specs.Prelude.{◌≢◌, Option, Some, None, MatchOption, Result, Ok, Err, IfOk, IfErr, IfSome, OnOk, OnErr}
+use Rattle.std.specs.List.{find}
+use Rattle.std.specs.Option.{option_or}
 use Rattle.std.proofs.lemmas.List.{take-append-le}
 use Rattle.std.proofs.lemmas.List.Filters.{length-filter_both}
 use Rattle.std.proofs.lemmas.Bool.Decides.{nat_tests}
@@ -9,7 +11,7 @@ use mathlib.Core.List.{IsPrefix}
 use Rattle.logbook.specs.Pages.{Book}
 use Rattle.sct_message.specs.declared.draft.Draft.{Draft}
 use Rattle.sct_delta.specs.Entries.{Placed}
-use Rattle.sct_delta.specs.Refusals.{is_held}
+use Rattle.sct_delta.specs.Refusals.{ahead_refusal, first_refusal, firsts_after, fork_refusal, gap_refusal, is_ahead, is_fork, is_held, is_outside, is_past, outside_refusal, told, vector_of}
 use Rattle.sct_delta.specs.declared.fault.DeltaFault.{DeltaFault}
 use Rattle.sct_delta.specs.declared.fault.DeltaFault.TheVariants as delta_fault
 use Rattle.sct_history.specs.Sights.{Sight}
@@ -20,7 +22,7 @@ use Rattle.sct_desk.specs.declared.shown.Shown.{Shown}
 use Rattle.sct_desk.specs.declared.shown.Batch.{Batch}
 use Rattle.sct_desk.specs.declared.fault.DeskFault.{DeskFault}
 use Rattle.sct_desk.specs.HeldOk.{IsHeld}
-use Rattle.sct_desk.specs.Locked.{Locked, Fails, IsWant, answer_for, answer_to, arrivals_for, arrivals_handed, came_by_delta, came_by_take, unpublished}
+use Rattle.sct_desk.specs.Locked.{Locked, Fails, IsDeltaRefusal, IsWant, answer_for, answer_to, arrivals_for, arrivals_handed, came_by_delta, came_by_take, unpublished}
 use Rattle.sct_desk.specs.Passes.{Told, before}
 use Rattle.sct_desk.specs.Rules.{view_of}
 
@@ -127,6 +129,39 @@ pub arrived_so : (core new : Core) (delta : List Placed) (r : Result Accepted De
     → OnOk r (new.arrivals ≡ arrivals_joined core.arrivals delta) → OnErr r (new ≡ core) → r ≢ Err delta_fault.Memory
     → new.arrivals ≡ arrivals_handed core delta
 arrived_so core new delta r fresh none why joined unchanged other = (answered core new delta r fresh none why joined unchanged other).1
+
+-- why a delta is refused
+either_refuses : (o p : Option DeltaFault) → IfSome o IsDeltaRefusal → IfSome p IsDeltaRefusal → IfSome (option_or o p) IsDeltaRefusal
+either_refuses None p one other = other
+either_refuses (Some refusal) p one other = one
+
+entry_refuses : (tells : Placed → DeltaFault) (o : Option Placed) → ((entry : Placed) → IsDeltaRefusal (tells entry))
+    → IfSome (told tells o) IsDeltaRefusal
+entry_refuses tells None each = tt
+entry_refuses tells (Some entry) each = each entry
+
+delta_refuses : (core : Core) (delta : List Placed) → IfSome (refusal_by core delta) IsDeltaRefusal
+unfolding first_refusal
+delta_refuses core delta =
+    let log = logs_of core.arrivals in
+    either_refuses (outside_refusal core.group delta) _
+    (entry_refuses (λ entry. delta_fault.BadSite) (find (is_outside core.group) delta) (λ entry. tt))
+    (either_refuses (ahead_refusal core.number log delta) _
+    (entry_refuses (λ entry. delta_fault.OwnAhead entry.n) (find (is_ahead core.number log) delta) (λ entry. tt))
+    (either_refuses (gap_refusal log delta) _
+    (entry_refuses (λ entry. delta_fault.Gap entry.origin (vector_of log entry.origin) entry.n) (find (is_past log) (firsts_after 0 delta)) (λ entry. tt))
+    (entry_refuses (λ entry. delta_fault.Fork entry.origin entry.n) (find (is_fork log) delta) (λ entry. tt))))
+
+refused_as : (o : Option DeltaFault) (f : DeltaFault) → IfSome o IsDeltaRefusal → MatchOption o (f ≡ delta_fault.Memory) (λ first. f ≡ first)
+    → ◌≢◌ {A = Result Accepted DeltaFault} (Err f) (Err delta_fault.Memory) → IsDeltaRefusal f
+refused_as None f each want other = absurd (other (λ i. Err (want i)))
+refused_as (Some first) f each same other = subst IsDeltaRefusal (sym same) each
+
+pub refused_so : (core : Core) (delta : List Placed) (r : Result Accepted DeltaFault)
+    → IfErr r (λ refusal. MatchOption (refusal_by core delta) (refusal ≡ delta_fault.Memory) (λ first. refusal ≡ first))
+    → r ≢ Err delta_fault.Memory → IfErr r IsDeltaRefusal
+refused_so core delta (Ok accepted) why other = tt
+refused_so core delta (Err f) why other = refused_as (refusal_by core delta) f (delta_refuses core delta) why other
 
 -- ---- receipts
 

@@ -2,6 +2,7 @@
 use Rattle.std.specs.Prelude.{◌≡◌, ◌+◌, ◌≤◌, ℕ, List, length, Option, Some, None, Result, Ok, Err, if◌then◌else◌, nat_eq}
 use Rattle.sct_delta.specs.Entries.{Placed}
 use Rattle.sct_delta.specs.declared.fault.DeltaFault.{DeltaFault}
+use Rattle.sct_delta.specs.declared.fault.DeltaFault.TheVariants as delta_fault
 use Rattle.sct_site.specs.Cores.{Core, refusal_by, fresh_of, arrivals_joined}
 use Rattle.sct_site.specs.declared.answers.Accepted.{Accepted}
 use Rattle.sct_site.specs.declared.answers.Took.{Took}
@@ -23,6 +24,14 @@ abbrev pub IsHeldBack : ℕ → Locked → Type 0
 IsHeldBack from held = (from ≡ length held.published + 1) × (from ≤ length held.core.arrivals)
 
 -- ---- a delta that is handed over
+
+-- why a delta is refused: 44, 43, 41 or 42, and nothing else
+abbrev pub IsDeltaRefusal : DeltaFault → Type 0
+IsDeltaRefusal delta_fault.BadSite = Unit {0}
+IsDeltaRefusal (delta_fault.OwnAhead n) = Unit {0}
+IsDeltaRefusal (delta_fault.Gap origin have first) = Unit {0}
+IsDeltaRefusal (delta_fault.Fork origin n) = Unit {0}
+IsDeltaRefusal other = ⊥
 
 abbrev pub answer_for : Option DeltaFault → ℕ → Result Accepted DeltaFault
 answer_for None fresh = Ok (record { fresh = fresh })

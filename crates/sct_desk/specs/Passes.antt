@@ -1,5 +1,5 @@
 -- What receipts show, and what queries have seen. Read by an auditor.
-use Rattle.std.specs.Prelude.{◌≡◌, ◌-◌, ℕ, List, length, take}
+use Rattle.std.specs.Prelude.{◌≡◌, ◌+◌, ◌-◌, ◌≤◌, ℕ, List, length, take}
 use Rattle.logbook.specs.Pages.{Book}
 use Rattle.sct_delta.specs.Entries.{Placed}
 use Rattle.sct_site.specs.Cores.{Core}
@@ -23,6 +23,12 @@ pub record Asked : Type 0 where
 -- the receipt is of this site
 abbrev pub IsOf : Book → ℕ → Told → Type 0
 IsOf book number receipt = (receipt.site ≡ number) × (receipt.book ≡ book)
+
+-- The receipt reports positions up to the last one that it shows, each of them once: they begin at 1 or later, and no more of
+-- them are carried than there are.
+abbrev pub ReportsRange : Told → Type 0
+ReportsRange receipt =
+    (1 ≤ receipt.from) × (receipt.from + receipt.count ≡ length receipt.shown + 1) × (receipt.carried ≤ receipt.count)
 
 -- how many of the arrivals that a receipt tells came by the very call that it is of
 abbrev pub came : Told → ℕ

@@ -1,10 +1,10 @@
 -- Receipts that tile a site's arrivals. Read by an auditor.
-use Rattle.std.specs.Prelude.{◌≡◌, ◌≢◌, ◌+◌, ◌<◌, ◌≤◌, ◌-◌, ◌==◌, ◌&&◌, ◌⊎◌, ℕ, Bool, List, length, filter, min, nat_le, nat_lt, slice_index}
+use Rattle.std.specs.Prelude.{◌≡◌, ◌≢◌, ◌+◌, ◌<◌, ◌≤◌, ◌-◌, ◌==◌, ◌&&◌, ◌⊎◌, ℕ, Bool, List, Option, Some, length, filter, min, nat_le, nat_lt, slice_index}
 use Rattle.std.specs.List.{All, Any}
 use mathlib.Core.List.{IsPrefix}
 use Rattle.logbook.specs.Pages.{Book}
 use Rattle.sct_delta.specs.Entries.{Placed}
-use Rattle.sct_desk.specs.Locked.{IsHeldBack, Locked}
+use Rattle.sct_desk.specs.Locked.{IsHeldBack, IsShown, Locked}
 use Rattle.sct_desk.specs.Passes.{Told}
 use Rattle.sct_desk.specs.declared.fault.DeskFault.{DeskFault}
 use Rattle.sct_desk.specs.declared.fault.DeskFault.TheVariants as fault
@@ -39,6 +39,11 @@ abbrev pub FailsToClose : ℕ → List Told → DeskFault → Type 0
 FailsToClose number receipts (fault.Pending from) = 1 ≤ from
 FailsToClose number receipts (fault.Untold position) = IsLeastUntold number receipts position
 FailsToClose number receipts other = ⊥
+
+-- 53 comes first: a desk is closed, and a position is reported by 54, only if nothing is pending
+abbrev pub PendingFirst : Locked → Option DeskFault → Type 0
+PendingFirst held (Some (fault.Pending from)) = Unit {0}
+PendingFirst held other = IsShown held
 
 -- a receipt of this site shows more than all of the arrivals
 abbrev pub ShowsMore : ℕ → List Placed → Told → Type 0

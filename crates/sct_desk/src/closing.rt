@@ -11,6 +11,7 @@ ghost use Rattle.sct_desk.specs.Tilings.{
   IsLeastUntold,
   IsPendingFrom,
   OneShowsMore,
+  PendingFirst,
   ShowsMore,
   Tiles,
   tellings,
@@ -147,6 +148,7 @@ impl<J: Site, R: Wait + Drop> Held<J, R> {
             (FailsToClose J.number receipts.now) }
         ensures pending { (from : ℕ) → result ≡ Some (fault.Pending from)
             → IsPendingFrom J.number self.old receipts.now from }
+        ensures order { PendingFirst self.old result }
     {
         let len = self.core.arrivals().len();
         let number = self.core.number();

@@ -5,8 +5,8 @@ ghost use Rattle.std.specs.Prelude.{◌≡◌, ◌+◌, IfOk, IfErr};
 ghost use Rattle.sct_delta.specs.Entries.{IsArrivals};
 ghost use Rattle.sct_delta.specs.Vectors.{count_in};
 ghost use Rattle.sct_site.specs.Cores.{took_by, arrivals_taken, entries_above};
-ghost use Rattle.sct_desk.specs.Locked.{IsWant, answer_to, arrivals_handed, came_by_delta, came_by_take};
-ghost use Rattle.sct_desk.specs.Passes.{IsOf, before, site_with};
+ghost use Rattle.sct_desk.specs.Locked.{IsDeltaRefusal, IsWant, answer_to, arrivals_handed, came_by_delta, came_by_take};
+ghost use Rattle.sct_desk.specs.Passes.{IsOf, ReportsRange, before, site_with};
 ghost use Rattle.sct_desk.specs.Tilings.{AreOurs, FailsToClose, Tiles};
 
 use crate::fault::DeskFault;
@@ -55,6 +55,7 @@ impl<J: Site, R: Wait + Drop> Desk<J, R> {
         message: Arc<Message>,
     ) -> Result<(Took, Receipt), DeskFault>
         ensures receipt { IfOk result (λ t. IsOf J.book J.number t.1) }
+        ensures range { IfOk result (λ t. ReportsRange t.1) }
         ensures took { IfOk result (λ t. t.0
             ≡ took_by (site_with J.number J.group (before t.1)) (arc_value message)) }
         ensures shown { IfOk result (λ t.
@@ -77,8 +78,10 @@ impl<J: Site, R: Wait + Drop> Desk<J, R> {
         delta: &Delta,
     ) -> Result<(Result<Accepted, DeltaFault>, Receipt), DeskFault>
         ensures receipt { IfOk result (λ t. IsOf J.book J.number t.1) }
+        ensures range { IfOk result (λ t. ReportsRange t.1) }
         ensures answer { IfOk result (λ t. t.0
             ≡ answer_to (site_with J.number J.group (before t.1)) delta.now) }
+        ensures refusals { IfOk result (λ t. IfErr t.0 IsDeltaRefusal) }
         ensures shown { IfOk result (λ t.
             t.1.shown ≡ arrivals_handed (site_with J.number J.group (before t.1)) delta.now) }
         ensures order { IfOk result (λ t. IsArrivals t.1.shown) }
@@ -98,6 +101,7 @@ impl<J: Site, R: Wait + Drop> Desk<J, R> {
         vector: &Vector,
     ) -> Result<(Delta, Receipt), DeskFault>
         ensures receipt { IfOk result (λ t. IsOf J.book J.number t.1) }
+        ensures range { IfOk result (λ t. ReportsRange t.1) }
         ensures cut { IfOk result (λ t. t.0 ≡ entries_above (count_in vector.now) t.1.shown) }
         ensures order { IfOk result (λ t. IsArrivals t.1.shown) }
         ensures count { IfOk result (λ t. t.1.count ≡ t.1.carried) }
@@ -111,6 +115,7 @@ impl<J: Site, R: Wait + Drop> Desk<J, R> {
     /// arrivals are pending.
     pub fn publish<W: Wait>(&self, rt: &W, alloc: Global) -> Result<Receipt, DeskFault>
         ensures receipt { IfOk result (λ receipt. IsOf J.book J.number receipt) }
+        ensures range { IfOk result ReportsRange }
         ensures order { IfOk result (λ receipt. IsArrivals receipt.shown) }
         ensures count { IfOk result (λ receipt. receipt.count ≡ receipt.carried) }
         ensures refused { IfErr result IsWant }

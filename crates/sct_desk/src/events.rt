@@ -7,8 +7,8 @@ ghost use Rattle.sct_delta.specs.Entries.{IsArrivals};
 ghost use Rattle.sct_delta.specs.Vectors.{count_in};
 ghost use Rattle.sct_delta.specs.declared.fault.DeltaFault.TheVariants as delta_fault;
 ghost use Rattle.sct_site.specs.Cores.{took_by, arrivals_taken, entries_above};
-ghost use Rattle.sct_desk.specs.Locked.{Fails, IsShown, IsWant, answer_to, arrivals_handed, came_by_delta, came_by_take};
-ghost use Rattle.sct_desk.specs.Passes.{IsOf, before, site_with};
+ghost use Rattle.sct_desk.specs.Locked.{Fails, IsDeltaRefusal, IsShown, IsWant, answer_to, arrivals_handed, came_by_delta, came_by_take};
+ghost use Rattle.sct_desk.specs.Passes.{IsOf, ReportsRange, before, site_with};
 
 use crate::fault::DeskFault;
 use crate::held::Held;
@@ -55,11 +55,12 @@ fn came_with(answer: &Result<Accepted, DeltaFault>) -> Option<u64>
 }
 
 // What a core answers to a delta, and how many arrivals came with it. There is nothing where memory was wanting.
-#[tactic(auto, using(crate::proofs::Arrived::answered_so, crate::proofs::Arrived::arrived_so))]
+#[tactic(auto, using(crate::proofs::Arrived::answered_so, crate::proofs::Arrived::arrived_so, crate::proofs::Arrived::refused_so))]
 fn handed(core: &mut SiteCore, delta: &Delta) -> Option<(Result<Accepted, DeltaFault>, u64)>
     ensures number { core.new.number ≡ core.old.number }
     ensures group { core.new.group ≡ core.old.group }
     ensures answer { IfSome result (λ t. t.0 ≡ answer_to core.old delta.now) }
+    ensures refusals { IfSome result (λ t. IfErr t.0 IsDeltaRefusal) }
     ensures news { IfSome result (λ t. t.1 ≡ came_by_delta t.0) }
     ensures arrivals { IfSome result (λ t. core.new.arrivals ≡ arrivals_handed core.old delta.now) }
     ensures want { IfNone result (core.new ≡ core.old) }
@@ -96,6 +97,8 @@ impl<J: Site, R: Wait + Drop> Held<J, R> {
         ensures receipt { IfOk result (λ t. IsOf J.book J.number t.1
             × (before t.1 ≡ self.old.core.arrivals) × (t.1.shown ≡ self.new.core.arrivals)) }
         ensures order { IfOk result (λ t. IsArrivals t.1.shown) }
+        ensures from { IfOk result (λ t. t.1.from ≡ length self.old.published + 1) }
+        ensures range { IfOk result (λ t. ReportsRange t.1) }
         ensures count { IfOk result (λ t. t.1.count ≡ t.1.carried + came_by_take t.0) }
         ensures want { IfErr result IsWant }
         ensures failed { IfErr result (Fails self.old
@@ -126,11 +129,14 @@ impl<J: Site, R: Wait + Drop> Held<J, R> {
         ensures site { self.old.core ≡ site_with J.number J.group self.old.core.arrivals }
         ensures same { self.new.core ≡ site_with J.number J.group self.new.core.arrivals }
         ensures answer { IfOk result (λ t. t.0 ≡ answer_to self.old.core delta.now) }
+        ensures refusals { IfOk result (λ t. IfErr t.0 IsDeltaRefusal) }
         ensures arrivals { OnOk result (self.new.core.arrivals ≡ arrivals_handed self.old.core delta.now) }
         ensures shown { OnOk result (IsShown self.new) }
         ensures receipt { IfOk result (λ t. IsOf J.book J.number t.1
             × (before t.1 ≡ self.old.core.arrivals) × (t.1.shown ≡ self.new.core.arrivals)) }
         ensures order { IfOk result (λ t. IsArrivals t.1.shown) }
+        ensures from { IfOk result (λ t. t.1.from ≡ length self.old.published + 1) }
+        ensures range { IfOk result (λ t. ReportsRange t.1) }
         ensures count { IfOk result (λ t. t.1.count ≡ t.1.carried + came_by_delta t.0) }
         ensures want { IfErr result IsWant }
         ensures failed { IfErr result (Fails self.old (arrivals_handed self.old.core delta.now) self.new) }
@@ -161,6 +167,8 @@ impl<J: Site, R: Wait + Drop> Held<J, R> {
         ensures shown { OnOk result (IsShown self.new) }
         ensures receipt { IfOk result (λ t. IsOf J.book J.number t.1 × (t.1.shown ≡ self.old.core.arrivals)) }
         ensures order { IfOk result (λ t. IsArrivals t.1.shown) }
+        ensures from { IfOk result (λ t. t.1.from ≡ length self.old.published + 1) }
+        ensures range { IfOk result (λ t. ReportsRange t.1) }
         ensures count { IfOk result (λ t. t.1.count ≡ t.1.carried) }
         ensures want { IfErr result IsWant }
         ensures failed { IfErr result (Fails self.old self.old.core.arrivals self.new) }
@@ -182,6 +190,8 @@ impl<J: Site, R: Wait + Drop> Held<J, R> {
         ensures receipt { IfOk result (λ receipt. IsOf J.book J.number receipt
             × (receipt.shown ≡ self.old.core.arrivals)) }
         ensures order { IfOk result (λ receipt. IsArrivals receipt.shown) }
+        ensures from { IfOk result (λ receipt. receipt.from ≡ length self.old.published + 1) }
+        ensures range { IfOk result ReportsRange }
         ensures count { IfOk result (λ receipt. receipt.count ≡ receipt.carried) }
         ensures want { IfErr result IsWant }
         ensures failed { IfErr result (Fails self.old self.old.core.arrivals self.new) }

@@ -6,7 +6,7 @@ ghost use mathlib.Core.List.{IsPrefix};
 ghost use Rattle.sct_delta.specs.Entries.{IsArrivals, messages_of};
 ghost use Rattle.sct_message.specs.Sets.{messages_in};
 ghost use Rattle.sct_desk.specs.Locked.{IsShown, unpublished};
-ghost use Rattle.sct_desk.specs.Passes.{IsOf};
+ghost use Rattle.sct_desk.specs.Passes.{IsOf, ReportsRange};
 ghost use Rattle.sct_desk.specs.Rules.{GoesOn, handed_over};
 
 use crate::fault::DeskFault;
@@ -119,6 +119,7 @@ fn receipt_of(site: u16, from: u64, track: &Track, news: u64) -> Receipt
     ensures shown { result.shown ≡ track.now.log }
     ensures order { IsArrivals result.shown }
     ensures from { result.from ≡ from }
+    ensures range { ReportsRange result }
     ensures news { result.count ≡ result.carried + news }
 {
     let count = track.len() - (from - 1);
@@ -161,6 +162,7 @@ impl<J: Site, R: Wait + Drop> Held<J, R> {
         ensures arrivals { IfOk result (λ receipt. receipt.shown ≡ self.old.core.arrivals) }
         ensures order { IfOk result (λ receipt. IsArrivals receipt.shown) }
         ensures from { IfOk result (λ receipt. receipt.from ≡ length self.old.published + 1) }
+        ensures range { IfOk result ReportsRange }
         ensures news { IfOk result (λ receipt. receipt.count ≡ receipt.carried + news) }
         ensures refused { IfErr result (λ refusal. refusal ≡ unpublished self.old) }
         ensures unchanged { OnErr result (self.new ≡ self.old) }

@@ -2,9 +2,9 @@
 use Rattle.std.proofs.Common.{◌≡◌, ◌∙◌, inl, inr, ℕ, refl, ap, sym, subst, length, arith}
 use mathlib.Core.List.{IsPrefix}
 use Rattle.sct_desk.specs.declared.shown.Shown.{Shown}
-use Rattle.sct_desk.specs.Locked.{Locked}
+use Rattle.sct_desk.specs.Locked.{IsShown, Locked}
 use Rattle.sct_desk.specs.Tilings.{IsPendingFrom, OneShowsMore, Tiles}
-use Rattle.sct_history.proofs.Prefixes.{prefix_length, prefix_self}
+use Rattle.sct_history.proofs.Prefixes.{prefix_length, prefix_self, prefix_whole}
 use Rattle.sct_desk.proofs.Arrived.{held_more}
 use Rattle.sct_desk.proofs.Tellings.{pending_is, tiles_are}
 use Rattle.sct_desk.proofs.held.Held.untold.Goals as goal
@@ -48,3 +48,18 @@ returns-then-len-clause-pending g c from is =
 pub first_untold_of-requires-clause-room : goal.first_untold_of-requires-clause-room
 first_untold_of-requires-clause-room g c = λ k d inside site.
     omega (arith, prefix_length _ _ (c.if-not-all_begin.ensures k d inside site), c.len.ensures.length, c.if-len.false)
+
+-- nothing is pending, as the published arrivals are as many as all
+pub returns-in_default-clause-order : goal.returns-in_default-clause-order
+returns-in_default-clause-order g c =
+    subst (λ (l : Locked). IsShown l) c.self.view_is (
+    prefix_whole c.self.inside.writer.desk.shown.value.track.log c.self.inside.core.arrivals c.self.invariant.published
+    (omega (arith, c.len.ensures.length, c.if-len.false, ap length c.arrivals-len.ensures.arrivals, ap (λ (s : Shown). length s.track.log) c.published.ensures))
+    )
+
+pub returns-clause-order : goal.returns-clause-order
+returns-clause-order g c =
+    subst (λ (l : Locked). IsShown l) c.self.view_is (
+    prefix_whole c.self.inside.writer.desk.shown.value.track.log c.self.inside.core.arrivals c.self.invariant.published
+    (omega (arith, c.len.ensures.length, c.if-len.false, ap length c.arrivals-len.ensures.arrivals, ap (λ (s : Shown). length s.track.log) c.published.ensures))
+    )
