@@ -2,10 +2,9 @@
 import subprocess, sys
 import crates
 
-# what the program writes and ends with where memory, a thread for a worker, or a place at a desk for a query is wanting
+# what the program writes and ends with if it is out of memory, or if there is no thread for a worker
 WANTING = (b"", b"fault 65\n", 3)
 NO_WORKER = (b"", b"fault 67\n", 2)
-NO_PLACE = (b"", b"fault 66 52\n", 2)
 
 
 def asked():

@@ -11,8 +11,7 @@ the thread is not started.
 
 A run must write the right text with its refused lines, which scripts/reference/status.py tells from the definitions alone. Where an
 allocation was refused it may instead write nothing but `fault 65`, and end with 3; of `run` it may be `fault 67`, where there is no
-thread for a worker, or `fault 66 52`, where a desk has no place for its query, each with 2. A run that lasts SECONDS is stopped and
-has failed. With several threads the allocation of a number is another one from run to run, and there are not always as many: a
+thread for a worker, with 2. A run that lasts SECONDS is stopped and has failed. With several threads the allocation of a number is another one from run to run, and there are not always as many: a
 run may end before its number comes, and must then write the right text.
 
 The last line is 'N passed, M failed'. The exit status is 0 if all runs ended as they may and some run of each command said that it was
@@ -25,7 +24,7 @@ from concurrent.futures import ThreadPoolExecutor
 sys.path.insert(0, str(pathlib.Path(__file__).resolve().parents[1]))  # scripts/
 from gate import verdict
 from gate.inputs import EXAMPLES, case, confirmation, instruction, returned, two_files
-from gate.program import NO_PLACE, NO_WORKER, WANTING, asked, ran
+from gate.program import NO_WORKER, WANTING, asked, ran
 from reference import status as definitions
 
 READ = ["hub-morning.jsonl", "recall-batch.jsonl"]
@@ -68,7 +67,7 @@ def commands(folder):
     for one in small_cases():
         yield Command(one.words, one.input, 1, (one.text, one.refused, one.status), [WANTING], 1)
     run = two_files(folder)
-    yield Command(run.words, b"", ROUNDS, (run.text, run.refused, run.status), [WANTING, NO_WORKER, NO_PLACE])
+    yield Command(run.words, b"", ROUNDS, (run.text, run.refused, run.status), [WANTING, NO_WORKER])
 
 
 def refuser(folder):

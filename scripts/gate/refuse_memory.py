@@ -1,5 +1,5 @@
 """refuse_memory.py: runs the program in less memory than it wants, and fails where it answers anything but the right text or what
-tells that memory, a thread or a place is wanting.
+says that it is out of memory or of threads.
 
 What limits a run is how many bytes it may map to write in, the stacks of its threads included; the limit grows by STEP bytes up to
 MOST. The first thread's own stack is not counted: a process whose first stack may not grow is ended by the system, and can say
@@ -7,8 +7,7 @@ nothing. `status`, `archive` and `totals` run on made-up messages, blank lines a
 write. With the small limits no thread has room for its stack, with the others some thread, or some allocation in one of several, is refused,
 and which one is theirs to settle; with the largest there is room for all. A run must write the right text, which
 scripts/reference/status.py tells from the definitions alone, or nothing but `fault 65`, and then end with 3. The two small files of
-scripts/gate/inputs.py are taken by `run` in the same way: here `fault 67` may come too, where there is no thread for a worker, and
-`fault 66 52` where a desk has no place for its query, each with 2.
+scripts/gate/inputs.py are taken by `run` in the same way: here `fault 67` may come too, if there is no thread for a worker, with 2.
 
 The last line is 'N passed, M failed', and the exit status is 0 where runs of each command wrote the right text, others did not, and
 none ended in another way.
@@ -19,7 +18,7 @@ import collections, pathlib, resource, sys, tempfile
 sys.path.insert(0, str(pathlib.Path(__file__).resolve().parents[1]))  # scripts/
 from gate import verdict
 from gate.inputs import long_input, two_files
-from gate.program import NO_PLACE, NO_WORKER, WANTING, asked, ran
+from gate.program import NO_WORKER, WANTING, asked, ran
 from reference import status as definitions
 
 MESSAGES = 8_000
@@ -52,7 +51,7 @@ def tries(program):
         yield tried(program, [command], data, right, [WANTING])
     with tempfile.TemporaryDirectory() as folder:
         run = two_files(folder)
-        yield tried(program, run.words, b"", (run.text, b"", 0), [WANTING, NO_WORKER, NO_PLACE])
+        yield tried(program, run.words, b"", (run.text, b"", 0), [WANTING, NO_WORKER])
 
 
 def main():
