@@ -21,8 +21,8 @@ pub enum RunFault {
     /// 65: memory is wanting.
     #[error("memory is wanting")]
     Memory,
-    /// 66: a call at a site was refused, with the number of its own fault: no place for a desk's query (52), arrivals that
-    /// are pending (53) or not told (54) when a desk is closed, or sites that cannot be settled (42 to 44).
+    /// 66: a call at a site was refused, with the number of its own fault: arrivals that are pending (53) or not reported
+    /// once (54) when a desk is closed, or sites that cannot be settled (42 to 44).
     #[error("a call at a site was refused with {number}")]
     Refused { number: u8 },
     /// 67: there is no thread for the work at a site.
