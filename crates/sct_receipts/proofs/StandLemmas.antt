@@ -24,7 +24,7 @@ use Rattle.sct_desk.specs.Tilings.{AllBegin, AreOurs, FailsToClose, Tiles, telli
 use Rattle.sct_desk.specs.declared.fault.DeskFault.{DeskFault}
 use Rattle.sct_desk.specs.declared.fault.DeskFault.TheVariants as desk
 use Rattle.sct_receipts.specs.declared.fault.WorkFault.{WorkFault}
-use Rattle.sct_receipts.specs.Faults.{IsNotClosed, fault_of_desk}
+use Rattle.sct_receipts.specs.Faults.{IsNotClosed, IsRefusalToClose, fault_of_desk}
 use Rattle.sct_receipts.specs.Kept.{AllKeep, AllShown, Keeps, MayCome, is_shown, shows}
 use Rattle.sct_receipts.specs.Stands.{Stands}
 
@@ -162,3 +162,7 @@ not_closed own rs desk.NoPlace w why is = absurd why
 not_closed own rs (desk.Pending from) w why is = inl is
 not_closed own rs (desk.Untold position) w why is = inr is
 not_closed own rs desk.Closed w why is = absurd why
+
+pub refused_to_close : (own : ℕ) (rs : List Told) (f : DeskFault) (w : WorkFault) → FailsToClose own rs f → w ≡ fault_of_desk f
+    → IsRefusalToClose own rs w
+refused_to_close own rs f w why is = record { refusal = f; fails = why; told_by = is }

@@ -1,9 +1,11 @@
 -- The faults of workers: their numbers, and what a desk and a delta may end a worker with. Read by an auditor.
-use Rattle.std.specs.Prelude.{◌≡◌, ◌⊎◌, ℕ}
+use Rattle.std.specs.Prelude.{◌≡◌, ◌≤◌, ◌⊎◌, ℕ, List}
 use Rattle.sct_delta.specs.Faults.{delta_fault_number}
 use Rattle.sct_delta.specs.declared.fault.DeltaFault.{DeltaFault}
 use Rattle.sct_delta.specs.declared.fault.DeltaFault.TheVariants as delta
 use Rattle.sct_desk.specs.Faults.{desk_fault_number}
+use Rattle.sct_desk.specs.Passes.{Told}
+use Rattle.sct_desk.specs.Tilings.{FailsToClose}
 use Rattle.sct_desk.specs.declared.fault.DeskFault.{DeskFault}
 use Rattle.sct_desk.specs.declared.fault.DeskFault.TheVariants as desk
 use Rattle.sct_receipts.specs.declared.fault.WorkFault.{WorkFault}
@@ -31,7 +33,14 @@ fault_of_delta refusal = fault.Refused (delta_fault_number refusal)
 abbrev pub IsNotClosed : WorkFault → Type 0
 IsNotClosed refusal = (refusal ≡ fault.Refused 53) ⊎ (refusal ≡ fault.Refused 54)
 
--- the number with which a call is refused (66): that of a refusal of a desk or of a delta, want of memory left out
+-- The desk of this site refused to be closed with these receipts, and the worker's fault is that refusal: 53 if an arrival is
+-- pending, then 54 if a position is not reported by exactly one of the receipts.
+pub record IsRefusalToClose (number : ℕ) (receipts : List Told) (reason : WorkFault) : Type 0 where
+  pub refusal : DeskFault
+  pub fails : FailsToClose number receipts refusal
+  pub told_by : reason ≡ fault_of_desk refusal
+
+-- The number with which a call is refused (66): 42 to 44 of an entry, a delta or a site, or 52 to 55 of a desk. There is no
+-- other.
 abbrev pub IsRefusalNumber : ℕ → Type 0
-IsRefusalNumber number =
-    ((refusal : DeskFault) × (fault_of_desk refusal ≡ fault.Refused number)) ⊎ ((refusal : DeltaFault) × (fault_of_delta refusal ≡ fault.Refused number))
+IsRefusalNumber number = ((42 ≤ number) × (number ≤ 44)) ⊎ ((52 ≤ number) × (number ≤ 55))

@@ -3,7 +3,7 @@
 ghost use Rattle.std.specs.Prelude.{◌≡◌, IfErr, IfOk};
 ghost use Rattle.sct_message.specs.Sets.{messages_in};
 ghost use Rattle.sct_set.specs.Contents.{contents_of};
-ghost use Rattle.sct_receipts.specs.Faults.{IsNotClosed};
+ghost use Rattle.sct_receipts.specs.Faults.{IsNotClosed, IsRefusalToClose};
 ghost use Rattle.sct_receipts.specs.Kept.{AllKeep, AllShown};
 ghost use Rattle.sct_receipts.specs.Stands.{Stands};
 
@@ -14,7 +14,9 @@ use sct_site::SiteCore;
 use std::sync::{Arc, Wait};
 
 /// Closes the desk of a site with all receipts that its workers kept, where all that is taken are these messages and some
-/// receipt shows each of them. 66 `Refused` with 53 or 54 where a receipt is missing, or arrivals are pending.
+/// receipt shows each of them. 66 `Refused` with what the desk refuses: 53 if an arrival is pending, then 54 if a position is
+/// not reported by exactly one of the receipts.
+#[tactic(auto, using(crate::proofs::StandLemmas::not_closed, crate::proofs::StandLemmas::refused_to_close))]
 pub fn closed<J: Site, H: Wait + Drop>(
     desk: Desk<J, H>,
     messages: &[Arc<Message>],
@@ -24,6 +26,7 @@ pub fn closed<J: Site, H: Wait + Drop>(
     requires shown { AllShown (contents_of (messages_in messages.now)) receipts.items }
     ensures core { IfOk result (Stands J.number J.group (contents_of (messages_in messages.now))) }
     ensures refused { IfErr result IsNotClosed }
+    ensures reason { IfErr result (IsRefusalToClose J.number receipts.items) }
 {
     match desk.close(receipts) {
         Ok(core) => {

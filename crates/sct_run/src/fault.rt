@@ -21,8 +21,9 @@ pub enum RunFault {
     /// 65: memory is wanting.
     #[error("memory is wanting")]
     Memory,
-    /// 66: a call at a site was refused, with the number of its own fault: arrivals that are pending (53) or not reported
-    /// once (54) when a desk is closed, or sites that cannot be settled (42 to 44).
+    /// 66: a call at a site was refused, with the number of its own fault. A run may meet arrivals that are pending (53) or
+    /// not reported once (54) when a desk is closed, entries of other sites that are refused (42 to 44), or sites that
+    /// cannot be settled (42 to 44). No other number but 52 and 55 is possible.
     #[error("a call at a site was refused with {number}")]
     Refused { number: u8 },
     /// 67: there is no thread for the work at a site.
