@@ -16,7 +16,7 @@ use std::sync::{Arc, Wait};
 /// Closes the desk of a site with all receipts that its workers kept, where all that is taken are these messages and some
 /// receipt shows each of them. 66 `Refused` with what the desk refuses: 53 if an arrival is pending, then 54 if a position is
 /// not reported by exactly one of the receipts.
-#[tactic(auto, using(crate::proofs::StandLemmas::not_closed, crate::proofs::StandLemmas::refused_to_close))]
+#[tactic(auto, using(crate::proofs::StandLemmas::refused_to_close))]
 pub fn closed<J: Site, H: Wait + Drop>(
     desk: Desk<J, H>,
     messages: &[Arc<Message>],

@@ -1,3 +1,4 @@
 -- The lemmas of runs.
+pub mod AnswerLemmas
 pub mod RunLemmas
 pub mod UnionLemmas

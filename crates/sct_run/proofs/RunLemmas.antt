@@ -1,14 +1,21 @@
 -- How many sites a run has, and what ends it. Proof plumbing.
-use Rattle.std.proofs.Common.{◌≡◌, ◌≢◌, ◌<◌, ◌≤◌, refl, ℕ, ◌+◌, true, List, [], ◌∷◌, length, arith}
+use Rattle.std.proofs.Common.{◌≡◌, ◌≢◌, ◌<◌, ◌≤◌, refl, sym, subst, inl, inr, ℕ, ◌+◌, Bool, true, false, List, [], ◌∷◌, length, arith}
+use Rattle.std.specs.Prelude.{Result, Ok, Err, IfOk}
 use Rattle.std.proofs.lemmas.Bool.Decides.{nat_tests}
 use Rattle.sct_site.specs.Cores.{Core}
+use Rattle.sct_delta.specs.declared.fault.DeltaFault.{DeltaFault}
+use Rattle.sct_delta.specs.declared.fault.DeltaFault.TheVariants as delta
+use Rattle.sct_receipts.specs.Faults.{fault_of_delta}
 use Rattle.sct_receipts.specs.declared.fault.WorkFault.{WorkFault}
 use Rattle.sct_receipts.specs.declared.fault.WorkFault.TheVariants as work
-use Rattle.sct_workers.specs.Filling.{AllStand}
+use Rattle.sct_workers.specs.Filling.{AllStand, AreFilled}
 use Rattle.sct_workers.specs.Holds.{EndsWhere}
+use Rattle.sct_workers.specs.declared.filled.Sites.{Sites}
 use Rattle.sct_workers.specs.declared.gate.Point.{Point}
+use Rattle.sct_workers.proofs.Holding.{delta_ends}
+use Rattle.sct_world.specs.Settling.{are_one_group, IsWhy}
 use Rattle.sct_run.specs.Faults.{fault_of_work}
-use Rattle.sct_run.specs.Runs.{are_sites, RunEndsWhere}
+use Rattle.sct_run.specs.Runs.{are_sites, IsSettlingFault, RunEndsWhere}
 use Rattle.sct_run.specs.declared.fault.RunFault.{RunFault}
 use Rattle.sct_run.specs.declared.fault.RunFault.TheVariants as fault
 
@@ -42,10 +49,44 @@ run_ends may work.Memory ends = tt
 run_ends may (work.Refused number) ends = ends
 run_ends may work.NoWorker ends = tt
 
--- a fault that is no gate's is one that any gate may leave
-pub run_no_gate : (may : Point → Type 0) (f : RunFault) → RunEndsWhere (λ point. ⊥) f → RunEndsWhere may f
-run_no_gate may fault.Usage ends = tt
-run_no_gate may fault.Held ends = absurd ends.1
-run_no_gate may fault.Memory ends = tt
-run_no_gate may (fault.Refused number) ends = ends
-run_no_gate may fault.NoWorker ends = tt
+-- ---- settling
+
+-- why sites are not settled ends a run with 40 as out of memory, or with 42, 43 or 44
+why_settling : (cores : List Core) (refusal : DeltaFault) → IsWhy cores refusal → IsSettlingFault (fault_of_work (fault_of_delta refusal))
+why_settling cores delta.Memory why = tt
+why_settling cores (delta.Gap origin have first) why = absurd why
+why_settling cores (delta.Fork origin n) why = inl refl
+why_settling cores (delta.OwnAhead n) why = inr (inl refl)
+why_settling cores delta.BadSite why = absurd why
+why_settling cores (delta.BadDelta line) why = absurd why
+
+apart_settling : (refusal : DeltaFault) → refusal ≡ delta.BadSite → IsSettlingFault (fault_of_work (fault_of_delta refusal))
+apart_settling refusal is = subst (λ (r : DeltaFault). IsSettlingFault (fault_of_work (fault_of_delta r))) (sym is) (inr (inr refl))
+
+pub settling : (cores after : List Core) (refusal : DeltaFault) (one : Bool) → are_one_group cores ≡ one
+    → (are_one_group cores ≡ false → (refusal ≡ delta.BadSite) × (after ≡ cores)) → (are_one_group cores ≡ true → IsWhy cores refusal)
+    → IsSettlingFault (fault_of_work (fault_of_delta refusal))
+settling cores after refusal true is apart why = why_settling cores refusal (why is)
+settling cores after refusal false is apart why = apart_settling refusal (apart is).0
+
+at_number : (may : Point → Type 0) (number other : ℕ) → number ≡ other → RunEndsWhere may (fault.Refused other) → RunEndsWhere may (fault.Refused number)
+at_number may number other is ends = subst (λ (n : ℕ). RunEndsWhere may (fault.Refused n)) (sym is) ends
+
+-- a fault of settling may end a run
+pub settling_ends : (may : Point → Type 0) (f : RunFault) → IsSettlingFault f → RunEndsWhere may f
+settling_ends may fault.Usage is = tt
+settling_ends may fault.Held is = absurd is
+settling_ends may fault.Memory is = tt
+settling_ends may (fault.Refused number) (inl fork) = at_number may number 42 fork (delta_ends may (delta.Fork 0 0) tt)
+settling_ends may (fault.Refused number) (inr (inl ahead)) = at_number may number 43 ahead (delta_ends may (delta.OwnAhead 0) tt)
+settling_ends may (fault.Refused number) (inr (inr site)) = at_number may number 44 site (delta_ends may delta.BadSite tt)
+settling_ends may fault.NoWorker is = tt
+
+-- filled sites of a run are some
+pub some_cores : (size : ℕ) (inputs : List (List ℕ)) (filled : Result Sites WorkFault) → are_sites size ≡ true → size ≡ length inputs
+    → IfOk filled (AreFilled size inputs) → IfOk filled (λ sites. 0 < length sites.cores.items)
+some_cores size inputs (Ok sites) are same filled =
+    let some = some_there size are in
+    let many = as_many 1 size sites.cores.items inputs filled.stand in
+    omega (arith, some, many, same)
+some_cores size inputs (Err reason) are same filled = tt

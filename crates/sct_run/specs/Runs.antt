@@ -1,14 +1,20 @@
 -- What inputs come to, each of which fills a site of its own: which messages are read of them all, and what ends a run. How
 -- their refused lines are told stands with the workers that read them. Read by an auditor.
 use Rattle.std.specs.FinSet as set
-use Rattle.std.specs.Prelude.{ℕ, ◌≡◌, ◌↔◌, ◌&&◌, not, Bool, List, [], ◌∷◌, nat_lt}
+use Rattle.std.specs.Prelude.{ℕ, ◌≡◌, ◌↔◌, ◌⊎◌, ◌&&◌, not, Bool, List, [], ◌∷◌, nat_lt, string_bytes}
 use Rattle.std.specs.List.{Contains}
+use Rattle.sct_delta.specs.Entries.{messages_of}
 use Rattle.sct_lines.specs.Lines.{set_read}
 use Rattle.sct_receipts.specs.Faults.{IsRefusalNumber}
+use Rattle.sct_run.specs.declared.answer.RunAnswer.{RunAnswer}
 use Rattle.sct_run.specs.declared.fault.RunFault.{RunFault}
 use Rattle.sct_run.specs.declared.fault.RunFault.TheVariants as fault
 use Rattle.sct_set.specs.Contents.{Contents}
+use Rattle.sct_site.specs.Cores.{Core}
+use Rattle.sct_view.specs.StatusText.{status_text_of}
+use Rattle.sct_workers.specs.declared.filled.Sites.{Sites}
 use Rattle.sct_workers.specs.declared.gate.Point.{Point}
+use Rattle.sct_world.specs.Settling.{AreSettled, core_in}
 
 -- a run has 1 to 16 sites
 abbrev pub are_sites : ℕ → Bool
@@ -30,3 +36,19 @@ RunEndsWhere may other = Unit {0}
 abbrev pub NoOrderMatters : Type 0
 NoOrderMatters = (some others : List (List ℕ)) → ((input : List ℕ) → Contains some input ↔ Contains others input)
     → set_of_all some ≡ set_of_all others
+
+-- ---- settling
+
+-- What ends a run whose sites were all filled: out of memory, or a refusal to settle them, with 42, 43 or 44.
+abbrev pub IsSettlingFault : RunFault → Type 0
+IsSettlingFault fault.Memory = Unit {0}
+IsSettlingFault (fault.Refused number) = (number ≡ 42) ⊎ ((number ≡ 43) ⊎ (number ≡ 44))
+IsSettlingFault other = ⊥
+
+-- The answer of a run is that of its sites once they are settled: what the first of them then holds.
+pub record IsSettledAnswer (sites : Sites) (answer : RunAnswer) : Type 0 where
+  pub settled : List Core
+  pub are_settled : AreSettled sites.cores.items settled
+  pub status : answer.status.items ≡ status_text_of (messages_of (core_in settled 0).arrivals)
+  pub told : string_bytes answer.told ≡ string_bytes sites.told
+  pub refused : answer.refused ≡ sites.refused

@@ -1,7 +1,8 @@
 //! A run: one site for each input, and what they come to.
 ghost use Rattle.std.specs.Prelude.{◌≡◌, ◌≢◌, ◌↔◌, ◌<◌, ◌≤◌, ◌+◌, ◌++◌, ◌∷◌, [], false, true, Err, length, IfErr, IfOk, OnOk, string_bytes};
 ghost use Rattle.sct_delta.specs.Entries.{messages_of};
-ghost use Rattle.sct_run.specs.Runs.{are_sites, set_of_all, NoOrderMatters, RunEndsWhere};
+ghost use Rattle.sct_run.specs.Faults.{fault_of_work};
+ghost use Rattle.sct_run.specs.Runs.{are_sites, set_of_all, IsSettledAnswer, IsSettlingFault, NoOrderMatters, RunEndsWhere};
 ghost use Rattle.sct_run.specs.declared.fault.RunFault.TheVariants as fault;
 ghost use Rattle.sct_view.specs.StatusText.{status_text_of};
 ghost use Rattle.sct_workers.specs.Files.{bytes_of, refused_in, told_from};
@@ -30,30 +31,31 @@ fn are_sites(count: usize) -> bool
 }
 
 // The sites of the inputs, each filled by workers of its own.
-#[tactic(auto, using(crate::proofs::RunLemmas::run_ends, crate::proofs::RunLemmas::few_enough))]
+#[tactic(auto, using(crate::proofs::RunLemmas::few_enough, crate::proofs::RunLemmas::some_cores))]
 fn filled<G: Gate + Sync, R: Threads + Wait + Sync>(
     rt: &R,
     alloc: Global,
     gate: &G,
     inputs: &[Vec<u8>],
-) -> Result<Sites, RunFault>
+) -> Result<Sites, WorkFault>
     requires { are_sites (length inputs.now) ≡ true }
     ensures filled { IfOk result (AreFilled (length inputs.now) (bytes_of inputs.now)) }
-    ensures faults { IfErr result (λ e. e ≢ fault.Usage) }
-    ensures ends { IfErr result (RunEndsWhere (G.may_hold gate.now)) }
+    ensures some { IfOk result (λ sites. 0 < length sites.cores.items) }
+    ensures ends { IfErr result (EndsWhere (G.may_hold gate.now)) }
 {
-    let sites = fill_sites(rt, alloc, gate, inputs)?;
-    Ok(sites)
+    fill_sites(rt, alloc, gate, inputs)
 }
 
-// Settles the sites. A refusal is told by its number.
-#[tactic(auto, using(sct_workers::proofs::Holding::delta_ends))]
-fn settle_all(alloc: Global, cores: &mut [SiteCore]) -> Result<(), WorkFault>
+// Settles the sites. A refusal has its number.
+#[tactic(auto, using(crate::proofs::RunLemmas::settling))]
+fn settle_all(alloc: Global, cores: &mut [SiteCore]) -> Result<(), RunFault>
     ensures settled { OnOk result (AreSettled cores.old cores.new) }
-    ensures ends { IfErr result (EndsWhere (λ point. ⊥)) }
+    ensures refused { IfErr result IsSettlingFault }
 {
-    settle(alloc, cores)?;
-    Ok(())
+    match settle(alloc, cores) {
+        Ok(()) => Ok(()),
+        Err(refusal) => Err(RunFault::from(WorkFault::from(refusal))),
+    }
 }
 
 // The status text of the first of some sites.
@@ -67,17 +69,35 @@ fn first_status(alloc: Global, cores: &[SiteCore]) -> Result<Vec<u8>, RunFault>
 }
 
 // Settles the sites, and answers the status text of what the first of them then holds.
-#[tactic(auto, using(crate::proofs::RunLemmas::run_ends))]
 fn settled_status(alloc: Global, cores: &mut [SiteCore]) -> Result<Vec<u8>, RunFault>
     requires { 0 < length cores.old }
     ensures settled { OnOk result (AreSettled cores.old cores.new) }
     ensures text { IfOk result (λ text. text.items
         ≡ status_text_of (messages_of (core_in cores.new 0).arrivals)) }
-    ensures faults { IfErr result (λ e. e ≢ fault.Usage) }
-    ensures ends { IfErr result (RunEndsWhere (λ point. ⊥)) }
+    ensures refused { IfErr result IsSettlingFault }
 {
     settle_all(alloc, cores)?;
     first_status(alloc, cores)
+}
+
+// What a run answers by what its sites came to. They are settled only if all of them were filled.
+fn answered(alloc: Global, filled: Result<Sites, WorkFault>) -> Result<RunAnswer, RunFault>
+    requires { IfOk filled (λ sites. 0 < length sites.cores.items) }
+    ensures settled { IfOk result (λ answer. IfOk filled (λ sites. IsSettledAnswer sites answer)) }
+    ensures first { IfErr filled (λ reason. result ≡ Err (fault_of_work reason)) }
+    ensures then { OnOk filled (IfErr result IsSettlingFault) }
+{
+    let Sites {
+        mut cores,
+        told,
+        refused,
+    } = filled?;
+    let status = settled_status(alloc, &mut cores)?;
+    Ok(RunAnswer {
+        status,
+        told,
+        refused,
+    })
 }
 
 // The inputs that a run is asked of may stand in any order.
@@ -85,15 +105,16 @@ fn no_order_matters()
     ensures { NoOrderMatters }
 {}
 
-/// Fills one site from each input, numbered from 1, side by side: each by workers on threads of its own, through a desk that
-/// is closed with all their receipts. Then the sites are settled, and the status text of what they hold is answered: of all
-/// that is read from any of the inputs, whatever their order, however the threads are scheduled and whatever came through
-/// their channels. Each line that tells a refused line begins with the number of its input, as in `file 2 line 1: 31`.
+/// Fills one site from each input, numbered from 1, side by side. Workers on threads of its own fill a site, through a desk
+/// that is closed with all their receipts. Then the sites are settled. The answer is the status text of all that is read
+/// from any of the inputs, whatever their order, however the threads are scheduled and whatever came through their
+/// channels. Each line that reports a refused line begins with the number of its input, as in `file 2 line 1: 31`.
 ///
-/// 64 Usage exactly where the inputs are not 1 to 16. Else, once all workers have ended: 67 NoWorker where there was no
-/// thread, then 65 Memory, then 61 Held where the gate held a worker, then 66 Refused with the least number; then where a
-/// desk is not closed (66), site by site, and where the sites cannot be settled.
-#[tactic(auto, using(crate::proofs::RunLemmas::run_no_gate))]
+/// 64 `Usage` exactly if the inputs are not 1 to 16. Every other fault is reported after all workers have ended. The faults
+/// of workers come first: 67 `NoWorker` if there was no thread, then 65 `Memory`, then 61 `Held` if the gate held a worker,
+/// then 66 `Refused` with the least number. After these comes 66 of the first site whose desk is not closed, and then a
+/// refusal to settle the sites, 66 with 42, 43 or 44.
+#[tactic(auto, using(crate::proofs::RunLemmas::run_ends, crate::proofs::RunLemmas::settling_ends))]
 pub fn run_sites<G: Gate + Sync, R: Threads + Wait + Sync>(
     rt: &R,
     alloc: Global,
@@ -112,16 +133,7 @@ pub fn run_sites<G: Gate + Sync, R: Threads + Wait + Sync>(
     if !are_sites(inputs.len()) {
         return Err(RunFault::Usage);
     }
-    let Sites {
-        mut cores,
-        told,
-        refused,
-    } = filled(rt, alloc, gate, &inputs)?;
+    let sites = filled(rt, alloc, gate, &inputs);
     drop(inputs);
-    let status = settled_status(alloc, &mut cores)?;
-    Ok(RunAnswer {
-        status,
-        told,
-        refused,
-    })
+    answered(alloc, sites)
 }

@@ -6,6 +6,8 @@ mod desks;
 #[cfg(test)]
 mod fakes;
 #[cfg(test)]
+mod gates;
+#[cfg(test)]
 mod program;
 #[cfg(test)]
 mod receipts;

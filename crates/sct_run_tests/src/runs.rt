@@ -1,9 +1,10 @@
 //! Runs over known inputs: what no clause says is that memory is there.
 mod inputs;
 
+use crate::gates::{HeldAccepts, InStep, Meeting, Shut};
 use inputs::{ROWS, Row};
 use sct_run::*;
-use sct_workers::FreeGate;
+use sct_workers::{FreeGate, Gate};
 use std::alloc::{AllocError, Global};
 use std::sync::Wait;
 use std::thread::Threads;
@@ -17,12 +18,17 @@ fn owned(alloc: Global, inputs: &[&[u8]]) -> Result<Vec<Vec<u8>>, AllocError> {
     Ok(texts)
 }
 
-// A run of the inputs answers what the row says.
-fn fits<R: Threads + Wait + Sync>(rt: &R, alloc: Global, row: &Row) -> bool {
+// A run of the inputs under the gate answers what the row says.
+fn fits<G: Gate + Sync, R: Threads + Wait + Sync>(
+    rt: &R,
+    alloc: Global,
+    gate: &G,
+    row: &Row,
+) -> bool {
     let Ok(inputs) = owned(alloc, row.inputs) else {
         return false;
     };
-    let Ok(answer) = run_sites(rt, alloc, &FreeGate, inputs) else {
+    let Ok(answer) = run_sites(rt, alloc, gate, inputs) else {
         return false;
     };
     answer.status.as_slice() == row.status
@@ -33,8 +39,48 @@ fn fits<R: Threads + Wait + Sync>(rt: &R, alloc: Global, row: &Row) -> bool {
 #[test]
 fn brings_inputs_to_one_answer(rt: HostRuntime) {
     for row in &ROWS {
-        assert!(rt; fits(&rt, rt.alloc(), row));
+        assert!(rt; fits(&rt, rt.alloc(), &FreeGate, row));
     }
+}
+
+// The second row has an instruction and its confirmation at site 1, and another instruction at site 2.
+#[test]
+fn a_run_in_step(rt: HostRuntime) {
+    assert!(rt; fits(&rt, rt.alloc(), &InStep::new(), &ROWS[1]));
+}
+
+#[test]
+fn a_run_that_meets(rt: HostRuntime) {
+    assert!(rt; fits(&rt, rt.alloc(), &Meeting::new(), &ROWS[1]));
+}
+
+// What becomes of the row's inputs under the gate.
+fn fault_under<G: Gate + Sync, R: Threads + Wait + Sync>(
+    rt: &R,
+    alloc: Global,
+    gate: &G,
+    row: &Row,
+) -> Result<Option<RunFault>, AllocError> {
+    let inputs = owned(alloc, row.inputs)?;
+    Ok(run_sites(rt, alloc, gate, inputs).err())
+}
+
+#[test]
+fn a_gate_that_stays_shut_ends_a_run(rt: HostRuntime) -> Result<(), AllocError> {
+    assert_eq!(rt;
+        fault_under(&rt, rt.alloc(), &Shut, &ROWS[1])?,
+        Some(RunFault::Held)
+    );
+    Ok(())
+}
+
+#[test]
+fn held_comes_before_what_a_run_lacks(rt: HostRuntime) -> Result<(), AllocError> {
+    assert_eq!(rt;
+        fault_under(&rt, rt.alloc(), &HeldAccepts, &ROWS[1])?,
+        Some(RunFault::Held)
+    );
+    Ok(())
 }
 
 // What becomes of so many empty inputs.

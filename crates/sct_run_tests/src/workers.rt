@@ -1,9 +1,10 @@
 //! Sites on threads, with ample memory: what each comes to, under gates that hold and gates that let pass.
 
-mod gates;
+mod faults;
 mod inputs;
 
-use gates::{InStep, Meeting, Shut};
+use crate::gates::{HeldAccepts, HeldAnswers, InStep, Meeting, Shut};
+use faults::FAILED;
 use inputs::{ONE_SITE, Row, TWO_SITES, WITH_REFUSED};
 use sct_receipts::WorkFault;
 use sct_set::Archive;
@@ -100,4 +101,35 @@ fn meeting_gate(rt: HostRuntime) {
 fn shut_gate(rt: HostRuntime) {
     let held = filled(&rt, rt.alloc(), &Shut, TWO_SITES.inputs);
     assert_eq!(rt; held.err(), Some(WorkFault::Held));
+}
+
+// The receipt of what the held worker accepted is lost, so that the desk could not be closed: 66 with 54.
+#[test]
+fn held_comes_before_a_lost_receipt(rt: HostRuntime) {
+    let held = filled(&rt, rt.alloc(), &HeldAccepts, TWO_SITES.inputs);
+    assert_eq!(rt; held.err(), Some(WorkFault::Held));
+}
+
+// The query worker's receipts show no arrival that no other shows, so that the desk could be closed without them.
+#[test]
+fn a_held_query_ends_a_site(rt: HostRuntime) {
+    let held = filled(&rt, rt.alloc(), &HeldAnswers, ONE_SITE.inputs);
+    assert_eq!(rt; held.err(), Some(WorkFault::Held));
+}
+
+// What is reported of sites that failed so.
+fn reported_of(alloc: Global, faults: &[SiteFault]) -> Result<Option<SiteFault>, AllocError> {
+    let mut answers = Vec::new(alloc);
+    for fault in faults {
+        answers.push(Err(*fault))?;
+    }
+    Ok(reported_fault(&answers))
+}
+
+#[test]
+fn sites_fail_differently(rt: HostRuntime) -> Result<(), AllocError> {
+    for row in &FAILED {
+        assert_eq!(rt; reported_of(rt.alloc(), row.sites)?, row.reported);
+    }
+    Ok(())
 }

@@ -1,18 +1,19 @@
 -- One input and one site more. Proof plumbing.
-use Rattle.std.proofs.Common.{◌≡◌, ◌∙◌, refl, sym, ap, subst, ℕ, ◌+◌, ◌≤◌, List, [], ◌∷◌, ◌++◌, length, map, arith, append_assoc, append-nil, length-append, codes, string_bytes}
+use Rattle.std.proofs.Common.{◌≡◌, ◌∙◌, refl, sym, ap, subst, ℕ, ◌+◌, ◌≤◌, ◌<◌, List, [], ◌∷◌, ◌++◌, length, take, get_or, arith, append_assoc, append-nil, length-append, codes, string_bytes}
 use Rattle.std.specs.Prelude.{Result, Ok, Err, IfOk}
 use Rattle.std.specs.List.{flat_map}
-use Rattle.std.proofs.lemmas.List.{length-map, map-append}
+use Rattle.std.proofs.lemmas.List.{length-take-le, take_more}
+use Rattle.std.proofs.lemmas.Option.{slice_get-get_or}
 use Rattle.std.specs.Fmt.{decimal}
 use Rattle.sct_json.specs.declared.faults.JsonFault.{JsonFault}
 use Rattle.sct_lines.specs.Lines.{json_fault_text, refusal_line, refusals_told, set_read, told_after}
 use Rattle.sct_receipts.specs.Stands.{Stands}
 use Rattle.sct_site.specs.Cores.{Core}
-use Rattle.sct_workers.specs.declared.fault.SiteFault.{SiteFault}
 use Rattle.sct_workers.specs.declared.filled.Filled.{Filled}
 use Rattle.sct_workers.specs.declared.filled.Sites.{Sites}
 use Rattle.sct_workers.specs.Files.{file_front, refused_in, told_from, told_of_file}
 use Rattle.sct_workers.specs.Filling.{AllStand, AreFilled, IsFilled}
+use Rattle.sct_workers.specs.Reported.{AnswersTo}
 
 -- ---- how files are told
 
@@ -102,28 +103,20 @@ pub ok_so : {T E : Type 0} (P Q : T → Type 0) (r : Result T E) → ((t : T) �
 ok_so P Q (Ok t) so is = so t is
 ok_so P Q (Err e) so is = tt
 
-is_ok : {T E : Type 0} (P : T → Type 0) (r : Result T E) (t : T) → r ≡ Ok t → IfOk r P → P t
-is_ok P r t is holds = subst (λ s. IfOk s P) is holds
+-- the input at a place, with the site that was filled from it
+pub filled_at : (inputs : List (List ℕ)) (size place : ℕ) (one : Filled) → place < length inputs → AnswersTo size inputs place (Ok one)
+    → IsFilled (place + 1) size (get_or inputs place []) one
+filled_at inputs size place one low answers = answers (get_or inputs place []) (slice_get-get_or inputs place [] low)
 
--- the sites so far were filled, and the next one: so were all of them
-pub all_more : (size : ℕ) (inputs : List (List ℕ)) (input : List ℕ) (so_far : Result Sites SiteFault) (site : Result Filled SiteFault)
-    (before after : Sites) (one : Filled) → so_far ≡ Ok before → site ≡ Ok one → IfOk so_far (AreFilled size inputs)
-    → IfOk site (IsFilled (length inputs + 1) size input) → after.cores.items ≡ before.cores.items ++ one.core ∷ []
+-- the sites so far were filled from the inputs up to a place, and the next one from the input there
+pub site_more : (inputs : List (List ℕ)) (size place : ℕ) (before after : Sites) (one : Filled) → place < length inputs → AnswersTo size inputs place (Ok one)
+    → AreFilled size (take place inputs) before → after.cores.items ≡ before.cores.items ++ one.core ∷ []
     → string_bytes after.told ≡ string_bytes before.told ++ string_bytes one.told → after.refused ≡ before.refused + one.refused
-    → AreFilled size (inputs ++ input ∷ []) after
-all_more size inputs input so_far site before after one is_before is_one all filled cores told refused =
-    one_more size inputs input before after one (is_ok (AreFilled size inputs) so_far before is_before all)
-    (is_ok (IsFilled (length inputs + 1) size input) site one is_one filled) cores told refused
-
--- the next site, by the sites before it
-pub next_by_place : {X : Type 0} (f : X → List ℕ) (done : List X) (child : X) (size number group : ℕ) (site : Result Filled SiteFault)
-    → number ≡ length done + 1 → group ≡ size → IfOk site (IsFilled number group (f child))
-    → IfOk site (IsFilled (length (map f done) + 1) size (f child))
-next_by_place f done child size number group site at same filled =
-    let place : number ≡ length (map f done) + 1 = omega (arith, at, length-map done f) in
-    subst (λ (n : ℕ). IfOk site (IsFilled n size (f child))) place (subst (λ (n : ℕ). IfOk site (IsFilled number n (f child))) same filled)
-
-pub all_by_place : {X : Type 0} (f : X → List ℕ) (done : List X) (child : X) (size : ℕ) (sites : Result Sites SiteFault)
-    → IfOk sites (AreFilled size (map f done ++ f child ∷ [])) → IfOk sites (AreFilled size (map f (done ++ child ∷ [])))
-all_by_place f done child size sites filled =
-    subst (λ (inputs : List (List ℕ)). IfOk sites (AreFilled size inputs)) (sym (map-append f done (child ∷ []))) filled
+    → AreFilled size (take (place + 1) inputs) after
+site_more inputs size place before after one low answers all cores told refused =
+    let input = get_or inputs place [] in
+    let many : length (take place inputs) ≡ place = length-take-le place inputs (omega (arith, low)) in
+    let filled : IsFilled (length (take place inputs) + 1) size input one =
+    subst (λ (n : ℕ). IsFilled (n + 1) size input one) (sym many) (filled_at inputs size place one low answers) in
+    subst (λ (xs : List (List ℕ)). AreFilled size xs after) (sym (take_more inputs place [] low))
+    (one_more size (take place inputs) input before after one all filled cores told refused)

@@ -1,5 +1,5 @@
 -- Faults that may end a worker. Proof plumbing.
-use Rattle.std.proofs.Common.{refl, inl, inr, subst, sym}
+use Rattle.std.proofs.Common.{inl, inr, subst, sym, arith}
 use Rattle.sct_receipts.specs.declared.fault.WorkFault.{WorkFault}
 use Rattle.sct_receipts.specs.declared.fault.WorkFault.TheVariants as fault
 use Rattle.sct_delta.specs.declared.fault.DeltaFault.{DeltaFault}
@@ -10,22 +10,28 @@ use Rattle.sct_receipts.specs.Faults.{IsNotClosed, fault_of_delta, fault_of_desk
 use Rattle.sct_workers.specs.declared.gate.Point.{Point}
 use Rattle.sct_workers.specs.Holds.{EndsWhere}
 
-pub delta_ends : (may : Point → Type 0) (refusal : DeltaFault) → EndsWhere may (fault_of_delta refusal)
-delta_ends may delta.Memory = tt
-delta_ends may (delta.Gap origin have first) = inr (delta.Gap origin have first, refl)
-delta_ends may (delta.Fork origin n) = inr (delta.Fork origin n, refl)
-delta_ends may (delta.OwnAhead n) = inr (delta.OwnAhead n, refl)
-delta_ends may delta.BadSite = inr (delta.BadSite, refl)
-delta_ends may (delta.BadDelta line) = inr (delta.BadDelta line, refl)
+-- a refusal that may end a run: every one but a gap (41) and a wrong place (45)
+abbrev pub EndsRuns : DeltaFault → Type 0
+EndsRuns (delta.Gap origin have first) = ⊥
+EndsRuns (delta.BadDelta line) = ⊥
+EndsRuns refusal = Unit {0}
+
+pub delta_ends : (may : Point → Type 0) (refusal : DeltaFault) → EndsRuns refusal → EndsWhere may (fault_of_delta refusal)
+delta_ends may delta.Memory is = tt
+delta_ends may (delta.Gap origin have first) is = absurd is
+delta_ends may (delta.Fork origin n) is = inl (omega arith, omega arith)
+delta_ends may (delta.OwnAhead n) is = inl (omega arith, omega arith)
+delta_ends may delta.BadSite is = inl (omega arith, omega arith)
+delta_ends may (delta.BadDelta line) is = absurd is
 
 pub desk_ends : (may : Point → Type 0) (refusal : DeskFault) → EndsWhere may (fault_of_desk refusal)
-desk_ends may desk.BadSite = inl (desk.BadSite, refl)
+desk_ends may desk.BadSite = inl (omega arith, omega arith)
 desk_ends may desk.Memory = tt
 desk_ends may (desk.Unpublished from) = tt
-desk_ends may desk.NoPlace = inl (desk.NoPlace, refl)
-desk_ends may (desk.Pending from) = inl (desk.Pending from, refl)
-desk_ends may (desk.Untold position) = inl (desk.Untold position, refl)
-desk_ends may desk.Closed = inl (desk.Closed, refl)
+desk_ends may desk.NoPlace = inr (omega arith, omega arith)
+desk_ends may (desk.Pending from) = inr (omega arith, omega arith)
+desk_ends may (desk.Untold position) = inr (omega arith, omega arith)
+desk_ends may desk.Closed = inr (omega arith, omega arith)
 
 -- a refusal of a desk that was to be closed, as a worker's fault
 pub not_closed_ends : (may : Point → Type 0) (reason : WorkFault) → IsNotClosed reason → EndsWhere may reason

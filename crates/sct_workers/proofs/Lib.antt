@@ -3,3 +3,5 @@ pub mod FilledMore
 pub mod Holding
 pub mod MoreKept
 pub mod Places
+pub mod Refusing
+pub mod ReportLemmas

@@ -1,9 +1,9 @@
 -- What ends workers: where a gate may have held them, with which numbers calls are refused, and which of several faults is
 -- told. Read by an auditor.
-use Rattle.std.specs.Prelude.{ℕ, ◌+◌}
+use Rattle.std.specs.Prelude.{ℕ, ◌+◌, ◌≤◌, Result, IfErr}
 use Rattle.sct_receipts.specs.declared.fault.WorkFault.{WorkFault}
 use Rattle.sct_receipts.specs.declared.fault.WorkFault.TheVariants as fault
-use Rattle.sct_receipts.specs.Faults.{IsRefusalNumber}
+use Rattle.sct_receipts.specs.Faults.{IsNotClosed, IsRefusalNumber}
 use Rattle.sct_workers.specs.declared.fault.SiteFault.{SiteFault}
 use Rattle.sct_workers.specs.declared.fault.SiteFault.TheVariants as site
 use Rattle.sct_workers.specs.declared.gate.Point.{Point}
@@ -15,10 +15,20 @@ EndsWhere may fault.Held = (point : Point) × may point
 EndsWhere may (fault.Refused number) = IsRefusalNumber number
 EndsWhere may other = Unit {0}
 
--- the same of a site
+-- the same of a site; a desk is not closed only with 53 or 54
 abbrev pub SiteEndsWhere : (Point → Type 0) → SiteFault → Type 0
 SiteEndsWhere may (site.Working reason) = EndsWhere may reason
-SiteEndsWhere may (site.Closing reason) = EndsWhere may reason
+SiteEndsWhere may (site.Closing reason) = IsNotClosed reason
+
+-- the site's workers did their work, and its desk was not closed: 53 or 54
+abbrev pub IsClosingFault : SiteFault → Type 0
+IsClosingFault (site.Working reason) = ⊥
+IsClosingFault (site.Closing reason) = IsNotClosed reason
+
+-- the fault of a site, as that of a run
+abbrev pub reason_of : SiteFault → WorkFault
+reason_of (site.Working reason) = reason
+reason_of (site.Closing reason) = reason
 
 -- the order in which the faults of workers are told: 67, then 65, then 61, then 66 with the least number
 abbrev pub rank_of : WorkFault → ℕ
@@ -26,6 +36,10 @@ rank_of fault.NoWorker = 0
 rank_of fault.Memory = 1
 rank_of fault.Held = 2
 rank_of (fault.Refused number) = 3 + number
+
+-- no fault of the result comes before this one in that order
+abbrev pub ComesFirst : {T : Type 0} → WorkFault → Result T WorkFault → Type 0
+ComesFirst reported result = IfErr result (λ reason. rank_of reported ≤ rank_of reason)
 
 -- what ended workers is told before a refusal to close a desk, and of such refusals that of the first site
 abbrev pub site_rank_of : SiteFault → ℕ

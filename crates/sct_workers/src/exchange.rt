@@ -1,50 +1,63 @@
 //! The worker that accepts what other sites took.
 
-ghost use Rattle.std.specs.Prelude.{◌≡◌, [], IfErr, IfOk, OnOk};
+ghost use Rattle.std.specs.Prelude.{◌≡◌, [], ◌∷◌, IfErr, IfOk, OnOk};
 ghost use Rattle.sct_receipts.specs.Kept.{AllKeep};
 ghost use Rattle.sct_set.specs.Contents.{contents_of};
+ghost use Rattle.sct_workers.specs.Exchanging.{accepted_by, IsHandedOver};
 ghost use Rattle.sct_workers.specs.Holds.{EndsWhere};
 
 use crate::gate::{Gate, Point, pass};
+use crate::new_entry::NewEntry;
 use crossbeam_channel::Receiver;
-use sct_delta::{Delta, DeltaFault, Entry};
+use sct_delta::{Delta, DeltaFault};
 use sct_desk::{Desk, Receipt, Site};
 use sct_receipts::{WorkFault, accepted, keep};
+use sct_site::Accepted;
 use std::alloc::Global;
 use std::sync::Wait;
 
 // The delta of one entry.
-#[tactic(auto, using(crate::proofs::Holding::delta_ends))]
-fn delta_of(alloc: Global, entry: Entry) -> Result<Delta, WorkFault>
-    ensures { IfErr result (EndsWhere (λ point. ⊥)) }
-{
-    let mut entries = Vec::new(alloc);
-    entries.push(entry)?;
-    Ok(Delta::of(entries)?)
-}
-
-// Hands an entry to the desk, keeps the receipt and answers whether the entry was accepted. It is not where an entry before
-// it did not come, which is no fault.
-#[tactic(auto, using(crate::proofs::Holding::delta_ends))]
-fn accept_one<J: Site, H: Wait + Drop, R: Wait>(
-    rt: &R,
-    alloc: Global,
-    desk: &Desk<J, H>,
-    entry: Entry,
-    kept: &mut Vec<Receipt>,
-) -> Result<bool, WorkFault>
-    requires kept { AllKeep J.book J.number J.group (contents_of []) kept.old.items }
-    ensures kept { OnOk result (AllKeep J.book J.number J.group (contents_of []) kept.new.items) }
+fn delta_of(alloc: Global, entry: NewEntry) -> Result<Delta, WorkFault>
+    ensures entries { IfOk result (λ delta. delta ≡ entry.entry ∷ []) }
     ensures ends { IfErr result (EndsWhere (λ point. ⊥)) }
 {
-    let delta = delta_of(alloc, entry)?;
-    let (answer, receipt) = accepted(rt, alloc, desk, &delta)?;
-    keep::<J>(kept, &[], receipt)?;
+    let mut entries = Vec::new(alloc);
+    entries.push(entry.into_entry())?;
+    match Delta::of(entries) {
+        Ok(delta) => Ok(delta),
+        Err(refusal) => Err(WorkFault::from(refusal)),
+    }
+}
+
+// Whether an entry was accepted, by what its delta was answered. It is no fault that an entry before it is missing.
+fn is_accepted(answer: Result<Accepted, DeltaFault>) -> Result<bool, WorkFault>
+    ensures { result ≡ accepted_by answer }
+{
     match answer {
         Ok(_) => Ok(true),
         Err(DeltaFault::Gap { .. }) => Ok(false),
         Err(refusal) => Err(WorkFault::from(refusal)),
     }
+}
+
+// Hands an entry to the desk, keeps the receipt and answers whether the entry was accepted.
+#[tactic(auto, using(crate::proofs::Refusing::answer_ends))]
+fn accept_one<J: Site, H: Wait + Drop, R: Wait>(
+    rt: &R,
+    alloc: Global,
+    desk: &Desk<J, H>,
+    entry: NewEntry,
+    kept: &mut Vec<Receipt>,
+) -> Result<bool, WorkFault>
+    requires kept { AllKeep J.book J.number J.group (contents_of []) kept.old.items }
+    ensures kept { OnOk result (AllKeep J.book J.number J.group (contents_of []) kept.new.items) }
+    ensures handed { IfOk result (IsHandedOver J.number J.group entry.entry kept.old.items kept.new.items) }
+    ensures ends { IfErr result (EndsWhere (λ point. ⊥)) }
+{
+    let delta = delta_of(alloc, entry)?;
+    let (answer, receipt) = accepted(rt, alloc, desk, &delta)?;
+    keep::<J>(kept, &[], receipt)?;
+    is_accepted(answer)
 }
 
 /// Accepts the entries that come, until no other site's intake worker is left. By the receipts that it kept no own entry
@@ -56,7 +69,7 @@ pub(crate) fn exchange<J: Site, H: Wait + Drop, G: Gate, R: Wait>(
     gate: &G,
     desk: &Desk<J, H>,
     site: u16,
-    inbox: Receiver<Entry>,
+    inbox: Receiver<NewEntry>,
 ) -> Result<Vec<Receipt>, WorkFault>
     ensures kept { IfOk result (λ kept. AllKeep J.book J.number J.group (contents_of []) kept.items) }
     ensures ends { IfErr result (EndsWhere (G.may_hold gate.now)) }

@@ -1,20 +1,22 @@
 //! All sites of a run.
 
-ghost use Rattle.std.specs.Prelude.{◌≡◌, ◌≤◌, ◌+◌, ◌++◌, ◌∷◌, ℕ, [], List, Ok, Some, IfErr, IfOk, length, string_bytes, vec_len};
+ghost use Rattle.std.specs.Prelude.{◌≡◌, ◌<◌, ◌≤◌, ◌+◌, ◌++◌, ◌∷◌, [], Some, IfErr, IfOk, length, vec_capacity, vec_len};
 ghost use Rattle.std.specs.List.{slice_get};
 ghost use Rattle.sct_receipts.specs.declared.fault.WorkFault.TheVariants as fault;
 ghost use Rattle.sct_workers.specs.Each.{AtEach};
 ghost use Rattle.sct_workers.specs.Files.{bytes_of};
 ghost use Rattle.sct_workers.specs.Filling.{AreFilled, IsFilled};
 ghost use Rattle.sct_workers.specs.Holds.{EndsWhere, SiteEndsWhere};
+ghost use Rattle.sct_workers.specs.Reported.{AnswersTo};
 
-use crate::fault::{SiteFault, told_of_sites};
+use crate::fault::SiteFault;
 use crate::filled::{Filled, Sites};
 use crate::gate::Gate;
+use crate::new_entry::NewEntry;
+use crate::reporting::{sites_of, told};
 use crate::site::fill;
 use crate::workers::Post;
 use crossbeam_channel::{Receiver, Sender};
-use sct_delta::Entry;
 use sct_receipts::WorkFault;
 use std::alloc::{AllocError, Global};
 use std::sync::Wait;
@@ -24,9 +26,9 @@ use std::thread::{Promise, PromisedHandle, Scope, Threads};
 // Copies of all senders but that of this place.
 fn others(
     alloc: Global,
-    senders: &[Sender<Entry>],
+    senders: &[Sender<NewEntry>],
     own: usize,
-) -> Result<Vec<Sender<Entry>>, AllocError> {
+) -> Result<Vec<Sender<NewEntry>>, AllocError> {
     let mut others = Vec::new(alloc);
     for (place, sender) in senders.iter().enumerate() {
         if place != own {
@@ -40,7 +42,7 @@ fn others(
 fn channels(
     alloc: Global,
     count: usize,
-) -> Result<(Vec<Sender<Entry>>, Vec<Receiver<Entry>>), AllocError>
+) -> Result<(Vec<Sender<NewEntry>>, Vec<Receiver<NewEntry>>), AllocError>
     ensures { IfOk result (λ ends. vec_len ends.1 ≡ count) }
 {
     let mut senders = Vec::new(alloc);
@@ -97,7 +99,7 @@ fn start_one<'s, E, G: Gate + Sync, R: Threads + Wait + Sync>(
     ensures gate { IfOk result (λ child. child.promise.gate.now ≡ gate.now) }
     ensures site { IfOk result (λ child. (child.promise.number ≡ number) × (child.promise.group ≡ group)) }
     ensures input { IfOk result (λ child. child.promise.input.now ≡ input.now) }
-    ensures ends { IfErr result (EndsWhere (λ point. ⊥)) }
+    ensures none { IfErr result (λ e. e ≡ fault.NoWorker) }
 {
     let started = scope.spawn_with(
         Fills {
@@ -117,17 +119,20 @@ fn start_one<'s, E, G: Gate + Sync, R: Threads + Wait + Sync>(
     }
 }
 
-// A list with one element more.
-fn with<T: Drop>(list: Vec<T>, one: T) -> Result<Vec<T>, WorkFault>
-    ensures items { IfOk result (λ all. all.items ≡ list.items ++ one ∷ []) }
-    ensures memory { IfErr result (λ e. e ≡ fault.Memory) }
+// A list with one element more, for which there is room.
+fn with<T: Drop>(list: Vec<T>, one: T) -> Vec<T>
+    requires { length list.items < vec_capacity list }
+    ensures items { result.items ≡ list.items ++ one ∷ [] }
+    ensures room { vec_capacity list ≤ vec_capacity result }
 {
     let mut all = list;
-    all.push(one)?;
-    Ok(all)
+    let Ok(()) = all.push(one) else {
+        unreachable!()
+    };
+    all
 }
 
-// Starts one site for each input, numbered from 1.
+// Starts one site for each input, numbered from 1. Only a thread that cannot be started is a fault.
 fn start<'s, E, G: Gate + Sync, R: Threads + Wait + Sync>(
     rt: &'s R,
     alloc: Global,
@@ -135,9 +140,11 @@ fn start<'s, E, G: Gate + Sync, R: Threads + Wait + Sync>(
     scope: &Scope<'s, E>,
     inputs: &'s [Vec<u8>],
     posts: Vec<Post>,
+    room: Vec<Child<'s, G>>,
 ) -> Result<Vec<Child<'s, G>>, WorkFault>
     requires few { length inputs.now ≤ 64 }
     requires posts { vec_len posts ≡ length inputs.now }
+    requires room { (room.items ≡ []) × (length inputs.now ≤ vec_capacity room) }
     ensures len { IfOk result (λ children. length children.items ≡ length inputs.now) }
     ensures sites { IfOk result (λ children.
         AtEach (λ at child. (child.promise.number ≡ at + 1)
@@ -146,11 +153,11 @@ fn start<'s, E, G: Gate + Sync, R: Threads + Wait + Sync>(
         AtEach (λ at child. slice_get (bytes_of inputs.now) at ≡ Some child.promise.input.now) children.items) }
     ensures gate { IfOk result
         (λ children. AtEach (λ at child. child.promise.gate.now ≡ gate.now) children.items) }
-    ensures ends { IfErr result (EndsWhere (λ point. ⊥)) }
+    ensures none { IfErr result (λ e. e ≡ fault.NoWorker) }
 {
     let group = inputs.len() as u16;
     let mut posts = posts;
-    let mut children = Vec::with_capacity(alloc, inputs.len())?;
+    let mut children = room;
     let mut number = 0;
     for input in inputs {
         let Some(post) = posts.pop() else {
@@ -158,78 +165,44 @@ fn start<'s, E, G: Gate + Sync, R: Threads + Wait + Sync>(
         };
         number += 1;
         let child = start_one(rt, alloc, gate, scope, number, group, input, post)?;
-        children = with(children, child)?;
+        children = with(children, child);
     }
     Ok(children)
 }
 
-// The sites so far, and the next one.
-fn next<G: Gate>(
-    gate: &G,
-    so_far: Result<Sites, SiteFault>,
-    site: Result<Filled, SiteFault>,
-) -> Result<Sites, SiteFault>
-    requires few { IfOk so_far (λ sites. sites.refused ≤ length (string_bytes sites.told)) }
-    requires few_more { IfOk site (λ one. one.refused ≤ length (string_bytes one.told)) }
-    requires ends { IfErr so_far (SiteEndsWhere (G.may_hold gate.now)) }
-    requires one_ends { IfErr site (SiteEndsWhere (G.may_hold gate.now)) }
-    ensures filled { (size : ℕ) (inputs : List (List ℕ)) (input : List ℕ) → IfOk so_far (AreFilled size inputs)
-        → IfOk site (IsFilled (length inputs + 1) size input)
-        → IfOk result (AreFilled size (inputs ++ input ∷ [])) }
-    ensures ends { IfErr result (SiteEndsWhere (G.may_hold gate.now)) }
-{
-    match (so_far, site) {
-        (Ok(sites), Ok(one)) => match sites.with(one) {
-            Ok(more) => Ok(more),
-            Err(fault) => Err(SiteFault::Working(fault)),
-        },
-        (Ok(_), Err(fault)) => Err(fault),
-        (Err(fault), Ok(_)) => Err(fault),
-        (Err(first), Err(second)) => Err(told_of_sites(first, second)),
-    }
-}
-
-// Waits for all sites, in the order of their inputs.
+// Waits for all sites, in the order of their inputs, and keeps what each of them answers.
 fn gather<'s, G: Gate, R: Threads>(
     rt: &R,
-    alloc: Global,
     gate: &G,
     inputs: &[Vec<u8>],
     children: Vec<Child<'s, G>>,
-) -> Result<Sites, SiteFault>
+    room: Vec<Result<Filled, SiteFault>>,
+) -> Vec<Result<Filled, SiteFault>>
     requires len { length children.items ≡ length inputs.now }
     requires sites { AtEach
         (λ at child. (child.promise.number ≡ at + 1) × (child.promise.group ≡ length inputs.now)) children.items }
     requires inputs { AtEach
         (λ at child. slice_get (bytes_of inputs.now) at ≡ Some child.promise.input.now) children.items }
     requires gate { AtEach (λ at child. child.promise.gate.now ≡ gate.now) children.items }
-    ensures filled { IfOk result (AreFilled (length inputs.now) (bytes_of inputs.now)) }
-    ensures ends { IfErr result (SiteEndsWhere (G.may_hold gate.now)) }
+    requires room { (room.items ≡ []) × (length inputs.now ≤ vec_capacity room) }
+    ensures len { length result.items ≡ length inputs.now }
+    ensures filled { AtEach (AnswersTo (length inputs.now) (bytes_of inputs.now)) result.items }
+    ensures ends { AtEach (λ place answer. IfErr answer (SiteEndsWhere (G.may_hold gate.now))) result.items }
 {
-    let mut so_far = Ok(Sites::none(alloc));
+    let mut answers = room;
     for child in children {
-        so_far = next(gate, so_far, child.join(rt));
+        answers = with(answers, child.join(rt));
     }
-    so_far
-}
-
-// What several sites answered, for one caller.
-fn told<G: Gate>(gate: &G, gathered: Result<Sites, SiteFault>) -> Result<Sites, WorkFault>
-    requires { IfErr gathered (SiteEndsWhere (G.may_hold gate.now)) }
-    ensures filled { IfOk result (λ sites. gathered ≡ Ok sites) }
-    ensures ends { IfErr result (EndsWhere (G.may_hold gate.now)) }
-{
-    match gathered {
-        Ok(sites) => Ok(sites),
-        Err(SiteFault::Working(fault)) => Err(fault),
-        Err(SiteFault::Closing(fault)) => Err(fault),
-    }
+    answers
 }
 
 /// Fills one site from each input, numbered from 1, each on threads of its own, whose workers exchange what they take. Each
-/// core stands for its input, whatever came through the channels; the lines that tell an input's refused lines begin with
-/// its number, as in `file 2 line 1: 31`. The faults of workers come first: 67 `NoWorker`, then 65 `Memory`, then 61 `Held`,
-/// then 66 `Refused` with the least number; then the first site's refusal to be closed, 66 with 53 or 54.
+/// core stands for its input, whatever came through the channels. Each line that reports a refused line of an input begins
+/// with the number of the input, as in `file 2 line 1: 31`.
+///
+/// The call ends after all workers have ended. The faults of workers come first: 67 `NoWorker`, then 65 `Memory`, then 61
+/// `Held`, then 66 `Refused` with the least number. If no worker failed, the first site whose desk is not closed is
+/// reported: 66 with 53 or 54.
 #[tactic(auto, using(crate::proofs::Holding::no_gate))]
 pub fn fill_sites<G: Gate + Sync, R: Threads + Wait + Sync>(
     rt: &R,
@@ -242,16 +215,20 @@ pub fn fill_sites<G: Gate + Sync, R: Threads + Wait + Sync>(
     ensures ends { IfErr result (EndsWhere (G.may_hold gate.now)) }
 {
     let posts = posts(alloc, inputs.len())?;
+    let answers = Vec::with_capacity(alloc, inputs.len())?;
     thread::scope(
         thread::scope_env(),
         rt,
         move |scope| -> Result<Sites, WorkFault>
-            requires { (length inputs.now ≤ 64) × (vec_len posts ≡ length inputs.now) }
+            requires { (length inputs.now ≤ 64) × (vec_len posts ≡ length inputs.now)
+                × ((answers.items ≡ []) × (length inputs.now ≤ vec_capacity answers)) }
             ensures { IfOk result (AreFilled (length inputs.entry.now) (bytes_of inputs.entry.now))
                 × IfErr result (EndsWhere (G.may_hold gate.entry.now)) }
         {
-            let children = start(rt, alloc, gate, scope, inputs, posts)?;
-            told(gate, gather(rt, alloc, gate, inputs, children))
+            let children = Vec::with_capacity(alloc, inputs.len())?;
+            let children = start(rt, alloc, gate, scope, inputs, posts, children)?;
+            let answers = gather(rt, gate, inputs, children, answers);
+            told(gate, sites_of(alloc, gate, inputs, answers))
         },
     )
 }

@@ -7,6 +7,7 @@ ghost use Rattle.sct_message.specs.Sets.{messages_in};
 ghost use Rattle.sct_receipts.specs.Kept.{AllKeep, AllShown, is_shown, Keeps};
 ghost use Rattle.sct_receipts.specs.declared.fault.WorkFault.TheVariants as fault;
 ghost use Rattle.sct_set.specs.Contents.{contents_of};
+ghost use Rattle.sct_workers.specs.Exchanging.{IsNumbered};
 ghost use Rattle.sct_workers.specs.Holds.{EndsWhere};
 ghost use Rattle.sct_workers.specs.Shown.{ShowsMore};
 
@@ -20,7 +21,7 @@ use std::alloc::Global;
 use std::sync::{Arc, Wait};
 
 // Takes one of the messages, and keeps the receipt.
-#[tactic(auto, using(crate::proofs::MoreKept::shown_last, crate::proofs::MoreKept::shows_more))]
+#[tactic(auto, using(crate::proofs::MoreKept::shown_last, crate::proofs::MoreKept::shows_more, crate::proofs::Refusing::takes_number))]
 fn take_one<J: Site, H: Wait + Drop, R: Wait>(
     rt: &R,
     alloc: Global,
@@ -35,6 +36,7 @@ fn take_one<J: Site, H: Wait + Drop, R: Wait>(
         (contents_of (messages_in messages.now)) kept.new.items) }
     ensures shown { OnOk result (is_shown kept.new.items (arc_value message.now) ≡ true) }
     ensures more { OnOk result (ShowsMore kept.old.items kept.new.items) }
+    ensures numbered { IfOk result IsNumbered }
     ensures memory { IfErr result (λ e. e ≡ fault.Memory) }
 {
     let (took, receipt) = taken(rt, alloc, desk, message.clone()?)?;
@@ -103,9 +105,7 @@ fn work_on<J: Site, H: Wait + Drop, R: Wait>(
 {
     let took = take_one(rt, alloc, desk, messages, message, kept)?;
     publish(rt, alloc, desk, messages, message, outlets, kept)?;
-    if let Took::Taken { n } = took {
-        outlets.tell(rt, site, n, message);
-    }
+    outlets.tell(rt, site, &took, message);
     Ok(())
 }
 

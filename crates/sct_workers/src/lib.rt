@@ -1,7 +1,7 @@
 //! Several sites of one run, each on threads of its own: an intake worker takes the site's messages, an exchange worker
 //! accepts what the other sites took, and a query worker asks while the others work. [`fill_sites`] fills one site from each
-//! input, closes the desks with all receipts that the workers kept, and hands out the cores. A [`Gate`] may hold workers at
-//! the points that they pass.
+//! input, closes the desks with all receipts that the workers kept, and hands out the cores. If several sites fail,
+//! [`reported_fault`] says which fault is reported. A [`Gate`] may hold workers at the points that they pass.
 #![tactic(auto)]
 
 mod asking;
@@ -11,11 +11,15 @@ mod filled;
 mod gate;
 mod gathering;
 mod intake;
+mod new_entry;
 mod note;
 mod outlets;
+mod reporting;
 mod site;
 mod workers;
 
-pub use filled::Sites;
+pub use fault::SiteFault;
+pub use filled::{Filled, Sites};
 pub use gate::{FreeGate, Gate, Held, Point};
 pub use gathering::fill_sites;
+pub use reporting::reported_fault;

@@ -3,12 +3,14 @@
 ghost use Rattle.std.specs.Prelude.{◌≡◌, [], IfSome};
 ghost use Rattle.sct_receipts.specs.Kept.{Keeps};
 ghost use Rattle.sct_set.specs.Contents.{contents_of};
+ghost use Rattle.sct_workers.specs.Exchanging.{IsNumbered};
 
+use crate::new_entry::NewEntry;
 use crate::note::Note;
 use crossbeam_channel::Sender;
-use sct_delta::Entry;
 use sct_desk::{Receipt, Site};
 use sct_message::{Message, TransferKey};
+use sct_site::Took;
 use std::sync::{Arc, Wait};
 
 /// The ends of channels to the query worker of the site and to the exchange workers of the other sites. These end when
@@ -16,7 +18,7 @@ use std::sync::{Arc, Wait};
 #[derive(Drop)]
 pub(crate) struct Outlets<J: Site> {
     pub(crate) asks: Sender<Note<J>>,
-    pub(crate) others: Vec<Sender<Entry>>,
+    pub(crate) others: Vec<Sender<NewEntry>>,
 }
 
 impl<J: Site> Outlets<J> {
@@ -36,11 +38,14 @@ impl<J: Site> Outlets<J> {
         }
     }
 
-    // Sends a new entry to the other sites. One that can't be sent is left out, which is no fault.
-    pub(crate) fn tell<R: Wait>(&self, rt: &R, origin: u16, n: u64, message: &Arc<Message>) {
+    // Sends the entry of a message that the site took to the other sites. There is none for a repeat. One that cannot be
+    // sent is left out, which is no fault.
+    pub(crate) fn tell<R: Wait>(&self, rt: &R, site: u16, took: &Took, message: &Arc<Message>)
+        requires { IsNumbered took.now }
+    {
         for other in &self.others {
-            if let Ok(message) = message.clone() {
-                let _ = other.send(rt, Entry { origin, n, message });
+            if let Some(entry) = NewEntry::of(site, took, message) {
+                let _ = other.send(rt, entry);
             }
         }
     }

@@ -1,21 +1,23 @@
 //! One site, from the bytes of its input to its core.
 
 ghost use Rattle.std.specs.List.{All};
-ghost use Rattle.std.specs.Prelude.{◌≡◌, [], length, IfErr, IfOk, IfSome, string_bytes};
+ghost use Rattle.std.specs.Prelude.{◌≡◌, [], Err, length, IfErr, IfOk, IfSome, OnOk, string_bytes};
 ghost use Rattle.sct_desk.specs.Openings.{IsNewQuery};
 ghost use Rattle.sct_lines.specs.Lines.{messages_read, refusals_told};
 ghost use Rattle.sct_message.specs.Sets.{messages_in};
+ghost use Rattle.sct_receipts.specs.Kept.{AllKeep, AllShown};
 ghost use Rattle.sct_receipts.specs.Stands.{Stands};
 ghost use Rattle.sct_set.specs.Contents.{contents_of};
 ghost use Rattle.sct_workers.specs.Files.{file_front, told_of_file};
 ghost use Rattle.sct_workers.specs.Filling.{IsFilled};
-ghost use Rattle.sct_workers.specs.Holds.{EndsWhere, SiteEndsWhere};
+ghost use Rattle.sct_workers.specs.Holds.{EndsWhere, IsClosingFault, SiteEndsWhere};
+ghost use Rattle.sct_workers.specs.declared.fault.SiteFault.TheVariants as site;
 
 use crate::fault::SiteFault;
 use crate::filled::Filled;
 use crate::gate::Gate;
 use crate::workers::{Post, workers};
-use sct_desk::{Desk, DeskFault, Query, Site};
+use sct_desk::{Desk, DeskFault, Query, Receipt, Site};
 use sct_history::{History, Track};
 use sct_lines::{Intake, read_lines_after};
 use sct_message::Message;
@@ -57,6 +59,29 @@ fn opened<'a, J: Site, R: Wait>(
     }
 }
 
+// The core of a site, by what its workers answered. A fault of theirs comes before a refusal to close the desk.
+fn closed_after<J: Site, H: Wait + Drop, G: Gate>(
+    gate: &G,
+    desk: Desk<J, H>,
+    messages: &[Arc<Message>],
+    kept: Result<Vec<Receipt>, WorkFault>,
+) -> Result<SiteCore, SiteFault>
+    requires kept { IfOk kept (λ kept. AllKeep J.book J.number J.group
+        (contents_of (messages_in messages.now)) kept.items) }
+    requires shown { IfOk kept (λ kept. AllShown (contents_of (messages_in messages.now)) kept.items) }
+    requires ends { IfErr kept (EndsWhere (G.may_hold gate.now)) }
+    ensures core { IfOk result (Stands J.number J.group (contents_of (messages_in messages.now))) }
+    ensures ends { IfErr result (SiteEndsWhere (G.may_hold gate.now)) }
+    ensures working { IfErr kept (λ reason. result ≡ Err (site.Working reason)) }
+    ensures closing { OnOk kept (IfErr result IsClosingFault) }
+{
+    let receipts = kept?;
+    match closed(desk, messages, receipts) {
+        Ok(core) => Ok(core),
+        Err(fault) => Err(SiteFault::Closing(fault)),
+    }
+}
+
 // Has the workers of a site take the messages, and closes its desk.
 #[tactic(auto, using(crate::proofs::Holding::no_gate))]
 fn worked<J: Site + Send + Sync, G: Gate + Sync, R: Threads + Wait + Sync>(
@@ -77,11 +102,8 @@ fn worked<J: Site + Send + Sync, G: Gate + Sync, R: Threads + Wait + Sync>(
     ensures ends { IfErr result (SiteEndsWhere (G.may_hold gate.now)) }
 {
     let (desk, query) = opened::<J, R>(rt, alloc, history, track, number, group)?;
-    let receipts = workers(rt, alloc, gate, &desk, query, number, messages, post)?;
-    match closed(desk, messages, receipts) {
-        Ok(core) => Ok(core),
-        Err(fault) => Err(SiteFault::Closing(fault)),
-    }
+    let kept = workers(rt, alloc, gate, &desk, query, number, messages, post);
+    closed_after(gate, desk, messages, kept)
 }
 
 // What stands in front of each line that tells a refused line of the input of this number.

@@ -1,20 +1,20 @@
 //! The three workers of a site.
 
-ghost use Rattle.std.specs.Prelude.{◌≡◌, [], IfErr, IfOk};
+ghost use Rattle.std.specs.Prelude.{◌≡◌, ◌⊎◌, [], Err, IfErr, IfOk, IsOk, OnOk};
 ghost use Rattle.sct_message.specs.Sets.{messages_in};
 ghost use Rattle.sct_receipts.specs.Kept.{AllKeep, AllShown};
 ghost use Rattle.sct_receipts.specs.declared.fault.WorkFault.TheVariants as fault;
 ghost use Rattle.sct_set.specs.Contents.{contents_of};
-ghost use Rattle.sct_workers.specs.Holds.{EndsWhere};
+ghost use Rattle.sct_workers.specs.Holds.{ComesFirst, EndsWhere};
 
 use crate::asking::answers;
 use crate::exchange::exchange;
 use crate::fault::told_of_two;
 use crate::gate::Gate;
 use crate::intake::intake;
+use crate::new_entry::NewEntry;
 use crate::outlets::Outlets;
 use crossbeam_channel::{Receiver, Sender};
-use sct_delta::Entry;
 use sct_desk::{Desk, Query, Receipt, Site};
 use sct_message::Message;
 use sct_receipts::WorkFault;
@@ -27,8 +27,8 @@ use std::thread::{Promise, PromisedHandle, SpawnError, Threads};
 /// The ends of channels that lead from a site to the others and back.
 #[derive(Drop)]
 pub(crate) struct Post {
-    pub(crate) inbox: Receiver<Entry>,
-    pub(crate) others: Vec<Sender<Entry>>,
+    pub(crate) inbox: Receiver<NewEntry>,
+    pub(crate) others: Vec<Sender<NewEntry>>,
 }
 
 /// What a worker's thread promises: by the receipts that it kept no own entry came, it is held only where the gate may hold
@@ -57,6 +57,7 @@ fn ended<'a, J: Site, G: Gate, F: Drop, R: Threads>(
     requires { IfOk started (λ child. child.promise.gate.now ≡ gate.now) }
     ensures kept { IfOk result (λ kept. AllKeep J.book J.number J.group (contents_of []) kept.items) }
     ensures ends { IfErr result (EndsWhere (G.may_hold gate.now)) }
+    ensures none { IfErr started.entry (λ none. result ≡ Err fault.NoWorker) }
 {
     match started {
         Ok(child) => child.join(rt),
@@ -102,6 +103,9 @@ fn both<J: Site, G: Gate>(
         (contents_of (messages_in messages.now)) kept.items) }
     ensures shown { IfOk result (λ kept. AllShown (contents_of (messages_in messages.now)) kept.items) }
     ensures ends { IfErr result (EndsWhere (G.may_hold gate.now)) }
+    ensures lost { OnOk result (IsOk first × IsOk second) }
+    ensures least { IfErr result (λ e. ComesFirst e first × ComesFirst e second) }
+    ensures one { IfErr result (λ e. (e ≡ fault.Memory) ⊎ ((first ≡ Err e) ⊎ (second ≡ Err e))) }
 {
     match (first, second) {
         (Ok(kept), Ok(more)) => joined::<J>(messages, kept, more),
@@ -109,6 +113,36 @@ fn both<J: Site, G: Gate>(
         (Err(fault), Ok(_)) => Err(fault),
         (Err(one), Err(other)) => Err(told_of_two(one, other)),
     }
+}
+
+// What the three workers of a site answered. The second and the third added nothing.
+#[tactic(auto, using(crate::proofs::ReportLemmas::before_both))]
+fn all_three<J: Site, G: Gate>(
+    gate: &G,
+    messages: &[Arc<Message>],
+    taken: Result<Vec<Receipt>, WorkFault>,
+    accepted: Result<Vec<Receipt>, WorkFault>,
+    answered: Result<Vec<Receipt>, WorkFault>,
+) -> Result<Vec<Receipt>, WorkFault>
+    requires kept { IfOk taken (λ kept. AllKeep J.book J.number J.group
+        (contents_of (messages_in messages.now)) kept.items) }
+    requires shown { IfOk taken (λ kept. AllShown (contents_of (messages_in messages.now)) kept.items) }
+    requires accepted { IfOk accepted (λ kept. AllKeep J.book J.number J.group (contents_of []) kept.items) }
+    requires answered { IfOk answered (λ kept. AllKeep J.book J.number J.group (contents_of []) kept.items) }
+    requires taken_ends { IfErr taken (EndsWhere (G.may_hold gate.now)) }
+    requires accepted_ends { IfErr accepted (EndsWhere (G.may_hold gate.now)) }
+    requires answered_ends { IfErr answered (EndsWhere (G.may_hold gate.now)) }
+    ensures kept { IfOk result (λ kept. AllKeep J.book J.number J.group
+        (contents_of (messages_in messages.now)) kept.items) }
+    ensures shown { IfOk result (λ kept. AllShown (contents_of (messages_in messages.now)) kept.items) }
+    ensures ends { IfErr result (EndsWhere (G.may_hold gate.now)) }
+    ensures lost { OnOk result (IsOk taken × (IsOk accepted × IsOk answered)) }
+    ensures least { IfErr result (λ e. ComesFirst e taken × (ComesFirst e accepted × ComesFirst e answered)) }
+    ensures one { IfErr result (λ e. (e ≡ fault.Memory)
+        ⊎ ((taken ≡ Err e) ⊎ ((accepted ≡ Err e) ⊎ (answered ≡ Err e)))) }
+{
+    let first = both::<J, G>(gate, messages, taken, accepted);
+    both::<J, G>(gate, messages, first, answered)
 }
 
 /// Has the three workers of a site do their work, on this thread and two more. All receipts come back, and they show all
@@ -176,8 +210,7 @@ pub(crate) fn workers<
             };
             let accepted = ended(rt, accepts, gate);
             let answered = ended(rt, asked, gate);
-            let first = both::<J, G>(gate, messages, taken, accepted);
-            both::<J, G>(gate, messages, first, answered)
+            all_three::<J, G>(gate, messages, taken, accepted, answered)
         },
     )
 }

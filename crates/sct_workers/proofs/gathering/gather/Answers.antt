@@ -1,57 +1,46 @@
--- One site more is waited for, and at last all of them.
-use Rattle.std.proofs.Common.{◌≡◌, ◌∙◌, ◌++◌, ◌∷◌, [], ap, sym, subst, length, map, append_assoc, arith, rules}
-use Rattle.std.specs.Prelude.{IfErr, IfOk, ◌≤◌, string_bytes}
+-- One site more is waited for.
+use Rattle.std.proofs.Common.{◌≡◌, ◌<◌, ◌∙◌, ◌++◌, ◌∷◌, [], ap, sym, subst, length, length-append, append_assoc, arith, rules}
+use Rattle.std.specs.Prelude.{IfErr, vec_capacity}
 use Rattle.std.specs.Vec.Iter.{into_iter_items}
-use Rattle.std.proofs.lemmas.List.{length-map}
 use Rattle.sct_workers.specs.Files.{bytes_of}
-use Rattle.sct_workers.specs.Filling.{AreFilled, IsFilled}
 use Rattle.sct_workers.specs.Holds.{SiteEndsWhere}
-use Rattle.sct_workers.proofs.FilledMore.{all_by_place, few_filled, few_of_all, next_by_place, ok_so}
-use Rattle.sct_workers.proofs.Places.{all_done, get_behind, same_by_places}
+use Rattle.sct_workers.specs.Reported.{AnswersTo}
+use Rattle.sct_workers.proofs.Places.{each_pushed, get_behind}
+use Rattle.sct_workers.proofs.ReportLemmas.{answers_to}
 use Rattle.sct_workers.proofs.gathering.gather.Goals as goal
 
-pub next-so_far-requires-clause-few : goal.next-so_far-requires-clause-few
-next-so_far-requires-clause-few g c =
-    ok_so (AreFilled (length c.args.inputs.now) (map (λ child. child.promise.input.now) c.loop-child.yielded)) (λ sites. sites.refused ≤ length (string_bytes sites.told))
-    c.loop-child.so_far (few_of_all _ _) c.loop-child.invariant.filled
-
-pub next-so_far-requires-clause-few_more : goal.next-so_far-requires-clause-few_more
-next-so_far-requires-clause-few_more g c =
-    ok_so (IsFilled c.in-Some.child.promise.number c.in-Some.child.promise.group c.in-Some.child.promise.input.now) (λ one. one.refused ≤ length (string_bytes one.told))
-    c.join.result (few_filled _ _ _) c.join.ensures.0
-
-pub next-so_far-requires-clause-one_ends : goal.next-so_far-requires-clause-one_ends
-next-so_far-requires-clause-one_ends g c =
+pub with-answers-requires : goal.with-answers-requires
+with-answers-requires g c =
     let step : into_iter_items c.loop-child.child-iterator ≡ c.in-Some.child ∷ into_iter_items c.next.new.self = search rules in
     let all = ap (λ rest. c.loop-child.yielded ++ rest) (sym step) ∙ c.loop-child.invariant.rest in
-    let here = get_behind c.loop-child.yielded c.in-Some.child (into_iter_items c.next.new.self) c.args.children.items all in
-    subst (λ gate. IfErr c.join.result (SiteEndsWhere (g.G.Gate.may_hold gate))) (c.requires.gate (length c.loop-child.yielded) c.in-Some.child here) c.join.ensures.1
+    let counted = ap length all in
+    let longer = length-append c.loop-child.yielded (c.in-Some.child ∷ into_iter_items c.next.new.self) in
+    omega (arith, counted, longer, c.requires.len, c.loop-child.invariant.len, c.loop-child.invariant.room)
 
 pub loop-child-preserved : goal.loop-child-preserved
 loop-child-preserved g c =
     let step : into_iter_items c.loop-child.child-iterator ≡ c.in-Some.child ∷ into_iter_items c.next.new.self = search rules in
     let all = ap (λ rest. c.loop-child.yielded ++ rest) (sym step) ∙ c.loop-child.invariant.rest in
     let here = get_behind c.loop-child.yielded c.in-Some.child (into_iter_items c.next.new.self) c.args.children.items all in
+    let many = c.loop-child.invariant.len in
+    let before = c.loop-child.answers.items in
     let site = c.requires.sites (length c.loop-child.yielded) c.in-Some.child here in
+    let size = length c.args.inputs.now in
     let filled =
-    next_by_place (λ child. child.promise.input.now) c.loop-child.yielded c.in-Some.child (length c.args.inputs.now) c.in-Some.child.promise.number c.in-Some.child.promise.group
-    c.join.result site.0 site.1 c.join.ensures.0 in
+    answers_to size (bytes_of c.args.inputs.now) (length c.loop-child.yielded) c.in-Some.child.promise.number c.in-Some.child.promise.group
+    c.in-Some.child.promise.input.now c.join.result site.0 site.1 (c.requires.inputs (length c.loop-child.yielded) c.in-Some.child here) c.join.ensures.0 in
+    let ends =
+    subst (λ gate. IfErr c.join.result (SiteEndsWhere (g.G.Gate.may_hold gate))) (c.requires.gate (length c.loop-child.yielded) c.in-Some.child here) c.join.ensures.1 in
+    let longer = length-append before (c.join.result ∷ []) in
+    let counted = ap length c.with-answers.ensures.items in
+    let done = length-append c.loop-child.yielded (c.in-Some.child ∷ []) in
     record {
       rest = append_assoc c.loop-child.yielded (c.in-Some.child ∷ []) (into_iter_items c.next.new.self) ∙ all;
-      filled =
-          all_by_place (λ child. child.promise.input.now) c.loop-child.yielded c.in-Some.child (length c.args.inputs.now) c.next-so_far.result
-          (c.next-so_far.ensures.filled (length c.args.inputs.now) (map (λ child. child.promise.input.now) c.loop-child.yielded) c.in-Some.child.promise.input.now
-          c.loop-child.invariant.filled filled);
       count = omega (arith, c.in-Some.ensures.steps.1, ap length c.in-Some.ensures.steps.0, c.loop-child.invariant.count);
-      ends = c.next-so_far.ensures.ends;
+      len = omega (arith, many, longer, counted, done);
+      room = omega (arith, c.loop-child.invariant.room, c.with-answers.ensures.room);
+      filled =
+          each_pushed (AnswersTo size (bytes_of c.args.inputs.now)) before c.with-answers.result.items c.join.result c.with-answers.ensures.items c.loop-child.invariant.filled
+          (subst (λ place. AnswersTo size (bytes_of c.args.inputs.now) place c.join.result) (sym many) filled);
+      ends = each_pushed (λ place answer. IfErr answer (SiteEndsWhere (g.G.Gate.may_hold c.args.gate.now))) before c.with-answers.result.items c.join.result c.with-answers.ensures.items c.loop-child.invariant.ends ends;
     }
-
-pub returns-clause-filled : goal.returns-clause-filled
-returns-clause-filled g c =
-    let none = c.in-None.ensures.steps.0 in
-    let left : length (into_iter_items c.loop-child.child-iterator) ≡ 0 = omega (arith, none, c.loop-child.invariant.count) in
-    let done = all_done c.loop-child.yielded (into_iter_items c.loop-child.child-iterator) c.args.children.items c.loop-child.invariant.rest left in
-    let many = c.requires.len ∙ sym (length-map c.args.inputs.now (λ input. input.items)) in
-    let inputs = same_by_places (λ child. child.promise.input.now) c.args.children.items (bytes_of c.args.inputs.now) many c.requires.inputs in
-    subst (λ bytes. IfOk c.loop-child.so_far (AreFilled (length c.args.inputs.now) bytes))
-    (ap (map (λ child. child.promise.input.now)) done ∙ inputs) c.loop-child.invariant.filled

@@ -12,7 +12,7 @@ loop-input-preserved g c =
     let before = c.loop-input.children.items in
     let child = c.in_ok-child.child in
     let inputs = c.args.inputs.now in
-    let is = c.in_ok-children-2.ensures.items in
+    let is = c.with-children.ensures.items in
     let many = c.loop-input.invariant.len in
     let number : child.promise.number ≡ length before + 1 = omega (arith, c.in_ok-child.ensures.site.0, c.loop-input.invariant.number, many) in
     let group : child.promise.group ≡ length inputs = search rules in
@@ -25,12 +25,13 @@ loop-input-preserved g c =
     record {
       number = omega (arith, c.loop-input.invariant.number);
       len = omega (arith, many, longer, counted);
+      room = omega (arith, c.loop-input.invariant.room, c.with-children.ensures.room);
       posts = search rules;
-      sites = each_pushed (λ at one. (one.promise.number ≡ at + 1) × (one.promise.group ≡ length inputs)) before c.in_ok-children-2.children.items child is c.loop-input.invariant.sites (number, group);
+      sites = each_pushed (λ at one. (one.promise.number ≡ at + 1) × (one.promise.group ≡ length inputs)) before c.with-children.result.items child is c.loop-input.invariant.sites (number, group);
       inputs =
-          each_pushed (λ at one. slice_get (bytes_of inputs) at ≡ Some one.promise.input.now) before c.in_ok-children-2.children.items child is c.loop-input.invariant.inputs
+          each_pushed (λ at one. slice_get (bytes_of inputs) at ≡ Some one.promise.input.now) before c.with-children.result.items child is c.loop-input.invariant.inputs
           (subst (λ (n : ℕ). slice_get (bytes_of inputs) n ≡ Some child.promise.input.now) (sym many) there);
       gate =
-          each_pushed (λ at one. one.promise.gate.now ≡ c.args.gate.now) before c.in_ok-children-2.children.items child is c.loop-input.invariant.gate
+          each_pushed (λ at one. one.promise.gate.now ≡ c.args.gate.now) before c.with-children.result.items child is c.loop-input.invariant.gate
           c.in_ok-child.ensures.gate;
     }

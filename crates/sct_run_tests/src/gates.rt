@@ -83,6 +83,34 @@ impl Gate for Meeting {
     }
 }
 
+/// Holds each exchange worker after it accepted a delta.
+pub(crate) struct HeldAccepts;
+
+impl Gate for HeldAccepts {
+    ghost may_hold = { λ gate at. Unit {0} };
+
+    fn pass<R: Wait>(&self, _rt: &R, point: Point) -> Result<(), Held> {
+        match point {
+            Point::Accepted { .. } => Err(Held),
+            _ => Ok(()),
+        }
+    }
+}
+
+/// Holds each query worker after it was answered.
+pub(crate) struct HeldAnswers;
+
+impl Gate for HeldAnswers {
+    ghost may_hold = { λ gate at. Unit {0} };
+
+    fn pass<R: Wait>(&self, _rt: &R, point: Point) -> Result<(), Held> {
+        match point {
+            Point::Answered { .. } => Err(Held),
+            _ => Ok(()),
+        }
+    }
+}
+
 /// Lets none pass.
 pub(crate) struct Shut;
 
