@@ -11,7 +11,7 @@ use mathlib.Core.List.{IsPrefix}
 use Rattle.logbook.specs.Pages.{Book}
 use Rattle.sct_message.specs.declared.draft.Draft.{Draft}
 use Rattle.sct_delta.specs.Entries.{Placed}
-use Rattle.sct_delta.specs.Refusals.{ahead_refusal, first_refusal, firsts_after, fork_refusal, gap_refusal, is_ahead, is_fork, is_held, is_outside, is_past, outside_refusal, told, vector_of}
+use Rattle.sct_delta.specs.Refusals.{ahead_refusal, first_refusal, firsts_after, gap_refusal, is_ahead, is_fork, is_held, is_outside, is_past, outside_refusal, told, vector_of}
 use Rattle.sct_delta.specs.declared.fault.DeltaFault.{DeltaFault}
 use Rattle.sct_delta.specs.declared.fault.DeltaFault.TheVariants as delta_fault
 use Rattle.sct_history.specs.Sights.{Sight}

@@ -1,19 +1,41 @@
 -- What a run answers by what its sites came to.
-use Rattle.std.proofs.Common.{◌≡◌, ◌∙◌, sym, arith, length}
-use Rattle.std.specs.Prelude.{string_bytes}
+use Rattle.std.proofs.Common.{◌≡◌, arith, length, subst}
+use Rattle.std.specs.Prelude.{IfOk, string_bytes}
 use Rattle.std.proofs.lemmas.List.{length-map}
 use Rattle.sct_view.specs.StatusText.{status_text_of}
 use Rattle.sct_workers.specs.Files.{bytes_of, refused_in, told_from}
 use Rattle.sct_workers.proofs.FilledMore.{ok_so}
 use Rattle.sct_run.specs.Runs.{set_of_all}
-use Rattle.sct_run.proofs.AnswerLemmas.{IsAnswerOf, answer_ends, answer_is, never_usage}
+use Rattle.sct_run.proofs.AnswerLemmas.{IsAnswerOf, answer_ends, answer_is}
 use Rattle.sct_run.proofs.sites.run_sites.Goals as goal
 
 pub returns-clause-status : goal.returns-clause-status
 returns-clause-status g c =
-    let mapped = length-map c.args.inputs.items (λ input. input.items) in
-    let many : length c.args.inputs.items ≡ length (bytes_of c.args.inputs.items) = omega (arith, mapped) in
-    ok_so (IsAnswerOf (bytes_of c.args.inputs.items)) (λ answer. answer.status.items ≡ status_text_of (set_of_all (bytes_of c.args.inputs.items))) c.answered.result
-    (λ answer is. is.status)
-    (answer_is (length c.args.inputs.items) (bytes_of c.args.inputs.items) c.filled.result c.answered.result many c.filled.ensures.filled c.filled.ensures.some
-    c.answered.ensures.first c.answered.ensures.settled)
+    let mapped = length-map c.deref.result.now (λ input. input.items) in
+    let many : length c.deref.result.now ≡ length (bytes_of c.deref.result.now) = omega (arith, mapped) in
+    subst (λ items. IfOk c.answered.result (λ answer. answer.status.items ≡ status_text_of (set_of_all (bytes_of items)))) c.deref.ensures.value
+    (ok_so (IsAnswerOf (bytes_of c.deref.result.now)) (λ answer. answer.status.items ≡ status_text_of (set_of_all (bytes_of c.deref.result.now))) c.answered.result (λ answer is. is.status)
+    (answer_is (length c.deref.result.now) (bytes_of c.deref.result.now) c.filled-sites.result c.answered.result many c.filled-sites.ensures.filled c.filled-sites.ensures.some
+    c.answered.ensures.first c.answered.ensures.settled))
+
+pub returns-clause-told : goal.returns-clause-told
+returns-clause-told g c =
+    let mapped = length-map c.deref.result.now (λ input. input.items) in
+    let many : length c.deref.result.now ≡ length (bytes_of c.deref.result.now) = omega (arith, mapped) in
+    subst (λ items. IfOk c.answered.result (λ answer. string_bytes answer.told ≡ told_from 1 (bytes_of items))) c.deref.ensures.value
+    (ok_so (IsAnswerOf (bytes_of c.deref.result.now)) (λ answer. string_bytes answer.told ≡ told_from 1 (bytes_of c.deref.result.now)) c.answered.result (λ answer is. is.told)
+    (answer_is (length c.deref.result.now) (bytes_of c.deref.result.now) c.filled-sites.result c.answered.result many c.filled-sites.ensures.filled c.filled-sites.ensures.some
+    c.answered.ensures.first c.answered.ensures.settled))
+
+pub returns-clause-refused : goal.returns-clause-refused
+returns-clause-refused g c =
+    let mapped = length-map c.deref.result.now (λ input. input.items) in
+    let many : length c.deref.result.now ≡ length (bytes_of c.deref.result.now) = omega (arith, mapped) in
+    subst (λ items. IfOk c.answered.result (λ answer. answer.refused ≡ refused_in (bytes_of items))) c.deref.ensures.value
+    (ok_so (IsAnswerOf (bytes_of c.deref.result.now)) (λ answer. answer.refused ≡ refused_in (bytes_of c.deref.result.now)) c.answered.result (λ answer is. is.refused)
+    (answer_is (length c.deref.result.now) (bytes_of c.deref.result.now) c.filled-sites.result c.answered.result many c.filled-sites.ensures.filled c.filled-sites.ensures.some
+    c.answered.ensures.first c.answered.ensures.settled))
+
+pub returns-clause-ends : goal.returns-clause-ends
+returns-clause-ends g c =
+    answer_ends (g.G.Gate.may_hold c.args.gate.now) c.filled-sites.result c.answered.result c.filled-sites.ensures.ends c.answered.ensures.first c.answered.ensures.then

@@ -1,7 +1,6 @@
 -- What the desk answers may end the worker.
-use Rattle.std.proofs.Common.{◌≡◌, ◌∙◌, sym, subst, ap, rules}
+use Rattle.std.proofs.Common.{◌∙◌, sym, subst, ap, rules}
 use Rattle.std.specs.Prelude.{IfErr}
-use Rattle.sct_desk.specs.Locked.{answer_to}
 use Rattle.sct_desk.specs.Passes.{before, site_with}
 use Rattle.sct_workers.specs.Exchanging.{accepted_by}
 use Rattle.sct_workers.specs.Holds.{EndsWhere}

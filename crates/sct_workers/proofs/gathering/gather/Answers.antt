@@ -1,6 +1,6 @@
 -- One site more is waited for.
-use Rattle.std.proofs.Common.{◌≡◌, ◌<◌, ◌∙◌, ◌++◌, ◌∷◌, [], ap, sym, subst, length, length-append, append_assoc, arith, rules}
-use Rattle.std.specs.Prelude.{IfErr, vec_capacity}
+use Rattle.std.proofs.Common.{◌≡◌, ◌∙◌, ◌++◌, ◌∷◌, [], ap, sym, subst, length, length-append, append_assoc, arith, rules}
+use Rattle.std.specs.Prelude.{IfErr}
 use Rattle.std.specs.Vec.Iter.{into_iter_items}
 use Rattle.sct_workers.specs.Files.{bytes_of}
 use Rattle.sct_workers.specs.Holds.{SiteEndsWhere}

@@ -1,7 +1,7 @@
 -- The fault that is reported is that of a site.
-use Rattle.std.proofs.Common.{◌≡◌, ◌∙◌, ap, sym, subst, rules}
+use Rattle.std.proofs.Common.{◌≡◌, subst, rules}
 use Rattle.std.specs.Prelude.{Some}
-use Rattle.sct_workers.specs.Reported.{IsReported, Reports}
+use Rattle.sct_workers.specs.Reported.{Reports}
 use Rattle.sct_workers.proofs.ReportLemmas.{reported_holds}
 use Rattle.sct_workers.proofs.reporting.sites_of.Goals as goal
 use Rattle.sct_workers.specs.Holds.{SiteEndsWhere}
