@@ -71,21 +71,11 @@ found_stands : (found : List Finding) (unknown : Bool) (stands : Standing) → h
 found_stands [] unknown stands e = cc
 found_stands (f ∷ found) unknown stands e = refl
 
-found_recall : (found : List Finding) (stands : RecallStatus) → has_some found ≡ true → recall.Contradicted ≡ first_recall found stands
-found_recall [] stands e = cc
-found_recall (f ∷ found) stands e = refl
-
 pub contradicted : (t : TransferKey) (clean : List Draft) (asides : List Identity) (found : List Finding)
     → found ≡ findings_of t clean asides → has_some found ≡ true → Contradicted found ≡ transfer_status_of t clean asides
 unfolding transfer_status_of
 contradicted t clean asides found f e =
     found_stands found (is_unknown clean asides) (standing_of t clean) e ∙ ap (λ (fs : List Finding). first_standing fs (is_unknown clean asides) (standing_of t clean)) f
-
-pub recall_contradicted : (t : TransferKey) (clean : List Draft) (asides : List Identity) (cxl : List ℕ) (found : List Finding)
-    → found ≡ findings_of t clean asides → has_some found ≡ true → recall.Contradicted ≡ recall_status_of t clean asides cxl
-unfolding recall_status_of
-recall_contradicted t clean asides cxl found f e =
-    found_recall found (recall_standing_of t clean cxl) e ∙ ap (λ (fs : List Finding). first_recall fs (recall_standing_of t clean cxl)) f
 
 -- where nothing was found, and there is a message
 pub not_contradicted : (t : TransferKey) (clean : List Draft) (asides : List Identity) (found : List Finding)
@@ -96,12 +86,6 @@ not_contradicted t (m ∷ clean) asides found f e known =
     let s = some m clean in
     sym ((λ i. first_standing (sym f i) (is_unknown (m ∷ clean) asides) (standing_of t (m ∷ clean)))
     ∙ (λ i. first_standing (none_in found e i) ((s i) && (length asides == 0)) (standing_of t (m ∷ clean))))
-
-pub recall_not_contradicted : (t : TransferKey) (clean : List Draft) (asides : List Identity) (cxl : List ℕ) (found : List Finding)
-    → found ≡ findings_of t clean asides → has_some found ≡ false → recall_standing_of t clean cxl ≡ recall_status_of t clean asides cxl
-unfolding recall_status_of
-recall_not_contradicted t clean asides cxl found f e =
-    sym (ap (λ (fs : List Finding). first_recall fs (recall_standing_of t clean cxl)) (sym f ∙ none_in found e))
 
 -- where nothing was found, and there is no message
 pub mapped_none : {X Y : Type 0} (g : X → Y) (xs : List X) → map g xs ≡ [] → xs ≡ []

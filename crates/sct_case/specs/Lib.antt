@@ -1,6 +1,7 @@
 -- The definitions of findings and of where transfers and recalls stand.
 pub mod AnyOrder
 pub mod Findings
+pub mod Inside
 pub mod Laws
 pub mod RecallSentences
 pub mod Said

@@ -1,14 +1,14 @@
 //! What is told of one transfer by the clean messages on it and its asides.
 ghost use Rattle.std.specs.Prelude.{◌≡◌, List, IfOk};
 ghost use Rattle.sct_message.specs.Sets.{messages_in};
-ghost use Rattle.sct_message.specs.declared.keys.Identity.{Identity as IdentityOf};
 ghost use Rattle.sct_case.specs.Told.{has_some, findings_of};
 ghost use Rattle.sct_case.specs.Statuses.{told, transfer_status_of, recall_status_of};
 
 use crate::fault::CaseFault;
 use crate::finding::Finding;
 use crate::found::findings_on;
-use crate::standing::{recall_standing_on, standing_on};
+use crate::recalls::recall_status_by;
+use crate::standing::standing_on;
 use crate::status::{RecallStatus, Status};
 use sct_element::Id35;
 use sct_message::{Identity, Message, TransferKey};
@@ -55,25 +55,6 @@ pub fn transfer_status(
     Ok(standing_on(alloc, transfer, clean)?)
 }
 
-/// Where the recall of a transfer stands that has this identification, where these are the transfer's findings. What is
-/// found is looked for once where many recalls of a transfer are asked about.
-pub fn recall_status_beside(
-    alloc: Global,
-    found: &[Finding],
-    transfer: &TransferKey,
-    clean: &[Arc<Message>],
-    cxl: &Id35,
-) -> Result<RecallStatus, CaseFault>
-    ensures { (asides : List IdentityOf) → found.now ≡ findings_of transfer.now (messages_in clean.now) asides
-        → IfOk result (λ stands.
-        stands ≡ recall_status_of transfer.now (messages_in clean.now) asides cxl.now) }
-{
-    if is_contradicted(found) {
-        return Ok(RecallStatus::Contradicted);
-    }
-    Ok(recall_standing_on(alloc, transfer, clean, cxl)?)
-}
-
 /// Where the recall of a transfer stands that has this identification, from the clean messages on the transfer and its
 /// asides.
 pub fn recall_status(
@@ -86,6 +67,6 @@ pub fn recall_status(
     ensures { IfOk result (λ stands.
         stands ≡ recall_status_of transfer.now (messages_in clean.now) asides.now cxl.now) }
 {
-    let found = findings(alloc, transfer, clean, asides)?;
-    recall_status_beside(alloc, &found, transfer, clean, cxl)
+    let status = transfer_status(alloc, transfer, clean, asides)?;
+    Ok(recall_status_by(&status, transfer, clean, cxl))
 }

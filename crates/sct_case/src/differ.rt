@@ -6,9 +6,11 @@ ghost use Rattle.sct_reason.specs.Codes.{reason_text};
 ghost use Rattle.sct_message.specs.Ascending.{ascending};
 ghost use Rattle.sct_element.specs.Text.{is_text};
 ghost use Rattle.sct_message.specs.Order.{text_order};
+ghost use Rattle.sct_case.specs.Inside.{IsByRecall};
 ghost use Rattle.sct_case.specs.Statuses.{first};
 ghost use Rattle.sct_case.specs.Told.{same_reason, same_recall, same_return, same_refusal, differ, differ_among, cxls};
 
+use crate::recall_order::on;
 use crate::said::{RecallAsked, RecallMade, RecallNamed, RefusalMade, RejectionReason, ReturnMade};
 use sct_element::Id35;
 use std::alloc::{AllocError, Global};
@@ -132,34 +134,26 @@ pub(crate) fn differ<S: Compared>(said: &[S]) -> bool
 
 /// The first that is said of a recall.
 pub(crate) fn first_on<'a, S: OfRecall>(said: &'a [S], cxl: &Id35) -> Option<&'a S>
+    requires { IsByRecall S.recall said.now }
     ensures { option_copied result ≡ find (λ m. is_text (S.recall m) cxl.now) said.now }
 {
-    said.iter().find(|one| one.cxl().text() == cxl.text())
+    on(said, cxl).first()
 }
 
 /// Whether something is said of a recall.
 pub(crate) fn is_some_on<S: OfRecall>(said: &[S], cxl: &Id35) -> bool
+    requires { IsByRecall S.recall said.now }
     ensures { result ≡ list_any (λ m. is_text (S.recall m) cxl.now) said.now }
 {
-    said.iter().any(|one| one.cxl().text() == cxl.text())
-}
-
-/// Whether something that is said of a recall differs from one.
-fn differs_on<S: Compared + OfRecall>(said: &[S], one: &S, cxl: &Id35) -> bool
-    ensures { result ≡ list_any
-        (λ other. is_text (S.recall other) cxl.now && not (S.same one.now other)) said.now }
-{
-    said.iter().any(|other| other.cxl().text() == cxl.text() && !one.is_same(other))
+    !on(said, cxl).is_empty()
 }
 
 /// Whether some of the things said of a recall differ.
 pub(crate) fn differ_on<S: Compared + OfRecall>(said: &[S], cxl: &Id35) -> bool
+    requires { IsByRecall S.recall said.now }
     ensures { result ≡ differ_among (λ m. is_text (S.recall m) cxl.now) S.same said.now }
 {
-    match first_on(said, cxl) {
-        Some(one) => differs_on(said, one, cxl),
-        None => false,
-    }
+    differ(on(said, cxl))
 }
 
 /// The recalls of which something is said, as they come.

@@ -3,6 +3,7 @@ ghost use Rattle.std.specs.Prelude.{◌≡◌, ◌++◌, ◌&&◌, ℕ, List, Bo
 ghost use Rattle.std.specs.List.{list_any, flat_map};
 ghost use Rattle.std.specs.Arc.{arc_value};
 ghost use Rattle.sct_message.specs.Sets.{messages_in};
+ghost use Rattle.sct_case.specs.Inside.{IsByRecall};
 ghost use Rattle.sct_case.specs.Said.{is_acceptance};
 ghost use Rattle.sct_case.specs.Told.{has_two_instructions, is_both_confirmed, do_reasons_differ, names_another, does_amount_differ};
 ghost use Rattle.sct_case.specs.Told.{has_two_returns, return_of_it, has_return_of_rejected, differing_recalls, both_answers, differing_refusals};
@@ -11,6 +12,7 @@ ghost use Rattle.sct_case.specs.declared.finding.Finding.TheVariants as finding;
 
 use crate::differ::{cxls, differ, differ_on, is_some_on};
 use crate::finding::Finding;
+use crate::recall_order::by_recall;
 use crate::said::{
     InstructedAmount, OriginalAmount, RecallMade, RefusalMade, RejectionReason, ReturnMade, said,
 };
@@ -133,6 +135,7 @@ fn push_differing_recalls(
     made: &[RecallMade],
     cxls: &[Id35],
 ) -> Result<(), AllocError>
+    requires { IsByRecall (λ m. m.cxl) made.now }
     ensures { OnOk result (found.new.items ≡ found.old.items ++ differing_recalls made.now cxls.now) }
 {
     for cxl in cxls {
@@ -147,6 +150,7 @@ fn push_differing_recalls(
 
 /// Whether money comes back after a recall.
 fn is_returned_after(returns: &[ReturnMade], cxl: &Id35) -> bool
+    requires { IsByRecall (λ m. m.cxl) returns.now }
     ensures { result ≡ list_any (return_of_it cxl.now) returns.now }
 {
     is_some_on(returns, cxl)
@@ -158,6 +162,7 @@ fn push_both_answers(
     returns: &[ReturnMade],
     cxls: &[Id35],
 ) -> Result<(), AllocError>
+    requires { IsByRecall (λ m. m.cxl) returns.now }
     ensures { OnOk result (found.new.items ≡ found.old.items ++ both_answers returns.now cxls.now) }
 {
     for cxl in cxls {
@@ -176,6 +181,7 @@ fn push_differing_refusals(
     made: &[RefusalMade],
     cxls: &[Id35],
 ) -> Result<(), AllocError>
+    requires { IsByRecall (λ m. m.cxl) made.now }
     ensures { OnOk result (found.new.items ≡ found.old.items ++ differing_refusals made.now cxls.now) }
 {
     for cxl in cxls {
@@ -200,7 +206,7 @@ fn push_recalls(
 {
     let made = said::<RecallMade>(alloc, transfer, clean)?;
     let cxls = cxls(alloc, &made)?;
-    push_differing_recalls(found, &made, &cxls)
+    push_differing_recalls(found, &by_recall(made)?, &cxls)
 }
 
 /// Appends the recalls that are answered in both ways.
@@ -216,7 +222,7 @@ fn push_answers(
     let refusals = said::<RefusalMade>(alloc, transfer, clean)?;
     let returns = said::<ReturnMade>(alloc, transfer, clean)?;
     let cxls = cxls(alloc, &refusals)?;
-    push_both_answers(found, &returns, &cxls)
+    push_both_answers(found, &by_recall(returns)?, &cxls)
 }
 
 /// Appends the recalls that are refused in differing ways.
@@ -231,7 +237,7 @@ fn push_refusals(
 {
     let made = said::<RefusalMade>(alloc, transfer, clean)?;
     let cxls = cxls(alloc, &made)?;
-    push_differing_refusals(found, &made, &cxls)
+    push_differing_refusals(found, &by_recall(made)?, &cxls)
 }
 
 /// Adds a finding where it holds.

@@ -4,16 +4,19 @@
 
 mod cases;
 mod differ;
+mod each_recall;
 mod fault;
 mod finding;
 mod found;
 pub mod laws;
+mod recall_order;
 mod recalls;
 mod said;
 mod standing;
 mod status;
 
-pub use cases::{findings, recall_status, recall_status_beside, transfer_status};
+pub use cases::{findings, recall_status, transfer_status};
+pub use each_recall::recall_statuses;
 pub use fault::CaseFault;
 pub use finding::Finding;
 pub use recalls::recall_status_by;

@@ -1,21 +1,17 @@
-//! Where a transfer stands, and where a recall of it stands, once it is known that nothing contradicts itself.
+//! Where a transfer stands, once it is known that nothing contradicts itself, and how a recall was answered.
 ghost use Rattle.std.specs.Prelude.{◌≡◌, IfOk};
 ghost use Rattle.std.specs.List.{list_any, flat_map};
 ghost use Rattle.std.specs.Arc.{arc_value};
 ghost use Rattle.sct_message.specs.Sets.{messages_in};
 ghost use Rattle.sct_case.specs.Said.{is_investigation, instructions_by};
 ghost use Rattle.sct_case.specs.Told.{has_some};
-ghost use Rattle.sct_case.specs.Statuses.{told, rejection_told, return_told, confirmed, known, standing_of};
-ghost use Rattle.sct_case.specs.Statuses.{amount_returned, reason_refused, answered, answer_of, is_named, is_made, recall_standing_of};
+ghost use Rattle.sct_case.specs.Statuses.{told, rejection_told, return_told, confirmed, known, standing_of, answered};
 
-use crate::differ::{first, first_on, is_some_on};
+use crate::differ::first;
 use crate::found::is_accepted;
-use crate::said::{
-    InstructedAmount, RecallAsked, RecallMade, RecallNamed, RefusalMade, RejectionReason,
-    ReturnMade, said,
-};
+use crate::said::{InstructedAmount, RejectionReason, ReturnMade, said};
 use crate::status::{RecallStatus, Status};
-use sct_element::{Amount, Id35};
+use sct_element::Amount;
 use sct_message::{Draft, Message, TransferKey};
 use sct_reason::Reason;
 use std::alloc::{AllocError, Global};
@@ -141,26 +137,7 @@ pub(crate) fn standing_on(
     ))
 }
 
-/// The amount that comes back after a recall.
-fn amount_returned(returns: &[ReturnMade], cxl: &Id35) -> Option<Amount>
-    ensures { result ≡ amount_returned cxl.now returns.now }
-{
-    match first_on(returns, cxl) {
-        Some(made) => Some(made.amount),
-        None => None,
-    }
-}
-
-/// The reason for which a recall was refused.
-fn reason_refused(refusals: &[RefusalMade], cxl: &Id35) -> Option<Reason>
-    ensures { result ≡ reason_refused cxl.now refusals.now }
-{
-    match first_on(refusals, cxl) {
-        Some(made) => Some(made.reason.copy()),
-        None => None,
-    }
-}
-
+/// How a recall was answered that was made.
 pub(crate) fn answered(
     returned: Option<Amount>,
     refused: Option<Reason>,
@@ -176,67 +153,4 @@ pub(crate) fn answered(
             None => RecallStatus::Open,
         },
     }
-}
-
-/// How a recall was answered.
-fn answered_on(
-    alloc: Global,
-    transfer: &TransferKey,
-    clean: &[Arc<Message>],
-    cxl: &Id35,
-) -> Result<RecallStatus, AllocError>
-    ensures { IfOk result (λ stands. stands ≡ answer_of transfer.now (messages_in clean.now) cxl.now) }
-{
-    let returns = said::<ReturnMade>(alloc, transfer, clean)?;
-    let refusals = said::<RefusalMade>(alloc, transfer, clean)?;
-    let requests = said::<RecallAsked>(alloc, transfer, clean)?;
-    Ok(answered(
-        amount_returned(&returns, cxl),
-        reason_refused(&refusals, cxl),
-        is_some_on(&requests, cxl),
-    ))
-}
-
-/// Whether a message names the recall.
-fn is_named(
-    alloc: Global,
-    transfer: &TransferKey,
-    clean: &[Arc<Message>],
-    cxl: &Id35,
-) -> Result<bool, AllocError>
-    ensures { IfOk result (λ holds. holds ≡ is_named transfer.now (messages_in clean.now) cxl.now) }
-{
-    let named = said::<RecallNamed>(alloc, transfer, clean)?;
-    Ok(is_some_on(&named, cxl))
-}
-
-/// Whether a message makes the recall.
-fn is_made(
-    alloc: Global,
-    transfer: &TransferKey,
-    clean: &[Arc<Message>],
-    cxl: &Id35,
-) -> Result<bool, AllocError>
-    ensures { IfOk result (λ holds. holds ≡ is_made transfer.now (messages_in clean.now) cxl.now) }
-{
-    let made = said::<RecallMade>(alloc, transfer, clean)?;
-    Ok(is_some_on(&made, cxl))
-}
-
-/// Where a recall stands by these messages, where nothing was found on its transfer.
-pub(crate) fn recall_standing_on(
-    alloc: Global,
-    transfer: &TransferKey,
-    clean: &[Arc<Message>],
-    cxl: &Id35,
-) -> Result<RecallStatus, AllocError>
-    ensures { IfOk result (λ stands. stands ≡ recall_standing_of transfer.now (messages_in clean.now) cxl.now) }
-{
-    if !is_named(alloc, transfer, clean, cxl)? {
-        return Ok(RecallStatus::Unknown);
-    }
-    if !is_made(alloc, transfer, clean, cxl)? {
-        return Ok(RecallStatus::Unasked);
-    }
-    answered_on(alloc, transfer, clean, cxl)
 }

@@ -1,5 +1,5 @@
 -- Messages filed under each transfer that they are on. Proof plumbing.
-use Rattle.std.proofs.Common.{◌≡◌, ◌∙◌, refl, sym, ap, ℕ, ◌+◌, Bool, true, false, cond, ◌&&◌, ◌||◌, List, [], ◌∷◌, ◌++◌, filter, take, Some}
+use Rattle.std.proofs.Common.{◌≡◌, ◌∙◌, refl, sym, ap, arith, ℕ, ◌+◌, ◌-◌, ◌<◌, Bool, true, false, cond, ◌&&◌, ◌||◌, List, [], ◌∷◌, ◌++◌, filter, take, Some}
 use Rattle.std.specs.Arc.{arc_value}
 use Rattle.std.specs.Global.{Global, Vec}
 use Rattle.std.specs.List.{list_any, slice_get}
@@ -81,3 +81,29 @@ module _ {S : Type 0} (d : Draft) (ms : List Draft) where
       ]
       ∙ ap (λ b. a || (b && same_message m d)) (sym (list_any-append (λ j. same_transfer j t) (take i (transfers_of d)) (k ∷ [])))
       ∙ ap (λ (ks : List TransferKey). a || (list_any (λ j. same_transfer j t) ks && same_message m d)) (sym (one_read (transfers_of d) i k next))
+
+-- ---- one more that is the one before
+
+or_again : (a b : Bool) → (a || (b || false)) ≡ ((a || (b || false)) || (b || false))
+or_again true b = refl
+or_again false true = refl
+or_again false false = refl
+
+on_again : (d : Draft) (i : ℕ) (k : TransferKey) (t : TransferKey) → 0 < i → slice_get (transfers_of d) (i - 1) ≡ Some k → slice_get (transfers_of d) i ≡ Some k
+    → on_by i d t ≡ on_by (i + 1) d t
+on_again d i k t above before next =
+    let ks = transfers_of d in
+    let same = λ (j : TransferKey). same_transfer j t in
+    let first = take (i - 1) ks in
+    let here : take i ks ≡ first ++ k ∷ [] = ap (λ (n : ℕ). take n ks) (omega arith) ∙ one_read ks (i - 1) k before in
+    let is : on_by i d t ≡ (list_any same first || (same k || false)) = ap (list_any same) here ∙ list_any-append same first (k ∷ []) in
+    is ∙ or_again (list_any same first) (same k)
+    ∙ ap (λ (b : Bool). b || (same k || false)) (sym is)
+    ∙ sym (list_any-append same (take i ks) (k ∷ []))
+    ∙ ap (list_any same) (sym (one_read ks i k next))
+
+pub filed_again : {S : Type 0} (d : Draft) (ms : List Draft) (index : IndexMap TransferKey (Vec (Arc Draft Global)) S) (i : ℕ) (k : TransferKey) → 0 < i
+    → slice_get (transfers_of d) (i - 1) ≡ Some k → slice_get (transfers_of d) i ≡ Some k
+    → IsFiledUpTo i d index ms → IsFiledUpTo (i + 1) d index ms
+filed_again d ms index i k above before next filed t m =
+    filed t m ∙ ap (λ (b : Bool). list_any (same_message m) (filter (is_on t) ms) || (b && same_message m d)) (on_again d i k t above before next)

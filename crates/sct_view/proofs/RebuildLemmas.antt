@@ -253,6 +253,19 @@ recall_told s u is r kept e stands told_by =
     ∙ ap (λ (ms : List Draft). recall_status_of t ms (asides_of s t) r.cxl) clean
     ∙ ap (λ (v : MessageSet). recall_of v r) is
 
+-- the same of each of some recalls
+pub recalls_told : (s : MessageSet) (t : TransferKey) (kept : Kept) → kept ≡ case_of s t → (cxls : List (List ℕ)) (found : List (List ℕ × RecallStatus))
+    → ((asides : List Identity) → kept.stands ≡ transfer_status_of t kept.clean asides
+    → found ≡ map (λ cxl. (cxl, recall_status_of t kept.clean asides cxl)) cxls)
+    → found ≡ map (λ cxl. (cxl, recall_of s (record { transfer = t; cxl = cxl }))) cxls
+unfolding case_of status_of recall_of
+recalls_told s t kept e cxls found told_by =
+    let clean : kept.clean ≡ messages_on s t = ap (λ (k : Kept). k.clean) e in
+    let status : kept.stands ≡ transfer_status_of t kept.clean (asides_of s t) =
+    ap (λ (k : Kept). k.stands) e ∙ sym (ap (λ (ms : List Draft). transfer_status_of t ms (asides_of s t)) clean) in
+    told_by (asides_of s t) status
+    ∙ ap (λ (ms : List Draft). map (λ cxl. (cxl, recall_status_of t ms (asides_of s t) cxl)) cxls) clean
+
 -- of a transfer without messages nothing is recalled
 pub nothing_recalled : (t : TransferKey) (cxl : List ℕ) (asides : List Identity) → Unknown ≡ transfer_status_of t [] asides
     → recall.Unknown ≡ recall_status_of t [] asides cxl

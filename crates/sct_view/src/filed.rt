@@ -1,8 +1,8 @@
 //! Messages in order, and filed by transfer.
 
-ghost use Rattle.std.specs.Prelude.{◌≡◌, ◌≤◌, ◌+◌, ◌++◌, ◌∷◌, [], List, length, map, filter, IfOk, OnOk};
+ghost use Rattle.std.specs.Prelude.{◌≡◌, ◌≤◌, ◌<◌, ◌+◌, ◌-◌, ◌++◌, ◌∷◌, [], true, List, Some, length, map, filter, IfOk, OnOk};
 ghost use Rattle.std.specs.Arc.{arc_value};
-ghost use Rattle.std.specs.List.{flat_map};
+ghost use Rattle.std.specs.List.{flat_map, slice_get};
 ghost use Rattle.sct_message.specs.Ascending.{ascending};
 ghost use Rattle.sct_message.specs.Keys.{identity_of, transfers_of};
 ghost use Rattle.sct_message.specs.Order.{message_order, identity_order, transfer_order};
@@ -54,7 +54,21 @@ pub(crate) fn identities(
     Ok(found)
 }
 
-// Files a message under each transfer that it is on.
+// Whether the transfer of a transaction is that of the transaction before it.
+fn is_as_before(message: &Message, i: usize, transfer: &TransferKey) -> bool
+    ensures { result ≡ true → (0 < i) × (slice_get (transfers_of message.now) (i - 1) ≡ Some transfer.now) }
+{
+    if i == 0 {
+        return false;
+    }
+    keys_are_ordered();
+    match message.transfer(i - 1) {
+        Some(before) => before == *transfer,
+        None => false,
+    }
+}
+
+// Files a message under each transfer that it is on. Of transactions of one transfer in a row the first alone counts.
 fn file_each(
     alloc: Global,
     index: &mut IndexMap<TransferKey, Vec<Arc<Message>>>,
@@ -67,7 +81,9 @@ fn file_each(
         let Some(transfer) = message.transfer(i) else {
             return Ok(());
         };
-        file(alloc, index, transfer, message.clone()?)?;
+        if !is_as_before(message, i, &transfer) {
+            file(alloc, index, transfer, message.clone()?)?;
+        }
     }
     Ok(())
 }

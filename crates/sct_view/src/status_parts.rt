@@ -15,7 +15,7 @@ use indexmap::IndexMap;
 use sct_case::CaseFault;
 use sct_message::TransferKey;
 use sct_set::Archive;
-use std::alloc::{AllocError, Global};
+use std::alloc::Global;
 use std::thread::{Threads, join};
 
 // What is told of each of some transfers, as one piece.
@@ -24,7 +24,7 @@ fn one_piece(
     archive: &Archive,
     cases: &IndexMap<TransferKey, Case>,
     transfers: &[TransferKey],
-) -> Result<Vec<Vec<u8>>, AllocError>
+) -> Result<Vec<Vec<u8>>, CaseFault>
     requires { (t : TransferOf) → case_at cases.now t ≡ case_of archive.now t }
     ensures { IfOk result (λ pieces. joined pieces.items ≡ flat_map (lines_on archive.now) transfers.now) }
 {
@@ -44,7 +44,7 @@ fn pieces_by_halves<R: Threads + Sync>(
     cases: &IndexMap<TransferKey, Case>,
     transfers: &[TransferKey],
     halvings: u32,
-) -> Result<Vec<Vec<u8>>, AllocError>
+) -> Result<Vec<Vec<u8>>, CaseFault>
     requires { (t : TransferOf) → case_at cases.now t ≡ case_of archive.now t }
     ensures { IfOk result (λ pieces. joined pieces.items ≡ flat_map (lines_on archive.now) transfers.now) }
 {
@@ -54,13 +54,13 @@ fn pieces_by_halves<R: Threads + Sync>(
     let (front, back) = transfers.split_at(transfers.len() / 2);
     let (first, second) = join(
         rt,
-        || -> Result<Vec<Vec<u8>>, AllocError>
+        || -> Result<Vec<Vec<u8>>, CaseFault>
             requires { IsSync R.row × (0 < halvings)
                 × ((t : TransferOf) → case_at cases.now t ≡ case_of archive.now t) }
             ensures { IfOk result (λ pieces. joined pieces.items
                 ≡ flat_map (lines_on archive.entry.now) front.entry.now) }
         { pieces_by_halves(rt, alloc, archive, cases, front, halvings - 1) },
-        || -> Result<Vec<Vec<u8>>, AllocError>
+        || -> Result<Vec<Vec<u8>>, CaseFault>
             requires { IsSync R.row × (0 < halvings)
                 × ((t : TransferOf) → case_at cases.now t ≡ case_of archive.now t) }
             ensures { IfOk result (λ pieces. joined pieces.items

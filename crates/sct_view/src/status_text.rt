@@ -3,16 +3,15 @@ ghost use Rattle.std.specs.Prelude.{◌≡◌, ◌++◌, IfOk, OnOk, string_byte
 ghost use Rattle.std.specs.List.{flat_map};
 ghost use Rattle.sct_message.specs.declared.keys.TransferKey.{TransferKey as TransferOf};
 ghost use Rattle.sct_view.specs.Kept.{kept_in, case_at, case_of};
-ghost use Rattle.sct_view.specs.Answers.{recall_of};
 ghost use Rattle.sct_view.specs.Listed.{lines_of_recalls};
-ghost use Rattle.sct_view.specs.StatusText.{finding_line, lines_on, status_text_of};
+ghost use Rattle.sct_view.specs.StatusText.{finding_line, lines_on, recall_line, status_text_of};
 
 use crate::case::Case;
 use crate::found::findings_in;
 use crate::listed::{case_in, keys, recalls_in};
 use crate::words::{push_finding_line, push_recall_line, push_status_line};
 use indexmap::IndexMap;
-use sct_case::{CaseFault, Finding, RecallStatus, Status, recall_status_by};
+use sct_case::{CaseFault, Finding, RecallStatus, Status, recall_statuses};
 use sct_element::Id35;
 use sct_message::TransferKey;
 use sct_set::Archive;
@@ -33,31 +32,36 @@ fn push_findings(
     Ok(())
 }
 
-// Where a recall stands, by what is kept of its transfer.
-fn recall_in(archive: &Archive, transfer: &TransferKey, case: &Case, cxl: &Id35) -> RecallStatus
-    requires { kept_in case.now ≡ case_of archive.now transfer.now }
-    ensures { result ≡ recall_of archive.now (record { transfer = transfer.now; cxl = cxl.now }) }
+// The R line of each of some recalls of a transfer.
+fn push_recall_lines(
+    text: &mut String,
+    transfer: &TransferKey,
+    recalls: &[(Id35, RecallStatus)],
+) -> Result<(), AllocError>
+    ensures { OnOk result (string_bytes text.new ≡ string_bytes text.old
+        ++ flat_map (λ recall. recall_line transfer.now recall.0 recall.1) recalls.now) }
 {
-    recall_status_by(&case.status, transfer, &case.clean, cxl)
+    for (cxl, status) in recalls {
+        push_recall_line(text, transfer, cxl, status)?;
+    }
+    Ok(())
 }
 
 // The R line of each of some recalls of a transfer, by what is kept of it.
 fn push_recalls(
+    alloc: Global,
     text: &mut String,
     archive: &Archive,
     transfer: &TransferKey,
     case: &Case,
     cxls: &[Id35],
-) -> Result<(), AllocError>
+) -> Result<(), CaseFault>
     requires { kept_in case.now ≡ case_of archive.now transfer.now }
     ensures { OnOk result (string_bytes text.new
         ≡ string_bytes text.old ++ lines_of_recalls archive.now transfer.now cxls.now) }
 {
-    for cxl in cxls {
-        let status = recall_in(archive, transfer, case, cxl);
-        push_recall_line(text, transfer, cxl, &status)?;
-    }
-    Ok(())
+    let recalls = recall_statuses(alloc, &case.status, transfer, &case.clean, cxls)?;
+    Ok(push_recall_lines(text, transfer, &recalls)?)
 }
 
 // What is told of a transfer, by what is kept of it.
@@ -67,14 +71,14 @@ fn push_case(
     archive: &Archive,
     transfer: &TransferKey,
     case: &Case,
-) -> Result<(), AllocError>
+) -> Result<(), CaseFault>
     requires { kept_in case.now ≡ case_of archive.now transfer.now }
     ensures { OnOk result (string_bytes text.new ≡ string_bytes text.old ++ lines_on archive.now transfer.now) }
 {
     push_status_line(text, transfer, &case.status)?;
     push_findings(text, transfer, findings_in(&case.status))?;
     let cxls = recalls_in(alloc, transfer, case)?;
-    push_recalls(text, archive, transfer, case, &cxls)?;
+    push_recalls(alloc, text, archive, transfer, case, &cxls)?;
     Ok(())
 }
 
@@ -85,13 +89,13 @@ fn push_transfer(
     archive: &Archive,
     cases: &IndexMap<TransferKey, Case>,
     transfer: &TransferKey,
-) -> Result<(), AllocError>
+) -> Result<(), CaseFault>
     requires { (t : TransferOf) → case_at cases.now t ≡ case_of archive.now t }
     ensures { OnOk result (string_bytes text.new ≡ string_bytes text.old ++ lines_on archive.now transfer.now) }
 {
     match case_in(cases, transfer) {
         Some(case) => push_case(alloc, text, archive, transfer, case),
-        None => push_status_line(text, transfer, &Status::Unknown),
+        None => Ok(push_status_line(text, transfer, &Status::Unknown)?),
     }
 }
 
@@ -102,7 +106,7 @@ pub(crate) fn push_transfers(
     archive: &Archive,
     cases: &IndexMap<TransferKey, Case>,
     transfers: &[TransferKey],
-) -> Result<(), AllocError>
+) -> Result<(), CaseFault>
     requires { (t : TransferOf) → case_at cases.now t ≡ case_of archive.now t }
     ensures { OnOk result (string_bytes text.new
         ≡ string_bytes text.old ++ flat_map (lines_on archive.now) transfers.now) }

@@ -92,7 +92,14 @@ fn assert_found(rt: &impl Abort, alloc: Global, tx: &str, case: &Contradicted) -
     assert_eq!(rt; word(&status), "CONTRADICTED");
     let recall = recall_status(alloc, &transfer, &clean, &asides, &Id35::read("R9")?)?;
     assert_eq!(rt; recall_word(&recall), "CONTRADICTED");
-    Ok(())
+    assert_recalls(
+        rt,
+        alloc,
+        &status,
+        &transfer,
+        &clean,
+        &[("R9", "CONTRADICTED", 0, "")],
+    )
 }
 
 /// Whether the recall of a transfer stands so by these messages.
@@ -109,6 +116,40 @@ fn assert_recall(
     Ok(())
 }
 
+/// The identifications of some recalls.
+fn cxls_of(
+    alloc: Global,
+    recalls: &[(&'static str, &'static str, u64, &'static str)],
+) -> Result<Vec<Id35>, Fail> {
+    let mut cxls = Vec::new(alloc);
+    for recall in recalls {
+        cxls.push(Id35::read(recall.0)?)?;
+    }
+    Ok(cxls)
+}
+
+/// Whether the recalls of a transfer stand so by its status and these messages, if they are asked for together.
+fn assert_recalls(
+    rt: &impl Abort,
+    alloc: Global,
+    status: &Status,
+    transfer: &TransferKey,
+    clean: &[Arc<Message>],
+    wanted: &[(&'static str, &'static str, u64, &'static str)],
+) -> Result<(), Fail> {
+    let cxls = cxls_of(alloc, wanted)?;
+    let recalls = recall_statuses(alloc, status, transfer, clean, &cxls)?;
+    assert_eq!(rt; recalls.len(), wanted.len());
+    for (recall, wanted) in recalls.iter().zip(wanted) {
+        assert_eq!(rt;
+            (recall.0.text(), recall_word(&recall.1)),
+            (wanted.0, wanted.1)
+        );
+        assert_eq!(rt; recall_argument(&recall.1), (wanted.2, wanted.3));
+    }
+    Ok(())
+}
+
 /// Whether a transfer and its recalls stand so by these messages.
 fn assert_standing(rt: &impl Abort, alloc: Global, tx: &str, case: &Standing) -> Result<(), Fail> {
     let transfer = transfer(tx)?;
@@ -116,6 +157,7 @@ fn assert_standing(rt: &impl Abort, alloc: Global, tx: &str, case: &Standing) ->
     let status = transfer_status(alloc, &transfer, &clean, &[])?;
     assert_eq!(rt; word(&status), case.status.0);
     assert_eq!(rt; argument(&status), (case.status.1, case.status.2));
+    assert_recalls(rt, alloc, &status, &transfer, &clean, case.recalls)?;
     for wanted in case.recalls {
         assert_recall(rt, alloc, &transfer, &clean, wanted)?;
     }

@@ -1,0 +1,167 @@
+//! Where each of some recalls of one transfer stands. What the messages say of recalls is put in the order of the recalls
+//! once, and each recall is looked up there.
+ghost use Rattle.std.specs.Prelude.{◌≡◌, List, IfOk, map};
+ghost use Rattle.std.specs.List.{flat_map};
+ghost use Rattle.sct_message.specs.Sets.{messages_in};
+ghost use Rattle.sct_message.specs.declared.keys.Identity.{Identity as IdentityOf};
+ghost use Rattle.sct_case.specs.Inside.{IsByRecall, SayAlike, standing_by};
+ghost use Rattle.sct_case.specs.Said.{recalls_by, recalls_named_by, refusals_by, requests_by, returns_by};
+ghost use Rattle.sct_case.specs.Statuses.{amount_returned, reason_refused, recall_standing_of, recall_status_of, told, transfer_status_of};
+ghost use Rattle.sct_case.specs.declared.status.RecallStatus.TheVariants as recall;
+
+use crate::differ::{first_on, is_some_on};
+use crate::fault::CaseFault;
+use crate::recall_order::by_recall;
+use crate::said::{RecallAsked, RecallMade, RecallNamed, RefusalMade, ReturnMade, said};
+use crate::standing::answered;
+use crate::status::{RecallStatus, Status};
+use sct_element::{Amount, Id35};
+use sct_message::{Message, TransferKey};
+use sct_reason::Reason;
+use std::alloc::{AllocError, Global};
+use std::sync::Arc;
+
+/// What messages say of the recalls of a transfer, each list in the order of the recalls.
+#[derive(Drop)]
+struct RecallsSaid {
+    named: Vec<RecallNamed>,
+    made: Vec<RecallMade>,
+    returns: Vec<ReturnMade>,
+    refusals: Vec<RefusalMade>,
+    requests: Vec<RecallAsked>,
+    ghost named_in_order: { IsByRecall (λ m. m.cxl) named.items },
+    ghost made_in_order: { IsByRecall (λ m. m.cxl) made.items },
+    ghost returns_in_order: { IsByRecall (λ m. m.cxl) returns.items },
+    ghost refusals_in_order: { IsByRecall (λ m. m.cxl) refusals.items },
+    ghost requests_in_order: { IsByRecall (λ m. m.cxl) requests.items },
+}
+
+/// What the messages say of the recalls of a transfer.
+fn recalls_said(
+    alloc: Global,
+    transfer: &TransferKey,
+    clean: &[Arc<Message>],
+) -> Result<RecallsSaid, AllocError>
+    ensures named { IfOk result (λ said. SayAlike (λ m. m.cxl) said.named.items
+        (flat_map (recalls_named_by transfer.now) (messages_in clean.now))) }
+    ensures made { IfOk result (λ said. SayAlike (λ m. m.cxl) said.made.items
+        (flat_map (recalls_by transfer.now) (messages_in clean.now))) }
+    ensures returns { IfOk result (λ said. SayAlike (λ m. m.cxl) said.returns.items
+        (flat_map (returns_by transfer.now) (messages_in clean.now))) }
+    ensures refusals { IfOk result (λ said. SayAlike (λ m. m.cxl) said.refusals.items
+        (flat_map (refusals_by transfer.now) (messages_in clean.now))) }
+    ensures requests { IfOk result (λ said. SayAlike (λ m. m.cxl) said.requests.items
+        (flat_map (requests_by transfer.now) (messages_in clean.now))) }
+{
+    Ok(RecallsSaid {
+        named: by_recall(said(alloc, transfer, clean)?)?,
+        made: by_recall(said(alloc, transfer, clean)?)?,
+        returns: by_recall(said(alloc, transfer, clean)?)?,
+        refusals: by_recall(said(alloc, transfer, clean)?)?,
+        requests: by_recall(said(alloc, transfer, clean)?)?,
+    })
+}
+
+/// The amount that comes back after a recall.
+fn amount_returned(returns: &[ReturnMade], cxl: &Id35) -> Option<Amount>
+    requires { IsByRecall (λ m. m.cxl) returns.now }
+    ensures { result ≡ amount_returned cxl.now returns.now }
+{
+    match first_on(returns, cxl) {
+        Some(made) => Some(made.amount),
+        None => None,
+    }
+}
+
+/// The reason for which a recall was refused.
+fn reason_refused(refusals: &[RefusalMade], cxl: &Id35) -> Option<Reason>
+    requires { IsByRecall (λ m. m.cxl) refusals.now }
+    ensures { result ≡ reason_refused cxl.now refusals.now }
+{
+    match first_on(refusals, cxl) {
+        Some(made) => Some(made.reason.copy()),
+        None => None,
+    }
+}
+
+/// Where a recall stands by what is said of it, if nothing was found on its transfer.
+fn standing_by(said: &RecallsSaid, cxl: &Id35) -> RecallStatus
+    ensures { result ≡ standing_by said.now.named.items said.now.made.items said.now.returns.items
+        said.now.refusals.items said.now.requests.items cxl.now }
+{
+    if !is_some_on(&said.named, cxl) {
+        return RecallStatus::Unknown;
+    }
+    if !is_some_on(&said.made, cxl) {
+        return RecallStatus::Unasked;
+    }
+    answered(
+        amount_returned(&said.returns, cxl),
+        reason_refused(&said.refusals, cxl),
+        is_some_on(&said.requests, cxl),
+    )
+}
+
+/// Each of some recalls with where it stands by what is said, if nothing was found on their transfer.
+fn standings_by(
+    alloc: Global,
+    said: &RecallsSaid,
+    cxls: &[Id35],
+) -> Result<Vec<(Id35, RecallStatus)>, AllocError>
+    ensures { IfOk result (λ found. found.items ≡ map (λ cxl. (
+      cxl,
+      standing_by said.now.named.items
+          said.now.made.items said.now.returns.items said.now.refusals.items said.now.requests.items cxl,
+    )) cxls.now) }
+{
+    let mut found = Vec::new(alloc);
+    for cxl in cxls {
+        found.push((cxl.copy(), standing_by(said, cxl)))?;
+    }
+    Ok(found)
+}
+
+/// Each of some recalls of a transfer with where it stands, if nothing was found on the transfer.
+fn standings(
+    alloc: Global,
+    transfer: &TransferKey,
+    clean: &[Arc<Message>],
+    cxls: &[Id35],
+) -> Result<Vec<(Id35, RecallStatus)>, AllocError>
+    ensures { IfOk result (λ found. found.items
+        ≡ map (λ cxl. (cxl, recall_standing_of transfer.now (messages_in clean.now) cxl)) cxls.now) }
+{
+    let said = recalls_said(alloc, transfer, clean)?;
+    standings_by(alloc, &said, cxls)
+}
+
+/// Each of some recalls, contradicted.
+fn contradicted(alloc: Global, cxls: &[Id35]) -> Result<Vec<(Id35, RecallStatus)>, AllocError>
+    ensures { IfOk result (λ found. found.items ≡ map (λ cxl. (cxl, recall.Contradicted)) cxls.now) }
+{
+    let mut found = Vec::new(alloc);
+    for cxl in cxls {
+        found.push((cxl.copy(), RecallStatus::Contradicted))?;
+    }
+    Ok(found)
+}
+
+/// Each of some recalls of a transfer with where it stands, by the status of the transfer and the clean messages on it. It
+/// takes the logarithm for each recall, where [`recall_status_by`](crate::recall_status_by) looks at each message.
+pub fn recall_statuses(
+    alloc: Global,
+    status: &Status,
+    transfer: &TransferKey,
+    clean: &[Arc<Message>],
+    cxls: &[Id35],
+) -> Result<Vec<(Id35, RecallStatus)>, CaseFault>
+    ensures { (asides : List IdentityOf)
+        → told status.now ≡ transfer_status_of transfer.now (messages_in clean.now) asides
+        → IfOk result (λ found. found.items
+        ≡ map (λ cxl. (cxl, recall_status_of transfer.now (messages_in clean.now) asides cxl)) cxls.now) }
+{
+    match status {
+        Status::Contradicted(_) => Ok(contradicted(alloc, cxls)?),
+        _ => Ok(standings(alloc, transfer, clean, cxls)?),
+    }
+}
