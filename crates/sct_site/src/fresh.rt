@@ -1,6 +1,7 @@
 //! The entries of a delta that a site does not hold.
 
-ghost use Rattle.std.specs.Prelude.{◌≡◌, map, IfOk};
+ghost use Rattle.std.specs.Prelude.{◌≡◌, map, not, IfOk};
+ghost use Rattle.std.specs.List.{list_all};
 ghost use Rattle.sct_delta.specs.Logs.{log_in};
 ghost use Rattle.sct_set.specs.Drafts.{drafts_in};
 ghost use Rattle.sct_site.specs.Inside.{is_new, new_in};
@@ -14,10 +15,14 @@ use std::sync::Arc;
 fn is_new(logs: &Logs, entry: &Entry) -> bool
     ensures { result ≡ is_new (log_in logs.now) entry.now }
 {
-    match logs.get(entry.origin, entry.n) {
-        Some(_) => false,
-        None => true,
-    }
+    logs.get(entry.origin, entry.n).is_none()
+}
+
+/// Whether no number of the entries is new. No message is looked at.
+pub fn are_numbers_held(logs: &Logs, entries: &[Entry]) -> bool
+    ensures { result ≡ list_all (λ entry. not (is_new (log_in logs.now) entry)) entries.now }
+{
+    entries.iter().all(|entry| !is_new(logs, entry))
 }
 
 /// The entries whose numbers are not held, in their order, with their messages shared. They are the entries that are not

@@ -5,10 +5,10 @@ ghost use Rattle.std.specs.Arc.{arc_value};
 ghost use Rattle.sct_delta.specs.Entries.{IsArrivals, IsDelta, held_from, messages_of};
 ghost use Rattle.sct_delta.specs.Vectors.{count_in};
 ghost use Rattle.sct_delta.specs.declared.fault.DeltaFault.TheVariants as fault;
-ghost use Rattle.sct_site.specs.Cores.{Core, IsSite, is_open, took_by, arrivals_taken, refusal_by, fresh_of, arrivals_joined, entries_above};
+ghost use Rattle.sct_site.specs.Cores.{Core, IsSite, is_open, took_by, arrivals_taken, refusal_by, fresh_of, has_numbers, arrivals_joined, entries_above};
 
 use crate::answers::{Accepted, Took};
-use crate::fresh::{messages_in, new_in};
+use crate::fresh::{are_numbers_held, messages_in, new_in};
 use sct_delta::{Delta, DeltaFault, Entry, Logs, Vector};
 use sct_message::Message;
 use sct_set::Archive;
@@ -125,6 +125,14 @@ impl SiteCore {
             message,
         });
         Ok(Took::Taken { n })
+    }
+
+    /// Whether the site holds an entry under each number of a delta, whatever its message. No message is looked at, so this
+    /// takes as long as a walk along the delta.
+    pub fn has_numbers(&self, delta: &Delta) -> bool
+        ensures { result ≡ has_numbers self.now.arrivals delta.now }
+    {
+        are_numbers_held(&self.logs, delta.entries())
     }
 
     // The first reason why the site does not take a delta.

@@ -26,7 +26,7 @@ use Rattle.sct_world.proofs.StateLemmas.{held-with_same, sites-after, sites-all,
 
 -- ---- tests over the entries of a list
 
-none_in : (p : Placed → Bool) (ds : List Placed) → ((x : Placed) → holds ds x ≡ true → p x ≡ false) → list_any p ds ≡ false
+pub none_in : (p : Placed → Bool) (ds : List Placed) → ((x : Placed) → holds ds x ≡ true → p x ≡ false) → list_any p ds ≡ false
 none_in p [] never = refl
 none_in p (d ∷ ds) never =
     λ i. never d (ap (λ (b : Bool). b || holds ds d) (entry_itself d)) i
@@ -102,19 +102,27 @@ module _ (w : State) (closed : IsClosed w) (s number : ℕ) (d : List Placed) (c
     no_fork = none_in (is_fork (logs_of (held_at w s))) d (λ x in_delta. no_other w closed s x (own x in_delta) (message_at (log_of x.origin (held_at w s)) x.n) refl);
   })
 
+  -- the world accepts it, and nothing of it is new
+  pub answered_again : step_at w (event.Hand number s) ≡ Ok (step.Accepted 0)
+  answered_again =
+      ap (step_handed (core_at w s)) cut
+      ∙ ap (step_accepted (length (fresh_of (held_at w s) d))) nothing_refused
+      ∙ ap (λ (l : List Placed). Ok (step.Accepted (length l))) all_held
+
+  -- and stays as it is
+  pub left_again : after_at w (event.Hand number s) ≡ w
+  left_again =
+      ap (after_handed w s) cut
+      ∙ ap (after_accepted w s d) nothing_refused
+      ∙ ap (λ (l : List Placed). with_held w s (held_at w s ++ l)) all_held
+      ∙ ap (with_held w s) (append-nil (held_at w s))
+      ∙ ap (λ (h : List (List Placed)). record { held = h; deltas = w.deltas }) (set-get_or w.held (s - 1) [])
+
   again : is_no_site w s ≡ false → ChangesNothing w (event.Hand number s)
   unfolding step_of world_after
   again there = record {
-    answer = ap (λ (b : Bool). cond b (Err fault.BadSite) (step_at w (event.Hand number s))) there
-        ∙ ap (step_handed (core_at w s)) cut
-        ∙ ap (step_accepted (length (fresh_of (held_at w s) d))) nothing_refused
-        ∙ ap (λ (l : List Placed). Ok (step.Accepted (length l))) all_held;
-    world = ap (λ (b : Bool). cond b w (after_at w (event.Hand number s))) there
-        ∙ ap (after_handed w s) cut
-        ∙ ap (after_accepted w s d) nothing_refused
-        ∙ ap (λ (l : List Placed). with_held w s (held_at w s ++ l)) all_held
-        ∙ ap (with_held w s) (append-nil (held_at w s))
-        ∙ ap (λ (h : List (List Placed)). record { held = h; deltas = w.deltas }) (set-get_or w.held (s - 1) []);
+    answer = ap (λ (b : Bool). cond b (Err fault.BadSite) (step_at w (event.Hand number s))) there ∙ answered_again;
+    world = ap (λ (b : Bool). cond b w (after_at w (event.Hand number s))) there ∙ left_again;
   }
 
 -- ---- a delta that was accepted

@@ -5,6 +5,7 @@ pub mod ExactlyLemmas
 pub mod HandLemmas
 pub mod HeldLemmas
 pub mod KeptLemmas
+pub mod KnownLemmas
 pub mod LawLemmas
 pub mod NoForkLemmas
 pub mod OpenLemmas

@@ -30,7 +30,7 @@ use Rattle.sct_world.proofs.StateLemmas.{held-with_same}
 
 -- ---- what a search finds stands in the list
 
-inside_some : {X : Type 0} {x y : X} → Some x ≡ Some y → x ≡ y
+pub inside_some : {X : Type 0} {x y : X} → Some x ≡ Some y → x ≡ y
 inside_some e = cc
 
 pub found_in : (p : Placed → Bool) (ds : List Placed) (e : Placed) → find p ds ≡ Some e → (holds ds e ≡ true) × (p e ≡ true)
@@ -97,7 +97,7 @@ module _ (w : State) (closed : IsClosed w) (s : ℕ) where
       ] refl
 
   -- an entry that its origin holds is of a site of the world
-  not_outside : (e : Placed) → holds (held_at w e.origin) e ≡ true → is_outside (length w.held) e ≡ false
+  pub not_outside : (e : Placed) → holds (held_at w e.origin) e ≡ true → is_outside (length w.held) e ≡ false
   not_outside e own = ap not (closed.inside e.origin e own)
 
   -- so a site refuses a delta neither for a fork nor for an entry ahead of its owner, nor for one of no site

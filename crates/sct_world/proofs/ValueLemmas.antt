@@ -1,11 +1,10 @@
 -- Events of the same values end alike and leave the same. Proof plumbing.
-use Rattle.std.proofs.Common.{◌≡◌, List, [], ◌∷◌, refl, sym, ap, ◌∙◌}
-use Rattle.sct_delta.specs.Entries.{Placed}
+use Rattle.std.proofs.Common.{◌≡◌, List, [], ◌∷◌, refl, ap, ◌∙◌}
 use Rattle.sct_world.specs.declared.event.Event.{Event}
 use Rattle.sct_world.specs.declared.event.Event.TheVariants as event
 use Rattle.sct_world.specs.declared.event.Outcome.{Outcome}
-use Rattle.sct_world.specs.Happenings.{happening_of, happenings_of, place_of}
-use Rattle.sct_world.specs.Histories.{site_of, step_of, step_by, world_after, after_by, world_after_all, world_by, outcomes_of, outcomes_by, outcome_of, ended}
+use Rattle.sct_world.specs.Happenings.{happening_of, happenings_of}
+use Rattle.sct_world.specs.Histories.{step_of, step_by, world_after, after_by, world_after_all, world_by, outcomes_of, outcomes_by, ended}
 use Rattle.sct_world.specs.Laws.{GoByValues}
 use Rattle.sct_world.specs.States.{State}
 

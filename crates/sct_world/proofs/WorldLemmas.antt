@@ -54,7 +54,7 @@ module _ (cores : List Core) (deltas : List (List Placed)) (w : State) (view : s
   pub old_is : old ≡ core_at w site
   old_is = read ∙ core_is cores deltas world.numbered site old there_too ∙ ap (λ (v : State). core_at v site) view
 
-  closed_now : IsClosed w
+  pub closed_now : IsClosed w
   closed_now = subst (λ (v : State). IsClosed v) view world.closed
 
   module _ (new : Core) where
@@ -81,10 +81,10 @@ module _ (cores : List Core) (deltas : List (List Placed)) (w : State) (view : s
 
     -- a delta
     module _ (number : ℕ) (d : List Placed) (above : nat_eq number 0 ≡ false) (within : number ≤ length deltas) (cut : d ≡ get_or deltas (number - 1) d) where
-      found : delta_at w.deltas number ≡ Some d
+      pub found : delta_at w.deltas number ≡ Some d
       found = ap (λ (v : State). delta_at v.deltas number) (sym view) ∙ delta_is deltas number d above within cut
 
-      at_place : slice_index_or w.deltas (number - 1) [] ≡ d
+      pub at_place : slice_index_or w.deltas (number - 1) [] ≡ d
       at_place =
           ap (λ (v : State). slice_index_or v.deltas (number - 1) []) (sym view)
           ∙ get_or_from_slice_get deltas (number - 1) d [] (slice_get_read deltas (length deltas) (number - 1) d refl (grind (arith, nat_tests)) cut)

@@ -240,6 +240,10 @@ impl World {
             return Err(WorldFault::NoSuchDelta);
         }
         let delta = &self.deltas[(number - 1) as usize];
+        // In a world an entry's origin and number say which message it has, so nothing of such a delta is new.
+        if self.cores[(site - 1) as usize].has_numbers(delta) {
+            return Ok(Step::Accepted { fresh: 0 });
+        }
         let accepted = match self.cores[(site - 1) as usize].accept(delta) {
             Ok(accepted) => accepted,
             Err(refusal) => return Err(WorldFault::Delta(refusal)),

@@ -1,7 +1,7 @@
 -- One site more has its part.
 use Rattle.std.proofs.Common.{◌≢◌, arith, rules, subst, sym}
 use Rattle.sct_site.specs.Cores.{Core}
-use Rattle.sct_world.specs.Settling.{core_in, IsWhole, IsWhy}
+use Rattle.sct_world.specs.Settling.{IsWhole, IsWhy}
 use Rattle.sct_world.proofs.HandLemmas.{on_err}
 use Rattle.sct_world.proofs.KeptLemmas.{why_before, group_kept, reached_first, reached_more}
 use Rattle.sct_world.proofs.settling.hand_on.Goals as goal
