@@ -5,7 +5,6 @@ ghost use Rattle.sct_run.specs.declared.fault.RunFault.TheVariants as fault;
 
 use sct_case::CaseFault;
 use sct_receipts::WorkFault;
-use sct_set::SetFault;
 use std::alloc::{AllocError, AllocFailed};
 use thiserror::Error;
 
@@ -51,14 +50,6 @@ impl From<CaseFault> for RunFault {
     ghost from_gives = { λ _ e. e ≡ fault.Memory };
 
     fn from(_fault: CaseFault) -> RunFault {
-        RunFault::Memory
-    }
-}
-
-impl From<SetFault> for RunFault {
-    ghost from_gives = { λ _ e. e ≡ fault.Memory };
-
-    fn from(_fault: SetFault) -> RunFault {
         RunFault::Memory
     }
 }

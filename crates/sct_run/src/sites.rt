@@ -59,17 +59,25 @@ fn settle_all(alloc: Global, cores: &mut [SiteCore]) -> Result<(), RunFault>
 }
 
 // The status text of the first of some sites.
-fn first_status(alloc: Global, cores: &[SiteCore]) -> Result<Vec<u8>, RunFault>
+fn first_status<R: Threads + Sync>(
+    rt: &R,
+    alloc: Global,
+    cores: &[SiteCore],
+) -> Result<Vec<u8>, RunFault>
     requires { 0 < length cores.now }
     ensures text { IfOk result (λ text. text.items
         ≡ status_text_of (messages_of (core_in cores.now 0).arrivals)) }
     ensures memory { IfErr result (λ e. e ≡ fault.Memory) }
 {
-    status_text(alloc, cores[0].archive())
+    status_text(rt, alloc, cores[0].archive())
 }
 
 // Settles the sites, and answers the status text of what the first of them then holds.
-fn settled_status(alloc: Global, cores: &mut [SiteCore]) -> Result<Vec<u8>, RunFault>
+fn settled_status<R: Threads + Sync>(
+    rt: &R,
+    alloc: Global,
+    cores: &mut [SiteCore],
+) -> Result<Vec<u8>, RunFault>
     requires { 0 < length cores.old }
     ensures settled { OnOk result (AreSettled cores.old cores.new) }
     ensures text { IfOk result (λ text. text.items
@@ -77,11 +85,15 @@ fn settled_status(alloc: Global, cores: &mut [SiteCore]) -> Result<Vec<u8>, RunF
     ensures refused { IfErr result IsSettlingFault }
 {
     settle_all(alloc, cores)?;
-    first_status(alloc, cores)
+    first_status(rt, alloc, cores)
 }
 
 // What a run answers by what its sites came to. They are settled only if all of them were filled.
-fn answered(alloc: Global, filled: Result<Sites, WorkFault>) -> Result<RunAnswer, RunFault>
+fn answered<R: Threads + Sync>(
+    rt: &R,
+    alloc: Global,
+    filled: Result<Sites, WorkFault>,
+) -> Result<RunAnswer, RunFault>
     requires { IfOk filled (λ sites. 0 < length sites.cores.items) }
     ensures settled { IfOk result (λ answer. IfOk filled (λ sites. IsSettledAnswer sites answer)) }
     ensures first { IfErr filled (λ reason. result ≡ Err (fault_of_work reason)) }
@@ -92,7 +104,7 @@ fn answered(alloc: Global, filled: Result<Sites, WorkFault>) -> Result<RunAnswer
         told,
         refused,
     } = filled?;
-    let status = settled_status(alloc, &mut cores)?;
+    let status = settled_status(rt, alloc, &mut cores)?;
     Ok(RunAnswer {
         status,
         told,
@@ -135,5 +147,5 @@ pub fn run_sites<G: Gate + Sync, R: Threads + Wait + Sync>(
     }
     let sites = filled(rt, alloc, gate, &inputs);
     drop(inputs);
-    answered(alloc, sites)
+    answered(rt, alloc, sites)
 }

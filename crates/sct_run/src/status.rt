@@ -7,15 +7,14 @@ use crate::fault::RunFault;
 use sct_set::Archive;
 use sct_view::View;
 use std::alloc::Global;
+use std::thread::Threads;
 
-// The view of an archive.
-fn view_of(alloc: Global, archive: &Archive) -> Result<View, RunFault>
+// The view of what an archive holds, made in as many threads as there are processors.
+fn view_of<R: Threads + Sync>(rt: &R, alloc: Global, archive: &Archive) -> Result<View, RunFault>
     ensures held { IfOk result (λ view. view ≡ archive.now) }
     ensures memory { IfErr result (λ e. e ≡ fault.Memory) }
 {
-    let mut copy = Archive::new(alloc);
-    copy.merge(archive)?;
-    Ok(View::of(alloc, copy)?)
+    Ok(View::of_messages(rt, alloc, archive.messages())?)
 }
 
 // The status text of a view.
@@ -26,11 +25,15 @@ fn text_of(view: &View) -> Result<Vec<u8>, RunFault>
     Ok(view.status_text()?)
 }
 
-/// The status text of an archive. Only want of memory is a fault.
-pub fn status_text(alloc: Global, archive: &Archive) -> Result<Vec<u8>, RunFault>
+/// The status text of an archive. The only fault is `Memory`.
+pub fn status_text<R: Threads + Sync>(
+    rt: &R,
+    alloc: Global,
+    archive: &Archive,
+) -> Result<Vec<u8>, RunFault>
     ensures text { IfOk result (λ text. text.items ≡ status_text_of archive.now) }
     ensures memory { IfErr result (λ e. e ≡ fault.Memory) }
 {
-    let view = view_of(alloc, archive)?;
+    let view = view_of(rt, alloc, archive)?;
     text_of(&view)
 }

@@ -5,5 +5,5 @@ use Rattle.sct_view.specs.StatusText.{status_text_of}
 use Rattle.sct_run.proofs.status.status_text.Goals as goal
 
 pub returns-clause-text : goal.returns-clause-text
-returns-clause-text c =
+returns-clause-text g c =
     subst (λ (held : Contents). IfOk c.text_of.result (λ text. text.items ≡ status_text_of held)) c.in_ok-view.ensures.held c.text_of.ensures.text

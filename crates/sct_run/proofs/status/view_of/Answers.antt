@@ -1,15 +1,6 @@
--- What is merged into nothing is the archive.
-use Rattle.std.proofs.Common.{◌∙◌, ap}
-use Rattle.std.specs.FinSet as set
-use Rattle.sct_set.specs.Contents.{Contents}
-use Rattle.sct_set.proofs.ContentsLemmas.{union-none}
-use Rattle.sct_set.proofs.LawLemmas.{commutative}
+-- The view of the messages of an archive holds what the archive holds.
+use Rattle.std.proofs.Common.{◌∙◌}
 use Rattle.sct_run.proofs.status.view_of.Goals as goal
 
 pub returns-clause-held : goal.returns-clause-held
-returns-clause-held c =
-    c.in_ok-of.ensures
-    ∙ c.in_ok-merge.ensures.ok
-    ∙ ap (λ (s : Contents). set.union s c.args.archive.now) c.new-copy.ensures
-    ∙ commutative set.empty c.args.archive.now
-    ∙ union-none c.args.archive.now
+returns-clause-held g c = c.in_ok-of_messages.ensures ∙ c.messages.ensures.held
