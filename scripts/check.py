@@ -15,6 +15,7 @@ CHECKS = {
     "refuse_forms": "refuses each growth of a message of each form that is read and written",
     "run_examples": "runs the program on the examples",
     "too_long": "runs the program on inputs that are too long, and on folders",
+    "growing_times": "times the program on a transfer, a script and a run of four times the size",
     "refuse_memory": "runs the program in too little memory",
     "refuse_allocations": "refuses each allocation of the program",
     "group_memory": "compares what sites allocate in a small group and in a large one",
