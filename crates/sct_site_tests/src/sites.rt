@@ -3,7 +3,9 @@
 mod scenes;
 
 use crate::deltas::forms::INSTRUCTION;
-use scenes::{Row, delta_of, expect_accepted, expect_held, expect_refused, expect_taken, site_of};
+use scenes::{
+    Row, expect_accepted, expect_held, expect_numbers, expect_refused, expect_taken, site_of,
+};
 use sct_delta::{DeltaFault, Vector, write_delta};
 use sct_json::read_message;
 use sct_site::*;
@@ -162,22 +164,14 @@ fn refuses_the_largest_own_number(rt: HostRuntime) {
     expect_held(&rt, rt.alloc(), &site, &NONE, &[], &NONE);
 }
 
-// The deltas of some rows, with whether a site that has the first two entries of site 1 has their numbers.
-static NUMBERS: [(&[Row], bool); 5] = [
-    (&NONE, true),
-    (&TWO, true),
-    (&OTHER_SECOND, true),
-    (&THREE, false),
-    (&OF_SITE_4, false),
-];
-
 #[test]
 fn knows_whether_it_has_the_numbers_of_a_delta(rt: HostRuntime) {
     let site = site_of(rt.alloc(), 1, &TWO).expect(&rt, "a site");
-    for (rows, held) in &NUMBERS {
-        let delta = delta_of(rt.alloc(), rows).expect(&rt, "a delta");
-        assert_eq!(rt; site.has_numbers(&delta), *held);
-    }
+    expect_numbers(&rt, rt.alloc(), &site, &NONE, true);
+    expect_numbers(&rt, rt.alloc(), &site, &TWO, true);
+    expect_numbers(&rt, rt.alloc(), &site, &OTHER_SECOND, true);
+    expect_numbers(&rt, rt.alloc(), &site, &THREE, false);
+    expect_numbers(&rt, rt.alloc(), &site, &OF_SITE_4, false);
 }
 
 #[test]

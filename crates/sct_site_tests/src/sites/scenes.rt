@@ -86,6 +86,18 @@ pub(crate) fn expect_accepted(
     assert_eq!(rt; accepted.fresh, fresh);
 }
 
+/// The site has the number of each entry of a delta of some rows, or it does not.
+pub(crate) fn expect_numbers(
+    rt: &impl Abort,
+    alloc: Global,
+    site: &SiteCore,
+    rows: &[Row],
+    held: bool,
+) {
+    let delta = delta_of(alloc, rows).expect(rt, "a delta");
+    assert_eq!(rt; site.has_numbers(&delta), held);
+}
+
 /// The site refuses a delta of some rows.
 pub(crate) fn expect_refused(
     rt: &impl Abort,
