@@ -1,4 +1,4 @@
--- Read by an auditor: dates of the form YYYY-MM-DD (ISODate), by the bytes of their texts. No calendar is asked.
+-- Read by an auditor: dates of the form YYYY-MM-DD (ISODate), by the bytes of their texts. No calendar is consulted.
 use Rattle.std.specs.Prelude.{ℕ, ◌&&◌, ◌==◌, List, length, take, drop, slice_index, Bool, Option}
 use Rattle.std.specs.Char.{is_ascii_digit}
 use Rattle.std.specs.List.{list_all}

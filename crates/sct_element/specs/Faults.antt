@@ -1,4 +1,4 @@
--- Read by an auditor: the numbers by which a refused element is told.
+-- Read by an auditor: the number of each fault of an element.
 use Rattle.std.specs.Prelude.{ℕ}
 use Rattle.sct_element.specs.declared.faults.ElementFault.{ElementFault}
 use Rattle.sct_element.specs.declared.faults.ElementFault.TheVariants.{BadBic, BadIban, BadId, BadAmount, BadDay, BadText, BadStamp, Memory, BadCode}

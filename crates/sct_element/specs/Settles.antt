@@ -1,4 +1,4 @@
--- Proof plumbing: laws that the rules of texts keep, that a written form is read as itself.
+-- Proof plumbing: each rule of texts keeps this law, that a written form is read as itself.
 use Rattle.std.specs.Prelude.{codes, slice_index, nat_le}
 use Rattle.std.specs.Char.{is_ascii_uppercase, is_ascii_digit, is_ascii_alphanumeric, to_ascii_uppercase}
 use Rattle.std.specs.List.{list_all}

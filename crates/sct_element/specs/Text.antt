@@ -1,4 +1,4 @@
--- Read by an auditor: what the rules of several texts share, by the bytes of a text.
+-- Read by an auditor: what the rules of several types of text share, by the bytes of a text.
 use Rattle.std.specs.Prelude.{ℕ, ◌||◌, List, Bool, Option, Some, None, nat_eq, if◌then◌else◌}
 use Rattle.std.specs.Char.{is_ascii_uppercase, is_ascii_digit}
 use Rattle.std.specs.Cmp.Lexicographic.{pointwise}

@@ -13,9 +13,10 @@ use crate::checked::{Checked, Rule, push_byte};
 use crate::faults::ElementFault;
 use arrayvec::ArrayString;
 
-/// An international bank account number (ISO 13616) of 5 to 34 characters: two capitals, two digits, then letters and
-/// digits, whose number leaves 1 modulo 97 (ISO 7064). It is kept in capitals. National lengths are not asked.
-/// A text that is none is refused 2 (BadIban).
+/// An international bank account number (ISO 13616) of 5 to 34 characters: two capitals,
+/// two digits, then letters and digits.
+/// Its number leaves 1 modulo 97 (ISO 7064). It is kept in capitals. National lengths are not checked.
+/// A text that is not an IBAN is refused with `BadIban` (2).
 pub type Iban = Checked<IbanRule, 34>;
 
 /// The rule of [`Iban`].
@@ -46,7 +47,7 @@ impl Rule<34> for IbanRule {
     ghost settles = { iban_settles };
 }
 
-/// Reads an international bank account number, as `Iban::read` does, or tells 2 (BadIban).
+/// Reads an international bank account number, as `Iban::read` does. Error: `BadIban` (2).
 pub fn read_iban(text: &str) -> Result<Iban, ElementFault>
     ensures { result ≡ ok_or (written_iban text.now) ElementFault.BadIban }
 {
@@ -82,7 +83,7 @@ fn is_shaped(bytes: &[u8]) -> bool
         && are_letters_or_digits(&bytes[4..])
 }
 
-/// The text of these bytes with its small letters as capitals.
+/// The text of these bytes with each small letter as a capital.
 fn in_capitals(bytes: &[u8]) -> ArrayString<34>
     requires ascii { IsAscii bytes.now }
     requires sized { length bytes.now ≤ 34 }
@@ -95,8 +96,8 @@ fn in_capitals(bytes: &[u8]) -> ArrayString<34>
     capitals
 }
 
-/// The remainder modulo 97 of the number whose digits begin with those that left `remainder`, and go on with those of
-/// `byte`.
+/// Continues the remainder modulo 97 of a number by the digits of one more character. `remainder` is that of the digits
+/// before `byte`.
 fn after_char(remainder: u64, byte: u8) -> u64
     requires { remainder < 97 }
     ensures below { result < 97 }
@@ -111,7 +112,7 @@ fn after_char(remainder: u64, byte: u8) -> u64
     }
 }
 
-/// The same, going on with all of `bytes`.
+/// Continues the remainder modulo 97 of a number by the digits of all of `bytes`.
 fn after_chars(mut remainder: u64, bytes: &[u8]) -> u64
     requires { remainder < 97 }
     ensures below { result < 97 }
@@ -124,7 +125,7 @@ fn after_chars(mut remainder: u64, bytes: &[u8]) -> u64
     remainder
 }
 
-/// What an account's number leaves modulo 97.
+/// The remainder modulo 97 of an account's number.
 fn remainder_of(bytes: &[u8]) -> u64
     requires { 4 ≤ length bytes.now }
     ensures { result ≡ account_number bytes.now % 97 }

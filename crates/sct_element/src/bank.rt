@@ -9,8 +9,8 @@ use crate::checked::{Checked, Rule};
 use crate::faults::ElementFault;
 use arrayvec::ArrayString;
 
-/// A business identifier code (ISO 9362) of 8 or 11 characters, kept with 11: `BANKDEFF` is `BANKDEFFXXX`.
-/// A text that is none is refused 1 (BadBic).
+/// A business identifier code (ISO 9362) of 8 or 11 characters, kept with 11: `BANKDEFF` is kept as `BANKDEFFXXX`.
+/// A text that is not a BIC is refused with `BadBic` (1).
 pub type Bic = Checked<BicRule, 11>;
 
 /// The rule of [`Bic`].
@@ -33,7 +33,7 @@ impl Rule<11> for BicRule {
     ghost settles = { bic_settles };
 }
 
-/// Reads a business identifier code, as `Bic::read` does, or tells 1 (BadBic).
+/// Reads a business identifier code, as `Bic::read` does. Error: `BadBic` (1).
 pub fn read_bic(text: &str) -> Result<Bic, ElementFault>
     ensures { result ≡ ok_or (written_bic text.now) ElementFault.BadBic }
 {

@@ -11,14 +11,14 @@ pub fn is_within(len: usize, most: usize) -> bool
     1 <= len && len <= most
 }
 
-/// Whether each byte is `0-9`, as it is where there is none.
+/// Whether each byte is `0-9`. True for an empty slice.
 pub fn are_digits(bytes: &[u8]) -> bool
     ensures { result ≡ list_all is_ascii_digit bytes.now }
 {
     bytes.iter().all(|byte| byte.is_ascii_digit())
 }
 
-/// Whether each byte is `A-Z` or `0-9`, as it is where there is none.
+/// Whether each byte is `A-Z` or `0-9`. True for an empty slice.
 pub fn are_capitals_or_digits(bytes: &[u8]) -> bool
     ensures { result ≡ list_all is_capital_or_digit bytes.now }
 {

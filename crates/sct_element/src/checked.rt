@@ -16,17 +16,17 @@ use std::fmt;
 use std::hash::{Hash, Hasher};
 use std::marker::{Model, PhantomData};
 
-/// The rule of one type of text: which texts are read, and what each is kept and written as.
+/// The rule of one type of text: which texts are read, and how each is kept and written.
 pub trait Rule<const N: usize> {
     ghost written: { List ℕ → Option (List ℕ) };
 
     ghost fault: { ElementFault };
 
-    /// The written form of a text, or none where it is not of this type.
+    /// The written form of a text, or none if the text is not of this type.
     fn keep(text: &str) -> Option<ArrayString<N>>
         ensures { MatchOption result (written text.now ≡ None) (λ kept. written text.now ≡ Some kept.bytes) };
 
-    /// What a text is refused with.
+    /// The fault of a text that is not of this type.
     fn refusal() -> ElementFault
         ensures { result ≡ fault };
 
@@ -55,7 +55,7 @@ impl<R: Rule<N>, const N: usize> Drop for Checked<R, N> {
 }
 
 impl<R: Rule<N>, const N: usize> Checked<R, N> {
-    /// Reads a text, or tells the type's own fault. Which rule each type has is said by `read_bic` and its like.
+    /// Reads a text. Error: the fault of the type. Functions such as `read_bic` state the rule of each type.
     pub fn read(text: &str) -> Result<Self, ElementFault>
         ensures { result ≡ ok_or (R.written text.now) R.fault }
     {
@@ -68,7 +68,7 @@ impl<R: Rule<N>, const N: usize> Checked<R, N> {
         }
     }
 
-    /// The written form.
+    /// The written form, which is read as the same value again.
     pub fn text(&self) -> &str
         ensures text { result.now ≡ self.now }
         ensures settled { R.written result.now ≡ Some result.now }
@@ -76,7 +76,7 @@ impl<R: Rule<N>, const N: usize> Checked<R, N> {
         self.text.as_str()
     }
 
-    /// The same text once more. It takes no memory.
+    /// A copy. It does not allocate.
     pub fn copy(&self) -> Self
         ensures { result ≡ self.now }
     {
@@ -87,7 +87,7 @@ impl<R: Rule<N>, const N: usize> Checked<R, N> {
     }
 }
 
-/// A copy of a text that passed its test, which has room for it.
+/// A copy of `text`, or none if it failed its test. `N` bytes are room enough for a text that passes.
 pub fn kept_where<const N: usize>(passes: bool, text: &str) -> Option<ArrayString<N>>
     requires { IsTrue passes → length text.now ≤ N }
     ensures { MatchOption result (where_read passes text.now ≡ None)
@@ -101,7 +101,7 @@ pub fn kept_where<const N: usize>(passes: bool, text: &str) -> Option<ArrayStrin
     Some(kept)
 }
 
-/// Appends a byte that is a character of its own.
+/// Appends an ASCII byte, which is a character by itself.
 #[tactic(auto, using(std::proofs::lemmas::Str::Ascii::encode_ascii))]
 pub fn push_byte<const N: usize>(text: &mut ArrayString<N>, byte: u8)
     requires ascii { byte < 128 }

@@ -11,7 +11,8 @@ use crate::checked::{Checked, Rule, kept_where};
 use crate::faults::ElementFault;
 use arrayvec::ArrayString;
 
-/// A date (ISODate) of the form `YYYY-MM-DD`. No calendar is asked. A text that is none is refused 5 (BadDay).
+/// A date (ISODate) of the form `YYYY-MM-DD`. No calendar is consulted.
+/// A text of another form is refused with `BadDay` (5).
 pub type Day = Checked<DayRule, 10>;
 
 /// The rule of [`Day`].
@@ -34,7 +35,7 @@ impl Rule<10> for DayRule {
     ghost settles = { day_settles };
 }
 
-/// Reads a date, as `Day::read` does, or tells 5 (BadDay).
+/// Reads a date, as `Day::read` does. Error: `BadDay` (5).
 pub fn read_day(text: &str) -> Result<Day, ElementFault>
     ensures { result ≡ ok_or (written_day text.now) ElementFault.BadDay }
 {

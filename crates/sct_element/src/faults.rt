@@ -1,37 +1,37 @@
-//! Why a text is no element.
+//! Why a text is not a valid element.
 ghost use Rattle.std.specs.Prelude.{◌≡◌};
 ghost use Rattle.sct_element.specs.Faults.{element_fault_number};
 
 use thiserror::Error;
 
-/// A text that is not read as an element, by the element's type. Its number is told beside the key that holds it.
+/// The fault of a text that is not a valid element, by the element's type. Its number is printed after the key.
 #[derive(Clone, Copy, Debug, PartialEq, Eq, Error)]
 pub enum ElementFault {
-    /// 1: no business identifier code (ISO 9362).
+    /// 1: not a business identifier code (ISO 9362).
     #[error("no BIC")]
     BadBic,
-    /// 2: no international bank account number (ISO 13616).
+    /// 2: not an international bank account number (ISO 13616).
     #[error("no IBAN")]
     BadIban,
-    /// 3: no identification of 1 to 35 characters.
+    /// 3: not an identification of 1 to 35 characters.
     #[error("no identification")]
     BadId,
-    /// 4: no amount from 0.01 to 999999999.99 (euro).
+    /// 4: not an amount from 0.01 to 999999999.99 (euro).
     #[error("no amount")]
     BadAmount,
-    /// 5: no date of the form YYYY-MM-DD.
+    /// 5: not a date of the form YYYY-MM-DD.
     #[error("no date")]
     BadDay,
-    /// 6: no name of 1 to 70 characters, or no remittance information of 1 to 140.
+    /// 6: not a name of 1 to 70 characters, or not remittance information of 1 to 140.
     #[error("no text of the allowed length")]
     BadText,
-    /// 7: no time stamp of 1 to 35 characters.
+    /// 7: not a time stamp of 1 to 35 characters.
     #[error("no time stamp")]
     BadStamp,
-    /// 8: a name or remittance information could not be kept for want of memory.
+    /// 8: out of memory for a name or remittance information.
     #[error("out of memory")]
     Memory,
-    /// 9: no code of 1 to 4 capitals and digits.
+    /// 9: not a code of 1 to 4 capitals and digits.
     #[error("no code")]
     BadCode,
 }

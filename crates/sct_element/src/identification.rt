@@ -11,17 +11,17 @@ use crate::checked::{Checked, Rule, kept_where};
 use crate::faults::ElementFault;
 use arrayvec::ArrayString;
 
-/// An identification (Max35Text in the SEPA character set, EPC217-08): 1 to 35 characters of
-/// ``a-z A-Z 0-9 / - ? : ( ) . , ' +`` and the space, with no slash at either end and no two in a row.
-/// A text that is none is refused 3 (BadId).
+/// An identification (Max35Text in the SEPA character set, EPC217-08) of 1 to 35 characters of
+/// ``a-z A-Z 0-9 / - ? : ( ) . , ' +`` and the space. It has no slash at either end, and no two slashes in a row.
+/// A text that is not an identification is refused with `BadId` (3).
 pub type Id35 = Checked<IdentificationRule, 35>;
 
-/// A time stamp, where messages have an ISODateTime: 1 to 35 characters of the same set, slashes anywhere, of which no form
-/// is asked. A text that is none is refused 7 (BadStamp).
+/// A time stamp, the text of an ISODateTime: 1 to 35 characters of the same set, slashes anywhere, in any form.
+/// A text that is not a time stamp is refused with `BadStamp` (7).
 pub type Stamp = Checked<StampRule, 35>;
 
-/// A code (as the external codes of ISO 20022): 1 to 4 characters of `A-Z` and `0-9`. A text that is none is refused 9
-/// (BadCode).
+/// A code (as the external codes of ISO 20022): 1 to 4 characters of `A-Z` and `0-9`.
+/// A text that is not a code is refused with `BadCode` (9).
 pub type Code4 = Checked<CodeRule, 4>;
 
 /// The rule of [`Id35`].
@@ -84,21 +84,21 @@ impl Rule<4> for CodeRule {
     ghost settles = { code_settles };
 }
 
-/// Reads an identification, as `Id35::read` does, or tells 3 (BadId).
+/// Reads an identification, as `Id35::read` does. Error: `BadId` (3).
 pub fn read_identification(text: &str) -> Result<Id35, ElementFault>
     ensures { result ≡ ok_or (written_identification text.now) ElementFault.BadId }
 {
     Id35::read(text)
 }
 
-/// Reads a time stamp, as `Stamp::read` does, or tells 7 (BadStamp).
+/// Reads a time stamp, as `Stamp::read` does. Error: `BadStamp` (7).
 pub fn read_stamp(text: &str) -> Result<Stamp, ElementFault>
     ensures { result ≡ ok_or (written_stamp text.now) ElementFault.BadStamp }
 {
     Stamp::read(text)
 }
 
-/// Reads a code, as `Code4::read` does, or tells 9 (BadCode).
+/// Reads a code, as `Code4::read` does. Error: `BadCode` (9).
 pub fn read_code(text: &str) -> Result<Code4, ElementFault>
     ensures { result ≡ ok_or (written_code text.now) ElementFault.BadCode }
 {

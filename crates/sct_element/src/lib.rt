@@ -1,8 +1,9 @@
-//! The checked texts of interbank messages: each is read once, and is right from then on.
+//! The checked texts of interbank messages. Each text is checked once, when it is read.
 //!
-//! A text is read by the `read` of its type, which answers the written form or the type's own fault; a name or remittance
-//! information, which takes memory, may answer want of it instead. The written form is what `text` gives, what two values
-//! are compared by (amounts by their cents), and what is read as the same value again.
+//! A text is read by the `read` of its type, which returns the value or the fault of the type. A name or remittance
+//! information allocates, so its `read` may also return out of memory.
+//! `text` returns the written form. Two values are compared by their written forms, and two amounts by their cents. A
+//! written form is read as the same value again.
 #![tactic(auto)]
 
 mod account;

@@ -28,8 +28,8 @@ impl Model for Amount {
 }
 
 impl Amount {
-    /// Reads 1 to 9 digits, which a point and one or two digits may follow. Any other text, and 0, is refused
-    /// 4 (BadAmount).
+    /// Reads 1 to 9 digits, which a point and one or two digits may follow.
+    /// Error: `BadAmount` (4) for any other text, and for 0.
     pub fn read(text: &str) -> Result<Amount, ElementFault>
         ensures { result ≡ ok_or (cents_of text.now) ElementFault.BadAmount }
     {
@@ -57,12 +57,13 @@ impl Amount {
     }
 }
 
-/// An amount is read exactly from the texts that write it: whole euros, or whole euros, a point and one or two decimals.
+/// An amount is read from exactly the texts that write it: whole euros, or whole euros, a point and one or two
+/// decimals.
 pub fn amounts_are_exact()
     ensures { (s : List ℕ) (cents : ℕ) → (cents_of s ≡ Some cents) ↔ IsAmountText s cents }
 {}
 
-/// The written form of so many cents.
+/// The written form of an amount of this many cents.
 #[tactic(auto, using(crate::proofs::Decimals::nine_long), unfolding(crate::specs::Money::amount_text))]
 fn written(cents: u64) -> ArrayString<12>
     requires { cents ≤ 99999999999 }
@@ -141,7 +142,7 @@ fn hundredths_of(bytes: &[u8]) -> Option<u64>
     }
 }
 
-/// The euros of a text whose first point stands at `point`.
+/// The euros of a text whose first point is at `point`.
 fn euros_before(point: Option<usize>, bytes: &[u8]) -> Option<u64>
     requires { IfSome point (λ at. at < length bytes.now) }
     ensures value { result ≡ euros_before point bytes.now }
@@ -153,7 +154,7 @@ fn euros_before(point: Option<usize>, bytes: &[u8]) -> Option<u64>
     }
 }
 
-/// The cents of such a text.
+/// The cents of a text whose first point is at `point`.
 fn cents_after(point: Option<usize>, bytes: &[u8]) -> Option<u64>
     requires { IfSome point (λ at. at < length bytes.now) }
     ensures value { result ≡ cents_after point bytes.now }
@@ -165,7 +166,7 @@ fn cents_after(point: Option<usize>, bytes: &[u8]) -> Option<u64>
     }
 }
 
-/// The place of the first point.
+/// The place of the first point, from 0.
 fn point_of(bytes: &[u8]) -> Option<usize>
     ensures place { result ≡ position is_point bytes.now }
     ensures inside { IfSome result (λ at. at < length bytes.now) }

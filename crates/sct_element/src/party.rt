@@ -15,13 +15,13 @@ use std::cmp::Ordering;
 use std::hash::{Hash, Hasher};
 use std::marker::Model;
 
-/// The name of a party (Max70Text): 1 to 70 characters of any kind, kept as they are read.
+/// The name of a party (Max70Text): 1 to 70 characters of any kind, kept as read.
 pub type Name = FreeText<70>;
 
-/// Unstructured remittance information (Max140Text): 1 to 140 characters of any kind, kept as they are read.
+/// Unstructured remittance information (Max140Text): 1 to 140 characters of any kind, kept as read.
 pub type Remittance = FreeText<140>;
 
-/// A text of 1 to `MOST` Unicode scalar values.
+/// A text of 1 to `MOST` characters, which are Unicode scalar values.
 #[derive(Debug, Drop)]
 pub struct FreeText<const MOST: usize> {
     text: String,
@@ -36,7 +36,8 @@ impl<const MOST: usize> Model for FreeText<MOST> {
 }
 
 impl<const MOST: usize> FreeText<MOST> {
-    /// Reads a text. One that is empty or too long is refused 6 (BadText); 8 (Memory) is want of memory for another.
+    /// Reads a text. Errors: `BadText` (6) if it is empty or too long; `Memory` (8) for a right text, if it is out of
+    /// memory.
     pub fn read(alloc: Global, text: &str) -> Result<Self, ElementFault>
         ensures { ReadsFree MOST text.now result }
     {
@@ -58,14 +59,15 @@ impl<const MOST: usize> FreeText<MOST> {
     }
 }
 
-/// Reads a name of 1 to 70 characters, as `Name::read` does, or tells 6 (BadText), or 8 (Memory).
+/// Reads a name of 1 to 70 characters, as `Name::read` does. Errors: `BadText` (6), `Memory` (8).
 pub fn read_name(alloc: Global, text: &str) -> Result<Name, ElementFault>
     ensures { ReadsFree 70 text.now result }
 {
     Name::read(alloc, text)
 }
 
-/// Reads remittance information of 1 to 140 characters, as `Remittance::read` does, or tells 6 (BadText), or 8 (Memory).
+/// Reads remittance information of 1 to 140 characters, as `Remittance::read` does. Errors: `BadText` (6), `Memory`
+/// (8).
 pub fn read_remittance(alloc: Global, text: &str) -> Result<Remittance, ElementFault>
     ensures { ReadsFree 140 text.now result }
 {
