@@ -1,4 +1,4 @@
--- Proof plumbing: that reasons and codes correspond, each reason being read from its text and from no other text.
+-- Proof plumbing: reasons and codes correspond. Each reason is read from its text and from no other text.
 use Rattle.std.proofs.Common.{◌≡◌, ◌∙◌, refl, ap, sym, subst, ℕ, List, [], ◌∷◌, Option, Some, None, ◌&&◌, ◌||◌, Bool, true, false, not, if◌then◌else◌}
 use Rattle.std.specs.Prelude.{◌↔◌, find}
 use Rattle.std.specs.Option.{is_some}

@@ -1,5 +1,5 @@
--- Read by an auditor: the reasons that this project takes for usual in each use, and who asks for a recall (after the
--- rulebook, EPC004-16).
+-- Read by an auditor: the reasons that are usual in each use, by this project's choice, and who asks
+-- for a recall (by the rulebook, EPC004-16).
 use Rattle.std.specs.Prelude.{ℕ, List, [], ◌∷◌, Bool, if◌then◌else◌, codes}
 use Rattle.std.specs.List.{list_any}
 use Rattle.sct_reason.specs.declared.reasons.Reason.{Reason}

@@ -64,8 +64,9 @@ impl Hash for Reason {
     }
 }
 
-/// Reasons and codes correspond: each reason is read from its text and from no other, no reason is read exactly where
-/// no code stands, and reasons are totally ordered, the same only where their texts are.
+/// Reasons and codes correspond. Each reason is read from its text and from no other text. A text is read
+/// as no reason exactly if it is not a code.
+/// Reasons are totally ordered, and two reasons are equal only if their texts are equal.
 pub fn reasons_are_exact()
     ensures read_again { (r : ReasonOf) → reason_of (reason_text r) ≡ Some r }
     ensures read_from_its_text { (s : List ℕ) (r : ReasonOf) → reason_of s ≡ Some r → reason_text r ≡ s }

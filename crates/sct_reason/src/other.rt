@@ -6,7 +6,7 @@ ghost use Rattle.sct_reason.specs.Listed.{is_other_code};
 use crate::reasons::is_listed;
 use sct_element::{Code4, read_code};
 
-/// A code that is none of the listed reasons: 1 to 4 characters of `A-Z` and `0-9`.
+/// A code that is not a listed reason: 1 to 4 characters of `A-Z` and `0-9`.
 #[derive(Debug, Drop)]
 pub struct OtherCode {
     code: Code4,
@@ -16,7 +16,7 @@ pub struct OtherCode {
 impl OtherCode {
     ghost use Rattle.sct_reason.specs.Reasons.{other_of};
 
-    /// Reads a code that is none of the listed ones, and refuses any other text.
+    /// Reads a code that is not a listed one. Returns none for any other text.
     pub fn read(text: &str) -> Option<OtherCode>
         ensures { result ≡ other_of text.now }
     {
@@ -33,7 +33,7 @@ impl OtherCode {
         self.code.text()
     }
 
-    /// The same code once more. It takes no memory.
+    /// A copy. It does not allocate.
     pub fn copy(&self) -> Self
         ensures { result ≡ self.now }
     {
@@ -43,7 +43,7 @@ impl OtherCode {
     }
 }
 
-/// The code that a text is, unless it is a listed one.
+/// The code that a text is, or none if the text is a listed code or not a code.
 #[tactic(auto, unfolding(crate::specs::Listed::is_other_code, sct_element::specs::Identification::written_code))]
 fn unlisted_code(text: &str) -> Option<Code4>
     ensures { result ≡ where_read (is_other_code text.now) text.now }

@@ -5,8 +5,8 @@ ghost use Rattle.sct_reason.specs.Reasons.{listed_reason};
 
 use crate::other::OtherCode;
 
-/// Why a transfer was rejected, recalled or returned, or a recall refused (external reason codes of ISO 20022).
-/// Ordered by its text.
+/// Why a transfer was rejected, recalled or returned, or why a recall was refused (external reason codes of ISO
+/// 20022). Reasons are ordered by their texts.
 #[derive(Debug, Drop)]
 pub enum Reason {
     /// The transaction stopped by a timeout at the beneficiary bank.
@@ -43,7 +43,7 @@ pub enum Reason {
     AM02,
     /// The funds do not cover the amount.
     AM04,
-    /// A duplicate.
+    /// The transaction is a duplicate.
     AM05,
     /// The amount is not the agreed or expected one.
     AM09,
@@ -53,13 +53,13 @@ pub enum Reason {
     ARDT,
     /// The beneficiary's address is missing or not correct.
     BE04,
-    /// The customer's decision.
+    /// The customer decided so.
     CUST,
     /// A duplicate payment.
     DUPL,
     /// The file format is incomplete or invalid.
     FF01,
-    /// A return that follows a recall.
+    /// The return follows a recall.
     FOCR,
     /// A fraudulent payment.
     FRAD,
@@ -93,7 +93,7 @@ pub enum Reason {
     Unlisted(OtherCode),
 }
 
-/// Hands each listed reason with its code to a walk.
+/// Passes each listed reason with its code to the macro `$walk`.
 macro_rules! walk_codes {
     ($walk:ident $with:tt) => {
         $walk! { $with
@@ -178,8 +178,8 @@ impl Reason {
     ghost use Rattle.sct_reason.specs.Codes.{reason_text};
     ghost use Rattle.sct_reason.specs.Reasons.{reason_of};
 
-    /// The reason of a code: a listed one, else an unlisted one. None where the text is no code of 1 to 4 characters of
-    /// `A-Z` and `0-9`.
+    /// The reason of a code: a listed one, or `Unlisted`. Returns none if the text is not a code
+    /// of 1 to 4 characters of `A-Z` and `0-9`.
     #[tactic(auto, unfolding(crate::specs::Reasons::reason_of))]
     pub fn read(text: &str) -> Option<Reason>
         ensures { result ≡ reason_of text.now }
@@ -190,14 +190,14 @@ impl Reason {
         }
     }
 
-    /// The code, as it is read.
+    /// The code.
     pub fn text(&self) -> &str
         ensures { result.now ≡ reason_text self.now }
     {
         walk_codes!(text_of[self])
     }
 
-    /// The same reason once more. It takes no memory.
+    /// A copy. It does not allocate.
     pub fn copy(&self) -> Self
         ensures { result ≡ self.now }
     {
@@ -205,7 +205,7 @@ impl Reason {
     }
 }
 
-/// The listed reason of a text.
+/// The listed reason that has this code, or none.
 #[tactic(auto, unfolding(crate::specs::Reasons::listed_reason))]
 fn listed_reason(text: &str) -> Option<Reason>
     ensures { result ≡ listed_reason text.now }

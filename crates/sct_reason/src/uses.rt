@@ -4,7 +4,7 @@ ghost use Rattle.sct_reason.specs.Uses.{is_usual, class_of};
 
 use crate::reasons::Reason;
 
-/// What a message gives a reason for.
+/// The use of a reason: what a message gives it for.
 #[derive(Clone, Copy, Debug, PartialEq, Eq)]
 pub enum Use {
     /// A transfer is rejected (pacs.002).
@@ -17,18 +17,18 @@ pub enum Use {
     Return,
 }
 
-/// Who asks for a recall, by its reason.
+/// Who asked for a recall, by its reason.
 #[derive(Clone, Copy, Debug, PartialEq, Eq)]
 pub enum RecallClass {
-    /// The originator bank: DUPL, TECH, FRAD.
+    /// The originator bank asked: DUPL, TECH, FRAD.
     Bank,
-    /// The originator: CUST, AC03, AM09.
+    /// The originator asked: CUST, AC03, AM09.
     Originator,
-    /// Neither: any other reason.
+    /// The reason does not say: any other reason.
     Unlisted,
 }
 
-/// The reason table, a row for each use: this project's choice among the codes of the rulebook (EPC004-16).
+/// The reason table, one row for each use. The choice among the codes of the rulebook (EPC004-16) is this project's.
 macro_rules! usual {
     (Reject) => {
         Reason::AB05 | Reason::AB06 | Reason::AB07 | Reason::AB08 | Reason::AB09 | Reason::AB10
@@ -50,7 +50,7 @@ macro_rules! usual {
 }
 
 impl Reason {
-    /// Whether the reason stands in this use's row of the reason table. An unlisted one stands in none.
+    /// Whether the reason is in this use's row of the reason table. An unlisted reason is in no row.
     #[tactic(auto, unfolding(crate::specs::Uses::is_usual, crate::specs::Uses::is_among), using(crate::proofs::Rows::other_is_unusual))]
     pub fn is_usual(&self, purpose: Use) -> bool
         ensures { result ≡ is_usual self.now purpose }
@@ -63,7 +63,7 @@ impl Reason {
         }
     }
 
-    /// Who asks for a recall for this reason (after the rulebook, EPC004-16).
+    /// Who asked for a recall that gives this reason (by the rulebook, EPC004-16).
     #[tactic(auto, unfolding(crate::specs::Uses::class_of, crate::specs::Uses::is_among), using(crate::proofs::Rows::other_has_no_class))]
     pub fn recall_class(&self) -> RecallClass
         ensures { result ≡ class_of self.now }
