@@ -1,6 +1,6 @@
 -- Read by an auditor: the members of a list in ascending order, for keys of any type.
--- It serves what tells of a set in order: the contradictions of an archive, the findings of a transfer,
--- the look-ups of a view and the texts of a site. The crates above cite it from here.
+-- It is used by every ordered answer about a set: the contradictions of an archive, the findings of a transfer, the
+-- look-ups of a view and the texts of a site. The crates above cite it from here.
 use Rattle.std.specs.Prelude.{List, map}
 use Rattle.std.specs.declared.cmp.Ordering.{Ordering}
 use Rattle.std.specs.FinMap as finite

@@ -1,5 +1,5 @@
 -- Read by an auditor: the elements of a message in a row, one cell each, and the order of such rows.
--- An amount counts by its cents, a reason by its code.
+-- An amount is compared by its cents, a reason by its code.
 use Rattle.std.specs.Prelude.{ℕ, List, [], ◌∷◌, Option, Some}
 use Rattle.std.specs.Ordering.{nat_cmp}
 use Rattle.std.specs.declared.cmp.Ordering.{Ordering}

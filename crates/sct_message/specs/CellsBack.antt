@@ -1,4 +1,4 @@
--- Proof plumbing: what stands in a cell is had back from it, and rows of cells that compare Equal are one row.
+-- Proof plumbing: an element can be recovered from its cell, and rows of cells that compare Equal are one row.
 use Rattle.std.proofs.Common.{◌≡◌, ap, refl, ℕ, List, [], ◌∷◌, get_or, Option, Some, None, option_map}
 use Rattle.std.specs.Prelude.{option_and_then}
 use Rattle.std.specs.Option.{option_cmp}

@@ -1,4 +1,4 @@
--- Read by an auditor: what a message's elements say of it, whatever its kind.
+-- Read by an auditor: what the elements of a message say of it, whatever its kind.
 use Rattle.std.specs.Prelude.{ℕ, List, [], ◌∷◌, map, Option, Some, None}
 use Rattle.sct_message.specs.declared.kinds.Kind.{Kind}
 use Rattle.sct_message.specs.declared.kinds.Kind.TheVariants.{Camt029, Camt056, Pacs002, Pacs004, Pacs008, Pacs028}

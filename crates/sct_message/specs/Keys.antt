@@ -17,7 +17,7 @@ identity_of d = record {
   msg_id = (head_of d).message_id;
 }
 
--- the transfers that a message is, or is about: one for each transaction of a recall message, and one in the other kinds
+-- the transfers that a message is about: one for each transaction of a recall message, and one in the other kinds
 abbrev pub transfers_of : Draft → List TransferKey
 transfers_of (draft.CreditTransfer d) = transfer_key d.debtor_agent d.transaction_id ∷ []
 transfers_of (draft.StatusReport d) = transfer_key d.debtor_agent d.original.transaction_id ∷ []
@@ -31,8 +31,8 @@ abbrev pub recalls_named : TransferKey → Option (List ℕ) → List RecallKey
 recalls_named transfer None = []
 recalls_named transfer (Some cxl) = recall_key transfer cxl ∷ []
 
--- the recalls that a message is, or is about: one for each transaction of a recall message, and at most one in the
--- other kinds
+-- the recalls that a message makes or is about: one for each transaction of a recall
+-- message, and at most one in the other kinds
 abbrev pub recalls_of : Draft → List RecallKey
 recalls_of (draft.CreditTransfer d) = []
 recalls_of (draft.StatusReport d) = []

@@ -1,4 +1,4 @@
--- The definitions that contracts cite, and what their proofs stand on.
+-- The definitions that contracts cite, and the definitions that their proofs need.
 pub mod Ascending
 pub mod Cells
 pub mod CellsBack

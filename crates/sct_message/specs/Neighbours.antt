@@ -1,4 +1,4 @@
--- Proof plumbing: a recall that is named twice, looked for among neighbours.
+-- Proof plumbing: a recall that is named twice is found among neighbours of a sorted list.
 use Rattle.std.specs.Prelude.{◌||◌, Bool, false, List, [], ◌∷◌}
 use Rattle.sct_message.specs.declared.draft.RecallTx.{RecallTx}
 use Rattle.sct_message.specs.Recalls.{have_same_recall}

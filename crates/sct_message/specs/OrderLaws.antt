@@ -1,4 +1,4 @@
--- Proof plumbing: the orders of messages and of keys are total, and tell apart whatever differs.
+-- Proof plumbing: the orders of messages and of keys are total, and different values never compare Equal.
 use Rattle.std.proofs.Common.{◌≡◌, ◌∙◌, refl, ap, sym, subst, Option, Some, None, option_map, ◌&&◌, Bool, true, nat_eq}
 use Rattle.std.specs.Ordering.{ordering_then, is_eq, eq_by_cmp}
 use Rattle.std.specs.declared.cmp.Ordering.{Ordering}

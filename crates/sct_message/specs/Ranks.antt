@@ -1,4 +1,4 @@
--- Proof plumbing: a message can be had back from its elements in a row, so equal elements mean one message.
+-- Proof plumbing: a message can be recovered from its elements in a row, so equal elements mean one message.
 use Rattle.std.proofs.Common.{◌≡◌, ap, refl, drop, Option, Some, None}
 use Rattle.std.specs.Prelude.{option_and_then}
 use Rattle.sct_reason.specs.Reasons.{reason_of}
@@ -137,7 +137,7 @@ message_at (Some Pacs028) es = Some (draft.StatusRequest (status_request_from es
 abbrev pub message_from : Cells → Option Draft
 message_from ranks = message_at (kind_named (cell 1 ranks)) (drop 3 ranks)
 
--- a message is had back from its ranks
+-- a message is recovered from its ranks
 pub message_back : (d : Draft) → message_from (ranks_of d) ≡ Some d
 message_back (draft.CreditTransfer d) =
     ap (λ (m : CreditTransfer). Some (draft.CreditTransfer m)) (credit_transfer_back d)

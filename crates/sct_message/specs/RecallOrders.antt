@@ -1,4 +1,4 @@
--- Proof plumbing: the order of recall messages is total, and answers Equal only at one message.
+-- Proof plumbing: the order of recall messages is total, and only equal messages compare Equal.
 use Rattle.std.proofs.Common.{◌≡◌, ◌∙◌, refl, ap, sym, true, List, [], ◌∷◌, drop}
 use Rattle.std.specs.List.{flat_map}
 use Rattle.std.specs.Ordering.{is_eq, eq_by_cmp}
@@ -45,7 +45,7 @@ txs_back (tx ∷ txs) = λ n. record {
 abbrev pub recalls_from : Cells → Recalls
 recalls_from es = record { head = head_from es; txs = txs_from (drop 5 es) }
 
--- a recall message is had back from its elements
+-- a recall message is recovered from its elements
 pub recalls_back : (r : Recalls) → recalls_from (recalls_elements r) ≡ r
 recalls_back r = λ n. record { head = r.head; txs = txs_back r.txs n }
 
@@ -63,7 +63,7 @@ is_eq_Equal Less e = cc
 is_eq_Equal Equal e = refl
 is_eq_Equal Greater e = cc
 
--- what is told of a recall message by its elements is told alike of two that are the same
+-- a function of recall messages has equal values for two that compare Equal
 pub same_recalls_input : {X : Type 0} (told : Recalls → X) (a b : Recalls)
     → eq_by_cmp recalls_order a b ≡ true
     → told a ≡ told b

@@ -1,5 +1,5 @@
--- Read by an auditor: a recall message as contracts see it, its head and a list of transactions, with the keys and the
--- order that come of it.
+-- Read by an auditor: a recall message as contracts see it, its head and a list of
+-- transactions, with its keys and its order.
 use Rattle.std.specs.Prelude.{ℕ, Bool, List, [], ◌∷◌, ◌++◌, Option, Some}
 use Rattle.std.specs.List.{flat_map}
 use Rattle.std.specs.declared.cmp.Ordering.{Ordering}

@@ -1,4 +1,5 @@
--- Read by an auditor: the rules of each kind (EPC004-16), when a draft breaks one, and the first broken one.
+-- Read by an auditor: the rules of each kind (EPC004-16), when a draft breaks a rule, and
+-- the first rule that it breaks.
 use Rattle.std.specs.Prelude.{◌≡◌, ◌≢◌, ℕ, ◌<◌, ◌≤◌, ◌&&◌, ◌||◌, ◌⊎◌, List, [], ◌∷◌, length, not, nat_le, Bool, false, Option, Some, None, is_some, is_none, if◌then◌else◌, IsTrue, IsFalse, IsSome, IsSomeAnd, IsNone, codes, ⊤}
 use Rattle.std.specs.List.{AllByRecursion, Any, IsDistinct, list_all, list_any}
 use Rattle.sct_reason.specs.declared.reasons.Reason.TheVariants.{FOCR}

@@ -103,7 +103,7 @@ pub struct StatusRequest {
     pub head: Head,
     /// OrgnlMsgId, OrgnlMsgNmId, OrgnlEndToEndId, OrgnlTxId.
     pub original: Original,
-    /// OrgnlCxlId: the recall that it asks about; none where it asks about the transfer.
+    /// OrgnlCxlId: the recall that it asks about, or none if it asks about the transfer.
     pub cancellation_id: Option<Id35>,
     /// DbtrAgt: the originator bank of the transfer.
     pub debtor_agent: Bic,
@@ -131,7 +131,7 @@ pub struct RecallTx {
 impl RecallTx {
     ghost use Rattle.sct_message.specs.Recalls.{transfer_in, recall_in};
 
-    /// The transfer that is recalled. It takes no memory.
+    /// The transfer that is recalled. It does not allocate.
     pub fn transfer(&self) -> TransferKey
         ensures { result ≡ transfer_in self.now }
     {
@@ -141,7 +141,7 @@ impl RecallTx {
         }
     }
 
-    /// The recall that the transaction is. It takes no memory.
+    /// The recall that the transaction makes. It does not allocate.
     pub fn recall(&self) -> RecallKey
         ensures { result ≡ recall_in self.now }
     {
@@ -153,7 +153,7 @@ impl RecallTx {
 }
 
 /// camt.056: the recall of 1 to 100 transfers.
-/// A contract sees the transactions as a list, whatever memory they stand in.
+/// Contracts see the transactions as a list, wherever it is in memory.
 #[derive(Debug, Drop)]
 pub struct CancellationRequest {
     /// MsgNmId, MsgId (of the assignment), CreDtTm, InstgAgt (the assigner), InstdAgt (the assignee).
@@ -219,13 +219,13 @@ pub struct PaymentReturn {
     pub original: Original,
     /// OrgnlIntrBkSttlmAmt: the amount of the transfer, in cents.
     pub original_amount: Amount,
-    /// RtrdIntrBkSttlmAmt: the amount that comes back, in cents; at most the amount of the transfer.
+    /// RtrdIntrBkSttlmAmt: the amount that is returned, in cents; at most the amount of the transfer.
     pub returned_amount: Amount,
     /// Ccy: `EUR`.
     pub currency: Code4,
     /// IntrBkSttlmDt: the settlement date of the return.
     pub settlement_date: Day,
-    /// Rsn: `FOCR`, following a cancellation request.
+    /// Rsn: `FOCR`, a return that follows a recall.
     pub reason: Reason,
     /// DbtrAgt: the originator bank of the transfer.
     pub debtor_agent: Bic,
@@ -242,7 +242,7 @@ pub struct Resolution {
     pub cancellation_id: Id35,
     /// OrgnlMsgId, OrgnlMsgNmId, OrgnlEndToEndId, OrgnlTxId.
     pub original: Original,
-    /// Conf: `RJCR`, the recall is refused.
+    /// Conf: `RJCR`, which refuses the recall.
     pub confirmation: Code4,
     /// Rsn: why the recall is refused.
     pub reason: Reason,
@@ -250,7 +250,7 @@ pub struct Resolution {
     pub debtor_agent: Bic,
 }
 
-/// The elements of a message before the rules of its kind were looked at.
+/// The elements of a message, before the rules of its kind are checked.
 #[derive(Debug, Drop, PartialEq, Eq, Hash)]
 pub enum Draft {
     /// pacs.008.
@@ -270,7 +270,7 @@ pub enum Draft {
 impl Draft {
     ghost use Rattle.sct_message.specs.Drafts.{kind_of, head_of};
 
-    /// The kind.
+    /// The kind of the message.
     pub fn kind(&self) -> Kind
         ensures { result ≡ kind_of self.now }
     {
@@ -284,7 +284,7 @@ impl Draft {
         }
     }
 
-    /// What the message begins with.
+    /// The head, which every message begins with.
     pub fn head(&self) -> &Head
         ensures { result.now ≡ head_of self.now }
     {

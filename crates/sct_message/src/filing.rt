@@ -9,7 +9,7 @@ use crate::draft::Draft;
 use crate::keys::{RecallKey, TransferKey};
 use sct_element::{Bic, Id35};
 
-/// How many transfers a draft is, or is about.
+/// How many transfers a draft is about: the number of transactions of a camt.056, else 1.
 pub(crate) fn transfer_count(draft: &Draft) -> usize
     ensures { result ≡ length (transfers_of draft.now) }
 {
@@ -19,7 +19,7 @@ pub(crate) fn transfer_count(draft: &Draft) -> usize
     }
 }
 
-/// The one transfer of a message, at 0.
+/// The one transfer of a message for `i` = 0, else none.
 fn of_one(i: usize, debtor_agent: &Bic, tx: &Id35) -> Option<TransferKey>
     ensures { result ≡ slice_get (transfer_key debtor_agent.now tx.now ∷ []) i }
 {
@@ -33,7 +33,7 @@ fn of_one(i: usize, debtor_agent: &Bic, tx: &Id35) -> Option<TransferKey>
     }
 }
 
-/// The transfer `i` of a draft, from 0.
+/// The transfer `i` of a draft, from 0. None past the last.
 pub(crate) fn transfer(draft: &Draft, i: usize) -> Option<TransferKey>
     ensures { result ≡ slice_get (transfers_of draft.now) i }
 {
@@ -50,7 +50,7 @@ pub(crate) fn transfer(draft: &Draft, i: usize) -> Option<TransferKey>
     }
 }
 
-/// The one recall of a message, at 0, if it names one.
+/// The one recall of a message for `i` = 0, if the message names a recall.
 fn of_one_recall(i: usize, debtor_agent: &Bic, tx: &Id35, cxl: Option<&Id35>) -> Option<RecallKey>
     ensures { result ≡ slice_get (recalls_named (transfer_key debtor_agent.now tx.now) (option_copied cxl.entry)) i }
 {
@@ -62,7 +62,7 @@ fn of_one_recall(i: usize, debtor_agent: &Bic, tx: &Id35, cxl: Option<&Id35>) ->
     })
 }
 
-/// The recall `i` of a draft, from 0.
+/// The recall `i` of a draft, from 0. None past the last.
 pub(crate) fn recall(draft: &Draft, i: usize) -> Option<RecallKey>
     ensures { result ≡ slice_get (recalls_of draft.now) i }
 {

@@ -4,8 +4,8 @@ ghost use Rattle.std.specs.Prelude.{◌≡◌};
 use crate::kinds::Kind;
 use sct_element::{Bic, Id35};
 
-/// What a sender must give to one message only: two differing messages of one identity contradict each other.
-/// Ordered by sender, kind and message identification, kinds by their text.
+/// What a sender must give to one message only: two different messages of one identity contradict each other.
+/// Ordered by sender, kind and message identification; kinds are ordered by their texts.
 #[derive(Debug, Drop, PartialEq, Eq, PartialOrd, Ord, Hash)]
 pub struct Identity {
     /// InstgAgt: the bank that sent the message, 11 characters.
@@ -16,7 +16,7 @@ pub struct Identity {
     pub msg_id: Id35,
 }
 
-/// A transfer: its originator bank and the identification that this bank gave it.
+/// A transfer: its originator bank, and the identification that the bank gave it.
 /// Ordered by bank and then by identification.
 #[derive(Debug, Drop, PartialEq, Eq, PartialOrd, Ord, Hash)]
 pub struct TransferKey {
@@ -36,7 +36,7 @@ pub struct RecallKey {
 }
 
 impl Identity {
-    /// The same identity once more. It takes no memory.
+    /// A copy. It does not allocate.
     pub fn copy(&self) -> Self
         ensures { result ≡ self.now }
     {
@@ -49,7 +49,7 @@ impl Identity {
 }
 
 impl TransferKey {
-    /// The same key once more. It takes no memory.
+    /// A copy. It does not allocate.
     pub fn copy(&self) -> Self
         ensures { result ≡ self.now }
     {

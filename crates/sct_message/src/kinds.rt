@@ -1,4 +1,4 @@
-//! The kinds of messages, and the names by which a message says its kind.
+//! The kinds of messages, and the names of a kind in a message.
 ghost use Rattle.std.specs.Prelude.{◌≡◌, find};
 ghost use Rattle.std.specs.Option.{option_copied};
 ghost use Rattle.sct_message.specs.Kinds.{kind_text, is_version, is_name_of, kind_named};
@@ -23,7 +23,7 @@ pub enum Kind {
 }
 
 impl Kind {
-    /// Every kind, in the order of the texts.
+    /// Every kind, in the order of their texts.
     pub const ALL: [Kind; 6] = [
         Kind::Camt029,
         Kind::Camt056,
@@ -33,7 +33,7 @@ impl Kind {
         Kind::Pacs028,
     ];
 
-    /// The kind's text of 8 characters, as `pacs.008`.
+    /// The kind's text of 8 characters, such as `pacs.008`.
     pub fn text(self) -> &'static str
         ensures { result.now ≡ kind_text self }
     {
@@ -47,8 +47,8 @@ impl Kind {
         }
     }
 
-    /// Whether a text names this kind: the kind alone, or with a version behind it, a point, three digits, a point and
-    /// two digits, as `pacs.008.001.08`.
+    /// Whether a text names this kind. A name is the kind alone, or the kind followed by a version: a point, three
+    /// digits, a point and two digits, as in `pacs.008.001.08`.
     #[tactic(auto, using(crate::proofs::Names::too_short))]
     pub fn is_named(self, name: &str) -> bool
         ensures { result ≡ is_name_of self name.now }
@@ -61,7 +61,7 @@ impl Kind {
         kind == self.text().as_bytes() && (version.is_empty() || is_version(version))
     }
 
-    /// The kind that a text names, none where it is no name of a kind.
+    /// The kind that a text names, or none if the text is not a name of a kind.
     pub fn of_name(name: &str) -> Option<Kind>
         ensures { result ≡ kind_named name.now }
     {

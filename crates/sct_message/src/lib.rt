@@ -1,5 +1,5 @@
 //! Interbank messages of the SEPA Instant Credit Transfer scheme (EPC004-16, messages of ISO 20022): their kinds, their
-//! elements, the rules of each kind, and the keys by which they are filed. No call takes memory.
+//! elements, the rules of each kind, and the keys by which they are filed. No call allocates.
 #![tactic(auto)]
 
 mod draft;

@@ -1,4 +1,4 @@
-//! A message: elements for which the rules of its kind hold.
+//! A message, whose elements follow the rules of its kind.
 ghost use Rattle.std.specs.Prelude.{◌≡◌, ◌≤◌, ◌↔◌, Option, Some, None, Ok, Err, IsTrue, MatchOption, length, refl};
 ghost use Rattle.std.specs.List.{slice_get};
 ghost use Rattle.std.specs.Ordering.{eq_by_cmp};
@@ -15,8 +15,8 @@ use std::cmp::Ordering;
 use std::hash::{Hash, Hasher};
 use std::marker::Model;
 
-/// A message of one of the six kinds, whose elements follow the rules of that kind (EPC004-16). Its calls take no
-/// memory.
+/// A message of one of the six kinds, whose elements follow the rules of that kind
+/// (EPC004-16). Its calls do not allocate.
 #[derive(Debug, Drop)]
 pub struct Message {
     draft: Draft,
@@ -40,8 +40,8 @@ impl Message {
     ghost use Rattle.sct_message.specs.Rules.{first_broken_rule};
     ghost use Rattle.sct_message.specs.Keys.{identity_of, transfers_of, recalls_of};
 
-    /// A message of these elements. Where they break a rule of their kind it answers the first such rule by number, 10
-    /// `WrongName` to 23 `WrongCount`, and drops the elements.
+    /// Makes a message of these elements. Error: the first rule of their kind, by number, that they break, from
+    /// `WrongName` (10) to `WrongCount` (23); the elements are dropped.
     #[tactic(auto, using(crate::proofs::LastRules::list_last))]
     pub fn of(draft: Draft) -> Result<Message, RuleFault>
         ensures { MatchOption (first_broken_rule draft) (result ≡ Ok draft) (λ fault. result ≡ Err fault) }
@@ -58,7 +58,7 @@ impl Message {
         }
     }
 
-    /// The elements, as `of` was given them.
+    /// The elements, as they were passed to `of`.
     pub fn draft(&self) -> &Draft
         ensures elements { result.now ≡ self.now }
         ensures rules { first_broken_rule result.now ≡ None }
@@ -66,7 +66,7 @@ impl Message {
         &self.draft
     }
 
-    /// The kind.
+    /// The kind of the message.
     pub fn kind(&self) -> Kind
         ensures { result ≡ kind_of self.now }
     {
@@ -85,7 +85,7 @@ impl Message {
         }
     }
 
-    /// How many transfers the message is, or is about: the number of its transactions for a camt.056, else 1.
+    /// How many transfers the message is about: the number of its transactions for a camt.056, else 1.
     pub fn transfer_count(&self) -> usize
         ensures transfers { result ≡ length (transfers_of self.now) }
         ensures some { 1 ≤ result }
@@ -94,16 +94,17 @@ impl Message {
         transfer_count(&self.draft)
     }
 
-    /// The transfer of transaction `i`, from 0: DbtrAgt with OrgnlTxId, in a pacs.008 with TxId. None past the last.
-    /// A message of another kind than camt.056 is, or is about, one transfer, which is that of 0.
+    /// The transfer of transaction `i`, from 0: DbtrAgt with OrgnlTxId, in a pacs.008
+    /// with TxId. None past the last transaction.
+    /// A message of a kind other than camt.056 is about one transfer, which has the number 0.
     pub fn transfer(&self, i: usize) -> Option<TransferKey>
         ensures { result ≡ slice_get (transfers_of self.now) i }
     {
         transfer(&self.draft, i)
     }
 
-    /// The recall of transaction `i`, from 0: its transfer with CxlId, in the other kinds with OrgnlCxlId. None past the
-    /// last, and for a pacs.008, a pacs.002, and a pacs.028 about a transfer.
+    /// The recall of transaction `i`, from 0: its transfer with CxlId, in the other kinds with OrgnlCxlId.
+    /// None past the last transaction, for a pacs.008 or pacs.002, and for a pacs.028 about a transfer.
     pub fn recall(&self, i: usize) -> Option<RecallKey>
         ensures { result ≡ slice_get (recalls_of self.now) i }
     {
@@ -114,15 +115,17 @@ impl Message {
 impl Message {
     ghost use Rattle.sct_message.specs.Order.{message_order as order_of};
 
-    /// Compares by sender, kind and message identification, and then by the elements in the order of the kind's key
-    /// table: texts by their bytes, amounts by their cents, an absent element first. Equal exactly where `same`.
+    /// Compares by sender, kind and message identification, and then by the elements in
+    /// the order of the kind's key table.
+    /// Texts are compared by their bytes, amounts by their cents; an absent element comes
+    /// first. Equal exactly if `same`.
     pub fn order(&self, other: &Message) -> Ordering
         ensures { result ≡ order_of self.now other.now }
     {
         order(&self.draft, &other.draft)
     }
 
-    /// Whether all elements are the same, MsgNmId as it was written included (`pacs.008` and `pacs.008.001.08` differ).
+    /// Whether all elements are equal. MsgNmId counts as it was written: `pacs.008` and `pacs.008.001.08` differ.
     #[tactic(auto, using(crate::specs::OrderLaws::message_same, crate::specs::OrderLaws::message_itself))]
     pub fn same(&self, other: &Message) -> bool
         ensures { IsTrue result ↔ (self.now ≡ other.now) }

@@ -43,8 +43,8 @@ fn status_request_order(left: &StatusRequest, right: &StatusRequest) -> Ordering
     left.cmp(right)
 }
 
-/// The order of two camt.056 by their elements in the order of its key table, and their transactions one after the
-/// other: a list comes before each that it begins.
+/// The order of two camt.056 by their elements in the order of its key table, and then by their lists of transactions.
+/// A list that begins another comes before it.
 pub(crate) fn cancellation_request_order(
     left: &CancellationRequest,
     right: &CancellationRequest,
@@ -72,7 +72,7 @@ fn resolution_order(left: &Resolution, right: &Resolution) -> Ordering
     left.cmp(right)
 }
 
-/// The order of two messages' elements, where they are of one kind.
+/// The order of two messages' elements, if both are of one kind.
 fn elements_order(left: &Draft, right: &Draft) -> Ordering
     requires { kind_of left.now ≡ kind_of right.now }
     ensures { result ≡ by_elements left.now right.now }
@@ -136,8 +136,8 @@ pub(crate) fn order(left: &Draft, right: &Draft) -> Ordering
     elements_order(left, right)
 }
 
-/// A law: keys are totally ordered, by their parts in turn and kinds by their text, and compare Equal only where
-/// all their parts are the same.
+/// A law: keys are totally ordered by their parts in turn, and kinds by their texts. Two keys compare
+/// Equal only if all their parts are equal.
 pub fn keys_are_ordered()
     ensures kinds { (j k : KindOf) → ⟦<Kind as Ord>⟧.cmp j k ≡ text_order (kind_text j) (kind_text k) }
     ensures identities { (i j : IdentityOf) → ⟦<Identity as Ord>⟧.cmp i j ≡ identity_order i j }
@@ -154,7 +154,7 @@ pub fn keys_are_ordered()
     ensures recalls_same { IsAntisymmetric recall_order }
 {}
 
-/// A law: messages are totally ordered, and compare Equal exactly where all their elements are the same.
+/// A law: messages are totally ordered, and two compare Equal exactly if all their elements are equal.
 pub fn order_is_total()
     ensures total { IsTotalOrder message_order }
     ensures same { (a b : Elements) → (message_order a b ≡ Ordering.Equal) ↔ (a ≡ b) }

@@ -32,8 +32,8 @@ pub(crate) fn name_their_originals(kind: Kind, txs: &[RecallTx]) -> bool
     txs.iter().all(|tx| names(kind, &tx.original))
 }
 
-/// Whether two transactions are one recall of one transfer. The transfer's identification, which differs most often, is
-/// looked at first.
+/// Whether two transactions make the same recall of the same transfer. The transfer's identification is
+/// compared first, because it differs most often.
 fn have_same_recall(left: &RecallTx, right: &RecallTx) -> bool
     ensures { result ≡ share_recall left.now right.now }
 {
@@ -45,14 +45,14 @@ fn have_same_recall(left: &RecallTx, right: &RecallTx) -> bool
         && left.debtor_agent.cmp(&right.debtor_agent).is_eq()
 }
 
-/// Whether a transaction is one recall of one transfer with one of the others.
+/// Whether one of the other transactions makes the same recall of the same transfer.
 fn recalls_again(tx: &RecallTx, others: &[RecallTx]) -> bool
     ensures { result ≡ list_any (share_recall tx.now) others.now }
 {
     others.iter().any(|other| have_same_recall(tx, other))
 }
 
-/// Whether a transaction is one recall of one transfer with a later one.
+/// Whether two transactions make the same recall of the same transfer. It compares each with each.
 fn repeats(txs: &[RecallTx]) -> bool
     ensures { result ≡ repeats txs.now }
 {
@@ -66,14 +66,14 @@ fn repeats(txs: &[RecallTx]) -> bool
     false
 }
 
-/// Whether a camt.056 may have so many transactions: 1 to 100.
+/// Whether a camt.056 may have this number of transactions: 1 to 100.
 pub fn is_right_count(count: usize) -> bool
     ensures { result ≡ is_right_count count }
 {
     1 <= count && count <= 100
 }
 
-/// The first of the rules 22 and 23 that transactions break.
+/// The first broken rule of `RepeatedRecall` (22) and `WrongCount` (23), for these transactions.
 #[tactic(auto, unfolding(crate::specs::Rules::broken_by_transactions))]
 pub(crate) fn broken_by_transactions(txs: &[RecallTx]) -> Option<RuleFault>
     ensures { result ≡ broken_by_transactions txs.now }
@@ -87,7 +87,7 @@ pub(crate) fn broken_by_transactions(txs: &[RecallTx]) -> Option<RuleFault>
     }
 }
 
-/// Whether a transaction is one recall of one transfer with the first of those behind it.
+/// Whether the next transaction makes the same recall of the same transfer.
 fn recalls_next(tx: &RecallTx, others: &[RecallTx]) -> bool
     ensures { result ≡ recalls_next tx.now others.now }
 {
@@ -97,7 +97,7 @@ fn recalls_next(tx: &RecallTx, others: &[RecallTx]) -> bool
     }
 }
 
-/// Whether two neighbours are one recall of one transfer.
+/// Whether two neighbours make the same recall of the same transfer.
 fn repeats_next(txs: &[RecallTx]) -> bool
     ensures { result ≡ repeats_next txs.now }
 {
@@ -111,8 +111,8 @@ fn repeats_next(txs: &[RecallTx]) -> bool
     false
 }
 
-/// Whether a transaction is one recall of one transfer with a later one, for any number of transactions: they are put in
-/// the order of their recalls, where two of one recall are neighbours.
+/// Whether two transactions make the same recall of the same transfer, for any number of transactions.
+/// The transactions are sorted by their recalls, so that two of one recall are neighbours. O(n log n).
 fn repeats_in_order(txs: Vec<RecallTx>) -> bool
     ensures { result ≡ repeats txs.items }
 {
@@ -121,7 +121,7 @@ fn repeats_in_order(txs: Vec<RecallTx>) -> bool
     repeats_next(&txs)
 }
 
-/// The first of the rules 22 and 23 that a camt.056 of more than 100 transactions breaks.
+/// The first broken rule of `RepeatedRecall` (22) and `WrongCount` (23), for a camt.056 of more than 100 transactions.
 #[tactic(auto, unfolding(crate::specs::Rules::broken_by_transactions))]
 pub(crate) fn broken_by_long(cancellation_request: CancellationRequest) -> RuleFault
     requires { 100 < length cancellation_request.txs }

@@ -11,10 +11,10 @@ use crate::recall_list::{
 };
 use thiserror::Error;
 
-/// A rule that a message's elements break, of those of its kind the first by number (EPC004-16).
+/// A rule that a message's elements break: the first of its kind's rules, by number (EPC004-16).
 #[derive(Clone, Copy, Debug, PartialEq, Eq, Error)]
 pub enum RuleFault {
-    /// 10: MsgNmId is no name of the message's kind.
+    /// 10: MsgNmId is not a name of the message's kind.
     #[error("the message name is of another kind")]
     WrongName,
     /// 11: Ccy is not EUR.
@@ -32,10 +32,10 @@ pub enum RuleFault {
     /// 15: TxSts is neither ACCP nor RJCT.
     #[error("the status is neither ACCP nor RJCT")]
     WrongStatus,
-    /// 16: a rejection without a reason.
+    /// 16: a rejection has no reason.
     #[error("a rejection has no reason")]
     ReasonMissing,
-    /// 17: a positive confirmation with a reason.
+    /// 17: a positive confirmation has a reason.
     #[error("a positive confirmation has a reason")]
     ReasonUnasked,
     /// 18: the returned amount is above the original one.
@@ -47,7 +47,7 @@ pub enum RuleFault {
     /// 20: Conf is not RJCR.
     #[error("the confirmation is not RJCR")]
     WrongAnswer,
-    /// 21: OrgnlMsgNmId is no name of the kind that such a message is about.
+    /// 21: OrgnlMsgNmId is not a name of the kind that such a message is about.
     #[error("the original message name is of a wrong kind")]
     WrongOriginalName,
     /// 22: two transactions of a camt.056 have the same recall key.
@@ -117,7 +117,7 @@ fn broken_in_status_report(status_report: &StatusReport) -> Option<RuleFault>
     }
 }
 
-/// Rule 11, if a camt.056 breaks it.
+/// `WrongCurrency` (11), if a camt.056 breaks it.
 #[tactic(auto, unfolding(crate::specs::Rules::broken_in_cancellation_request))]
 fn broken_in_cancellation_request(cancellation_request: &CancellationRequest) -> Option<RuleFault>
     ensures { result ≡ broken_in_cancellation_request cancellation_request.now }
@@ -145,7 +145,7 @@ fn broken_in_payment_return(payment_return: &PaymentReturn) -> Option<RuleFault>
     }
 }
 
-/// Rule 20, if a camt.029 breaks it.
+/// `WrongAnswer` (20), if a camt.029 breaks it.
 #[tactic(auto, unfolding(crate::specs::Rules::broken_in_resolution))]
 fn broken_in_resolution(resolution: &Resolution) -> Option<RuleFault>
     ensures { result ≡ broken_in_resolution resolution.now }
@@ -157,7 +157,7 @@ fn broken_in_resolution(resolution: &Resolution) -> Option<RuleFault>
     }
 }
 
-/// The first rule by number that the elements break, of those that its kind alone has.
+/// The first broken rule, by number, among those of the draft's kind alone.
 fn broken_in_kind(draft: &Draft) -> Option<RuleFault>
     ensures { result ≡ broken_in_kind draft.now }
 {
@@ -173,7 +173,7 @@ fn broken_in_kind(draft: &Draft) -> Option<RuleFault>
     }
 }
 
-/// The kind of message that a later message is about: pacs.008, for a pacs.028 that names a recall camt.056.
+/// The kind of the message that a draft is about: camt.056 for a pacs.028 that names a recall, else pacs.008.
 fn kind_it_is_about(draft: &Draft) -> Kind
     ensures { result ≡ kind_it_is_about draft.now }
 {
@@ -184,7 +184,7 @@ fn kind_it_is_about(draft: &Draft) -> Kind
     }
 }
 
-/// Whether OrgnlMsgNmId, where there is one, names the kind of message that the draft is about.
+/// Whether OrgnlMsgNmId, if the draft has one, names the kind of the message that the draft is about.
 fn names_its_original(draft: &Draft) -> bool
     ensures { result ≡ names_its_original draft.now }
 {
@@ -199,7 +199,7 @@ fn names_its_original(draft: &Draft) -> bool
     }
 }
 
-/// The first of the rules 22 and 23 that a camt.056 breaks.
+/// The first broken rule of `RepeatedRecall` (22) and `WrongCount` (23), for a camt.056.
 pub(crate) fn broken_in_list(draft: &Draft) -> Option<RuleFault>
     ensures { result ≡ broken_in_list draft.now }
 {
@@ -209,7 +209,7 @@ pub(crate) fn broken_in_list(draft: &Draft) -> Option<RuleFault>
     }
 }
 
-/// The first rule by number that a draft breaks, but for those on the list of a camt.056.
+/// The first broken rule, by number, except those on the list of a camt.056.
 #[tactic(auto, unfolding(crate::specs::Rules::broken_before_list))]
 pub(crate) fn broken_before_list(draft: &Draft) -> Option<RuleFault>
     ensures { result ≡ broken_before_list draft.now }
@@ -238,8 +238,8 @@ pub(crate) fn is_long(draft: &Draft) -> bool
     }
 }
 
-/// The first of the rules 22 and 23 that a camt.056 of more than 100 transactions breaks. It takes the draft to sort the
-/// transactions, since to compare each with each would take too long.
+/// The first broken rule of `RepeatedRecall` (22) and `WrongCount` (23), for a camt.056 of more than 100 transactions.
+/// It takes the draft in order to sort the transactions, because comparing each with each would take too long.
 pub(crate) fn broken_in_long(draft: Draft) -> RuleFault
     requires { IsTrue (is_long draft) }
     ensures { broken_in_list draft ≡ Some result }
@@ -250,13 +250,13 @@ pub(crate) fn broken_in_long(draft: Draft) -> RuleFault
     }
 }
 
-/// A law: no rule is broken exactly where all rules of the kind hold.
+/// A law: no rule is broken exactly if all rules of the kind hold.
 pub fn all_rules_hold_where_none_is_broken()
     ensures { (draft : Draft) → (first_broken_rule draft ≡ None) ↔ FollowsRules draft }
 {}
 
-/// A law: the rule that `Message::of` tells is broken, and no broken rule has a smaller number. It tells none
-/// exactly where no rule is broken.
+/// A law: the rule that `Message::of` returns is broken, and no broken rule has a smaller number. It
+/// returns a message exactly if no rule is broken.
 pub fn first_broken_rule_is_told()
     ensures told { (d : Draft) (f : RuleFault) → (first_broken_rule d ≡ Some f) ↔ IsFirstBroken f d }
     ensures none { (d : Draft) → (first_broken_rule d ≡ None) ↔ ((f : RuleFault) → ¬ Breaks f d) }
