@@ -1,4 +1,4 @@
--- Messages handed in any order give the same answers, for auditors.
+-- Messages passed in any order give the same answers, for auditors.
 use Rattle.std.specs.Prelude.{◌≡◌, ◌↔◌, ℕ, List, Contains}
 use Rattle.std.specs.List.Sorted.{IsStrictlySortedBy}
 use Rattle.sct_message.specs.Order.{identity_order}

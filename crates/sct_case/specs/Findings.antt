@@ -1,4 +1,4 @@
--- What contradicts itself in the messages on a transfer, for auditors: for each finding one relation.
+-- The contradictions among the messages on a transfer, for auditors: one relation for each finding.
 use Rattle.std.specs.Prelude.{◌≡◌, ◌≢◌, ℕ, List, true, Contains}
 use Rattle.sct_message.specs.Transfers.{is_instruction}
 use Rattle.sct_message.specs.declared.draft.Draft.{Draft}

@@ -1,5 +1,5 @@
--- What is said of the recalls of one transfer, in the order of the recalls, for auditors. The contracts of functions
--- inside this crate use these words.
+-- Statements about the recalls of one transfer, sorted by recall, for auditors. The contracts of
+-- functions inside this crate use these words.
 use Rattle.std.specs.Prelude.{◌≡◌, ℕ, List, filter}
 use Rattle.std.specs.List.{list_any}
 use Rattle.std.specs.List.Sorted.{IsSortedByKey}

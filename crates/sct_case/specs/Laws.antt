@@ -1,4 +1,4 @@
--- What holds of findings and statuses, whatever the messages are, for auditors. Each law is the contract of a function.
+-- Laws of findings and statuses, for all messages, for auditors. Each law is the contract of a function.
 use Rattle.std.specs.FinSet as set
 use Rattle.std.specs.Prelude.{◌≡◌, ◌≢◌, ◌↔◌, ⊤, ℕ, true, List, [], ◌∷◌, Contains}
 use Rattle.std.specs.List.Sorted.{IsStrictlySortedBy}

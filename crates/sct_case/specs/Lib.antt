@@ -1,4 +1,4 @@
--- The definitions of findings and of where transfers and recalls stand.
+-- The definitions of findings and of the statuses of transfers and recalls.
 pub mod AnyOrder
 pub mod Findings
 pub mod Inside

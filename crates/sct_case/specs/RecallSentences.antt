@@ -1,5 +1,5 @@
--- For each status of a recall the sentence that it tells, for auditors. That each status is told exactly where its
--- sentence holds is a law of this crate.
+-- The sentence of each status of a recall, for auditors. It is a law of this crate that each status
+-- is returned exactly if its sentence holds.
 use Rattle.std.specs.Prelude.{◌≡◌, ◌≢◌, ◌↔◌, ℕ, List, []}
 use Rattle.sct_reason.specs.declared.reasons.Reason.{Reason}
 use Rattle.sct_message.specs.declared.draft.Draft.{Draft}

@@ -1,4 +1,5 @@
--- What one message says of a transfer, for auditors. Findings and statuses read a message by these words alone.
+-- The statements of one message about a transfer, for auditors. Findings and statuses
+-- read a message by these words alone.
 use Rattle.std.specs.Prelude.{ℕ, Bool, false, List, [], ◌∷◌, Option, Some, None, is_none, if◌then◌else◌, codes, Contains}
 use Rattle.std.specs.List.{flat_map}
 use Rattle.sct_reason.specs.declared.reasons.Reason.{Reason}

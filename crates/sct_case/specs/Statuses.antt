@@ -1,4 +1,4 @@
--- Where a transfer and its recalls stand, for auditors: the first of a list of sentences that holds.
+-- The statuses of a transfer and of its recalls, for auditors: the first of a list of sentences that holds.
 use Rattle.std.specs.Prelude.{◌&&◌, ◌==◌, ℕ, List, [], ◌∷◌, length, find, Bool, true, false, Option, Some, None, option_map}
 use Rattle.std.specs.List.{list_any, flat_map}
 use Rattle.sct_reason.specs.declared.reasons.Reason.{Reason}

@@ -1,5 +1,5 @@
--- The findings of a transfer in the order in which they are told, as they are computed, for auditors. That each is told
--- exactly where its relation holds is a law of this crate.
+-- The findings of a transfer in the order in which they are reported, as they are computed, for auditors. It is a law
+-- of this crate that each is reported exactly if its relation holds.
 use Rattle.std.specs.Prelude.{ℕ, ◌&&◌, ◌==◌, List, [], ◌∷◌, ◌++◌, length, map, filter, find, not, nat_eq, nat_lt, Bool, true, false, Option, Some, None, if◌then◌else◌}
 use Rattle.std.specs.List.{list_any, flat_map}
 use Rattle.sct_reason.specs.Codes.{reason_text}

@@ -1,4 +1,4 @@
-//! What is told of one transfer by the clean messages on it and its asides.
+//! The findings and statuses of one transfer, from its clean messages and its asides.
 ghost use Rattle.std.specs.Prelude.{◌≡◌, List, IfOk};
 ghost use Rattle.sct_message.specs.Sets.{messages_in};
 ghost use Rattle.sct_case.specs.Told.{has_some, findings_of};
@@ -15,15 +15,17 @@ use sct_message::{Identity, Message, TransferKey};
 use std::alloc::Global;
 use std::sync::Arc;
 
-/// Whether something was found.
+/// Whether there is a finding.
 fn is_contradicted(found: &[Finding]) -> bool
     ensures { result ≡ has_some found.now }
 {
     !found.is_empty()
 }
 
-/// All that contradicts itself on a transfer, in the order in which it is told, from the clean messages on it and its
-/// asides: the contradicted identities of which a message is on it, ascending.
+/// The findings of a transfer, in their stated order.
+/// `clean` are the uncontradicted messages on the transfer. `asides` are the contradicted identities of which a message
+/// is on it, ascending. Error: `Memory` (39).
+/// Cost: each transaction of the messages is looked at, and the recalls of the transfer are sorted.
 pub fn findings(
     alloc: Global,
     transfer: &TransferKey,
@@ -35,7 +37,8 @@ pub fn findings(
     Ok(findings_on(alloc, transfer, clean, asides)?)
 }
 
-/// Where the transfer stands, from the clean messages on it and its asides.
+/// The status of the transfer, from its clean messages and its asides, as [`findings`]
+/// takes them. Error: `Memory` (39).
 pub fn transfer_status(
     alloc: Global,
     transfer: &TransferKey,
@@ -55,8 +58,9 @@ pub fn transfer_status(
     Ok(standing_on(alloc, transfer, clean)?)
 }
 
-/// Where the recall of a transfer stands that has this identification, from the clean messages on the transfer and its
-/// asides.
+/// The status of the recall `cxl` of a transfer, from the transfer's clean messages and
+/// its asides, as [`findings`] takes them.
+/// For many recalls of one transfer use [`recall_statuses`](crate::recall_statuses). Error: `Memory` (39).
 pub fn recall_status(
     alloc: Global,
     transfer: &TransferKey,

@@ -1,4 +1,4 @@
-//! Things said of one transfer, compared with each other.
+//! Statements about one transfer, compared with each other.
 ghost use Rattle.std.specs.Prelude.{◌≡◌, ◌&&◌, ℕ, List, Bool, IfOk, map, find, not, nat_eq};
 ghost use Rattle.std.specs.List.{list_any};
 ghost use Rattle.std.specs.Option.{option_copied};
@@ -15,7 +15,7 @@ use crate::said::{RecallAsked, RecallMade, RecallNamed, RefusalMade, RejectionRe
 use sct_element::Id35;
 use std::alloc::{AllocError, Global};
 
-/// Something said that is compared in all its parts.
+/// A statement that is compared in all its parts.
 pub(crate) trait Compared: Drop {
     ghost same: { Self → Self → Bool };
 
@@ -23,7 +23,7 @@ pub(crate) trait Compared: Drop {
         ensures { result ≡ same self.now other.now };
 }
 
-/// Something said of one recall.
+/// A statement about one recall.
 pub(crate) trait OfRecall: Drop {
     ghost recall: { Self → List ℕ };
 
@@ -108,21 +108,21 @@ impl OfRecall for RecallNamed {
     }
 }
 
-/// The first of the things said.
+/// The first statement, or none.
 pub(crate) fn first<S>(said: &[S]) -> Option<&S>
     ensures { option_copied result ≡ first said.now }
 {
     said.first()
 }
 
-/// Whether some of the things said differ from one.
+/// Whether a statement differs from `one`.
 fn differs<S: Compared>(said: &[S], one: &S) -> bool
     ensures { result ≡ list_any (λ other. not (S.same one.now other)) said.now }
 {
     said.iter().any(|other| !one.is_same(other))
 }
 
-/// Whether some of the things said differ.
+/// Whether two statements differ.
 pub(crate) fn differ<S: Compared>(said: &[S]) -> bool
     ensures { result ≡ differ S.same said.now }
 {
@@ -132,7 +132,7 @@ pub(crate) fn differ<S: Compared>(said: &[S]) -> bool
     }
 }
 
-/// The first that is said of a recall.
+/// The first statement about a recall, or none.
 pub(crate) fn first_on<'a, S: OfRecall>(said: &'a [S], cxl: &Id35) -> Option<&'a S>
     requires { IsByRecall S.recall said.now }
     ensures { option_copied result ≡ find (λ m. is_text (S.recall m) cxl.now) said.now }
@@ -140,7 +140,7 @@ pub(crate) fn first_on<'a, S: OfRecall>(said: &'a [S], cxl: &Id35) -> Option<&'a
     on(said, cxl).first()
 }
 
-/// Whether something is said of a recall.
+/// Whether there is a statement about a recall.
 pub(crate) fn is_some_on<S: OfRecall>(said: &[S], cxl: &Id35) -> bool
     requires { IsByRecall S.recall said.now }
     ensures { result ≡ list_any (λ m. is_text (S.recall m) cxl.now) said.now }
@@ -148,7 +148,7 @@ pub(crate) fn is_some_on<S: OfRecall>(said: &[S], cxl: &Id35) -> bool
     !on(said, cxl).is_empty()
 }
 
-/// Whether some of the things said of a recall differ.
+/// Whether two statements about a recall differ.
 pub(crate) fn differ_on<S: Compared + OfRecall>(said: &[S], cxl: &Id35) -> bool
     requires { IsByRecall S.recall said.now }
     ensures { result ≡ differ_among (λ m. is_text (S.recall m) cxl.now) S.same said.now }
@@ -156,7 +156,7 @@ pub(crate) fn differ_on<S: Compared + OfRecall>(said: &[S], cxl: &Id35) -> bool
     differ(on(said, cxl))
 }
 
-/// The recalls of which something is said, as they come.
+/// The recall of each statement, in the order of the statements.
 fn cxls_as_said<S: OfRecall>(alloc: Global, said: &[S]) -> Result<Vec<Id35>, AllocError>
     ensures { IfOk result (λ found. found.items ≡ map S.recall said.now) }
 {
@@ -167,7 +167,7 @@ fn cxls_as_said<S: OfRecall>(alloc: Global, said: &[S]) -> Result<Vec<Id35>, All
     Ok(found)
 }
 
-/// The recalls of which something is said, each once, ascending.
+/// The recalls that statements are about, each once, ascending.
 pub(crate) fn cxls<S: OfRecall>(alloc: Global, said: &[S]) -> Result<Vec<Id35>, AllocError>
     ensures { IfOk result (λ found. found.items ≡ cxls (map S.recall said.now)) }
 {

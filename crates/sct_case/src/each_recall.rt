@@ -1,5 +1,5 @@
-//! Where each of some recalls of one transfer stands. What the messages say of recalls is put in the order of the recalls
-//! once, and each recall is looked up there.
+//! The statuses of several recalls of one transfer. The statements about recalls are sorted by recall once,
+//! and each recall is looked up among them.
 ghost use Rattle.std.specs.Prelude.{◌≡◌, List, IfOk, map};
 ghost use Rattle.std.specs.List.{flat_map};
 ghost use Rattle.sct_message.specs.Sets.{messages_in};
@@ -21,7 +21,7 @@ use sct_reason::Reason;
 use std::alloc::{AllocError, Global};
 use std::sync::Arc;
 
-/// What messages say of the recalls of a transfer, each list in the order of the recalls.
+/// The statements of messages about the recalls of a transfer. Each list is sorted by recall.
 #[derive(Drop)]
 struct RecallsSaid {
     named: Vec<RecallNamed>,
@@ -36,7 +36,7 @@ struct RecallsSaid {
     ghost requests_in_order: { IsByRecall (λ m. m.cxl) requests.items },
 }
 
-/// What the messages say of the recalls of a transfer.
+/// The statements of the messages about the recalls of a transfer.
 fn recalls_said(
     alloc: Global,
     transfer: &TransferKey,
@@ -62,7 +62,7 @@ fn recalls_said(
     })
 }
 
-/// The amount that comes back after a recall.
+/// The amount that is returned after a recall.
 fn amount_returned(returns: &[ReturnMade], cxl: &Id35) -> Option<Amount>
     requires { IsByRecall (λ m. m.cxl) returns.now }
     ensures { result ≡ amount_returned cxl.now returns.now }
@@ -84,7 +84,7 @@ fn reason_refused(refusals: &[RefusalMade], cxl: &Id35) -> Option<Reason>
     }
 }
 
-/// Where a recall stands by what is said of it, if nothing was found on its transfer.
+/// The status of a recall by the statements, if its transfer has no finding.
 fn standing_by(said: &RecallsSaid, cxl: &Id35) -> RecallStatus
     ensures { result ≡ standing_by said.now.named.items said.now.made.items said.now.returns.items
         said.now.refusals.items said.now.requests.items cxl.now }
@@ -102,7 +102,7 @@ fn standing_by(said: &RecallsSaid, cxl: &Id35) -> RecallStatus
     )
 }
 
-/// Each of some recalls with where it stands by what is said, if nothing was found on their transfer.
+/// Each of the recalls with its status by the statements, if their transfer has no finding.
 fn standings_by(
     alloc: Global,
     said: &RecallsSaid,
@@ -121,7 +121,7 @@ fn standings_by(
     Ok(found)
 }
 
-/// Each of some recalls of a transfer with where it stands, if nothing was found on the transfer.
+/// Each of the recalls with its status, if their transfer has no finding.
 fn standings(
     alloc: Global,
     transfer: &TransferKey,
@@ -135,7 +135,7 @@ fn standings(
     standings_by(alloc, &said, cxls)
 }
 
-/// Each of some recalls, contradicted.
+/// Each of the recalls, with the status contradicted.
 fn contradicted(alloc: Global, cxls: &[Id35]) -> Result<Vec<(Id35, RecallStatus)>, AllocError>
     ensures { IfOk result (λ found. found.items ≡ map (λ cxl. (cxl, recall.Contradicted)) cxls.now) }
 {
@@ -146,8 +146,9 @@ fn contradicted(alloc: Global, cxls: &[Id35]) -> Result<Vec<(Id35, RecallStatus)
     Ok(found)
 }
 
-/// Each of some recalls of a transfer with where it stands, by the status of the transfer and the clean messages on it. It
-/// takes the logarithm for each recall, where [`recall_status_by`](crate::recall_status_by) looks at each message.
+/// Each of the recalls with its status, from the status of the transfer and its clean messages. Error: `Memory` (39).
+/// It takes O(log n) for each recall after one sort;
+/// [`recall_status_by`](crate::recall_status_by) looks at each message.
 pub fn recall_statuses(
     alloc: Global,
     status: &Status,

@@ -1,11 +1,11 @@
-//! Why a transfer could not be judged.
+//! Why a transfer could not be evaluated.
 
 ghost use Rattle.std.specs.Prelude.{◌≡◌};
 
 use std::alloc::{AllocError, AllocFailed};
 use thiserror::Error;
 
-/// Memory was wanting.
+/// 39: out of memory.
 #[derive(Debug, Drop, PartialEq, Eq, Error)]
 pub enum CaseFault {
     #[error("memory is wanting")]
@@ -13,7 +13,7 @@ pub enum CaseFault {
 }
 
 impl CaseFault {
-    /// The number by which the fault is told.
+    /// The fault's number, 39.
     pub fn number(&self) -> u8
         ensures { result ≡ 39 }
     {

@@ -1,12 +1,13 @@
-//! What contradicts itself in the messages on a transfer.
+//! The ways in which the messages on a transfer contradict each other.
 
 use sct_element::Id35;
 use sct_message::Identity;
 
-/// A contradiction, in the order in which contradictions are told. A recall is named by its identification.
+/// A contradiction among the messages on a transfer. The variants are in the order in which findings are reported.
+/// A recall is named by its identification.
 #[derive(Debug, Drop, PartialEq, Eq)]
 pub enum Finding {
-    /// Two differing messages have this identity, and one of them is on the transfer.
+    /// Two different messages have this identity, and one of them is on the transfer.
     Identity(Identity),
     /// Two messages instruct the transfer.
     TwoInstructions,
@@ -14,7 +15,7 @@ pub enum Finding {
     BothConfirmed,
     /// Two rejections give different reasons.
     ReasonsDiffer,
-    /// A recall or a return names another original amount than the one instruction.
+    /// A recall or a return names an original amount that differs from that of the one instruction.
     AmountDiffers,
     /// Two recalls of this identification differ in their original amount or their reason.
     RecallsDiffer(Id35),
@@ -22,8 +23,8 @@ pub enum Finding {
     BothAnswers(Id35),
     /// Two refusals of the recall give different reasons.
     RefusalsDiffer(Id35),
-    /// Two returns differ in their identification, their recall or the amount that comes back.
+    /// Two returns differ in their identification, their recall or the returned amount.
     TwoReturns,
-    /// Money comes back of a transfer that was rejected.
+    /// Money was returned for a transfer that was rejected.
     ReturnOfRejected,
 }

@@ -1,4 +1,4 @@
-//! The findings of a transfer, each by a small function, and all of them in the order in which they are told.
+//! The findings of a transfer: a small function for each, and all of them in the order in which they are reported.
 ghost use Rattle.std.specs.Prelude.{◌≡◌, ◌++◌, ◌&&◌, ℕ, List, Bool, IfOk, OnOk, map, filter, not, nat_eq, nat_lt, length};
 ghost use Rattle.std.specs.List.{list_any, flat_map};
 ghost use Rattle.std.specs.Arc.{arc_value};
@@ -76,7 +76,7 @@ fn do_reasons_differ(
     Ok(differ(&rejections))
 }
 
-/// Whether another amount is named than that of the one instruction.
+/// Whether an amount is named that differs from that of the one instruction.
 fn names_another(instructions: &[InstructedAmount], named: &[OriginalAmount]) -> bool
     ensures { result ≡ names_another instructions.now named.now }
 {
@@ -129,7 +129,7 @@ fn has_return_of_rejected(
     Ok(!returns.is_empty() && !rejections.is_empty())
 }
 
-/// Appends those of some recalls that are made in differing ways.
+/// Appends a finding for each of the recalls that two messages make differently.
 fn push_differing_recalls(
     found: &mut Vec<Finding>,
     made: &[RecallMade],
@@ -148,7 +148,7 @@ fn push_differing_recalls(
     Ok(())
 }
 
-/// Whether money comes back after a recall.
+/// Whether money was returned after a recall.
 fn is_returned_after(returns: &[ReturnMade], cxl: &Id35) -> bool
     requires { IsByRecall (λ m. m.cxl) returns.now }
     ensures { result ≡ list_any (return_of_it cxl.now) returns.now }
@@ -156,7 +156,7 @@ fn is_returned_after(returns: &[ReturnMade], cxl: &Id35) -> bool
     is_some_on(returns, cxl)
 }
 
-/// Appends those of some refused recalls that are answered by a return.
+/// Appends a finding for each of the refused recalls that a return answers too.
 fn push_both_answers(
     found: &mut Vec<Finding>,
     returns: &[ReturnMade],
@@ -175,7 +175,7 @@ fn push_both_answers(
     Ok(())
 }
 
-/// Appends those of some recalls that are refused in differing ways.
+/// Appends a finding for each of the recalls that two messages refuse differently.
 fn push_differing_refusals(
     found: &mut Vec<Finding>,
     made: &[RefusalMade],
@@ -194,7 +194,7 @@ fn push_differing_refusals(
     Ok(())
 }
 
-/// Appends the recalls that are made in differing ways.
+/// Appends a finding for each recall of the transfer that two messages make differently.
 fn push_recalls(
     alloc: Global,
     found: &mut Vec<Finding>,
@@ -209,7 +209,7 @@ fn push_recalls(
     push_differing_recalls(found, &by_recall(made)?, &cxls)
 }
 
-/// Appends the recalls that are answered in both ways.
+/// Appends a finding for each recall of the transfer that is both refused and answered by a return.
 fn push_answers(
     alloc: Global,
     found: &mut Vec<Finding>,
@@ -225,7 +225,7 @@ fn push_answers(
     push_both_answers(found, &by_recall(returns)?, &cxls)
 }
 
-/// Appends the recalls that are refused in differing ways.
+/// Appends a finding for each recall of the transfer that two messages refuse differently.
 fn push_refusals(
     alloc: Global,
     found: &mut Vec<Finding>,
@@ -240,7 +240,7 @@ fn push_refusals(
     push_differing_refusals(found, &by_recall(made)?, &cxls)
 }
 
-/// Adds a finding where it holds.
+/// Appends a finding if it holds.
 fn push_where(found: &mut Vec<Finding>, holds: bool, finding: Finding) -> Result<(), AllocError>
     ensures { OnOk result (found.new.items ≡ found.old.items ++ where_found holds finding) }
 {
@@ -261,7 +261,7 @@ fn contradictions(alloc: Global, asides: &[Identity]) -> Result<Vec<Finding>, Al
     Ok(found)
 }
 
-/// What contradicts itself in the instruction and its confirmations.
+/// The findings on the instruction and its confirmations, after those on contradicted identities.
 #[tactic(auto, unfolding(crate::specs::Told::findings_of_instruction))]
 fn findings_of_instruction(
     alloc: Global,
@@ -284,7 +284,7 @@ fn findings_of_instruction(
     Ok(found)
 }
 
-/// Appends what contradicts itself in the recalls and their answers.
+/// Appends the findings on the recalls and their answers.
 #[tactic(auto, unfolding(crate::specs::Told::findings_of_recalls))]
 fn push_findings_of_recalls(
     alloc: Global,
@@ -305,7 +305,7 @@ fn push_findings_of_recalls(
     Ok(())
 }
 
-/// All that contradicts itself on a transfer.
+/// All findings of a transfer, in their stated order.
 #[tactic(auto, unfolding(crate::specs::Told::findings_of))]
 pub(crate) fn findings_on(
     alloc: Global,

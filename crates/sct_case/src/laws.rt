@@ -1,17 +1,16 @@
-//! What holds of findings and statuses, whatever the messages are. Each law is the contract of a function that does
-//! nothing.
+//! Laws of findings and statuses, for all messages. Each law is the contract of a function with an empty body.
 
 ghost use Rattle.sct_case.specs.AnyOrder.{AnswersInAnyOrder};
 ghost use Rattle.sct_case.specs.Laws.{TellsExactly, TellsInOrder, ContradictionsStay, MessagesAreApart, ConsistentSayOneThing};
 ghost use Rattle.sct_case.specs.RecallSentences.{TellsEachRecallStatus};
 ghost use Rattle.sct_case.specs.Sentences.{TellsEachStatus};
 
-/// A finding is told exactly where its relation holds.
+/// A finding is reported exactly if its relation holds.
 pub fn findings_are_exact()
     ensures { TellsExactly }
 {}
 
-/// Findings are told in the stated order, each once.
+/// Findings are reported in the stated order, each once.
 pub fn findings_are_in_order()
     ensures { TellsInOrder }
 {}
@@ -26,23 +25,23 @@ pub fn messages_are_apart()
     ensures { MessagesAreApart }
 {}
 
-/// Where nothing was found, all rejections give one reason, all returns are one, and all refusals of one recall give
-/// one reason: so what a status tells beside its word is all that is said.
+/// If a transfer has no finding, all its rejections give one reason, all its returns are equal, and all refusals of one
+/// recall give one reason. So the argument of a status is the only one that the messages name.
 pub fn consistent_messages_say_one_thing()
     ensures { ConsistentSayOneThing }
 {}
 
-/// Each status of a transfer is told exactly where its sentence holds.
+/// Each status of a transfer is returned exactly if its sentence holds.
 pub fn statuses_are_exact()
     ensures { TellsEachStatus }
 {}
 
-/// Each status of a recall is told exactly where its sentence holds.
+/// Each status of a recall is returned exactly if its sentence holds.
 pub fn recall_statuses_are_exact()
     ensures { TellsEachRecallStatus }
 {}
 
-/// The same messages give the same findings and statuses, in whatever order they are handed in.
+/// The same messages have the same findings and statuses, in whatever order they are passed.
 pub fn order_does_not_matter()
     ensures { AnswersInAnyOrder }
 {}

@@ -1,5 +1,4 @@
-//! The cases of one transfer: what contradicts itself in the messages on it, and where the transfer and each of its
-//! recalls stand.
+//! The cases of one transfer: its findings, its status and the statuses of its recalls.
 #![tactic(auto)]
 
 mod cases;

@@ -1,4 +1,4 @@
-//! What is said of the recalls of one transfer, in the order of the recalls.
+//! Statements about the recalls of one transfer, sorted by recall.
 ghost use Rattle.std.specs.Prelude.{◌≡◌, ℕ, List, Bool, IfOk};
 ghost use Rattle.sct_case.specs.Inside.{IsByRecall, SayAlike, said_of};
 
@@ -6,7 +6,7 @@ use crate::differ::OfRecall;
 use sct_element::Id35;
 use std::alloc::AllocError;
 
-/// What is said, in the order of the recalls. What is said of one recall keeps its order.
+/// The statements, sorted by recall. Statements about one recall keep their order.
 pub(crate) fn by_recall<S: OfRecall>(said: Vec<S>) -> Result<Vec<S>, AllocError>
     ensures order { IfOk result (λ sorted. IsByRecall S.recall sorted.items) }
     ensures alike { IfOk result (λ sorted. SayAlike S.recall sorted.items said.items) }
@@ -16,7 +16,7 @@ pub(crate) fn by_recall<S: OfRecall>(said: Vec<S>) -> Result<Vec<S>, AllocError>
     Ok(sorted)
 }
 
-/// What is said of one recall. It takes the logarithm of all that is said.
+/// The statements about one recall. O(log n) in the number of all statements.
 pub(crate) fn on<'a, S: OfRecall>(said: &'a [S], cxl: &Id35) -> &'a [S]
     requires { IsByRecall S.recall said.now }
     ensures { result.now ≡ said_of S.recall cxl.now said.now }

@@ -1,4 +1,4 @@
-//! Where a recall stands, looked up in the messages themselves. It takes no memory.
+//! The status of a recall, looked up in the messages themselves. No call allocates.
 ghost use Rattle.std.specs.Prelude.{◌≡◌, List, find, option_map};
 ghost use Rattle.std.specs.Arc.{arc_value};
 ghost use Rattle.std.specs.List.{list_any, flat_map};
@@ -19,7 +19,7 @@ use sct_message::{Draft, Message, RecallTx, StatusRequest, TransferKey};
 use sct_reason::Reason;
 use std::sync::Arc;
 
-/// Whether a message of one transfer that names this recall, if any, is about the recall.
+/// Whether a message of one transfer, which names the recall `named` or none, names this recall of this transfer.
 fn is_it(
     transfer: &TransferKey,
     cxl: &Id35,
@@ -36,14 +36,14 @@ fn is_it(
     }
 }
 
-/// Whether a transaction is the recall, by its key.
+/// Whether a transaction names this recall of this transfer.
 fn names_it(tx: &RecallTx, transfer: &TransferKey, cxl: &Id35) -> bool
     ensures { result ≡ list_any (named_of_it cxl.now) (named_in transfer.now (recall_in tx.now)) }
 {
     recalls(transfer, tx) && tx.cancellation_id.text() == cxl.text()
 }
 
-/// Whether one of some transactions is the recall, by its key.
+/// Whether one of the transactions names this recall of this transfer.
 fn name_it(txs: &[RecallTx], transfer: &TransferKey, cxl: &Id35) -> bool
     ensures { result ≡ list_any (λ tx. list_any (named_of_it cxl.now)
         (named_in transfer.now (recall_in tx))) txs.now }
@@ -51,7 +51,7 @@ fn name_it(txs: &[RecallTx], transfer: &TransferKey, cxl: &Id35) -> bool
     txs.iter().any(|tx| names_it(tx, transfer, cxl))
 }
 
-/// Whether a message names the recall of the transfer that has this identification.
+/// Whether a message names the recall `cxl` of the transfer.
 fn names(draft: &Draft, transfer: &TransferKey, cxl: &Id35) -> bool
     ensures { result ≡ list_any (named_of_it cxl.now) (recalls_named_by transfer.now draft.now) }
 {
@@ -89,7 +89,7 @@ fn makes_it(tx: &RecallTx, transfer: &TransferKey, cxl: &Id35) -> bool
     recalls(transfer, tx) && tx.cancellation_id.text() == cxl.text()
 }
 
-/// Whether one of some transactions makes the recall.
+/// Whether one of the transactions makes the recall.
 fn make_it(txs: &[RecallTx], transfer: &TransferKey, cxl: &Id35) -> bool
     ensures { result ≡ list_any (λ tx. list_any (recall_of_it cxl.now) (made_in transfer.now tx)) txs.now }
 {
@@ -246,7 +246,7 @@ fn reason_told(clean: &[Arc<Message>], transfer: &TransferKey, cxl: &Id35) -> Op
     }
 }
 
-/// Where a recall stands by the clean messages on its transfer, where nothing was found.
+/// The status of a recall by the clean messages on its transfer, if the transfer has no finding.
 fn recall_standing_in(clean: &[Arc<Message>], transfer: &TransferKey, cxl: &Id35) -> RecallStatus
     ensures { result ≡ recall_standing_of transfer.now (messages_in clean.now) cxl.now }
 {
@@ -263,8 +263,9 @@ fn recall_standing_in(clean: &[Arc<Message>], transfer: &TransferKey, cxl: &Id35
     )
 }
 
-/// Where the recall of a transfer stands that has this identification, where the transfer stands as the status tells and
-/// these are the clean messages on it. It takes no memory.
+/// The status of the recall `cxl` of a transfer, from the status of the transfer and its
+/// clean messages. It does not allocate.
+/// O(transactions of the messages); for many recalls of one transfer use [`recall_statuses`](crate::recall_statuses).
 pub fn recall_status_by(
     status: &Status,
     transfer: &TransferKey,

@@ -1,4 +1,4 @@
-//! What messages say of one transfer, read out of them into lists.
+//! The statements of messages about one transfer, read into lists.
 ghost use Rattle.std.specs.Prelude.{◌≡◌, ◌++◌, ◌&&◌, List, map, nat_eq, OnOk, IfOk};
 ghost use Rattle.std.specs.List.{flat_map};
 ghost use Rattle.std.specs.Cmp.Lexicographic.{pointwise};
@@ -45,7 +45,7 @@ pub(crate) struct OriginalAmount {
     pub(crate) amount: Amount,
 }
 
-/// A return: its identification, the recall that it answers, and the amount that comes back.
+/// A return: its identification, the recall that it answers, and the returned amount.
 #[derive(Debug, Drop)]
 pub(crate) struct ReturnMade {
     pub(crate) return_id: Id35,
@@ -72,16 +72,16 @@ pub(crate) struct RecallNamed {
     pub(crate) cxl: Id35,
 }
 
-/// Something that a message may say of a transfer.
+/// A statement that a message may make about a transfer.
 pub(crate) trait Statement: Drop {
     ghost by: { TransferOf → DraftOf → List Self };
 
-    /// Appends what the message says of the transfer.
+    /// Appends the statements of the message about the transfer.
     fn push(found: &mut Vec<Self>, transfer: &TransferKey, draft: &Draft) -> Result<(), AllocError>
         ensures { OnOk result (found.new.items ≡ found.old.items ++ by transfer.now draft.now) };
 }
 
-/// What some messages say of a transfer, message by message.
+/// The statements of the messages about a transfer, message by message.
 pub(crate) fn said<S: Statement>(
     alloc: Global,
     transfer: &TransferKey,
@@ -96,8 +96,8 @@ pub(crate) fn said<S: Statement>(
     Ok(found)
 }
 
-/// Whether an originator bank and a transfer identification are those of a transfer. The identification, which differs
-/// most often, is looked at first.
+/// Whether an originator bank and a transfer identification are those of the transfer. The identification is
+/// compared first, because it differs most often.
 fn has_parts_of(transfer: &TransferKey, debtor_agent: &Bic, tx: &Id35) -> bool
     ensures { result ≡ (pointwise nat_eq tx.now transfer.now.tx
         && pointwise nat_eq debtor_agent.now transfer.now.debtor_agent) }
@@ -105,14 +105,14 @@ fn has_parts_of(transfer: &TransferKey, debtor_agent: &Bic, tx: &Id35) -> bool
     tx.text() == transfer.tx.text() && debtor_agent.text() == transfer.debtor_agent.text()
 }
 
-/// Whether the transfer of an originator bank and an identification is this one.
+/// Whether an originator bank and a transfer identification name the transfer.
 pub(crate) fn is_of(transfer: &TransferKey, debtor_agent: &Bic, tx: &Id35) -> bool
     ensures { result ≡ same_transfer (transfer_key debtor_agent.now tx.now) transfer.now }
 {
     has_parts_of(transfer, debtor_agent, tx)
 }
 
-/// Whether a transaction recalls this transfer.
+/// Whether a transaction recalls the transfer.
 pub(crate) fn recalls(transfer: &TransferKey, tx: &RecallTx) -> bool
     ensures { result ≡ same_transfer (transfer_in tx.now) transfer.now }
 {
@@ -292,7 +292,7 @@ impl Statement for RecallNamed {
     }
 }
 
-/// Appends the recall that a transaction makes, where it recalls the transfer.
+/// Appends the recall that a transaction makes, if it recalls the transfer.
 fn push_made(
     found: &mut Vec<RecallMade>,
     transfer: &TransferKey,
@@ -310,7 +310,7 @@ fn push_made(
     })?)
 }
 
-/// Appends the recalls of the transfer that transactions make.
+/// Appends the recalls that the transactions make of the transfer.
 fn push_all_made(
     found: &mut Vec<RecallMade>,
     transfer: &TransferKey,
@@ -324,7 +324,7 @@ fn push_all_made(
     Ok(())
 }
 
-/// Appends the amount that a transaction names, where it recalls the transfer.
+/// Appends the original amount that a transaction names, if it recalls the transfer.
 fn push_amount(
     found: &mut Vec<OriginalAmount>,
     transfer: &TransferKey,
@@ -340,7 +340,7 @@ fn push_amount(
     })?)
 }
 
-/// Appends the amounts of the transfer that transactions name.
+/// Appends the original amounts that the transactions name for the transfer.
 fn push_amounts(
     found: &mut Vec<OriginalAmount>,
     transfer: &TransferKey,
@@ -354,7 +354,7 @@ fn push_amounts(
     Ok(())
 }
 
-/// Appends the recall that a message of one transfer names, if any, where the message is on the transfer.
+/// Appends the recall that a message of one transfer names, if it names one and is on the transfer.
 fn push_named(
     found: &mut Vec<RecallNamed>,
     transfer: &TransferKey,
@@ -374,7 +374,7 @@ fn push_named(
     }
 }
 
-/// Appends the recall that a transaction makes by its identification, where it recalls the transfer.
+/// Appends the identification of the recall that a transaction makes, if it recalls the transfer.
 fn push_named_by(
     found: &mut Vec<RecallNamed>,
     transfer: &TransferKey,
@@ -390,7 +390,7 @@ fn push_named_by(
     })?)
 }
 
-/// Appends the recalls of the transfer that transactions make, by their identifications.
+/// Appends the identifications of the recalls that the transactions make of the transfer.
 fn push_all_named(
     found: &mut Vec<RecallNamed>,
     transfer: &TransferKey,
@@ -405,7 +405,7 @@ fn push_all_named(
     Ok(())
 }
 
-/// Appends the reason of a rejection.
+/// Appends the reason of a status report, if it is a rejection with a reason.
 fn push_reason(found: &mut Vec<RejectionReason>, report: &StatusReport) -> Result<(), AllocError>
     ensures { OnOk result (found.new.items ≡ found.old.items ++ rejections_by (draft.StatusReport report.now)) }
 {
@@ -420,7 +420,7 @@ fn push_reason(found: &mut Vec<RejectionReason>, report: &StatusReport) -> Resul
     }
 }
 
-/// Appends the recall that a request for a status names.
+/// Appends the recall that a request for a status names, if it names one.
 fn push_asked(found: &mut Vec<RecallAsked>, request: &StatusRequest) -> Result<(), AllocError>
     ensures { OnOk result (found.new.items ≡ found.old.items ++ cancellations_in request.now.cancellation_id) }
 {

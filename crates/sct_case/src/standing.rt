@@ -1,4 +1,4 @@
-//! Where a transfer stands, once it is known that nothing contradicts itself, and how a recall was answered.
+//! The status of a transfer without findings, and the answer to a recall.
 ghost use Rattle.std.specs.Prelude.{◌≡◌, IfOk};
 ghost use Rattle.std.specs.List.{list_any, flat_map};
 ghost use Rattle.std.specs.Arc.{arc_value};
@@ -82,7 +82,7 @@ fn return_told(
     }
 }
 
-/// The first of the sentences that holds.
+/// The first status whose sentence holds.
 fn known(
     instructed: bool,
     rejection: Option<Reason>,
@@ -117,7 +117,7 @@ fn confirmed(accepted: bool, returned: Option<Amount>, investigated: bool) -> St
     }
 }
 
-/// Where the transfer stands of these messages, where nothing was found.
+/// The status of the transfer by these messages, if it has no finding.
 pub(crate) fn standing_on(
     alloc: Global,
     transfer: &TransferKey,
@@ -137,7 +137,7 @@ pub(crate) fn standing_on(
     ))
 }
 
-/// How a recall was answered that was made.
+/// The status of a recall that a message makes.
 pub(crate) fn answered(
     returned: Option<Amount>,
     refused: Option<Reason>,

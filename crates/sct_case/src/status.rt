@@ -1,21 +1,21 @@
-//! Where a transfer stands, and where a recall of it stands.
+//! The status of a transfer, and the status of a recall.
 
 use crate::finding::Finding;
 use sct_element::Amount;
 use sct_reason::Reason;
 
-/// Where a transfer stands: the first of these that holds.
+/// The status of a transfer: the first of these that holds.
 #[derive(Debug, Drop, PartialEq, Eq)]
 pub enum Status {
-    /// Its messages contradict each other, in these ways.
+    /// Its messages contradict each other: these findings, in their order.
     Contradicted(Vec<Finding>),
     /// No message is on it.
     Unknown,
-    /// Messages are on it, but none instructs it.
+    /// There are messages on it, but no instruction.
     Missing,
     /// It was rejected, for this reason.
     Rejected(Reason),
-    /// It was accepted, and this amount comes back after a recall.
+    /// It was accepted, and this amount was returned after a recall.
     Returned(Amount),
     /// It was accepted.
     Accepted,
@@ -25,7 +25,7 @@ pub enum Status {
     Pending,
 }
 
-/// Where a recall stands: the first of these that holds.
+/// The status of a recall: the first of these that holds.
 #[derive(Debug, Drop, PartialEq, Eq)]
 pub enum RecallStatus {
     /// The messages on the transfer contradict each other.
@@ -34,7 +34,7 @@ pub enum RecallStatus {
     Unknown,
     /// A message is about the recall, but none makes it.
     Unasked,
-    /// This amount comes back.
+    /// This amount was returned.
     Returned(Amount),
     /// It was refused, for this reason.
     Refused(Reason),
