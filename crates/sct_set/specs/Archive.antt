@@ -1,4 +1,4 @@
--- What an archive answers, as functions of the set of its messages. Read by an auditor.
+-- The answers of an archive, as functions of the set of its messages. Read by an auditor.
 use Rattle.std.specs.FinSet as set
 use Rattle.std.specs.Prelude.{◌≡◌, ℕ, Bool, true, List, [], ◌∷◌, ◌++◌, if◌then◌else◌, Ok}
 use Rattle.std.specs.List.{list_any, flat_map}

@@ -1,4 +1,4 @@
--- Finite sets of messages. Read by an auditor; cases, the archive and the view speak of these sets.
+-- Finite sets of messages. Read by an auditor. Cases, the archive and the view are defined on these sets.
 use Rattle.std.specs.FinSet as set
 use Rattle.std.specs.Prelude.{◌≡◌, List, length}
 use Rattle.sct_message.specs.declared.draft.Draft.{Draft}

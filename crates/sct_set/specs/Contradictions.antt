@@ -1,4 +1,4 @@
--- Contradicted identities of a set of messages. Read by an auditor; cases, the archive and the view speak of them.
+-- The contradicted identities of a set of messages. Read by an auditor. Cases, the archive and the view use them.
 use Rattle.std.specs.FinSet as set
 use Rattle.std.specs.Prelude.{Bool, not, ◌&&◌, List, map, filter}
 use Rattle.sct_message.specs.declared.draft.Draft.{Draft}

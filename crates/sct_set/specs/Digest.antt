@@ -1,4 +1,4 @@
--- A number for each message, by which it is found among others. Proof plumbing: no public clause has it.
+-- A number for each message, by which it is found among others. Proof plumbing: no public clause uses it.
 use Rattle.std.specs.Prelude.{ℕ}
 use Rattle.std.specs.List.{fold}
 use Rattle.std.specs.Hash.FoldHasher as folding

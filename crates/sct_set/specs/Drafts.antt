@@ -1,4 +1,4 @@
--- Lists of shared messages, read as the messages, and the indexes of them. Read by an auditor.
+-- Lists of shared messages, read as lists of messages, and the indexes of such lists. Read by an auditor.
 use Rattle.std.specs.Prelude.{ℕ, nat_eq, Bool, ◌≡◌, ◌∷◌, ◌++◌, [], List, map, filter, if◌then◌else◌}
 use Rattle.std.specs.Global.{Vec, Global}
 use Rattle.std.specs.Arc.{arc_value}

@@ -1,4 +1,4 @@
--- The messages of a list, identity by identity. Serves proofs.
+-- The messages of a list, grouped by identity. Proof plumbing.
 use Rattle.std.specs.Prelude.{ℕ, ◌≡◌, All, List}
 use Rattle.std.specs.List.{flat_map}
 use Rattle.sct_message.specs.declared.draft.Draft.{Draft}

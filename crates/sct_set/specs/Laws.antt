@@ -1,4 +1,4 @@
--- What holds of archives, whatever messages they hold. Read by an auditor.
+-- Laws of archives, whatever messages they hold. Read by an auditor.
 use Rattle.std.specs.FinSet as set
 use Rattle.std.specs.Prelude.{◌≡◌, ◌↔◌, true, false, ◌||◌, List, Contains}
 use Rattle.std.specs.List.{flat_map}

@@ -21,7 +21,7 @@ use std::alloc::Global;
 use std::marker::Model;
 use std::sync::Arc;
 
-// How a message that is not held comes: against another of its identity, or not.
+// The answer for a message that was not held, by whether another of its identity is held.
 fn added_new(against: bool) -> Added
     ensures { result ≡ added_where against }
 {
@@ -79,7 +79,7 @@ impl Archive {
         holds(&self.table, message)
     }
 
-    /// The messages held, each once, in the order in which they came.
+    /// The messages held, each once, in the order in which they were added.
     pub fn messages(&self) -> &[Arc<Message>]
         ensures held { contents_of (drafts_in result.now) ≡ self.now }
         ensures once { HasNoRepeat (drafts_in result.now) }
@@ -87,14 +87,16 @@ impl Archive {
         self.table.messages()
     }
 
-    /// Whether another message of this one's identity is held: whether its identity is, or would be, contradicted.
+    /// Whether another message of this one's identity is held. If so, the identity is
+    /// contradicted, or would be with this message.
+    /// O(messages of that identity).
     pub fn disputes(&self, message: &Message) -> bool
         ensures { result ≡ is_disputed self.now message.now }
     {
         is_disputed_in(&self.table, message)
     }
 
-    /// The message of an identity that is not contradicted.
+    /// The message of an identity, or none if there is no such message or the identity is contradicted.
     pub fn undisputed(&self, identity: &Identity) -> Option<&Arc<Message>>
         ensures { option_to_list (option_map arc_value (option_copied result)) ≡ undisputed_of self.now identity.now }
     {
@@ -107,7 +109,9 @@ impl Archive {
         Some(first)
     }
 
-    /// Adds a message, and tells how it came.
+    /// Adds a message. Returns `Repeat` if it is held already, `Against` if another of
+    /// its identity is held, else `Fresh`.
+    /// Error: `Memory` (39), with the archive unchanged. Expected O(1) in the number of messages held.
     pub fn add(&mut self, message: Arc<Message>) -> Result<Added, SetFault>
         ensures answer { IfOk result (λ added. added ≡ added_of self.old (arc_value message)) }
         ensures ok { OnOk result (self.new ≡ set.insert self.old (arc_value message)) }
@@ -120,8 +124,8 @@ impl Archive {
         Ok(added_new(against))
     }
 
-    /// Adds each message of a list, and tells how many of them were new. Where memory is wanting none is
-    /// added.
+    /// Adds each message of a list. Returns how many of them were not held. O(messages of the list).
+    /// Error: `Memory` (39), with the archive unchanged.
     pub fn add_all(&mut self, messages: &[Arc<Message>]) -> Result<u64, SetFault>
         ensures ok { OnOk result (self.new ≡ set.union self.old (contents_of (drafts_in messages.now))) }
         ensures count { IfOk result (λ fresh. set.len self.new ≡ set.len self.old + fresh) }
@@ -130,8 +134,8 @@ impl Archive {
         Ok(push_all(&mut self.table, messages)?)
     }
 
-    /// Adds each message of another archive, and tells how many of them were new. Where memory is wanting
-    /// none is added.
+    /// Adds each message of another archive. Returns how many of them were not held. O(messages of the other).
+    /// Error: `Memory` (39), with this archive unchanged.
     pub fn merge(&mut self, other: &Archive) -> Result<u64, SetFault>
         ensures ok { OnOk result (self.new ≡ set.union self.old other.now) }
         ensures count { IfOk result (λ fresh. set.len self.new ≡ set.len self.old + fresh) }
@@ -140,15 +144,17 @@ impl Archive {
         Ok(push_all(&mut self.table, other.table.messages())?)
     }
 
-    /// The identities of which different messages are held, in ascending order.
+    /// The identities of which different messages are held, ascending, each once. Error: `Memory` (39).
+    /// It looks at each message held and sorts the identities.
     pub fn contradictions(&self) -> Result<Vec<Identity>, SetFault>
         ensures { IfOk result (λ identities. identities.items ≡ contradicted_identities self.now) }
     {
         Ok(contradictions(&self.table)?)
     }
 
-    /// The archive text: the written text of each message held, by identity and then by text, with a line
-    /// feed after each.
+    /// The archive text in bytes: the written text of each message held, sorted by identity and
+    /// then by text, with a line feed after each.
+    /// Error: `Memory` (39). O(n log n) in the messages held.
     pub fn text(&self) -> Result<Vec<u8>, SetFault>
         ensures text { IfOk result (λ text. text.items ≡ archive_text_of self.now) }
         ensures again { IfOk result (λ text. AreReadAgain self.now) }

@@ -7,7 +7,7 @@ use indexmap::IndexMap;
 use std::alloc::{AllocError, Global};
 use std::hash::Hash;
 
-/// Puts an item into a list of its own, in the place of any that its key had. Where memory is wanting no list has changed.
+/// Gives a key a new list of this one item, in place of any list that it had. If out of memory, no list is changed.
 pub fn file_first<K: Eq + Hash + Drop, V: Drop>(
     alloc: Global,
     index: &mut IndexMap<K, Vec<V>>,
@@ -25,7 +25,7 @@ pub fn file_first<K: Eq + Hash + Drop, V: Drop>(
     Ok(())
 }
 
-/// Puts an item at the end of its key's list. Where memory is wanting no list has changed.
+/// Appends an item to its key's list. If out of memory, no list is changed.
 pub fn file<K: Eq + Hash + Drop, V: Drop>(
     alloc: Global,
     index: &mut IndexMap<K, Vec<V>>,
@@ -45,7 +45,7 @@ pub fn file<K: Eq + Hash + Drop, V: Drop>(
     Ok(())
 }
 
-/// Takes the last item from its key's list.
+/// Removes the last item of a key's list, if the key has one. A list that becomes empty is removed.
 pub fn unfile<K: Eq + Hash + Drop, V: Drop>(index: &mut IndexMap<K, Vec<V>>, key: &K)
     ensures taken { (k : K) → bucket K.eq index.new k
         ≡ (if K.eq key.now k then take (length (bucket K.eq index.old k) - 1) (bucket K.eq index.old k)

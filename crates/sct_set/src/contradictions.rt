@@ -17,7 +17,7 @@ pub fn is_disputed_in(table: &Table, message: &Message) -> bool
     is_another_among(message, table.of(&message.identity()))
 }
 
-// The identities of disputed messages, one for each, in the order of arrival.
+// The identity of each disputed message, in the order of arrival, one entry for each message.
 fn disputed_identities(table: &Table) -> Result<Vec<Identity>, AllocError>
     ensures { IfOk result (λ found.
         found.items ≡ map identity_of (filter (is_disputed (contents_of table.now)) table.now)) }
@@ -31,7 +31,7 @@ fn disputed_identities(table: &Table) -> Result<Vec<Identity>, AllocError>
     Ok(found)
 }
 
-/// The identities of which a table has different messages, in ascending order.
+/// The identities of which a table has different messages, ascending, each once.
 pub fn contradictions(table: &Table) -> Result<Vec<Identity>, AllocError>
     ensures { IfOk result (λ identities. identities.items ≡ contradicted_identities (contents_of table.now)) }
 {

@@ -1,11 +1,11 @@
-//! Why an archive could not do its work.
+//! Why a call of an archive failed.
 
 ghost use Rattle.std.specs.Prelude.{◌≡◌};
 
 use std::alloc::{AllocError, AllocFailed};
 use thiserror::Error;
 
-/// Memory was wanting. What was asked for has changed nothing.
+/// 39: out of memory. The failed call has changed nothing.
 #[derive(Debug, Drop, PartialEq, Eq, Error)]
 pub enum SetFault {
     #[error("memory is wanting")]
@@ -13,7 +13,7 @@ pub enum SetFault {
 }
 
 impl SetFault {
-    /// The number by which the fault is told.
+    /// The fault's number, 39.
     pub fn number(&self) -> u8
         ensures { result ≡ 39 }
     {

@@ -21,7 +21,7 @@ pub type ByIdentity = IndexMap<Identity, Vec<Arc<Message>>>;
 /// Messages by their digest.
 pub type ByDigest = IndexMap<u64, Vec<Arc<Message>>>;
 
-/// The messages of an identity.
+/// The messages of an identity, in the order of arrival.
 pub fn of_identity<'a>(index: &'a ByIdentity, identity: &Identity) -> &'a [Arc<Message>]
     ensures { (ds : List DraftOf) → IsIndexBy identity_of same_identity index.now ds
         → drafts_in result.now ≡ drafts_of identity.now ds }
@@ -40,7 +40,7 @@ pub fn has_identity(index: &ByIdentity, identity: &Identity) -> bool
     !of_identity(index, identity).is_empty()
 }
 
-/// The messages of the digest of one.
+/// The indexed messages that have the digest of this message.
 pub fn of_digest<'a>(index: &'a ByDigest, message: &Message) -> &'a [Arc<Message>]
     ensures { (ds : List DraftOf) → IsIndexBy digest_of nat_eq index.now ds
         → drafts_in result.now ≡ drafts_alike (digest_of message.now) ds }
@@ -51,8 +51,8 @@ pub fn of_digest<'a>(index: &'a ByDigest, message: &Message) -> &'a [Arc<Message
     }
 }
 
-/// Files a message behind those of its identity, which there are where it comes against another. Where memory is wanting the
-/// index has what it had.
+/// Files a message after the others of its identity. `against` says whether there are others.
+/// If out of memory, the index holds what it held.
 pub fn file_by_identity(
     alloc: Global,
     index: &mut ByIdentity,
@@ -75,8 +75,8 @@ pub fn file_by_identity(
     Ok(())
 }
 
-/// Files a message behind those of its digest, where it comes against another of its identity. Where memory is wanting the
-/// index has what it had.
+/// Files a message after the others of its digest, if it is not the first of its identity.
+/// If out of memory, the index holds what it held.
 pub fn file_against(
     alloc: Global,
     index: &mut ByDigest,
@@ -97,7 +97,7 @@ pub fn file_against(
     Ok(())
 }
 
-/// Takes a message out, which is the last one filed.
+/// Removes a message, which must be the last one filed.
 pub fn unfile_by_identity(index: &mut ByIdentity, message: &Message)
     ensures { (ds : List DraftOf) → IsIndexBy identity_of same_identity index.old (ds ++ message.now ∷ [])
         → IsIndexBy identity_of same_identity index.new ds }
@@ -106,7 +106,7 @@ pub fn unfile_by_identity(index: &mut ByIdentity, message: &Message)
     unfile(index, &message.identity());
 }
 
-/// Takes a message out, which is the last one filed, where it came against another of its identity.
+/// Removes a message, which must be the last one filed, if it was not the first of its identity.
 pub fn unfile_against(index: &mut ByDigest, against: bool, message: &Message)
     ensures { (ds : List DraftOf) → against ≡ finds (identity_of message.now) ds
         → IsIndexBy digest_of nat_eq index.old (against_in (ds ++ message.now ∷ []))

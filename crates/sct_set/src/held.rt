@@ -1,4 +1,4 @@
-//! A message among others.
+//! Whether a message is among others.
 
 ghost use Rattle.std.specs.Prelude.{◌≡◌, not};
 ghost use Rattle.std.specs.List.{list_any};
@@ -11,21 +11,21 @@ use crate::table::Table;
 use sct_message::Message;
 use std::sync::Arc;
 
-/// Whether a message is one of some.
+/// Whether a message is one of these messages.
 pub fn is_among(message: &Message, messages: &[Arc<Message>]) -> bool
     ensures { result ≡ list_any (λ held. same_message (arc_value held) message.now) messages.now }
 {
     messages.iter().any(|held| **held == *message)
 }
 
-/// Whether some of the messages differ from one.
+/// Whether one of these messages differs from `message`.
 pub fn is_another_among(message: &Message, messages: &[Arc<Message>]) -> bool
     ensures { result ≡ list_any (λ held. not (same_message (arc_value held) message.now)) messages.now }
 {
     messages.iter().any(|held| **held != *message)
 }
 
-/// Whether a message is one of a table: the first of its identity, or one of those that came against it.
+/// Whether a table has a message: as the first of its identity, or among those that came against the first.
 pub fn holds(table: &Table, message: &Message) -> bool
     ensures { result ≡ set.contains (contents_of table.now) message.now }
 {

@@ -1,4 +1,4 @@
-//! What holds of archives, whatever they hold: each law is the contract of a function that does nothing.
+//! Laws of archives, whatever they hold. Each law is the contract of a function with an empty body.
 
 ghost use Rattle.sct_set.specs.Laws.{IsAssociative, IsCommutative, IsIdempotent, HoldsBothSides, EqualSetsAnswerAlike, TellsContradictions, TellsInOrder, AnswersAgainst, WritesEachOnce};
 
@@ -12,12 +12,12 @@ pub fn merge_is_commutative()
     ensures { IsCommutative }
 {}
 
-/// To merge what is held already changes nothing.
+/// A merge with messages that are held already changes nothing.
 pub fn merge_is_idempotent()
     ensures { IsIdempotent }
 {}
 
-/// After a merge every message of both sides is held, and no other.
+/// After a merge the archive holds the messages of both sides and no others.
 pub fn merge_holds_both_sides()
     ensures { HoldsBothSides }
 {}
@@ -27,22 +27,22 @@ pub fn equal_sets_answer_alike()
     ensures { EqualSetsAnswerAlike }
 {}
 
-/// An identity is among the contradictions exactly where two different messages held have it.
+/// An identity is among the contradictions exactly if two different messages held have it.
 pub fn contradictions_are_told()
     ensures { TellsContradictions }
 {}
 
-/// Contradictions are told in ascending order, each once.
+/// Contradictions are reported in ascending order, each once.
 pub fn contradictions_are_in_order()
     ensures { TellsInOrder }
 {}
 
-/// A message that is not held is answered by Against exactly where its identity is contradicted afterwards.
+/// A message that is not held is answered with `Against` exactly if its identity is contradicted afterwards.
 pub fn against_is_answered()
     ensures { AnswersAgainst }
 {}
 
-/// The text has a line for each message held, by identity and then by text, and these are all that is held.
+/// The text has a line for each message held, sorted by identity and then by text, and no other line.
 pub fn text_writes_each_once()
     ensures { WritesEachOnce }
 {}

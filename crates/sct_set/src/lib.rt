@@ -1,4 +1,4 @@
-//! The archive: a set of messages, in which two differing messages of one identity stand side by side.
+//! The archive: a set of messages. If two messages of one identity differ, it holds both.
 #![tactic(auto)]
 
 mod added;

@@ -1,4 +1,4 @@
-//! A message beside what its line in the archive text goes by.
+//! A message with the keys by which its line in the archive text is sorted.
 
 ghost use Rattle.std.specs.Prelude.{◌≡◌, IfOk, refl};
 ghost use Rattle.std.specs.Arc.{arc_value};
@@ -41,7 +41,7 @@ impl Line {
     pub fn of(alloc: Global, message: &Arc<Message>) -> Result<Line, SetFault>
         ensures { IfOk result (λ line. line ≡ arc_value message.now) }
     {
-        // A message wants nothing but memory to be written.
+        // Writing a message can fail only for memory.
         let Ok(text) = write_message(alloc, message) else {
             return Err(SetFault::Memory);
         };

@@ -1,4 +1,4 @@
-//! A set of messages with the order of its archive text, both made at once.
+//! A set of messages with the order of its archive text, both built at the same time.
 
 ghost use Rattle.std.specs.Prelude.{◌≡◌, map, IfOk};
 ghost use Rattle.std.specs.Thread.{IsSync};
@@ -19,7 +19,7 @@ use std::marker::Model;
 use std::sync::Arc;
 use std::thread::{Threads, join};
 
-// A table of some messages, each once.
+// A table that holds each of the messages once.
 fn table_of(alloc: Global, messages: &[Arc<Message>]) -> Result<Table, AllocError>
     ensures { IfOk result (λ table. contents_of table ≡ contents_of (drafts_in messages.now)) }
 {
@@ -55,8 +55,8 @@ impl Model for Ordered {
 impl Ordered {
     ghost use Rattle.sct_set.specs.Archive.{archive_text_of, AreReadAgain};
 
-    /// The set of some messages, which may stand in any order and more than once. Their order is made beside the set, in as
-    /// many threads as there are processors.
+    /// The set of the messages, which may be in any order and may repeat.
+    /// Its order is built beside the set, in as many threads as there are processors. Error: `Memory` (39).
     pub fn of<R: Threads + Sync>(
         rt: &R,
         alloc: Global,
@@ -80,8 +80,8 @@ impl Ordered {
         Ok(Ordered { table, identities })
     }
 
-    /// The archive text in pieces, one after another, made in as many threads as there are processors. Where no thread can
-    /// be made, one does the work of several.
+    /// The archive text in pieces, one after another, written in as many threads as there are processors.
+    /// If a thread cannot be started, another thread does its work. Error: `Memory` (39).
     pub fn text_in_pieces<R: Threads + Sync>(&self, rt: &R) -> Result<Vec<Vec<u8>>, SetFault>
         ensures text { IfOk result (λ pieces. joined pieces.items ≡ archive_text_of self.now) }
         ensures again { IfOk result (λ pieces. AreReadAgain self.now) }

@@ -1,4 +1,4 @@
-//! The archive text in pieces, each made in a thread of its own where one can be made.
+//! The archive text in pieces, each written in a thread of its own if a thread can be started.
 
 ghost use Rattle.std.specs.Prelude.{◌≡◌, ◌<◌, map, IfOk};
 ghost use Rattle.std.specs.Thread.{IsSync};
@@ -20,10 +20,10 @@ use std::alloc::{AllocError, Global};
 use std::sync::Arc;
 use std::thread::{Threads, available_parallelism, join};
 
-// The lines of fewer identities are made in one piece.
+// Fewer identities than this are written in one piece.
 const WORTH_A_THREAD: usize = 256;
 
-/// The identities of some messages, ascending, each once, sorted in several threads.
+/// The identities of the messages, ascending, each once, sorted in several threads.
 pub fn identities_in_order<R: Threads + Sync>(
     rt: &R,
     alloc: Global,
@@ -38,7 +38,7 @@ pub fn identities_in_order<R: Threads + Sync>(
     Ok(found)
 }
 
-// The lines of the messages of some identities, as one piece.
+// The lines of the messages of these identities, as one piece.
 fn one_piece(table: &Table, identities: &[Identity]) -> Result<Vec<Vec<u8>>, SetFault>
     ensures { IfOk result (λ pieces. AreWritten table.now identities.now (joined pieces.items)) }
 {
@@ -47,7 +47,7 @@ fn one_piece(table: &Table, identities: &[Identity]) -> Result<Vec<Vec<u8>>, Set
     Ok(pieces)
 }
 
-// The lines of the messages of some identities, by halves of halves.
+// The lines of the messages of these identities. The list is halved `halvings` times, and each part is one piece.
 #[cycle(halves)]
 pub(crate) fn pieces_by_halves<R: Threads + Sync>(
     rt: &R,
@@ -78,7 +78,7 @@ pub(crate) fn pieces_by_halves<R: Threads + Sync>(
     Ok(pieces)
 }
 
-// How often a list of identities is cut in halves: for two pieces a processor.
+// How often a list of identities is halved: so often that there are about two pieces for each processor.
 fn halvings<R: Threads>(rt: &R, identities: &[Identity]) -> u32 {
     if identities.len() < WORTH_A_THREAD {
         return 0;
@@ -89,8 +89,7 @@ fn halvings<R: Threads>(rt: &R, identities: &[Identity]) -> u32 {
     }
 }
 
-/// The written text of each message of a table, by identity and then by text, with a line feed after each, in pieces, by the
-/// identities of its messages in order.
+/// The archive text of a table in pieces, from the identities of its messages in order.
 pub fn archive_pieces<R: Threads + Sync>(
     rt: &R,
     table: &Table,

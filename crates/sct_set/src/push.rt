@@ -19,7 +19,7 @@ fn push_new(table: &mut Table, message: &Arc<Message>) -> Result<(), AllocError>
         contents_of table.new ≡ set.insert (contents_of table.old) (arc_value message.now)) }
     ensures no_repeat { HasNoRepeat table.new }
 
-    // What was there stays, in its place.
+    // The messages that the table had stay in their places.
     ensures kept { (n : ℕ) → n ≤ length table.old → take n table.new ≡ take n table.old }
     ensures grows { length table.old ≤ length table.new }
 {
@@ -30,8 +30,7 @@ fn push_new(table: &mut Table, message: &Arc<Message>) -> Result<(), AllocError>
     Ok(())
 }
 
-/// Appends those of some messages that are not held, and tells how many these are. Where memory is wanting
-/// none is appended.
+/// Appends the messages that are not held. Returns how many these are. If out of memory, none is appended.
 pub fn push_all(table: &mut Table, messages: &[Arc<Message>]) -> Result<u64, AllocError>
     requires { HasNoRepeat table.old }
     ensures ok { OnOk result (

@@ -1,5 +1,5 @@
-//! The messages of an archive in the order of their arrival, with an index by identity, and one by digest of those that
-//! are not the first of their identity.
+//! The messages of an archive in the order of their arrival, with two indexes: one by identity, and one by digest of
+//! the messages that are not the first of their identity.
 
 ghost use Rattle.std.specs.Prelude.{◌≡◌, ◌++◌, ◌∷◌, ◌-◌, [], length, take, IfOk, OnOk, OnErr};
 ghost use Rattle.std.specs.Arc.{arc_value};
@@ -66,22 +66,21 @@ impl Table {
         &self.messages
     }
 
-    /// The messages of an identity.
+    /// The messages of an identity, in the order of arrival.
     pub fn of(&self, identity: &Identity) -> &[Arc<Message>]
         ensures { drafts_in result.now ≡ drafts_of identity.now self.now }
     {
         of_identity(&self.by_identity, identity)
     }
 
-    /// The messages of the digest of one, the first of each identity left out.
+    /// The messages with the digest of this message, without the first message of each identity.
     pub fn against(&self, message: &Message) -> &[Arc<Message>]
         ensures { drafts_in result.now ≡ drafts_alike (digest_of message.now) (against_in self.now) }
     {
         of_digest(&self.by_digest, message)
     }
 
-    /// Appends a message, and tells whether it came against another of its identity. Where memory is wanting nothing has
-    /// changed.
+    /// Appends a message. Returns whether another message of its identity was held. If out of memory, nothing changes.
     pub fn push(&mut self, message: Arc<Message>) -> Result<bool, AllocError>
         ensures ok { OnOk result (self.new ≡ self.old ++ arc_value message ∷ []) }
         ensures against { IfOk result (λ against. against ≡ finds (identity_of (arc_value message)) self.old) }
@@ -98,7 +97,7 @@ impl Table {
         Ok(against)
     }
 
-    /// Takes the last message out.
+    /// Removes the last message.
     pub fn pop(&mut self)
         ensures { self.new ≡ take (length self.old - 1) self.old }
     {
@@ -110,7 +109,7 @@ impl Table {
         unfile_against(&mut self.by_digest, against, &last);
     }
 
-    /// Keeps the first messages, as many as are named.
+    /// Keeps the first `len` messages and removes the others.
     pub fn truncate(&mut self, len: usize)
         ensures { self.new ≡ take len self.old }
     {

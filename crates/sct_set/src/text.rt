@@ -19,10 +19,10 @@ use sct_message::{Identity, Message, keys_are_ordered};
 use std::alloc::{AllocError, Global};
 use std::sync::Arc;
 
-// Few lines are longer.
+// An estimate: most lines are shorter.
 const BYTES_OF_A_LINE: usize = 640;
 
-// The identity of each of some messages.
+// The identity of each of the messages.
 pub(crate) fn identities_of(
     alloc: Global,
     messages: &[Arc<Message>],
@@ -47,7 +47,7 @@ fn identities(table: &Table) -> Result<Vec<Identity>, AllocError>
     Ok(found)
 }
 
-// Some messages with their written texts, in the order of the archive text.
+// The messages with their written texts, in the order of the archive text.
 fn lines_in_order(alloc: Global, messages: &[Arc<Message>]) -> Result<Vec<Line>, SetFault>
     ensures { IfOk result (λ lines. lines.items ≡ ascending line_order (drafts_in messages.now)) }
 {
@@ -57,7 +57,7 @@ fn lines_in_order(alloc: Global, messages: &[Arc<Message>]) -> Result<Vec<Line>,
     Ok(lines)
 }
 
-// Some messages with their written texts.
+// The messages with their written texts.
 fn lines_of(alloc: Global, messages: &[Arc<Message>]) -> Result<Vec<Line>, SetFault>
     ensures { IfOk result (λ lines. lines.items ≡ drafts_in messages.now) }
 {
@@ -69,7 +69,7 @@ fn lines_of(alloc: Global, messages: &[Arc<Message>]) -> Result<Vec<Line>, SetFa
     Ok(lines)
 }
 
-// Adds a written text and a line feed.
+// Appends a written text and a line feed.
 fn push_line(text: &mut Vec<u8>, written: &[u8]) -> Result<(), AllocError>
     ensures { OnOk result (text.new.items ≡ text.old.items ++ written.now ++ 10 ∷ []) }
 {
@@ -78,7 +78,7 @@ fn push_line(text: &mut Vec<u8>, written: &[u8]) -> Result<(), AllocError>
     Ok(())
 }
 
-// Adds the lines one after another.
+// Appends the lines one after another.
 fn push_all(text: &mut Vec<u8>, lines: &[Line]) -> Result<(), AllocError>
     ensures text { OnOk result (text.new.items ≡ text.old.items ++ flat_map line_of lines.now) }
     ensures again { OnOk result (All IsReadAgain lines.now) }
@@ -89,12 +89,12 @@ fn push_all(text: &mut Vec<u8>, lines: &[Line]) -> Result<(), AllocError>
     Ok(())
 }
 
-// Adds the line of a message.
+// Appends the line of a message.
 fn push_message(alloc: Global, text: &mut Vec<u8>, message: &Message) -> Result<(), SetFault>
     ensures text { OnOk result (text.new.items ≡ text.old.items ++ line_of message.now) }
     ensures again { OnOk result (IsReadAgain message.now) }
 {
-    // A message wants nothing but memory to be written.
+    // Writing a message can fail only for memory.
     let Ok(written) = write_message(alloc, message) else {
         return Err(SetFault::Memory);
     };
@@ -102,7 +102,8 @@ fn push_message(alloc: Global, text: &mut Vec<u8>, message: &Message) -> Result<
     Ok(())
 }
 
-// Adds the lines of some messages, in the order of the archive text. Only where there are several are they compared.
+// Appends the lines of the messages of one identity, in the order of the archive text.
+// One message alone is not compared.
 fn push_messages(
     alloc: Global,
     text: &mut Vec<u8>,
@@ -121,13 +122,12 @@ fn push_messages(
     Ok(())
 }
 
-// Room for the lines of so many identities, most of which take fewer bytes: a text that grows would leave behind what it
-// outgrew.
+// Room in bytes for the lines of these identities, most of which are shorter. A text that grows would be copied.
 fn room_for(identities: &[Identity]) -> usize {
     identities.len().saturating_mul(BYTES_OF_A_LINE)
 }
 
-// The lines of the messages of some identities, one identity after another.
+// The lines of the messages of these identities, one identity after another.
 pub(crate) fn lines_by(table: &Table, identities: &[Identity]) -> Result<Vec<u8>, SetFault>
     ensures { IfOk result (λ text. AreWritten table.now identities.now text.items) }
 {
@@ -138,7 +138,8 @@ pub(crate) fn lines_by(table: &Table, identities: &[Identity]) -> Result<Vec<u8>
     Ok(text)
 }
 
-/// The written text of each message of a table, by identity and then by text, with a line feed after each.
+/// The archive text of a table: the written text of each message, sorted by identity and
+/// then by text, with a line feed after each.
 pub fn archive_text(table: &Table) -> Result<Vec<u8>, SetFault>
     ensures text { IfOk result (λ text. text.items ≡ archive_text_of (contents_of table.now)) }
     ensures again { IfOk result (λ text. AreReadAgain (contents_of table.now)) }
