@@ -1,4 +1,4 @@
--- What a set of messages answers of its transfers, their recalls and their banks, for auditors.
+-- The answers of a set of messages about its transfers, their recalls and their banks, for auditors.
 use Rattle.std.specs.Prelude.{ℕ, Bool, false, ◌||◌, List, map, filter, flat_map, Option, Some}
 use Rattle.sct_element.specs.Text.{is_text}
 use Rattle.sct_message.specs.Ascending.{ascending}
@@ -17,15 +17,15 @@ use Rattle.sct_case.specs.Told.{findings_of}
 
 -- ---- a transfer and its recalls
 
--- where a transfer stands
+-- the status of a transfer
 unfoldable pub status_of : MessageSet → TransferKey → Standing
 status_of held transfer = transfer_status_of transfer (messages_on held transfer) (asides_of held transfer)
 
--- what contradicts itself on a transfer
+-- the findings of a transfer
 unfoldable pub found_on : MessageSet → TransferKey → List Finding
 found_on held transfer = findings_of transfer (messages_on held transfer) (asides_of held transfer)
 
--- where a recall stands
+-- the status of a recall
 unfoldable pub recall_of : MessageSet → RecallKey → RecallStatus
 recall_of held recall =
     recall_status_of recall.transfer (messages_on held recall.transfer) (asides_of held recall.transfer) recall.cxl
@@ -34,11 +34,11 @@ recall_of held recall =
 abbrev pub cxls_named_by : TransferKey → Draft → List (List ℕ)
 cxls_named_by transfer m = map (λ named. named.cxl) (recalls_named_by transfer m)
 
--- the recalls of a transfer that a message of the set names, contradicted messages too, each once, ascending
+-- the recalls of a transfer that messages of the set name, contradicted messages included, each once, ascending
 unfoldable pub recalls_of : MessageSet → TransferKey → List (List ℕ)
 recalls_of held transfer = ascending text_order (flat_map (cxls_named_by transfer) (in_order held))
 
--- every finding beside its transfer: by transfer, and then in the order in which findings are told
+-- every finding with its transfer, sorted by transfer and then in the order in which findings are reported
 unfoldable pub all_findings_of : MessageSet → List (TransferKey × Finding)
 all_findings_of held = flat_map (λ transfer. map (λ found. (transfer, found)) (found_on held transfer)) (keys_of held)
 
@@ -53,7 +53,8 @@ abbrev pub is_beneficiary : List ℕ → Option Draft → Bool
 is_beneficiary bank (Some (CreditTransfer d)) = is_text d.creditor_agent bank
 is_beneficiary bank other = false
 
--- the transfers of a bank, ascending: those of which it is the originator bank, or the beneficiary bank of the instruction
+-- the transfers of a bank, ascending: those that have it as the originator bank, or as
+-- the beneficiary bank of the instruction
 unfoldable pub transfers_of : MessageSet → List ℕ → List TransferKey
 transfers_of held bank =
     filter (λ transfer. is_originator bank transfer || is_beneficiary bank (instruction_of held transfer)) (keys_of held)

@@ -1,5 +1,4 @@
--- What a batch changes in the tables of a view, for those who prove it: for each transfer that it touches, what is to be
--- kept of it from then on.
+-- What a batch changes in the tables of a view, for those who prove it: the new case of each transfer that it touches.
 use Rattle.std.specs.Prelude.{ℕ, Bool, List, [], ◌∷◌, ◌++◌, ◌&&◌, not, map, filter, flat_map, if◌then◌else◌}
 use Rattle.std.specs.List.{list_all, list_any}
 use Rattle.indexmap.specs.IndexMap.{IndexMap}
@@ -13,19 +12,19 @@ use Rattle.sct_view.specs.declared.case.Case.{Case}
 use Rattle.sct_view.specs.declared.case.Planned.{Planned}
 use Rattle.sct_view.specs.declared.totals.Totals.{Totals}
 
--- a transfer, and what is to be kept of it
+-- a transfer and its new case
 abbrev pub Change : Type 0
 Change = TransferKey × Kept
 
--- what a planned case changes
+-- the change that a planned case makes
 abbrev pub change_in : Planned → Change
 change_in planned = (planned.transfer, kept_in planned.case)
 
--- what is to be kept of each of these transfers, once the set is this one
+-- the case of each of these transfers in this set
 abbrev pub changes_of : MessageSet → List TransferKey → List Change
 changes_of later transfers = map (λ t. (t, case_of later t)) transfers
 
--- what is kept of each transfer when the changes were made, one after the other
+-- the case of each transfer after the changes, made one after another
 abbrev pub case_after : List Change → (TransferKey → Kept) → TransferKey → Kept
 case_after [] cases t = cases t
 case_after (change ∷ changes) cases t =
@@ -36,7 +35,7 @@ abbrev pub newly_contradicted_by : MessageSet → Draft → List Draft
 newly_contradicted_by held m =
     filter (λ other. same_identity (identity_of other) (identity_of m) && not (is_contradicted held other)) (in_order held)
 
--- the transfers that one fresh message touches: its own, and those of the message which it contradicts
+-- the transfers that one fresh message touches: its own, and those of the held message that it contradicts
 abbrev pub touched_by_one : MessageSet → Draft → List TransferKey
 touched_by_one held m = transfers_of m ++ flat_map transfers_of (newly_contradicted_by held m)
 

@@ -13,7 +13,7 @@ use Rattle.sct_set.specs.Buckets.{bucket}
 use Rattle.sct_set.specs.Contents.{contents_of}
 use Rattle.sct_view.specs.Kept.{same_key}
 
--- the one list has the messages of the other, and no more, each at least once
+-- the first list has the messages of the second, each at least once, and no others
 abbrev pub HasThose : List Draft → List Draft → Type 0
 HasThose found ms = (m : Draft) → list_any (same_message m) found ≡ list_any (same_message m) ms
 

@@ -1,5 +1,5 @@
--- How the tables of a view are read, for those who prove it: what they keep of each transfer and of each bank, as
--- functions that read an absent key as no messages, and as nothing.
+-- How the tables of a view are read, for those who prove it: as functions from transfers to cases and from banks to
+-- totals. A key that is absent reads as no messages and as zero totals.
 use Rattle.std.specs.Prelude.{◌≡◌, ◌≤◌, ◌<◌, ◌^◌, ◌&&◌, ℕ, Bool, List, [], filter, Option, None, Some, is_some}
 use Rattle.std.specs.List.{list_all}
 use Rattle.indexmap.specs.IndexMap.{IndexMap, get}
@@ -36,7 +36,7 @@ case_of held transfer = record {
   stands = status_of held transfer;
 }
 
--- what a case keeps
+-- the data of a case
 abbrev pub kept_in : Case → Kept
 kept_in case = record {
   clean = messages_in case.clean.items;
@@ -68,20 +68,20 @@ totals_at totals bank = totals_or_none (get is_text totals bank)
 abbrev pub instruction_in : Kept → Option Draft
 instruction_in case = sole (filter is_instruction case.clean)
 
--- what a transfer adds to the totals of a bank, by what is kept of it
+-- the share of a transfer in the totals of a bank, by its case
 abbrev pub share_in : List ℕ → TransferKey → Kept → Totals
 share_in bank transfer case = share bank transfer case.stands (instruction_in case)
 
 -- ---- places
 
--- the table has a place for the transfer, for the bank
+-- the table has a place for the transfer or the bank
 abbrev pub has_case : {S : Type 0} → IndexMap TransferKey Case S → TransferKey → Bool
 has_case cases transfer = is_some (get same_key cases transfer)
 
 abbrev pub has_totals : {S : Type 0} → IndexMap (List ℕ) Totals S → List ℕ → Bool
 has_totals totals bank = is_some (get is_text totals bank)
 
--- the tables have a place for what is to be kept of the transfer, and for the totals of each of its banks
+-- the tables have a place for the new case of the transfer, and for the totals of each of its banks
 abbrev pub is_ready : {Y Z : Type 0} → IndexMap TransferKey Case Y → IndexMap (List ℕ) Totals Z → TransferKey → Kept → Bool
 is_ready cases totals transfer case =
     has_case cases transfer
@@ -102,7 +102,7 @@ pub record IsInRange (t : Totals) : Type 0 where
   pub received_cents : t.received_cents < 2 ^ 128
   pub returned_out : t.returned_out < 2 ^ 128
 
--- each number of the one is at most its like of the other
+-- each number of the first is at most the same number of the second
 pub record IsUpTo (part t : Totals) : Type 0 where
   pub sent : part.sent ≤ t.sent
   pub sent_cents : part.sent_cents ≤ t.sent_cents
@@ -115,19 +115,19 @@ pub record IsUpTo (part t : Totals) : Type 0 where
   pub received_cents : part.received_cents ≤ t.received_cents
   pub returned_out : part.returned_out ≤ t.returned_out
 
--- the cents that come back of a transfer
+-- the cents that are returned for a transfer
 abbrev pub cents_back : Standing → ℕ
 cents_back (Returned amount) = amount
 cents_back other = 0
 
--- the amounts of what is kept of a transfer are numbers of 64 bits
+-- the amounts of a case are numbers of 64 bits
 pub record IsSmall (case : Kept) : Type 0 where
   pub instructed : cents_in (instruction_in case) < 2 ^ 64
   pub back : cents_back case.stands < 2 ^ 64
 
 -- ---- the tables
 
--- the totals of each bank are the sums of its shares of these transfers, by what is kept of them
+-- the totals of each bank are the sums of its shares of these transfers, by their cases
 abbrev pub AreTotalsOver : {Y Z : Type 0} → IndexMap TransferKey Case Y → IndexMap (List ℕ) Totals Z → List TransferKey → Type 0
 AreTotalsOver cases totals transfers = (bank : List ℕ)
     → totals_at totals bank ≡ totals_over (λ t. share_in bank t (case_at cases t)) transfers

@@ -1,4 +1,4 @@
--- What holds of the answers, whatever the messages are, for auditors. Each law is the contract of a function.
+-- Laws of the answers, for all messages, for auditors. Each law is the contract of a function.
 use Rattle.std.specs.FinSet as set
 use Rattle.std.specs.Prelude.{◌≡◌, ◌≢◌, ◌↔◌, ◌+◌, ℕ, List, length, filter, Contains}
 use Rattle.std.specs.List.{sum_by}

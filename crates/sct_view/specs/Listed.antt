@@ -1,4 +1,4 @@
--- What is listed out of the tables of a view, for those who prove it.
+-- The lists that the tables of a view give, for those who prove it.
 use Rattle.std.specs.Prelude.{ℕ, ◌==◌, ◌&&◌, ◌++◌, Bool, not, List, [], ◌∷◌, length, map, filter, if◌then◌else◌}
 use Rattle.std.specs.List.{flat_map}
 use Rattle.sct_message.specs.Ascending.{ascending}
@@ -17,38 +17,38 @@ use Rattle.sct_view.specs.declared.case.Case.{Case}
 
 -- ---- the entries of a table
 
--- the keys of the entries whose value passes the test, as the table has them
+-- the keys of the entries whose value passes the test, in the order of the table
 abbrev pub keys_with : {K V : Type 0} → (V → Bool) → List (K × V) → List K
 keys_with test entries = map (λ e. e.0) (filter (λ e. test e.1) entries)
 
--- some message is kept of the transfer
+-- the case has a message
 abbrev pub has_messages : Case → Bool
 has_messages case = not (length case.clean.items == 0 && length case.contradicted.items == 0)
 
--- not all numbers are 0
+-- some number is not 0
 abbrev pub is_something : Totals → Bool
 is_something totals = not (is_nothing totals)
 
 -- ---- one transfer
 
--- the findings of a transfer that stands so
+-- the findings that a status holds
 abbrev pub found_in : Standing → List Finding
 found_in (Contradicted found) = found
 found_in other = []
 
--- the recalls of a transfer that a message kept of it names, contradicted messages too, each once, ascending
+-- the recalls of a transfer that the messages of its case name, contradicted messages included, each once, ascending
 abbrev pub recalls_in : TransferKey → Kept → List (List ℕ)
 recalls_in transfer case = ascending text_order (flat_map (cxls_named_by transfer) (case.clean ++ case.contradicted))
 
--- the identification of a recall, where it is one of the transfer
+-- the identification of a recall, if it is a recall of the transfer
 abbrev pub cxls_in : TransferKey → RecallKey → List (List ℕ)
 cxls_in transfer recall = if same_transfer recall.transfer transfer then recall.cxl ∷ [] else []
 
--- each finding of a transfer beside its key
+-- each finding of a transfer with the transfer's key
 abbrev pub beside : TransferKey → List Finding → List (TransferKey × Finding)
 beside transfer found = map (λ f. (transfer, f)) found
 
--- the R line of each of some recalls of a transfer of the set
+-- the R line of each of the recalls of a transfer of the set
 abbrev pub lines_of_recalls : MessageSet → TransferKey → List (List ℕ) → List ℕ
 lines_of_recalls held transfer cxls =
     flat_map (λ cxl. recall_line transfer cxl (recall_of held (record { transfer = transfer; cxl = cxl }))) cxls

@@ -1,5 +1,4 @@
--- The status text, for auditors: where each transfer of a set of messages and its recalls stand, and what contradicts
--- itself there.
+-- The status text, for auditors: the status of each transfer of a set of messages and of its recalls, and the findings.
 use Rattle.std.specs.Prelude.{ℕ, List, [], ◌∷◌, ◌++◌, flat_map, if◌then◌else◌, codes}
 use Rattle.sct_element.specs.Money.{amount_text}
 use Rattle.sct_reason.specs.declared.reasons.Reason.{Reason}
@@ -21,7 +20,7 @@ use Rattle.sct_view.specs.Answers.{status_of, found_on, recall_of, recalls_of}
 
 -- ---- words
 
--- a reason is shown as its code, with a question mark where it is not usual in that use
+-- a reason is shown as its code, followed by a question mark if it is not usual in that use
 abbrev pub shown : Use → Reason → List ℕ
 shown usage reason = reason_text reason ++ (if is_usual reason usage then [] else codes "?")
 
@@ -69,7 +68,7 @@ finding_words finding.ReturnOfRejected = codes "ReturnOfRejected"
 abbrev pub key_words : List ℕ → TransferKey → List ℕ
 key_words letter transfer = letter ++ codes "|" ++ transfer.debtor_agent ++ codes "|" ++ transfer.tx ++ codes "|"
 
--- a line on a transfer: a letter, the transfer's key and what is said of it, parted by bars, and a line feed
+-- a line on a transfer: a letter, the transfer's key and the words after it, separated by bars, and a line feed
 unfoldable pub line_on : List ℕ → TransferKey → List ℕ → List ℕ
 line_on letter transfer words = key_words letter transfer ++ words ++ 10 ∷ []
 
@@ -93,13 +92,13 @@ recall_lines held transfer =
     flat_map (λ cxl. recall_line transfer cxl (recall_of held (record { transfer = transfer; cxl = cxl })))
     (recalls_of held transfer)
 
--- what is told of a transfer of the set: its T line, the F line of each finding, the R line of each recall
+-- the lines of a transfer of the set: its T line, the F line of each finding, the R line of each recall
 unfoldable pub lines_on : MessageSet → TransferKey → List ℕ
 lines_on held transfer =
     status_line transfer (status_of held transfer)
     ++ flat_map (finding_line transfer) (found_on held transfer)
     ++ recall_lines held transfer
 
--- the status text of a set of messages: what is told of each transfer of which it has a message, ascending
+-- the status text of a set of messages: the lines of each transfer that a message of the set is on, ascending
 unfoldable pub status_text_of : MessageSet → List ℕ
 status_text_of held = flat_map (lines_on held) (keys_of held)

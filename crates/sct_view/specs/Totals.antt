@@ -28,7 +28,7 @@ nothing = record {
   returned_out = 0;
 }
 
--- of an originator bank: transfers sent, their cents, the cents that came back; transfers rejected, waiting for a
+-- the totals of an originator bank: transfers sent, their cents, the cents returned; transfers rejected, waiting for a
 -- confirmation, without an instruction, contradicted
 abbrev pub as_originator : ℕ → ℕ → ℕ → ℕ → ℕ → ℕ → ℕ → Totals
 as_originator sent sent_cents returned_in rejected waiting missing contradicted = record {
@@ -44,7 +44,7 @@ as_originator sent sent_cents returned_in rejected waiting missing contradicted 
   returned_out = 0;
 }
 
--- of a beneficiary bank: transfers received, their cents, the cents that went back
+-- the totals of a beneficiary bank: transfers received, their cents, the cents returned
 abbrev pub as_beneficiary : ℕ → ℕ → ℕ → Totals
 as_beneficiary received received_cents returned_out = record {
   sent = 0;
@@ -59,7 +59,7 @@ as_beneficiary received received_cents returned_out = record {
   returned_out = returned_out;
 }
 
--- both together, each number with its like
+-- the sum of two totals, number by number
 abbrev pub plus : Totals → Totals → Totals
 plus a b = record {
   sent = a.sent + b.sent;
@@ -82,7 +82,7 @@ is_nothing t =
 
 -- ---- the share of one transfer
 
--- of its originator bank, by where it stands and the cents of its instruction
+-- the share of the originator bank, by the transfer's status and the cents of its instruction
 abbrev pub share_of_originator : Standing → ℕ → Totals
 share_of_originator (Contradicted found) cents = as_originator 0 0 0 0 0 0 1
 share_of_originator Unknown cents = nothing
@@ -93,7 +93,7 @@ share_of_originator Accepted cents = as_originator 1 cents 0 0 0 0 0
 share_of_originator Investigated cents = as_originator 0 0 0 0 1 0 0
 share_of_originator Pending cents = as_originator 0 0 0 0 1 0 0
 
--- of the beneficiary bank of its instruction
+-- the share of the beneficiary bank of the instruction
 abbrev pub share_of_beneficiary : Standing → ℕ → Totals
 share_of_beneficiary (Returned amount) cents = as_beneficiary 1 cents amount
 share_of_beneficiary Accepted cents = as_beneficiary 1 cents 0
@@ -104,13 +104,13 @@ abbrev pub cents_in : Option Draft → ℕ
 cents_in (Some (CreditTransfer d)) = d.settlement_amount
 cents_in other = 0
 
--- of a bank: a bank that pays itself is on both sides
+-- the share of a bank; a bank that pays itself is on both sides
 unfoldable pub share : List ℕ → TransferKey → Standing → Option Draft → Totals
 share bank transfer stands instruction =
     plus (if is_originator bank transfer then share_of_originator stands (cents_in instruction) else nothing)
     (if is_beneficiary bank instruction then share_of_beneficiary stands (cents_in instruction) else nothing)
 
--- what a transfer of the set adds to the totals of a bank
+-- the share of a transfer of the set in the totals of a bank
 abbrev pub share_of : MessageSet → List ℕ → TransferKey → Totals
 share_of held bank transfer = share bank transfer (status_of held transfer) (instruction_of held transfer)
 
@@ -146,7 +146,7 @@ beneficiary_in other = []
 abbrev pub banks_on : MessageSet → TransferKey → List (List ℕ)
 banks_on held transfer = transfer.debtor_agent ∷ beneficiary_in (instruction_of held transfer)
 
--- the banks whose totals are not all zero, ascending. Only a bank of some transfer can be one: a law says that the
+-- the banks whose totals are not all zero, ascending. Only the banks of transfers are looked at. A law says that the
 -- list has each bank whose totals are not all zero.
 unfoldable pub banks_of : MessageSet → List (List ℕ)
 banks_of held =

@@ -1,5 +1,5 @@
--- Which transfers a batch touches, for auditors: those of its fresh messages, and those of the messages held before whose
--- identity the fresh ones contradict. All other transfers stay as they were: a law says so.
+-- The transfers that a batch touches, for auditors: those of its fresh messages, and those of the messages held before
+-- whose identity the fresh ones contradict. A law says that all other transfers stay as they were.
 use Rattle.std.specs.FinSet as set
 use Rattle.std.specs.Prelude.{◌≡◌, ◌≤◌, ◌*◌, ◌&&◌, ◌++◌, not, true, Bool, ℕ, List, length, filter, flat_map, Contains}
 use Rattle.sct_message.specs.Ascending.{ascending}
@@ -12,7 +12,7 @@ use Rattle.sct_message.specs.declared.keys.TransferKey.{TransferKey}
 use Rattle.sct_view.specs.Answers.{found_on, recall_of, recalls_of, status_of}
 use Rattle.sct_view.specs.Totals.{share_of}
 
--- the identity of the message is contradicted once the fresh messages are there, and was not before
+-- the identity of the message is contradicted with the fresh messages, and was not before
 abbrev pub is_newly_contradicted : MessageSet → MessageSet → Draft → Bool
 is_newly_contradicted held fresh m = is_contradicted (set.union held fresh) m && not (is_contradicted held m)
 
@@ -31,7 +31,7 @@ fresh_of held batch = set.difference batch held
 abbrev pub touched_in : MessageSet → MessageSet → List TransferKey
 touched_in held batch = touched_by held (fresh_of held batch)
 
--- What is told of a transfer in one set is told of it in another one.
+-- The answers about a transfer are equal in two sets.
 pub record IsToldAlike (held later : MessageSet) (transfer : TransferKey) : Type 0 where
   pub messages : messages_on later transfer ≡ messages_on held transfer
   pub asides : asides_of later transfer ≡ asides_of held transfer
@@ -53,12 +53,12 @@ UntouchedTransfersStay = (held batch : MessageSet) (transfer : TransferKey)
 abbrev pub keys_in : Draft → List TransferKey
 keys_in m = ascending transfer_order (transfers_of m)
 
--- each message of the set is on at most so many transfers
+-- each message of the set is on at most this many transfers
 abbrev pub AreOnAtMost : ℕ → MessageSet → Type 0
 AreOnAtMost most held = (m : Draft) → set.contains held m ≡ true → length (keys_in m) ≤ most
 
--- where each message that is held or in the batch is on at most so many transfers, the batch touches at most twice as many
--- for each of its fresh messages
+-- if each message that is held or in the batch is on at most n transfers, the batch touches at most 2n
+-- transfers for each of its fresh messages
 abbrev pub BatchesTouchFew : Type 0
 BatchesTouchFew = (most : ℕ) (held batch : MessageSet) → AreOnAtMost most held → AreOnAtMost most batch
     → length (touched_by held (fresh_of held batch)) ≤ 2 * most * set.len (fresh_of held batch)

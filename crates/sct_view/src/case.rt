@@ -1,4 +1,4 @@
-//! What is kept of one transfer.
+//! The data that a view keeps for one transfer.
 
 ghost use Rattle.std.specs.Prelude.{◌≡◌, ◌<◌, ◌^◌, ℕ, map, filter, find, length, option_map, Some};
 ghost use Rattle.std.specs.Arc.{arc_value};
@@ -14,23 +14,23 @@ use sct_element::Bic;
 use sct_message::{Draft, Message, TransferKey};
 use std::sync::Arc;
 
-/// The messages on a transfer, and where it stands by them.
+/// The messages on a transfer, and its status by them.
 #[derive(Drop)]
 pub struct Case {
-    /// The clean ones, in the order of messages.
+    /// The clean messages, in the order of messages.
     pub clean: Vec<Arc<Message>>,
-    /// Those whose identity is contradicted, in the order of messages.
+    /// The messages whose identity is contradicted, in the order of messages.
     pub contradicted: Vec<Arc<Message>>,
-    /// Where the transfer stands.
+    /// The status of the transfer.
     pub status: Status,
 }
 
-/// A case that is to take the place of its transfer's.
+/// A case that will replace the case of its transfer.
 #[derive(Drop)]
 pub(crate) struct Planned {
     /// The transfer.
     pub(crate) transfer: TransferKey,
-    /// What is to be kept of it.
+    /// The new case of the transfer.
     pub(crate) case: Case,
 }
 
@@ -63,7 +63,7 @@ fn first_instruction(messages: &[Arc<Message>]) -> Option<&Arc<Message>>
         .find(|message| is_instruction(message.draft()))
 }
 
-/// The cents that an instruction names.
+/// The cents that an instruction names, 0 for a message of another kind.
 fn cents_named(draft: &Draft) -> u64
     ensures { result ≡ cents_in (Some draft.now) }
 {
@@ -73,7 +73,7 @@ fn cents_named(draft: &Draft) -> u64
     }
 }
 
-/// The beneficiary bank that an instruction names.
+/// The beneficiary bank that an instruction names, or none for a message of another kind.
 fn beneficiary_named(draft: &Draft) -> Option<&Bic>
     ensures { option_to_list (option_copied result) ≡ beneficiary_in (Some draft.now) }
 {
@@ -84,7 +84,7 @@ fn beneficiary_named(draft: &Draft) -> Option<&Bic>
 }
 
 impl Case {
-    /// The message that instructs the transfer, where exactly one clean message does.
+    /// The instruction of the transfer: its pacs.008, if exactly one clean message is a pacs.008, else none.
     pub fn instruction(&self) -> Option<&Arc<Message>>
         ensures { option_map arc_value (option_copied result) ≡ instruction_in (kept_in self.now) }
     {
@@ -95,7 +95,7 @@ impl Case {
         }
     }
 
-    /// The cents that the instruction names, 0 where there is none.
+    /// The cents that the instruction names, 0 if there is none.
     pub(crate) fn cents(&self) -> u64
         ensures { result ≡ cents_in (instruction_in (kept_in self.now)) }
     {
@@ -105,7 +105,7 @@ impl Case {
         }
     }
 
-    /// The beneficiary bank of the instruction.
+    /// The beneficiary bank of the instruction, or none.
     pub(crate) fn beneficiary(&self) -> Option<&Bic>
         ensures { option_to_list (option_copied result) ≡ beneficiary_in (instruction_in (kept_in self.now)) }
     {

@@ -1,4 +1,4 @@
-//! The planned cases put in the place of those that were kept. It takes no memory and cannot fail.
+//! Replaces the cases of a view by planned ones. It does not allocate and cannot fail.
 
 ghost use Rattle.std.specs.Prelude.{◌≡◌, true, map};
 ghost use Rattle.std.specs.List.{list_all};
@@ -15,7 +15,7 @@ use sct_element::Bic;
 use sct_message::TransferKey;
 use sct_set::Archive;
 
-/// Puts each planned case in the place of its transfer's. The transfers are some of the archive's.
+/// Replaces the case of each planned transfer. The transfers are among those of the archive.
 pub(crate) fn commit_all(
     archive: &Archive,
     cases: &mut IndexMap<TransferKey, Case>,

@@ -1,11 +1,11 @@
-//! Numbers as they stand in a text: counts in decimal, and amounts in euro with two decimals.
+//! Numbers in a text: counts in decimal, and amounts in euro with two decimals.
 ghost use Rattle.std.specs.Prelude.{◌≡◌, ◌+◌, ◌<◌, ◌++◌, ◌∷◌, [], OnOk, string_bytes, decimal};
 ghost use Rattle.sct_element.specs.Money.{amount_text};
 
 use itoa::Buffer;
 use std::alloc::AllocError;
 
-/// Adds a count in decimal.
+/// Appends a count in decimal.
 pub fn push_count(text: &mut String, count: u64) -> Result<(), AllocError>
     ensures { OnOk result (string_bytes text.new ≡ string_bytes text.old ++ decimal count) }
 {
@@ -13,7 +13,7 @@ pub fn push_count(text: &mut String, count: u64) -> Result<(), AllocError>
     text.push_str(digits.format(count))
 }
 
-// Adds a digit.
+// Appends a digit.
 fn push_digit(text: &mut String, digit: u8) -> Result<(), AllocError>
     requires { digit < 10 }
     ensures { OnOk result (string_bytes text.new ≡ string_bytes text.old ++ (48 + digit) ∷ []) }
@@ -21,7 +21,7 @@ fn push_digit(text: &mut String, digit: u8) -> Result<(), AllocError>
     text.push(char::from(b'0' + digit))
 }
 
-/// Adds an amount, counted in cents, in euro with two decimals.
+/// Appends an amount, counted in cents, in euro with two decimals.
 #[tactic(auto, unfolding(sct_element::specs::Money::amount_text))]
 pub fn push_euros(text: &mut String, cents: u128) -> Result<(), AllocError>
     ensures { OnOk result (string_bytes text.new ≡ string_bytes text.old ++ amount_text cents) }

@@ -1,4 +1,4 @@
-//! Where a transfer stands, evaluated from all its messages.
+//! The case of a transfer, evaluated from all its messages.
 
 ghost use Rattle.std.specs.Prelude.{◌≡◌, ◌+◌, ◌<◌, ◌^◌, ◌||◌, Bool, filter, not, IfOk};
 ghost use Rattle.std.specs.FinSet as set;
@@ -16,7 +16,7 @@ use sct_set::Archive;
 use std::alloc::{AllocError, Global};
 use std::sync::Arc;
 
-/// Messages, parted by whether their identity is contradicted.
+/// Messages, separated by whether their identity is contradicted.
 #[derive(Drop)]
 pub(crate) struct Parted {
     pub(crate) clean: Vec<Arc<Message>>,
@@ -30,7 +30,8 @@ fn is_disputed(held: &Archive, fresh: &Archive, message: &Message) -> bool
     held.disputes(message) || fresh.disputes(message)
 }
 
-/// The messages parted by whether one of two archives contradicts their identity, each part in the order of the list.
+/// The messages, separated by whether one of two archives contradicts their identity.
+/// Each part keeps the order of the list.
 fn part(
     alloc: Global,
     held: &Archive,
@@ -58,7 +59,7 @@ fn part(
     })
 }
 
-/// The case of a transfer in the messages of two archives, from its messages in any order. It is counted.
+/// The case of a transfer in the messages of two archives, from its messages in any order. The evaluation is counted.
 pub(crate) fn evaluate(
     alloc: Global,
     held: &Archive,

@@ -1,4 +1,4 @@
-//! Messages in order, and filed by transfer.
+//! Messages sorted, and messages filed by transfer.
 
 ghost use Rattle.std.specs.Prelude.{◌≡◌, ◌≤◌, ◌<◌, ◌+◌, ◌-◌, ◌++◌, ◌∷◌, [], true, List, Some, length, map, filter, IfOk, OnOk};
 ghost use Rattle.std.specs.Arc.{arc_value};
@@ -54,7 +54,7 @@ pub(crate) fn identities(
     Ok(found)
 }
 
-// Whether the transfer of a transaction is that of the transaction before it.
+// Whether a transaction is on the same transfer as the transaction before it.
 fn is_as_before(message: &Message, i: usize, transfer: &TransferKey) -> bool
     ensures { result ≡ true → (0 < i) × (slice_get (transfers_of message.now) (i - 1) ≡ Some transfer.now) }
 {
@@ -68,7 +68,7 @@ fn is_as_before(message: &Message, i: usize, transfer: &TransferKey) -> bool
     }
 }
 
-// Files a message under each transfer that it is on. Of transactions of one transfer in a row the first alone counts.
+// Files a message under each transfer that it is on. Transactions of one transfer in a row count once.
 fn file_each(
     alloc: Global,
     index: &mut IndexMap<TransferKey, Vec<Arc<Message>>>,
@@ -88,7 +88,7 @@ fn file_each(
     Ok(())
 }
 
-/// The messages filed by transfer: each under every transfer that it is on.
+/// The messages filed by transfer: each is under every transfer that it is on.
 pub(crate) fn by_transfer(
     alloc: Global,
     messages: &[Arc<Message>],
@@ -158,7 +158,7 @@ pub(crate) fn transfers(
     Ok(found)
 }
 
-/// The same, sorted in several threads.
+/// The transfers that the messages are on, ascending, each once, sorted in several threads.
 pub(crate) fn transfers_in_parts<R: Threads + Sync>(
     rt: &R,
     alloc: Global,

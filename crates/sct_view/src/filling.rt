@@ -1,4 +1,4 @@
-//! Planned cases put into tables one after another, which grow as they come.
+//! Puts planned cases into tables one after another; the tables grow as needed.
 
 ghost use Rattle.std.specs.Prelude.{◌≡◌, true, map, if◌then◌else◌, OnOk};
 ghost use Rattle.std.specs.List.{list_any};
@@ -18,14 +18,14 @@ use sct_element::Bic;
 use sct_message::TransferKey;
 use sct_set::Archive;
 
-/// What is kept of each transfer and of each bank.
+/// The tables of a view: the case of each transfer and the totals of each bank.
 #[derive(Drop)]
 pub(crate) struct Tables {
     pub(crate) cases: IndexMap<TransferKey, Case>,
     pub(crate) totals: IndexMap<Bic, Totals>,
 }
 
-/// Keeps a planned case of its transfer, in the place of one that was kept. The transfer is one of the archive's.
+/// Keeps a planned case, in place of any case that its transfer had. The transfer is one of the archive's.
 pub(crate) fn place(
     archive: &Archive,
     tables: &mut Tables,
@@ -50,7 +50,7 @@ pub(crate) fn place(
     Ok(())
 }
 
-/// Puts each planned case in the place of its transfer's. The transfers are some of the archive's.
+/// Keeps each planned case, in place of any case that its transfer had. The transfers are among those of the archive.
 pub(crate) fn fill(
     archive: &Archive,
     tables: &mut Tables,

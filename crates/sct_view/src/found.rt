@@ -1,4 +1,4 @@
-//! The findings of a transfer, as they stand in its status.
+//! The findings of a transfer, which its status holds.
 ghost use Rattle.std.specs.Prelude.{◌≡◌, ◌++◌, OnOk};
 ghost use Rattle.sct_case.specs.Statuses.{told};
 ghost use Rattle.sct_view.specs.Listed.{found_in, beside};
@@ -7,7 +7,7 @@ use sct_case::{Finding, Status};
 use sct_message::TransferKey;
 use std::alloc::AllocError;
 
-/// The findings of a transfer that stands so.
+/// The findings that a status holds; empty for a status other than contradicted.
 pub(crate) fn findings_in(status: &Status) -> &[Finding]
     ensures { result.now ≡ found_in (told status.now) }
 {
@@ -17,7 +17,7 @@ pub(crate) fn findings_in(status: &Status) -> &[Finding]
     }
 }
 
-// The same finding once more. It takes no memory.
+// A copy of a finding. It does not allocate.
 fn copied(finding: &Finding) -> Finding
     ensures { result ≡ finding.now }
 {
@@ -35,7 +35,7 @@ fn copied(finding: &Finding) -> Finding
     }
 }
 
-/// Adds the findings of a transfer, each beside its key.
+/// Appends the findings of a transfer, each with the transfer's key.
 pub(crate) fn push_beside(
     found: &mut Vec<(TransferKey, Finding)>,
     transfer: &TransferKey,

@@ -1,24 +1,25 @@
-//! What holds of the answers, whatever the messages are: each law is the contract of a function that does nothing.
+//! Laws of the answers, for all messages. Each law is the contract of a function with an empty body.
 
 ghost use Rattle.sct_view.specs.Laws.{EqualSetsHaveEqualTexts, MoneyIsConserved, EachTransferIsCountedOnce, BanksHaveTotals, OrderOfBatchesDoesNotMatter};
 ghost use Rattle.sct_view.specs.Touched.{BatchesTouchFew, UntouchedTransfersStay};
 
-/// Sets that hold the same messages have one status text and one totals text, byte for byte.
+/// Sets that hold the same messages have the same status text and the same totals text, byte for byte.
 pub fn equal_sets_have_equal_texts()
     ensures { EqualSetsHaveEqualTexts }
 {}
 
-/// Over all banks, what is sent is received, in count and in cents, and what comes back goes back.
+/// Over all banks, the transfers and cents sent are those received, and the cents returned to originator banks
+/// are those returned by beneficiary banks.
 pub fn money_is_conserved()
     ensures { MoneyIsConserved }
 {}
 
-/// Each transfer of an originator bank is sent, rejected, waiting, missing or contradicted, and only one of these.
+/// Each transfer of an originator bank counts as exactly one of sent, rejected, waiting, missing and contradicted.
 pub fn each_transfer_is_counted_once()
     ensures { EachTransferIsCountedOnce }
 {}
 
-/// The banks told are those whose totals are not all zero.
+/// The banks that are listed are those whose totals are not all zero.
 pub fn banks_have_totals()
     ensures { BanksHaveTotals }
 {}
@@ -33,7 +34,7 @@ pub fn untouched_transfers_stay()
     ensures { UntouchedTransfersStay }
 {}
 
-/// Where each message is on at most so many transfers, a batch touches at most twice as many for each fresh message.
+/// If each message is on at most n transfers, a batch touches at most 2n transfers for each fresh message.
 pub fn batches_touch_few()
     ensures { BatchesTouchFew }
 {}

@@ -1,5 +1,5 @@
-//! All answers of a set of messages: where each transfer and each recall stands, what contradicts itself, and the totals of
-//! each bank.
+//! All answers of a set of messages: the status of each transfer and of each recall, the
+//! findings, and the totals of each bank.
 #![tactic(auto)]
 
 mod case;

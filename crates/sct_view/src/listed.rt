@@ -1,4 +1,4 @@
-//! What the tables of a view list.
+//! The lists that the tables of a view give.
 ghost use Rattle.std.specs.Prelude.{◌≡◌, ◌++◌, ◌∷◌, ◌||◌, [], List, map, filter, not, if◌then◌else◌, IfOk, OnOk};
 ghost use Rattle.std.specs.List.{flat_map};
 ghost use Rattle.std.specs.Option.{option_copied};
@@ -22,7 +22,7 @@ use std::sync::Arc;
 
 // ---- one transfer
 
-/// What is kept of a transfer.
+/// The case of a transfer, if the table has one.
 pub(crate) fn case_in<'a>(
     cases: &'a IndexMap<TransferKey, Case>,
     transfer: &TransferKey,
@@ -32,7 +32,7 @@ pub(crate) fn case_in<'a>(
     cases.get(transfer)
 }
 
-// Adds the identification of a recall where it is one of the transfer.
+// Appends the identification of a recall, if it is a recall of the transfer.
 fn push_where_of(
     found: &mut Vec<Id35>,
     transfer: &TransferKey,
@@ -47,7 +47,7 @@ fn push_where_of(
     Ok(())
 }
 
-// Adds the recalls of a transfer that a message names.
+// Appends the recalls of a transfer that a message names.
 fn push_named(
     found: &mut Vec<Id35>,
     transfer: &TransferKey,
@@ -64,7 +64,7 @@ fn push_named(
     Ok(())
 }
 
-// Adds the recalls of a transfer that some messages name.
+// Appends the recalls of a transfer that the messages name.
 fn push_all_named(
     found: &mut Vec<Id35>,
     transfer: &TransferKey,
@@ -79,7 +79,7 @@ fn push_all_named(
     Ok(())
 }
 
-// The recalls of a transfer that the messages kept of it name, the contradicted ones too.
+// The recalls of a transfer that the messages of its case name, contradicted messages included.
 fn all_named(alloc: Global, transfer: &TransferKey, case: &Case) -> Result<Vec<Id35>, AllocError>
     ensures { IfOk result (λ found. found.items
         ≡ flat_map (cxls_named_by transfer.now) (kept_in case.now).clean
@@ -91,7 +91,7 @@ fn all_named(alloc: Global, transfer: &TransferKey, case: &Case) -> Result<Vec<I
     Ok(found)
 }
 
-/// The recalls of a transfer that the messages kept of it name, ascending, each once.
+/// The recalls of a transfer that the messages of its case name, ascending, each once.
 pub(crate) fn recalls_in(
     alloc: Global,
     transfer: &TransferKey,
@@ -105,7 +105,7 @@ pub(crate) fn recalls_in(
     Ok(found)
 }
 
-/// The recalls of a transfer that a message held names, contradicted messages too, ascending.
+/// The recalls of a transfer that messages held name, contradicted messages included, ascending, each once.
 pub(crate) fn recalls_of(
     alloc: Global,
     archive: &Archive,
@@ -123,14 +123,14 @@ pub(crate) fn recalls_of(
 
 // ---- all transfers
 
-// Whether some message is kept of the transfer.
+// Whether a case has a message.
 fn has_messages(case: &Case) -> bool
     ensures { result ≡ has_messages case.now }
 {
     !(case.clean.is_empty() && case.contradicted.is_empty())
 }
 
-// The transfers of which messages are kept, as the table has them.
+// The transfers whose case has a message, in the order of the table.
 fn keys_kept(
     alloc: Global,
     cases: &IndexMap<TransferKey, Case>,
@@ -147,7 +147,7 @@ fn keys_kept(
     Ok(keys)
 }
 
-/// The transfers of which a message is held, ascending.
+/// The transfers that messages held are on, ascending.
 pub(crate) fn keys(
     alloc: Global,
     archive: &Archive,
@@ -163,7 +163,7 @@ pub(crate) fn keys(
     Ok(keys)
 }
 
-// Adds what was found on a transfer, each finding beside its key.
+// Appends the findings of a transfer, each with the transfer's key.
 fn push_found(
     found: &mut Vec<(TransferKey, Finding)>,
     archive: &Archive,
@@ -180,7 +180,7 @@ fn push_found(
     }
 }
 
-/// All findings, each beside its transfer: by transfer, and then in the order in which findings are told.
+/// All findings, each with its transfer, sorted by transfer and then in the order in which findings are reported.
 #[tactic(auto, unfolding(crate::specs::Answers::all_findings_of))]
 pub(crate) fn all_findings(
     alloc: Global,
@@ -231,7 +231,7 @@ fn is_paid(
     }
 }
 
-/// The transfers of which a bank is the originator bank, or the beneficiary bank of the instruction, ascending.
+/// The transfers that have a bank as the originator bank, or as the beneficiary bank of their instruction, ascending.
 #[tactic(auto, unfolding(crate::specs::Answers::transfers_of))]
 pub(crate) fn transfers_of(
     alloc: Global,

@@ -1,4 +1,4 @@
-//! Places in the tables of a view: a transfer without messages and a bank without totals, which nobody sees.
+//! Places in the tables of a view: a transfer without messages and a bank without totals, which no answer shows.
 
 ghost use Rattle.std.specs.Prelude.{◌≡◌, ◌≤◌, ℕ, List, true, length, take, OnOk};
 ghost use Rattle.sct_message.specs.declared.keys.TransferKey.{TransferKey as TransferOf};
@@ -25,7 +25,7 @@ fn no_case(alloc: Global) -> Case
     }
 }
 
-/// Opens a place for a transfer, where it has none.
+/// Opens a place for a transfer, if it has none.
 pub(crate) fn open_case(
     alloc: Global,
     cases: &mut IndexMap<TransferKey, Case>,
@@ -45,7 +45,7 @@ pub(crate) fn open_case(
     Ok(())
 }
 
-/// Opens a place for the totals of a bank, where it has none.
+/// Opens a place for the totals of a bank, if it has none.
 pub(crate) fn open_total(totals: &mut IndexMap<Bic, Totals>, bank: &Bic) -> Result<(), CaseFault>
     ensures there { OnOk result (has_totals totals.new bank.now ≡ true) }
     ensures same { (p : List ℕ) → totals_at totals.new p ≡ totals_at totals.old p }
@@ -61,7 +61,7 @@ pub(crate) fn open_total(totals: &mut IndexMap<Bic, Totals>, bank: &Bic) -> Resu
     Ok(())
 }
 
-/// Opens a place for the totals of the beneficiary bank of a case.
+/// Opens a place for the totals of the beneficiary bank of a case, if the case has an instruction.
 pub(crate) fn open_beneficiary(
     totals: &mut IndexMap<Bic, Totals>,
     case: &Case,
@@ -80,7 +80,7 @@ pub(crate) fn open_beneficiary(
     }
 }
 
-/// Opens the places for what is planned to be kept of a transfer.
+/// Opens the places that a planned case needs.
 pub(crate) fn open_planned(
     alloc: Global,
     cases: &mut IndexMap<TransferKey, Case>,

@@ -1,4 +1,4 @@
-//! The archive and the tables of a view, made of all messages in as many threads as there are processors.
+//! The archive and the tables of a view, built from all messages in as many threads as there are processors.
 
 ghost use Rattle.std.specs.Prelude.{◌≡◌, ◌<◌, map, IfOk};
 ghost use Rattle.std.specs.FinSet as set;
@@ -26,7 +26,7 @@ use std::alloc::{AllocError, Global};
 use std::sync::Arc;
 use std::thread::{Threads, available_parallelism, join};
 
-// Fewer transfers are evaluated in one part.
+// Fewer transfers than this are evaluated in one part.
 const WORTH_A_THREAD: usize = 256;
 
 // The case of a transfer of an archive, from the messages that are filed under it.
@@ -57,7 +57,7 @@ fn planned_on(
     })
 }
 
-// The case of each of some transfers, in one part.
+// The case of each of the transfers, in one part.
 fn planned_in_turn(
     alloc: Global,
     archive: &Archive,
@@ -75,7 +75,7 @@ fn planned_in_turn(
     Ok(planned)
 }
 
-// The case of each of some transfers, by halves of halves.
+// The case of each of the transfers. The list is halved `halvings` times, and each part is evaluated in turn.
 #[cycle(halves)]
 fn planned_by_halves<R: Threads + Sync>(
     rt: &R,
@@ -111,7 +111,7 @@ fn planned_by_halves<R: Threads + Sync>(
     Ok(planned)
 }
 
-// How often a list of transfers is cut in halves: for two parts a processor.
+// How often a list of transfers is halved: so often that there are about two parts for each processor.
 pub(crate) fn halvings<R: Threads>(rt: &R, transfers: &[TransferKey]) -> u32 {
     if transfers.len() < WORTH_A_THREAD {
         return 0;
@@ -129,7 +129,7 @@ struct Sorted {
     transfers: Vec<TransferKey>,
 }
 
-// Both at once, each in a thread of its own.
+// Files the messages by transfer and sorts their transfers, each in a thread of its own.
 fn sort_by_transfer<R: Threads + Sync>(
     rt: &R,
     alloc: Global,
@@ -157,7 +157,7 @@ fn sort_by_transfer<R: Threads + Sync>(
     Ok(Sorted { index, transfers })
 }
 
-// An archive of some messages.
+// An archive of the messages.
 fn archive_of(alloc: Global, messages: &[Arc<Message>]) -> Result<Archive, CaseFault>
     ensures { IfOk result (λ archive. archive ≡ contents_of (messages_in messages.now)) }
 {
@@ -175,7 +175,7 @@ struct Gathered {
     sorted: Sorted,
 }
 
-// Both at once, in threads of their own.
+// Builds the archive of the messages and sorts them by transfer, in threads of their own.
 fn gather<R: Threads + Sync>(
     rt: &R,
     alloc: Global,
@@ -206,7 +206,7 @@ fn gather<R: Threads + Sync>(
     Ok(Gathered { archive, sorted })
 }
 
-// The case of each transfer of an archive, whose messages are sorted by transfer.
+// The case of each transfer of an archive. `sorted` has the archive's messages by transfer.
 fn evaluate_all<R: Threads + Sync>(
     rt: &R,
     alloc: Global,
@@ -229,7 +229,7 @@ fn evaluate_all<R: Threads + Sync>(
     )
 }
 
-// The tables of the planned cases of all transfers of an archive.
+// The tables with the planned cases of all transfers of an archive.
 fn tables_of_planned(
     alloc: Global,
     archive: &Archive,
@@ -245,7 +245,8 @@ fn tables_of_planned(
     Ok(tables)
 }
 
-// The tables of an archive, whose messages are sorted by transfer. What they were sorted into is given back beside that.
+// The tables of an archive. `sorted` has the archive's messages by transfer, and is
+// dropped while the tables are filled.
 fn tables_in_parts<R: Threads + Sync>(
     rt: &R,
     alloc: Global,
@@ -268,15 +269,15 @@ fn tables_in_parts<R: Threads + Sync>(
     tables
 }
 
-/// An archive of messages, and what is kept of its transfers and its banks.
+/// An archive of messages with its tables: the case of each transfer and the totals of each bank.
 #[derive(Drop)]
 pub(crate) struct Filled {
     pub(crate) archive: Archive,
     pub(crate) tables: Tables,
 }
 
-/// Both of some messages, which may stand in any order and more than once, in as many threads as there are processors. Where
-/// no thread can be made, one does the work of several.
+/// The archive of the messages with its tables. The messages may be in any order and may repeat.
+/// It works in as many threads as there are processors. If a thread cannot be started, another thread does its work.
 pub(crate) fn filled_in_parts<R: Threads + Sync>(
     rt: &R,
     alloc: Global,

@@ -1,4 +1,4 @@
-//! What a batch brings to a set of messages: which of its messages are fresh, and which transfers these touch.
+//! The change that a batch makes to a set of messages: the fresh messages, and the transfers that these touch.
 
 ghost use Rattle.std.specs.Prelude.{◌≡◌, ◌≤◌, ◌+◌, ◌*◌, ◌++◌, true, false, length, if◌then◌else◌, IfOk, OnOk};
 ghost use Rattle.std.specs.Arc.{arc_value};
@@ -19,7 +19,7 @@ use sct_set::Archive;
 use std::alloc::{AllocError, Global};
 use std::sync::Arc;
 
-/// Adds a message to the fresh ones, where it is not held.
+/// Adds a message to the fresh ones, if it is not held.
 fn add_fresh(held: &Archive, fresh: &mut Archive, message: &Arc<Message>) -> Result<(), CaseFault>
     ensures { OnOk result (fresh.new ≡ (if set.contains held.now (arc_value message.now) then fresh.old
         else set.insert fresh.old (arc_value message.now))) }
@@ -48,7 +48,7 @@ pub(crate) fn fresh_among(
     Ok(fresh)
 }
 
-/// Appends the transfers that one fresh message touches: its own, and those of the message which it contradicts.
+/// Appends the transfers that one fresh message touches: its own, and those of the held message that it contradicts.
 fn push_touched(
     held: &Archive,
     found: &mut Vec<TransferKey>,

@@ -21,7 +21,7 @@ use sct_set::Archive;
 use std::alloc::Global;
 use std::sync::Arc;
 
-/// Evaluates a transfer of an archive from its messages, and keeps its case in place of the one that was kept.
+/// Evaluates a transfer of an archive from its messages, and keeps its case in place of any that it had.
 fn keep(
     alloc: Global,
     archive: &Archive,
@@ -53,7 +53,7 @@ fn keep(
     Ok(())
 }
 
-/// The tables of an archive's messages.
+/// The tables of an archive, built in one thread. Each transfer is evaluated once.
 pub(crate) fn tables_of(alloc: Global, archive: &Archive) -> Result<Tables, CaseFault>
     ensures { IfOk result (λ tables. IsViewOf archive.now tables.cases tables.totals) }
 {

@@ -1,4 +1,4 @@
-//! One case put in the place of another, with what it adds to the totals of its banks. It takes no memory.
+//! Replaces one case by another, together with its shares of the totals of its banks. It does not allocate.
 
 ghost use Rattle.std.specs.Prelude.{◌≡◌, ℕ, List, true, if◌then◌else◌};
 ghost use Rattle.std.specs.List.{list_any};
@@ -16,7 +16,7 @@ use sct_element::Bic;
 use sct_message::TransferKey;
 use sct_set::Archive;
 
-/// Puts a case in the place of a transfer's.
+/// Replaces the case of a transfer.
 fn replace(cases: &mut IndexMap<TransferKey, Case>, transfer: &TransferKey, case: Case)
     requires { has_case cases.old transfer.now ≡ true }
     ensures cases { (t : TransferOf) → case_at cases.new t
@@ -28,7 +28,7 @@ fn replace(cases: &mut IndexMap<TransferKey, Case>, transfer: &TransferKey, case
     }
 }
 
-/// The cents that come back of a transfer.
+/// The cents that are returned for a transfer.
 fn cents_back(status: &Status) -> u64
     ensures { result ≡ cents_back (told status.now) }
 {
@@ -38,7 +38,7 @@ fn cents_back(status: &Status) -> u64
     }
 }
 
-/// The amounts of a case fit into 64 bits, as every amount does.
+/// The amounts of a case fit into 64 bits, since every amount does.
 pub(crate) fn amounts_are_small(case: &Case)
     ensures { IsSmall (kept_in case.now) }
 {
@@ -46,9 +46,9 @@ pub(crate) fn amounts_are_small(case: &Case)
     let _back = cents_back(&case.status);
 }
 
-/// Puts a case in the place of its transfer's: the shares of the old one are taken out of the totals of its banks, and those
-/// of the new one put in. The transfer is one of the archive's. The totals fit, since nothing is kept of a transfer that has
-/// no place, and there are fewer than 2^64 places.
+/// Replaces the case of a transfer. The shares of the old case are taken out of the totals of its banks, and the shares
+/// of the new case are put in. The transfer is one of the archive's.
+/// The totals fit: a transfer without a place has no share, and there are fewer than 2^64 places.
 pub(crate) fn commit_one(
     archive: &Archive,
     cases: &mut IndexMap<TransferKey, Case>,

@@ -1,4 +1,4 @@
-//! The new cases of the transfers that a batch touches, evaluated beside the view.
+//! The new cases of the transfers that a batch touches, evaluated while the view stays unchanged.
 
 ghost use Rattle.std.specs.Prelude.{◌≡◌, ◌+◌, ◌*◌, ◌<◌, ◌≤◌, ◌^◌, ◌++◌, length, map, filter, IfOk, OnOk};
 ghost use Rattle.std.specs.FinSet as set;
@@ -23,7 +23,7 @@ use sct_set::Archive;
 use std::alloc::{AllocError, Global};
 use std::sync::Arc;
 
-/// Appends handles on some messages.
+/// Appends handles to the messages.
 fn append(gathered: &mut Vec<Arc<Message>>, messages: &[Arc<Message>]) -> Result<(), AllocError>
     ensures { OnOk result (messages_in gathered.new.items
         ≡ messages_in gathered.old.items ++ messages_in messages.now) }
@@ -34,7 +34,7 @@ fn append(gathered: &mut Vec<Arc<Message>>, messages: &[Arc<Message>]) -> Result
     Ok(())
 }
 
-/// Appends the messages that are kept of a transfer.
+/// Appends the messages of a transfer's case.
 fn append_kept(
     gathered: &mut Vec<Arc<Message>>,
     cases: &IndexMap<TransferKey, Case>,
@@ -52,7 +52,7 @@ fn append_kept(
     Ok(())
 }
 
-/// The messages that are kept of a transfer, and some fresh ones.
+/// The messages of a transfer's case, followed by fresh ones.
 fn gather(
     alloc: Global,
     cases: &IndexMap<TransferKey, Case>,
@@ -69,7 +69,7 @@ fn gather(
     Ok(gathered)
 }
 
-/// The new case of a touched transfer, of which these are the fresh messages.
+/// The new case of a touched transfer. `messages` are the fresh messages on it.
 fn evaluate_anew(
     alloc: Global,
     held: &Archive,
@@ -96,7 +96,8 @@ fn evaluate_anew(
     })
 }
 
-/// The new case of each touched transfer, once the fresh messages are held too. Each is evaluated once, and counted.
+/// The new case of each touched transfer, with the fresh messages held too. Each transfer is
+/// evaluated once, and each evaluation is counted.
 pub(crate) fn evaluate_each(
     alloc: Global,
     held: &Archive,
@@ -120,18 +121,18 @@ pub(crate) fn evaluate_each(
     Ok(planned)
 }
 
-/// What a batch changes, found and evaluated beside the view.
+/// The change that a batch makes, found and evaluated while the view stays unchanged.
 #[derive(Drop)]
 pub(crate) struct Replanned {
-    /// Its messages that are not held.
+    /// The messages of the batch that are not held.
     pub(crate) fresh: Archive,
-    /// The new case of each transfer that it touches.
+    /// The new case of each transfer that the batch touches.
     pub(crate) planned: Vec<Planned>,
-    /// How many evaluations that took.
+    /// How many transfers were evaluated.
     pub(crate) evaluations: u64,
 }
 
-/// Finds the fresh messages of a batch and the transfers that they touch, and evaluates each of these once.
+/// Finds the fresh messages of a batch and the transfers that they touch, and evaluates each of these transfers once.
 pub(crate) fn replan(
     alloc: Global,
     held: &Archive,

@@ -1,4 +1,4 @@
-//! Room for what a batch brings: every growth of a view, made before anything that it tells changes.
+//! Room for a batch: every growth of a view, made before any answer changes.
 
 ghost use Rattle.std.specs.Prelude.{◌≡◌, ◌≤◌, ℕ, List, true, length, take, OnOk, OnErr};
 ghost use Rattle.std.specs.FinSet as set;
@@ -17,7 +17,7 @@ use sct_message::TransferKey;
 use sct_set::Archive;
 use std::alloc::Global;
 
-/// Opens the places for each planned case.
+/// Opens the places that each planned case needs.
 pub(crate) fn open_all(
     alloc: Global,
     cases: &mut IndexMap<TransferKey, Case>,
@@ -36,8 +36,8 @@ pub(crate) fn open_all(
     Ok(())
 }
 
-/// Opens the places for each planned case, and adds the fresh messages to the archive. Where memory is wanting, no place
-/// stays open and the archive is what it was.
+/// Opens the places that each planned case needs, and adds the fresh messages to the archive.
+/// If out of memory, no new place stays open and the archive is unchanged.
 pub(crate) fn make_room(
     alloc: Global,
     archive: &mut Archive,

@@ -1,4 +1,4 @@
-//! The running totals of the banks: what one transfer adds is put in and taken out again.
+//! The running totals of the banks: the shares of each transfer are put in and taken out again.
 
 ghost use Rattle.std.specs.Prelude.{◌≡◌, ℕ, List, true, if◌then◌else◌, is_some};
 ghost use Rattle.sct_element.specs.Text.{is_text};
@@ -14,7 +14,7 @@ use indexmap::IndexMap;
 use sct_element::Bic;
 use sct_message::TransferKey;
 
-/// Puts a share into the totals of a bank.
+/// Adds a share to the totals of a bank.
 fn put(totals: &mut IndexMap<Bic, Totals>, bank: &Bic, share: &Totals)
     requires there { has_totals totals.old bank.now ≡ true }
     requires fits { IsInRange (plus (totals_at totals.old bank.now) share.now) }
@@ -27,7 +27,7 @@ fn put(totals: &mut IndexMap<Bic, Totals>, bank: &Bic, share: &Totals)
     }
 }
 
-/// Takes a share out of the totals of a bank.
+/// Subtracts a share from the totals of a bank.
 fn take(totals: &mut IndexMap<Bic, Totals>, bank: &Bic, share: &Totals)
     requires fits { IsUpTo share.now (totals_at totals.old bank.now) }
     ensures totals { (p : List ℕ)
@@ -40,7 +40,7 @@ fn take(totals: &mut IndexMap<Bic, Totals>, bank: &Bic, share: &Totals)
     }
 }
 
-/// Puts what a transfer adds into the totals of its banks.
+/// Adds the shares of a transfer to the totals of its banks.
 #[tactic(auto, unfolding(crate::specs::Totals::share))]
 pub(crate) fn put_shares(totals: &mut IndexMap<Bic, Totals>, transfer: &TransferKey, case: &Case)
     requires originator { has_totals totals.old transfer.now.debtor_agent ≡ true }
@@ -61,7 +61,7 @@ pub(crate) fn put_shares(totals: &mut IndexMap<Bic, Totals>, transfer: &Transfer
     }
 }
 
-/// Takes what a transfer added out of the totals of its banks.
+/// Subtracts the shares of a transfer from the totals of its banks.
 #[tactic(auto, unfolding(crate::specs::Totals::share))]
 pub(crate) fn take_shares(totals: &mut IndexMap<Bic, Totals>, transfer: &TransferKey, case: &Case)
     requires fits { (p : List ℕ)
@@ -79,7 +79,7 @@ pub(crate) fn take_shares(totals: &mut IndexMap<Bic, Totals>, transfer: &Transfe
     }
 }
 
-/// Takes what a transfer added, by what is kept of it, out of the totals of its banks.
+/// Subtracts the shares of a transfer's case in the table from the totals of its banks.
 pub(crate) fn take_former(
     cases: &IndexMap<TransferKey, Case>,
     totals: &mut IndexMap<Bic, Totals>,

@@ -1,4 +1,4 @@
-//! What one transfer adds to the totals of its banks.
+//! The shares of one transfer in the totals of its banks.
 
 ghost use Rattle.std.specs.Prelude.{◌≡◌};
 ghost use Rattle.sct_case.specs.Statuses.{told};
@@ -7,7 +7,7 @@ ghost use Rattle.sct_view.specs.Totals.{as_originator, as_beneficiary, share_of_
 use crate::totals::Totals;
 use sct_case::Status;
 
-/// An accepted transfer as its originator bank counts it: what was sent, and what came back.
+/// The share of an accepted transfer for its originator bank: the cents sent, and the cents returned.
 fn sent(cents: u64, returned: u64) -> Totals
     ensures { result ≡ as_originator 1 cents returned 0 0 0 0 }
 {
@@ -19,7 +19,7 @@ fn sent(cents: u64, returned: u64) -> Totals
     }
 }
 
-/// An accepted transfer as its beneficiary bank counts it: what was received, and what went back.
+/// The share of an accepted transfer for its beneficiary bank: the cents received, and the cents returned.
 fn received(cents: u64, returned: u64) -> Totals
     ensures { result ≡ as_beneficiary 1 cents returned }
 {
@@ -67,7 +67,7 @@ fn contradicted() -> Totals
     }
 }
 
-/// What a transfer adds to the totals of its originator bank, by where it stands and the cents of its instruction.
+/// The share of a transfer for its originator bank, by its status and the cents of its instruction.
 pub(crate) fn share_of_originator(status: &Status, cents: u64) -> Totals
     ensures { result ≡ share_of_originator (told status.now) cents }
 {
@@ -83,7 +83,8 @@ pub(crate) fn share_of_originator(status: &Status, cents: u64) -> Totals
     }
 }
 
-/// What a transfer adds to the totals of the beneficiary bank of its instruction.
+/// The share of a transfer for the beneficiary bank of its instruction, by its status and
+/// the cents of that instruction.
 pub(crate) fn share_of_beneficiary(status: &Status, cents: u64) -> Totals
     ensures { result ≡ share_of_beneficiary (told status.now) cents }
 {

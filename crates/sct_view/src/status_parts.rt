@@ -1,4 +1,4 @@
-//! The status text in pieces, each made in a thread of its own where one can be made.
+//! The status text in pieces, each written in a thread of its own if a thread can be started.
 ghost use Rattle.std.specs.Prelude.{◌≡◌, ◌<◌, IfOk};
 ghost use Rattle.std.specs.List.{flat_map};
 ghost use Rattle.std.specs.Thread.{IsSync};
@@ -18,7 +18,7 @@ use sct_set::Archive;
 use std::alloc::Global;
 use std::thread::{Threads, join};
 
-// What is told of each of some transfers, as one piece.
+// The lines of each of the transfers, as one piece.
 fn one_piece(
     alloc: Global,
     archive: &Archive,
@@ -35,7 +35,7 @@ fn one_piece(
     Ok(pieces)
 }
 
-// What is told of each of some transfers, by halves of halves.
+// The lines of each of the transfers. The list is halved `halvings` times, and each part is one piece.
 #[cycle(halves)]
 fn pieces_by_halves<R: Threads + Sync>(
     rt: &R,

@@ -17,7 +17,7 @@ use sct_message::TransferKey;
 use sct_set::Archive;
 use std::alloc::{AllocError, Global};
 
-// The F line of each finding.
+// Appends the F line of each finding.
 fn push_findings(
     text: &mut String,
     transfer: &TransferKey,
@@ -32,7 +32,7 @@ fn push_findings(
     Ok(())
 }
 
-// The R line of each of some recalls of a transfer.
+// Appends the R line of each of the recalls.
 fn push_recall_lines(
     text: &mut String,
     transfer: &TransferKey,
@@ -47,7 +47,7 @@ fn push_recall_lines(
     Ok(())
 }
 
-// The R line of each of some recalls of a transfer, by what is kept of it.
+// Appends the R line of each of the recalls, by the transfer's case.
 fn push_recalls(
     alloc: Global,
     text: &mut String,
@@ -64,7 +64,7 @@ fn push_recalls(
     Ok(push_recall_lines(text, transfer, &recalls)?)
 }
 
-// What is told of a transfer, by what is kept of it.
+// Appends the lines of a transfer, by its case: its T line, its F lines and its R lines.
 fn push_case(
     alloc: Global,
     text: &mut String,
@@ -82,7 +82,7 @@ fn push_case(
     Ok(())
 }
 
-// What is told of a transfer: of one of which nothing is kept, that it is unknown.
+// Appends the lines of a transfer. A transfer without a case is unknown.
 fn push_transfer(
     alloc: Global,
     text: &mut String,
@@ -99,7 +99,7 @@ fn push_transfer(
     }
 }
 
-/// What is told of each of some transfers.
+/// Appends the lines of each of the transfers.
 pub(crate) fn push_transfers(
     alloc: Global,
     text: &mut String,

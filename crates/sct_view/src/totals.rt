@@ -7,25 +7,25 @@ ghost use Rattle.sct_view.specs.Totals.{nothing, plus};
 /// What a bank sent and received in instant credit transfers. Amounts are in cents.
 #[derive(Clone, Copy, Debug, PartialEq, Eq)]
 pub struct Totals {
-    /// Transfers of which it is the originator bank and which were accepted.
+    /// Accepted transfers that have it as the originator bank.
     pub sent: u64,
-    /// What their instructions name.
+    /// Cents of the instructions of these transfers.
     pub sent_cents: u128,
-    /// What came back of them after recalls.
+    /// Cents returned to it for transfers that it sent, after recalls.
     pub returned_in: u128,
-    /// Transfers of which it is the originator bank and which were rejected.
+    /// Rejected transfers that have it as the originator bank.
     pub rejected: u64,
-    /// Those that were instructed and wait for a confirmation, their status asked for or not.
+    /// Transfers that have it as the originator bank, were instructed and wait for a confirmation, investigated or not.
     pub waiting: u64,
-    /// Those of which messages are held and no instruction.
+    /// Transfers that have it as the originator bank and of which messages are held, but no instruction.
     pub missing: u64,
-    /// Those of which messages contradict each other.
+    /// Transfers that have it as the originator bank and whose messages contradict each other.
     pub contradicted: u64,
-    /// Accepted transfers of which it is the beneficiary bank.
+    /// Accepted transfers that have it as the beneficiary bank.
     pub received: u64,
-    /// What their instructions name.
+    /// Cents of the instructions of the transfers received.
     pub received_cents: u128,
-    /// What went back of them after recalls.
+    /// Cents that it returned for transfers that it received, after recalls.
     pub returned_out: u128,
 }
 
@@ -48,7 +48,7 @@ impl Totals {
         }
     }
 
-    /// Puts a share in.
+    /// Adds a share.
     pub(crate) fn put(&mut self, share: &Totals)
         requires { IsInRange (plus self.old share.now) }
         ensures { self.new ≡ plus self.old share.now }
@@ -65,7 +65,7 @@ impl Totals {
         self.returned_out += share.returned_out;
     }
 
-    /// Takes a share out.
+    /// Subtracts a share.
     pub(crate) fn take(&mut self, share: &Totals)
         requires { IsUpTo share.now self.old }
         ensures { plus self.new share.now ≡ self.old }

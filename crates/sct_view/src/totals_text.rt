@@ -16,7 +16,7 @@ use sct_element::Bic;
 use sct_set::Archive;
 use std::alloc::{AllocError, Global};
 
-// Whether not all numbers are 0.
+// Whether some number is not 0.
 fn is_something(totals: &Totals) -> bool
     ensures { result ≡ is_something totals.now }
 {
@@ -33,7 +33,7 @@ fn is_something(totals: &Totals) -> bool
     !is_nothing
 }
 
-// The banks whose totals are not all zero, as the table has them.
+// The banks whose totals are not all zero, in the order of the table.
 fn banks_kept(alloc: Global, totals: &IndexMap<Bic, Totals>) -> Result<Vec<Bic>, AllocError>
     ensures banks { IfOk result (λ banks. banks.items ≡ keys_with is_something totals.now.entries) }
     ensures unique { IfOk result (λ banks. IsUnique is_text totals.now) }
@@ -62,7 +62,7 @@ pub(crate) fn banks(
     Ok(banks)
 }
 
-// The totals that are kept of a bank.
+// The totals of a bank in the table, all 0 if it has none.
 fn totals_in(totals: &IndexMap<Bic, Totals>, bank: &Bic) -> Totals
     ensures { result ≡ totals_at totals.now bank.now }
 {
@@ -72,7 +72,7 @@ fn totals_in(totals: &IndexMap<Bic, Totals>, bank: &Bic) -> Totals
     }
 }
 
-// The line of each of some banks.
+// Appends the line of each of the banks.
 fn push_banks(
     text: &mut String,
     archive: &Archive,

@@ -34,16 +34,17 @@ use std::marker::Model;
 use std::sync::Arc;
 use std::thread::Threads;
 
-/// What a batch of messages brought.
+/// The change that a batch of messages made.
 #[derive(Clone, Copy, Debug, PartialEq, Eq)]
 pub struct Applied {
-    /// How many of its messages were not held before.
+    /// How many messages of the batch were not held before, each counted once.
     pub fresh: u64,
-    /// How many transfers it touched: those of its fresh messages, and those of messages that these contradict.
+    /// How many transfers the batch touched: those of its fresh messages, and those of held
+    /// messages that the fresh ones contradict.
     pub touched: u64,
 }
 
-/// What a batch brings, by what is planned for it.
+/// The change that a planned batch makes.
 fn brought_by(plan: &Replanned) -> Applied
     ensures fresh { result.fresh ≡ set.len plan.now.fresh }
     ensures touched { result.touched ≡ plan.now.evaluations }
@@ -54,7 +55,7 @@ fn brought_by(plan: &Replanned) -> Applied
     }
 }
 
-/// Messages, each held once, with what is kept of each transfer and of each bank.
+/// Messages, each held once, with the case of each transfer and the totals of each bank.
 #[derive(Drop)]
 pub struct View {
     alloc: Global,
@@ -82,7 +83,7 @@ impl Model for View {
 }
 
 impl View {
-    /// The view of no message.
+    /// The view of no messages.
     pub fn new(alloc: Global) -> Self
         ensures { result ≡ set.empty }
     {
@@ -95,7 +96,8 @@ impl View {
         }
     }
 
-    /// The view of an archive's messages.
+    /// Builds the view of an archive in one thread; each transfer is evaluated once. Error: `Memory` (39).
+    /// With a runtime use [`View::of_messages`].
     pub fn of(alloc: Global, archive: Archive) -> Result<Self, CaseFault>
         ensures { IfOk result (λ view. view ≡ archive) }
     {
@@ -109,8 +111,9 @@ impl View {
         })
     }
 
-    /// The view of some messages, which may stand in any order and more than once, made in as many threads as there are
-    /// processors. Where no thread can be made, one does the work of several.
+    /// Builds the view of the messages, which may be in any order and may repeat. Error: `Memory` (39).
+    /// It works in as many threads as there are processors. If a thread cannot be
+    /// started, another thread does its work.
     pub fn of_messages<R: Threads + Sync>(
         rt: &R,
         alloc: Global,
@@ -128,7 +131,9 @@ impl View {
         })
     }
 
-    /// Adds the messages of a batch. Where memory is wanting the view is what it was.
+    /// Adds a batch of messages, and evaluates each touched transfer once. Touched are the transfers of fresh messages,
+    /// and those of held messages that fresh ones contradict. Error: `Memory` (39), with the view unchanged.
+    /// O(messages of the batch and of the touched transfers), however many messages the view holds.
     pub fn apply(&mut self, messages: &[Arc<Message>]) -> Result<Applied, CaseFault>
         ensures ok { OnOk result (self.new ≡ set.union self.old (contents_of (messages_in messages.now))) }
         ensures fresh { IfOk result (λ applied. set.len self.new ≡ set.len self.old + applied.fresh) }
@@ -158,7 +163,7 @@ impl View {
         Ok(brought)
     }
 
-    /// Where a transfer stands: `Unknown` where no message is on it.
+    /// The status of a transfer; `Unknown` if no message is on it. Expected O(1).
     pub fn status(&self, transfer: &TransferKey) -> &Status
         ensures { told result.now ≡ status_of self.now transfer.now }
     {
@@ -168,7 +173,7 @@ impl View {
         }
     }
 
-    /// Where a recall stands: `Unknown` where no message names it.
+    /// The status of a recall; `Unknown` if no message names it. O(transactions of the messages on its transfer).
     pub fn recall(&self, recall: &RecallKey) -> RecallStatus
         ensures { result ≡ recall_of self.now recall.now }
     {
@@ -180,7 +185,8 @@ impl View {
         }
     }
 
-    /// The totals of a bank, all 0 where no message names it as the originator or the beneficiary bank of a transfer.
+    /// The totals of a bank. All are 0 if no message names it as the originator or the
+    /// beneficiary bank of a transfer. Expected O(1).
     pub fn totals(&self, bank: &Bic) -> Totals
         ensures { result ≡ totals_of self.now bank.now }
     {
@@ -190,7 +196,7 @@ impl View {
         }
     }
 
-    /// The message that instructs a transfer, where exactly one clean message does.
+    /// The instruction of a transfer: its pacs.008, if exactly one clean message on it is a pacs.008, else none.
     pub fn instruction(&self, transfer: &TransferKey) -> Option<&Arc<Message>>
         ensures { option_map arc_value (option_copied result) ≡ instruction_of self.now transfer.now }
     {
@@ -205,51 +211,56 @@ impl View {
     ghost use Rattle.sct_view.specs.Totals.{banks_of};
     ghost use Rattle.sct_view.specs.TotalsText.{totals_text_of};
 
-    /// The transfers of which a message is held, ascending.
+    /// The transfers that messages held are on, ascending. Error: `Memory` (39). O(n log n) in the transfers held.
     pub fn keys(&self) -> Result<Vec<TransferKey>, CaseFault>
         ensures { IfOk result (λ keys. keys.items ≡ keys_of self.now) }
     {
         keys(self.alloc, &self.archive, &self.cases)
     }
 
-    /// The banks whose totals are not all 0, ascending.
+    /// The banks whose totals are not all 0, ascending. Error: `Memory` (39). O(n log n) in the banks held.
     pub fn banks(&self) -> Result<Vec<Bic>, CaseFault>
         ensures { IfOk result (λ banks. banks.items ≡ banks_of self.now) }
     {
         banks(self.alloc, &self.archive, &self.totals)
     }
 
-    /// The recalls of a transfer that a message held names, contradicted messages too, ascending.
+    /// The recalls of a transfer that messages held name, contradicted messages included,
+    /// ascending. Error: `Memory` (39).
     pub fn recalls_of(&self, transfer: &TransferKey) -> Result<Vec<Id35>, CaseFault>
         ensures { IfOk result (λ recalls. recalls.items ≡ recalls_of self.now transfer.now) }
     {
         recalls_of(self.alloc, &self.archive, &self.cases, transfer)
     }
 
-    /// The transfers of which a bank is the originator bank, or the beneficiary bank of the instruction, ascending.
+    /// The transfers that have a bank as the originator bank, or as the beneficiary bank
+    /// of their instruction, ascending.
+    /// Error: `Memory` (39). It looks at every transfer held.
     pub fn transfers_of(&self, bank: &Bic) -> Result<Vec<TransferKey>, CaseFault>
         ensures { IfOk result (λ transfers. transfers.items ≡ transfers_of self.now bank.now) }
     {
         transfers_of(self.alloc, &self.archive, &self.cases, bank)
     }
 
-    /// All that contradicts itself, each finding beside its transfer: by transfer, and then in the order in which findings
-    /// are told.
+    /// All findings, each with its transfer, sorted by transfer and then in the order in which findings are reported.
+    /// Error: `Memory` (39). It looks at every transfer held.
     pub fn all_findings(&self) -> Result<Vec<(TransferKey, Finding)>, CaseFault>
         ensures { IfOk result (λ found. found.items ≡ all_findings_of self.now) }
     {
         all_findings(self.alloc, &self.archive, &self.cases)
     }
 
-    /// The status text: a line for each transfer, each finding and each recall.
+    /// The status text in bytes, with a line for each transfer, each finding and each
+    /// recall, and a line feed after each line.
+    /// Error: `Memory` (39). It sorts the transfers held: O(n log n).
     pub fn status_text(&self) -> Result<Vec<u8>, CaseFault>
         ensures { IfOk result (λ text. text.items ≡ status_text_of self.now) }
     {
         status_text(self.alloc, &self.archive, &self.cases)
     }
 
-    /// The status text in pieces, one after another, made in as many threads as there are processors. Where no thread can be
-    /// made, one does the work of several.
+    /// The status text in pieces, one after another, written in as many threads as there are processors.
+    /// If a thread cannot be started, another thread does its work. Error: `Memory` (39).
     pub fn status_text_in_pieces<R: Threads + Sync>(
         &self,
         rt: &R,
@@ -259,7 +270,8 @@ impl View {
         status_pieces(rt, self.alloc, &self.archive, &self.cases)
     }
 
-    /// The totals text: a line for each bank whose totals are not all 0.
+    /// The totals text in bytes, with a line for each bank whose totals are not all 0, and a line feed after each line.
+    /// Error: `Memory` (39).
     pub fn totals_text(&self) -> Result<Vec<u8>, CaseFault>
         ensures { IfOk result (λ text. text.items ≡ totals_text_of self.now) }
     {

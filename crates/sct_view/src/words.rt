@@ -1,4 +1,4 @@
-//! The lines of the status text, in words.
+//! The lines of the status text.
 ghost use Rattle.std.specs.Prelude.{◌≡◌, ◌++◌, OnOk, string_bytes};
 ghost use Rattle.sct_case.specs.Statuses.{told};
 ghost use Rattle.sct_element.specs.Money.{amount_text};
@@ -20,7 +20,7 @@ use sct_message::{Identity, TransferKey};
 use sct_reason::{Reason, Use};
 use std::alloc::AllocError;
 
-// A reason as it is shown: its code, with a question mark where it is not usual in that use.
+// Appends a reason as it is shown: its code, followed by a question mark if it is not usual in that use.
 fn push_reason(text: &mut String, reason: &Reason, usage: Use) -> Result<(), AllocError>
     ensures { OnOk result (string_bytes text.new ≡ string_bytes text.old ++ shown usage reason.now) }
 {
@@ -86,7 +86,7 @@ fn push_identity(text: &mut String, identity: &Identity) -> Result<(), AllocErro
     text.push_str(identity.msg_id.text())
 }
 
-// A word and an identification, parted by a bar that the word brings along.
+// Appends a word and an identification. The word ends with the bar that separates them.
 fn push_named(text: &mut String, word: &str, cxl: &Id35) -> Result<(), AllocError>
     ensures { OnOk result (string_bytes text.new ≡ string_bytes text.old ++ word.now ++ cxl.now) }
 {
@@ -114,7 +114,7 @@ fn push_finding(text: &mut String, finding: &Finding) -> Result<(), AllocError>
     }
 }
 
-// The front of a line on a transfer: a letter and the transfer's key, each followed by a bar.
+// Appends the front of a line on a transfer: a letter and the transfer's key, each followed by a bar.
 fn push_key(text: &mut String, letter: &str, transfer: &TransferKey) -> Result<(), AllocError>
     ensures { OnOk result (string_bytes text.new ≡ string_bytes text.old ++ key_words letter.now transfer.now) }
 {
@@ -126,7 +126,7 @@ fn push_key(text: &mut String, letter: &str, transfer: &TransferKey) -> Result<(
     text.push_str("|")
 }
 
-/// Adds the T line of a transfer.
+/// Appends the T line of a transfer.
 #[tactic(auto, unfolding(crate::specs::StatusText::line_on))]
 pub fn push_status_line(
     text: &mut String,
@@ -142,7 +142,7 @@ pub fn push_status_line(
     Ok(())
 }
 
-/// Adds the F line of a finding.
+/// Appends the F line of a finding.
 #[tactic(auto, unfolding(crate::specs::StatusText::line_on))]
 pub fn push_finding_line(
     text: &mut String,
@@ -158,7 +158,7 @@ pub fn push_finding_line(
     Ok(())
 }
 
-/// Adds the R line of a recall.
+/// Appends the R line of a recall.
 #[tactic(auto, unfolding(crate::specs::StatusText::line_on))]
 pub fn push_recall_line(
     text: &mut String,
