@@ -5,11 +5,11 @@ use Rattle.std.specs.Int.Digits.{number_from_digits}
 use Rattle.std.specs.List.{list_all}
 use Rattle.sct_element.specs.Text.{where_read}
 
--- a digit stands for itself, and the letters A to Z for the two digits of 10 to 35
+-- a digit has its own value, and the letters A to Z have the values 10 to 35, of two digits each
 abbrev pub digits_of_char : ℕ → List ℕ
 digits_of_char c = if is_ascii_digit c then (c - 48) ∷ [] else ((c - 55) / 10) ∷ ((c - 55) % 10) ∷ []
 
--- the whole number that an account number stands for, once its first four characters are moved to its end
+-- the number of an account, after its first four characters are moved to its end
 abbrev pub account_number : List ℕ → ℕ
 account_number s = number_from_digits 10 (flat_map digits_of_char (drop 4 s ++ take 4 s))
 
@@ -24,10 +24,10 @@ is_account_shaped s = nat_le 5 (length s) && nat_le (length s) 34
     && list_all is_ascii_digit (take 2 (drop 2 s))
     && list_all is_ascii_alphanumeric (drop 4 s)
 
--- a text of that shape whose number leaves 1 when it is divided by 97
+-- a text of that shape whose number leaves 1 when divided by 97
 abbrev pub is_iban : List ℕ → Bool
 is_iban s = is_account_shaped s && (account_number (capitals s) % 97 == 1)
 
--- what a text is kept and written as; none where it is no account number
+-- the form in which a text is kept and written; none if it is not an account number
 unfoldable pub written_iban : List ℕ → Option (List ℕ)
 written_iban s = where_read (is_iban s) (capitals s)

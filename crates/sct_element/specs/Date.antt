@@ -13,6 +13,6 @@ is_day s = (length s == 10)
     && (slice_index s 7 == 45)
     && list_all is_ascii_digit (drop 8 s)
 
--- kept as it was read
+-- a date is kept as it was read
 unfoldable pub written_day : List ℕ → Option (List ℕ)
 written_day s = where_read (is_day s) s

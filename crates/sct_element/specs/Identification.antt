@@ -16,7 +16,7 @@ is_short_text s = nat_le 1 (length s) && nat_le (length s) 35 && list_all is_sep
 abbrev pub has_double_slash : List ℕ → Bool
 has_double_slash s = list_any (λ p. p.0 == 47 && p.1 == 47) (zip s (drop 1 s))
 
--- such a text that begins with no slash, ends with none, and has no two in a row
+-- such a text without a slash at either end and without two slashes in a row
 abbrev pub is_identification : List ℕ → Bool
 is_identification s = is_short_text s
     && not (slice_index s 0 == 47)

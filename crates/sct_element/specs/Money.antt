@@ -10,7 +10,7 @@ use Rattle.std.specs.Str.Parse.{digits_value}
 abbrev pub IsEuros : List ℕ → ℕ → Type 0
 IsEuros s euros = (1 ≤ length s) × (length s ≤ 9) × IsTrue (list_all is_ascii_digit s) × (euros ≡ digits_value 10 s)
 
--- one digit writes tenths of a euro, and two digits hundredths; told in cents
+-- one digit writes tenths of a euro, and two digits hundredths; the number is in cents
 abbrev pub IsDecimals : List ℕ → ℕ → Type 0
 IsDecimals s cents = IsTrue (list_all is_ascii_digit s)
     × (((length s ≡ 1) × (cents ≡ 10 * digits_value 10 s)) ⊎ ((length s ≡ 2) × (cents ≡ digits_value 10 s)))
@@ -36,17 +36,18 @@ pub record IsWhole (s : List ℕ) (cents : ℕ) : Type 0 where
 abbrev pub IsAmountText : List ℕ → ℕ → Type 0
 IsAmountText s cents = (1 ≤ cents) × (cents ≤ 99999999999) × (IsWhole s cents ⊎ HasDecimals s cents)
 
--- ---- the amount of a text, by the place of its first point: the law amounts_are_exact says that it is the one above
+-- ---- the amount of a text, by the place of its first point: the law amounts_are_exact
+-- says that it is the amount above
 
 abbrev pub is_point : ℕ → Bool
 is_point c = c == 46
 
--- 1 to 9 digits stand for whole euros, and may begin with zeros
+-- 1 to 9 digits write whole euros, and may begin with zeros
 abbrev pub euros_of : List ℕ → Option ℕ
 euros_of s =
     if nat_le 1 (length s) && nat_le (length s) 9 && list_all is_ascii_digit s then Some (digits_value 10 s) else None
 
--- one or two digits after the point stand for tenths, or for tenths and hundredths, of a euro; in cents
+-- one digit after the point writes tenths of a euro, two digits hundredths; the number is in cents
 abbrev pub hundredths_of : List ℕ → Option ℕ
 hundredths_of s =
     if nat_le 1 (length s) && nat_le (length s) 2 && list_all is_ascii_digit s
@@ -61,15 +62,15 @@ abbrev pub cents_after : Option ℕ → List ℕ → Option ℕ
 cents_after None s = Some 0
 cents_after (Some point) s = hundredths_of (drop (point + 1) s)
 
--- nothing is no amount
+-- zero cents are not an amount
 abbrev pub where_positive : ℕ → Option ℕ
 where_positive cents = if nat_le 1 cents then Some cents else None
 
--- the cents that euros and cents are together; none where one of them is none
+-- the sum of euros and cents in cents; none if either is none
 abbrev pub in_all : Option ℕ → Option ℕ → Option ℕ
 in_all euros cents = option_and_then (λ e. option_and_then (λ c. where_positive (100 * e + c)) cents) euros
 
--- the cents that a text stands for
+-- the cents that a text writes
 unfoldable pub cents_of : List ℕ → Option ℕ
 cents_of s = in_all (euros_before (position is_point s) s) (cents_after (position is_point s) s)
 

@@ -3,12 +3,11 @@ use Rattle.std.specs.Prelude.{◌≡◌, ℕ, ◌&&◌, List, length, chars, nat
 use Rattle.sct_element.specs.declared.faults.ElementFault.{ElementFault}
 use Rattle.sct_element.specs.declared.faults.ElementFault.TheVariants.{BadBic, BadIban, BadId, BadAmount, BadDay, BadText, BadStamp, Memory, BadCode}
 
--- 1 to so many characters
+-- 1 to `most` characters
 abbrev pub has_characters : ℕ → List ℕ → Bool
 has_characters most s = nat_le 1 (length (chars s)) && nat_le (length (chars s)) most
 
--- A text of allowed length is kept as it is, and only such a one can meet want of memory; any other is refused
--- BadText.
+-- A text of allowed length is kept as it is, unless it is out of memory. Any other text is refused with BadText.
 abbrev pub ReadsFree : ℕ → List ℕ → Result (List ℕ) ElementFault → Type 0
 ReadsFree most s (Ok t) = (has_characters most s ≡ true) × (t ≡ s)
 ReadsFree most s (Err BadText) = has_characters most s ≡ false

@@ -16,7 +16,7 @@ use Rattle.sct_element.specs.Bank.{is_bic, full_bic, written_bic}
 use Rattle.sct_element.specs.Date.{is_day, written_day}
 use Rattle.sct_element.specs.Identification.{is_identification, is_short_text, is_code, written_identification, written_stamp, written_code}
 
--- what was read passed, and is what stands there now
+-- a text that was read passed the test, and is the written form
 pub read_parts : (b : Bool) (s t : List ℕ) → where_read b s ≡ Some t → (b ≡ true) × (s ≡ t)
 read_parts true s t e = (refl, cc)
 read_parts false s t e = cc
@@ -47,7 +47,7 @@ pub day_settles : (s t : List ℕ) → written_day s ≡ Some t → written_day 
 unfolding written_day
 day_settles = unchanged_settles is_day
 
--- ---- a BIC: once it has 11 characters it stays
+-- ---- a BIC of 11 characters is its own written form
 
 abbrev head_office : List ℕ → List ℕ
 head_office s = s ++ codes "XXX"
@@ -93,14 +93,14 @@ bic_settles s t e =
     let k : (is_bic s ≡ true) × (full_bic s ≡ t) = read_parts (is_bic s) (full_bic s) t e in
     subst (λ (u : List ℕ). where_read (is_bic u) (full_bic u) ≡ Some u) k.1 (full_bic_read s (length s == 8) refl k.0)
 
--- ---- an IBAN: once it is in capitals it stays
+-- ---- an IBAN in capitals is its own written form
 
 capitals_again : (s : List ℕ) → capitals (capitals s) ≡ capitals s
 capitals_again [] = refl
 capitals_again (c ∷ cs) = ap (λ (d : ℕ). d ∷ capitals (capitals cs)) (uppercase-uppercase c)
     ∙ ap (λ (ds : List ℕ). to_ascii_uppercase c ∷ ds) (capitals_again cs)
 
--- a test that capitals pass wherever their letters do
+-- a test that passes a capital if it passes the letter
 all_in_capitals : (p : ℕ → Bool) → ((c : ℕ) → p c ≡ true → p (to_ascii_uppercase c) ≡ true) → (s : List ℕ)
     → list_all p s ≡ true → list_all p (capitals s) ≡ true
 all_in_capitals p keeps [] h = refl
