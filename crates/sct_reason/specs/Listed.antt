@@ -16,10 +16,10 @@ listed_codes =
     ∷ codes "MS03" ∷ codes "NOAS" ∷ codes "NOOR" ∷ codes "RC01" ∷ codes "RR01" ∷ codes "RR02"
     ∷ codes "RR03" ∷ codes "RR04" ∷ codes "TECH" ∷ codes "TM01" ∷ []
 
--- one of the listed codes
+-- the text is one of the listed codes
 unfoldable pub is_listed : List ℕ → Bool
 is_listed s = list_any (is_text s) listed_codes
 
--- a code, and none of the listed ones
+-- the text is a code, but not a listed one
 unfoldable pub is_other_code : List ℕ → Bool
 is_other_code s = is_some (written_code s) && not (is_listed s)

@@ -23,7 +23,7 @@ use Rattle.sct_reason.specs.Reasons.{listed_reason, other_where, other_of, unlis
 
 -- ---- looking something up in a list
 
--- what is found first passes, whether it stands at the head or behind it
+-- the first item found passes the test, whether it is the head of the list or a later item
 chosen : {X : Type 0} (p : X → Bool) (y x : X) (rest : Option X) (passes : Bool) → p y ≡ passes
     → (rest ≡ Some x → p x ≡ true)
     → (if passes then Some y else rest) ≡ Some x → p x ≡ true
@@ -34,7 +34,7 @@ found_passes : {X : Type 0} (p : X → Bool) (xs : List X) (x : X) → find p xs
 found_passes p [] x e = cc
 found_passes p (y ∷ ys) x e = chosen p y x (find p ys) (p y) refl (found_passes p ys x) e
 
--- where nothing is found, nothing passes
+-- if nothing is found, nothing passes the test
 none_chosen : {X : Type 0} (y : X) (rest : Option X) (passes any : Bool) → (rest ≡ None → any ≡ false)
     → (if passes then Some y else rest) ≡ None → (passes || any) ≡ false
 none_chosen y rest true any later e = cc
@@ -75,7 +75,7 @@ text_is_code r = refl
 abbrev pub other_code : (s : List ℕ) → is_other_code s ≡ true → OtherCode
 other_code s h = record { code = s; other = h }
 
--- two of one text are one: the proofs that it is an other code do not count
+-- two other codes of one text are equal: the proofs in them do not count
 same_proof : (s : List ℕ) (p q : is_other_code s ≡ true) → other_code s p ≡ other_code s q
 same_proof s p q =
     let one : IsProp (is_other_code s ≡ true) = hlevel props in λ i. record { code = s; other = one p q i }
@@ -128,7 +128,7 @@ not_listed false h = refl
 
 -- ---- the laws
 
--- what a text is read as, by what is found in the list and what it is as an other code
+-- the reason that a text is read as, by the listed reason and the other code of that text
 read_by : (s : List ℕ) (found : Option Reason) (other : Option OtherCode) → listed_reason s ≡ found
     → other_of s ≡ other → reason_of s ≡ or_else found (unlisted other)
 unfolding reason_of
@@ -203,7 +203,7 @@ is_eq_Equal Less e = cc
 is_eq_Equal Equal e = refl
 is_eq_Equal Greater e = cc
 
--- what is told of a reason is told alike of two that are the same
+-- a function of reasons has equal values for two that compare Equal
 pub same_input : {X : Type 0} (told : Reason → X) (a b : Reason) → eq_by_cmp reason_order a b ≡ true
     → told a ≡ told b
 same_input told a b e = ap told (reasons_same a b (is_eq_Equal (reason_order a b) e))

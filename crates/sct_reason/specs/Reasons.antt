@@ -26,7 +26,7 @@ abbrev pub unlisted : Option OtherCode → Option Reason
 unlisted None = None
 unlisted (Some other) = Some (Unlisted other)
 
--- the first of two that is there
+-- the first of two reasons that is not none
 abbrev pub or_else : Option Reason → Option Reason → Option Reason
 or_else None s = s
 or_else (Some r) s = Some r
@@ -35,6 +35,6 @@ or_else (Some r) s = Some r
 unfoldable pub reason_of : List ℕ → Option Reason
 reason_of s = or_else (listed_reason s) (unlisted (other_of s))
 
--- by the bytes of their texts
+-- reasons are ordered by the bytes of their texts
 abbrev pub reason_order : Reason → Reason → Ordering
 reason_order a b = slice_cmp nat_cmp (reason_text a) (reason_text b)

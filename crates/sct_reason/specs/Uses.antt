@@ -29,7 +29,7 @@ usual_codes Return = codes "FOCR" ∷ []
 unfoldable pub is_among : List (List ℕ) → Reason → Bool
 is_among row r = list_any (is_text (reason_text r)) row
 
--- its text stands in the row of that use
+-- the reason's text is in the row of that use
 unfoldable pub is_usual : Reason → Use → Bool
 is_usual r purpose = is_among (usual_codes purpose) r
 
