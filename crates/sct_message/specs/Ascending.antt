@@ -5,7 +5,7 @@ use Rattle.std.specs.Prelude.{List, map}
 use Rattle.std.specs.declared.cmp.Ordering.{Ordering}
 use Rattle.std.specs.FinMap as finite
 
--- each with nothing beside it, as the entries of a map that holds keys alone
+-- each key with the unit value, as an entry of a map that holds keys alone
 abbrev pub alone : {K : Type 0} → List K → List (K × Unit {0})
 alone ks = map (λ k. (k, tt)) ks
 

@@ -12,7 +12,7 @@ use Rattle.sct_message.specs.declared.draft.Original.{Original}
 abbrev pub text_order : List ℕ → List ℕ → Ordering
 text_order = slice_cmp nat_cmp
 
--- lists of elements, element by element; an absent one comes first
+-- lists of elements, element by element; an absent element comes first
 abbrev pub elements_order : List (Option (List ℕ)) → List (Option (List ℕ)) → Ordering
 elements_order = slice_cmp (option_cmp text_order)
 

@@ -15,7 +15,7 @@ use Rattle.sct_message.specs.Cells.{text_order, elements_order}
 abbrev pub Cells : Type 0
 Cells = List (Option (List ℕ))
 
--- ---- one cell; where there is none any value will do
+-- ---- one cell; for an absent cell any value will do
 
 abbrev pub may_cell : ℕ → Cells → Option (List ℕ)
 may_cell n es = get_or es n None

@@ -12,7 +12,7 @@ use Rattle.sct_message.specs.declared.draft.Resolution.{Resolution}
 use Rattle.sct_message.specs.declared.draft.Draft.TheVariants as draft
 use Rattle.sct_message.specs.Recalls.{Recalls}
 
--- the kind
+-- the kind of a message
 abbrev pub kind_of : Draft → Kind
 kind_of (draft.CreditTransfer d) = Pacs008
 kind_of (draft.StatusReport d) = Pacs002
@@ -21,7 +21,7 @@ kind_of (draft.CancellationRequest d) = Camt056
 kind_of (draft.PaymentReturn d) = Pacs004
 kind_of (draft.Resolution d) = Camt029
 
--- what the message begins with
+-- the head, which every message begins with
 abbrev pub head_of : Draft → Head
 head_of (draft.CreditTransfer d) = d.head
 head_of (draft.StatusReport d) = d.head
@@ -39,7 +39,7 @@ originals_of (draft.CancellationRequest d) = map (λ tx. tx.original) d.txs
 originals_of (draft.PaymentReturn d) = d.original ∷ []
 originals_of (draft.Resolution d) = d.original ∷ []
 
--- the currency of the amounts, once for each transaction of a recall message; none in the kinds without an amount
+-- the currency of the amounts, once for each transaction of a recall message; empty for the kinds without an amount
 abbrev pub currencies_of : Draft → List (List ℕ)
 currencies_of (draft.CreditTransfer d) = d.currency ∷ []
 currencies_of (draft.StatusReport d) = []
@@ -48,7 +48,7 @@ currencies_of (draft.CancellationRequest d) = map (λ tx. tx.currency) d.txs
 currencies_of (draft.PaymentReturn d) = d.currency ∷ []
 currencies_of (draft.Resolution d) = []
 
--- ---- the elements of one kind, and none in a message of another kind
+-- ---- the elements of one kind; none for a message of another kind
 
 abbrev pub credit_transfer_of : Draft → Option CreditTransfer
 credit_transfer_of (draft.CreditTransfer d) = Some d

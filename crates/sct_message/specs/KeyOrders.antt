@@ -19,25 +19,25 @@ recall_key transfer cxl = record { transfer = transfer; cxl = cxl }
 
 -- ---- the orders of keys, each by its parts in turn
 
--- kinds are ordered by their text
+-- kinds are ordered by their texts
 abbrev pub kind_order : Kind → Kind → Ordering
 kind_order j k = text_order (kind_text j) (kind_text k)
 
--- identities by sender, kind and message identification
+-- identities are ordered by sender, kind and message identification
 abbrev pub identity_order : Identity → Identity → Ordering
 identity_order i j =
     ordering_then (text_order i.sender j.sender)
     (ordering_then (kind_order i.kind j.kind) (text_order i.msg_id j.msg_id))
 
--- transfer keys by originator bank and transaction identification
+-- transfer keys are ordered by originator bank and transaction identification
 abbrev pub transfer_order : TransferKey → TransferKey → Ordering
 transfer_order s t = ordering_then (text_order s.debtor_agent t.debtor_agent) (text_order s.tx t.tx)
 
--- recall keys by transfer and identification of the recall
+-- recall keys are ordered by transfer and identification of the recall
 abbrev pub recall_order : RecallKey → RecallKey → Ordering
 recall_order q r = ordering_then (transfer_order q.transfer r.transfer) (text_order q.cxl r.cxl)
 
--- ---- the same in every part, as a test
+-- ---- equality in every part, as a test
 
 abbrev pub same_identity : Identity → Identity → Bool
 same_identity = eq_by_cmp identity_order

@@ -40,6 +40,6 @@ kinds =
     ∷ Pacs028
     ∷ []
 
--- the kind of which a text is a name
+-- the kind that a text is a name of
 abbrev pub kind_named : List ℕ → Option Kind
 kind_named s = find (λ kind. is_name_of kind s) kinds

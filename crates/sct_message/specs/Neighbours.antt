@@ -3,12 +3,12 @@ use Rattle.std.specs.Prelude.{◌||◌, Bool, false, List, [], ◌∷◌}
 use Rattle.sct_message.specs.declared.draft.RecallTx.{RecallTx}
 use Rattle.sct_message.specs.Recalls.{have_same_recall}
 
--- a transaction is one recall of one transfer with the first of those behind it
+-- a transaction and the next one make the same recall of the same transfer
 abbrev pub recalls_next : RecallTx → List RecallTx → Bool
 recalls_next tx [] = false
 recalls_next tx (next ∷ others) = have_same_recall tx next
 
--- two neighbours are one recall of one transfer
+-- two neighbours make the same recall of the same transfer
 abbrev pub repeats_next : List RecallTx → Bool
 repeats_next [] = false
 repeats_next (tx ∷ txs) = recalls_next tx txs || repeats_next txs

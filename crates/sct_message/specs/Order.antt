@@ -70,13 +70,13 @@ elements_of (Resolution d) =
     ∷ Some d.debtor_agent
     ∷ []
 
--- two messages by their elements
+-- the order of two messages by their elements
 abbrev pub by_elements : Draft → Draft → Ordering
 by_elements a b = elements_order (elements_of a) (elements_of b)
 
 -- ---- the order of messages
 
--- sender, kind and message identification, and then all elements
+-- sender, kind and message identification, followed by all elements
 abbrev pub ranks_of : Draft → List (Option (List ℕ))
 ranks_of d =
     Some (head_of d).instructing_agent
@@ -84,10 +84,10 @@ ranks_of d =
     ∷ Some (head_of d).message_id
     ∷ elements_of d
 
--- messages by identity, and then by the elements; it answers Equal exactly where all elements are the same
+-- messages are ordered by identity and then by the elements; two compare Equal exactly if all their elements are equal
 unfoldable pub message_order : Draft → Draft → Ordering
 message_order a b = elements_order (ranks_of a) (ranks_of b)
 
--- the same in every element, as a test
+-- equality in every element, as a test
 abbrev pub same_message : Draft → Draft → Bool
 same_message = eq_by_cmp message_order

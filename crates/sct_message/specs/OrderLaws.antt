@@ -33,7 +33,7 @@ then_equal Less = refl
 then_equal Equal = refl
 then_equal Greater = refl
 
--- reasons compare as their codes do
+-- reasons compare by their codes
 pub reasons_by_code : (r s : Option Reason)
     → option_cmp reason_order r s ≡ option_cmp text_order (option_map reason_text r) (option_map reason_text s)
 reasons_by_code None None = refl
@@ -52,14 +52,14 @@ named_by_text Pacs028 = refl
 kinds_inside : {j k : Kind} → Some j ≡ Some k → j ≡ k
 kinds_inside e = cc
 
--- kinds of one text are one kind
+-- kinds with the same text are the same kind
 pub kinds_same : (j k : Kind) → kind_text j ≡ kind_text k → j ≡ k
 kinds_same j k e = kinds_inside (sym (named_by_text j) ∙ ap kind_named e ∙ named_by_text k)
 
 drafts_inside : {a b : Draft} → Some a ≡ Some b → a ≡ b
 drafts_inside e = cc
 
--- equal elements, equal messages
+-- messages with equal elements are equal
 ranks_same : (a b : Draft) → ranks_of a ≡ ranks_of b → a ≡ b
 ranks_same a b e = drafts_inside (sym (message_back a) ∙ ap message_from e ∙ message_back b)
 
@@ -74,13 +74,13 @@ message_same a b e = ranks_same a b (elements_same (ranks_of a) (ranks_of b) e)
 pub message_itself : (a b : Draft) → a ≡ b → message_order a b ≡ Equal
 message_itself a b e = subst (λ (d : Draft). message_order a d ≡ Equal) e (tied_itself message_total a)
 
--- what is told of a message by its elements is told alike of two that are the same
+-- a function of messages has equal values for two that compare Equal
 pub same_input : {X : Type 0} (told : Draft → X) (a b : Draft) → same_message a b ≡ true → told a ≡ told b
 same_input told a b e = ap told (message_same a b (is_eq_Equal (message_order a b) e))
 
 -- ---- the orders of keys
 
--- of two that are compared one after the other, both tie where the whole does
+-- if a comparison by two parts in turn is Equal, both parts compare Equal
 both_tie : (r s : Ordering) → ordering_then r s ≡ Equal → (r ≡ Equal) × (s ≡ Equal)
 both_tie Less s e = cc
 both_tie Equal s e = (refl, e)

@@ -12,7 +12,7 @@ use Rattle.sct_message.specs.declared.draft.RecallTx.{RecallTx}
 use Rattle.sct_message.specs.Recalls.{Recalls, tx_elements, recalls_elements, recalls_order}
 use Rattle.sct_message.specs.CellsBack.{Cells, text_in, cents, the_reason, reason_back, head_from, elements_same}
 
--- each ten cells are a transaction
+-- every ten cells are a transaction
 abbrev pub txs_from : Cells → List RecallTx
 txs_from (a ∷ b ∷ c ∷ d ∷ e ∷ f ∷ g ∷ h ∷ i ∷ j ∷ rest) = record {
   cancellation_id = text_in a;

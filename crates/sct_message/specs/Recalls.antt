@@ -11,7 +11,7 @@ use Rattle.sct_message.specs.declared.keys.RecallKey.{RecallKey}
 use Rattle.sct_message.specs.Cells.{elements_order, head_elements, original_elements}
 use Rattle.sct_message.specs.KeyOrders.{transfer_key, recall_key, same_recall}
 
--- a recall message: what it begins with, and the transactions that it recalls
+-- a recall message: its head, and the transactions that it recalls
 pub record Recalls : Type 0 where
   pub head : Head
   pub txs : List RecallTx
@@ -22,11 +22,11 @@ pub record Recalls : Type 0 where
 abbrev pub transfer_in : RecallTx → TransferKey
 transfer_in tx = transfer_key tx.debtor_agent tx.original.transaction_id
 
--- the recall that it is
+-- the recall that it makes
 abbrev pub recall_in : RecallTx → RecallKey
 recall_in tx = recall_key (transfer_in tx) tx.cancellation_id
 
--- two transactions are one recall of one transfer
+-- two transactions make the same recall of the same transfer
 abbrev pub have_same_recall : RecallTx → RecallTx → Bool
 have_same_recall s t = same_recall (recall_in s) (recall_in t)
 
@@ -44,10 +44,11 @@ tx_elements tx =
     ∷ Some tx.debtor_agent
     ∷ []
 
--- the head and then the transactions, one after the other
+-- the head, followed by the transactions one after another
 abbrev pub recalls_elements : Recalls → List (Option (List ℕ))
 recalls_elements r = head_elements r.head ++ flat_map tx_elements r.txs
 
--- element by element, and so transaction by transaction, where a list comes before each that it begins
+-- recall messages are ordered element by element, and so transaction by transaction; a
+-- list that begins another comes before it
 abbrev pub recalls_order : Recalls → Recalls → Ordering
 recalls_order a b = elements_order (recalls_elements a) (recalls_elements b)

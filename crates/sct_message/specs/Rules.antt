@@ -49,7 +49,8 @@ pub record CreditTransferFollowsRules (d : CreditTransfer) : Type 0 where
 pub record StatusReportFollowsRules (d : StatusReport) : Type 0 where
   pub confirms : ((d.status ≡ codes "ACCP") × IsNone d.reason) ⊎ ((d.status ≡ codes "RJCT") × IsSome d.reason)
 
--- A recall message has 1 to 100 transactions, each in euro, and no two of them are one recall of one transfer.
+-- A recall message has 1 to 100 transactions, each in euro, and no two of them make the
+-- same recall of the same transfer.
 pub record CancellationRequestFollowsRules (d : Recalls) : Type 0 where
   pub currency : AllByRecursion (λ tx. tx.currency ≡ codes "EUR") d.txs
   pub recalls : IsDistinct have_same_recall d.txs
@@ -87,11 +88,11 @@ kind_it_is_about (draft.CancellationRequest d) = Pacs008
 kind_it_is_about (draft.PaymentReturn d) = Pacs008
 kind_it_is_about (draft.Resolution d) = Pacs008
 
--- each original message's name is a name of that kind; nothing is asked of a message with no original
+-- the name of each original message is a name of that kind; a message without an original is right
 abbrev pub names_its_original : Draft → Bool
 names_its_original d = list_all (λ o. is_name_of (kind_it_is_about d) o.message_name) (originals_of d)
 
--- A message names its own kind, follows the rules of it, and names the kind of the message that it is about.
+-- A message names its own kind, follows the rules of that kind, and names the kind of the message that it is about.
 pub record FollowsRules (d : Draft) : Type 0 where
   pub name : IsTrue (is_name_of (kind_of d) (head_of d).message_name)
   pub kind : FollowsRulesOfKind d
@@ -99,14 +100,14 @@ pub record FollowsRules (d : Draft) : Type 0 where
 
 -- ---- the rules that a draft breaks
 
--- the text is no name of the kind
+-- the text is not a name of the kind
 abbrev pub IsNoName : Kind → List ℕ → Type 0
 IsNoName kind s = IsFalse (is_name_of kind s)
 
 abbrev pub IsNeither : List ℕ → List ℕ → List ℕ → Type 0
 IsNeither s t u = (s ≢ t) × (s ≢ u)
 
--- One line a rule. Of a kind without the element the rule asks nothing.
+-- One line for each rule. A draft of a kind without the element does not break the rule.
 abbrev pub Breaks : RuleFault → Draft → Type 0
 Breaks WrongName d = IsNoName (kind_of d) (head_of d).message_name
 Breaks WrongCurrency d = Any (λ currency. currency ≢ codes "EUR") (currencies_of d)
@@ -167,12 +168,12 @@ broken_in_kind (draft.CancellationRequest d) = broken_in_cancellation_request d
 broken_in_kind (draft.PaymentReturn d) = broken_in_payment_return d
 broken_in_kind (draft.Resolution d) = broken_in_resolution d
 
--- a transaction is one recall of one transfer with a later one
+-- two transactions make the same recall of the same transfer
 abbrev pub repeats : List RecallTx → Bool
 repeats [] = false
 repeats (tx ∷ txs) = list_any (have_same_recall tx) txs || repeats txs
 
--- a recall message may have so many transactions
+-- a recall message may have this number of transactions
 abbrev pub is_right_count : ℕ → Bool
 is_right_count n = nat_le 1 n && nat_le n 100
 
@@ -187,23 +188,23 @@ abbrev pub broken_in_list : Draft → Option RuleFault
 broken_in_list (draft.CancellationRequest d) = broken_by_transactions d.txs
 broken_in_list other = None
 
--- the first of two
+-- the first of two faults that is not none
 abbrev pub broken_first : Option RuleFault → Option RuleFault → Option RuleFault
 broken_first None later = later
 broken_first (Some broken) later = Some broken
 
--- the first by number of the rules that a draft breaks
+-- the first rule, by number, that a draft breaks
 unfoldable pub first_broken_rule : Draft → Option RuleFault
 first_broken_rule d = if not (is_name_of (kind_of d) (head_of d).message_name) then Some WrongName
     else broken_first (broken_in_kind d)
     (if not (names_its_original d) then Some WrongOriginalName else broken_in_list d)
 
--- the same but for the rules on the list of a recall message
+-- the first broken rule, except the rules on the list of a recall message
 unfoldable pub broken_before_list : Draft → Option RuleFault
 broken_before_list d = if not (is_name_of (kind_of d) (head_of d).message_name) then Some WrongName
     else broken_first (broken_in_kind d) (if not (names_its_original d) then Some WrongOriginalName else None)
 
--- a recall message of more transactions than are right
+-- a recall message with more transactions than are allowed
 abbrev pub is_long : Draft → Bool
 is_long (draft.CancellationRequest d) = not (nat_le (length d.txs) 100)
 is_long other = false

@@ -15,7 +15,7 @@ use Rattle.sct_message.specs.declared.keys.Identity.{Identity}
 abbrev pub MessageSet : Type 0
 MessageSet = set.FinSet message_order
 
--- the messages of a list of shared ones
+-- the messages of a list of shared messages
 abbrev pub messages_in : List (Arc Draft Global) → List Draft
 messages_in shared = map arc_value shared
 
@@ -39,7 +39,7 @@ is_contradicted held m =
     list_any (λ other. same_identity (identity_of other) (identity_of m) && not (same_message other m))
     (set.items held)
 
--- the messages whose identity is not contradicted in the set, and those whose identity is
+-- the clean messages of the set, whose identity is not contradicted, and then the contradicted ones
 abbrev pub clean_messages : MessageSet → List Draft
 clean_messages held = filter (λ m. not (is_contradicted held m)) (in_order held)
 

@@ -11,7 +11,7 @@ use Rattle.sct_message.specs.declared.draft.Draft.TheVariants.{CreditTransfer}
 use Rattle.sct_message.specs.declared.keys.Identity.{Identity}
 use Rattle.sct_message.specs.declared.keys.TransferKey.{TransferKey}
 
--- the message is, or is about, the transfer: it is one of its keys
+-- the message is on the transfer: the transfer is one of its keys
 abbrev pub is_on : TransferKey → Draft → Bool
 is_on transfer m = list_any (λ key. same_transfer key transfer) (transfers_of m)
 
@@ -19,12 +19,12 @@ is_on transfer m = list_any (λ key. same_transfer key transfer) (transfers_of m
 abbrev pub messages_on : MessageSet → TransferKey → List Draft
 messages_on held transfer = filter (is_on transfer) (clean_messages held)
 
--- its asides: the contradicted identities of which a message is on it, ascending
+-- the asides of a transfer: the contradicted identities that a message on it has, ascending
 abbrev pub asides_of : MessageSet → TransferKey → List Identity
 asides_of held transfer =
     ascending identity_order (map identity_of (filter (is_on transfer) (contradicted_messages held)))
 
--- the transfers of which the set has a message, ascending: its keys
+-- the keys of the set: the transfers that its messages are on, ascending
 abbrev pub keys_of : MessageSet → List TransferKey
 keys_of held = ascending transfer_order (flat_map transfers_of (set.items held))
 
@@ -32,12 +32,12 @@ abbrev pub is_instruction : Draft → Bool
 is_instruction (CreditTransfer d) = true
 is_instruction other = false
 
--- the one item of a list, where it has exactly one
+-- the one item of a list, if the list has exactly one
 abbrev pub sole : {X : Type 0} → List X → Option X
 sole [] = None
 sole (x ∷ []) = Some x
 sole (x ∷ (y ∷ ys)) = None
 
--- the instruction of a transfer, where exactly one clean message instructs it
+-- the instruction of a transfer, if exactly one clean message instructs it
 abbrev pub instruction_of : MessageSet → TransferKey → Option Draft
 instruction_of held transfer = sole (filter is_instruction (messages_on held transfer))
