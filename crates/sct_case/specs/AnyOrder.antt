@@ -9,11 +9,11 @@ use Rattle.sct_case.specs.Told.{findings_of}
 use Rattle.sct_case.specs.Statuses.{transfer_status_of, recall_status_of}
 use Rattle.sct_case.specs.Laws.{AreApart}
 
--- the same messages stand in both lists
+-- the lists have the same messages
 abbrev pub HaveSameMessages : List Draft → List Draft → Type 0
 HaveSameMessages clean other = (m : Draft) → Contains clean m ↔ Contains other m
 
--- The answers on the same messages, in another order, are the same.
+-- The same messages in another order have the same findings and statuses.
 pub record AnswersAlike (transfer : TransferKey) (clean other : List Draft) (asides : List Identity) : Type 0 where
   pub findings : findings_of transfer clean asides ≡ findings_of transfer other asides
   pub status : transfer_status_of transfer clean asides ≡ transfer_status_of transfer other asides

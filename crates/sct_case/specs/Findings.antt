@@ -46,7 +46,7 @@ pub record IsSoleInstruction (clean : List Draft) (instruction : Draft) : Type 0
   pub instructs : is_instruction instruction ≡ true
   pub sole : (other : Draft) → Contains clean other → is_instruction other ≡ true → other ≡ instruction
 
--- Exactly one message instructs the transfer, and a recall or a return names another original amount.
+-- Exactly one message instructs the transfer, and a recall or a return names an original amount that differs.
 pub record DoesAmountDiffer (transfer : TransferKey) (clean : List Draft) : Type 0 where
   pub instruction : Draft
   pub sole : IsSoleInstruction clean instruction
@@ -56,7 +56,7 @@ pub record DoesAmountDiffer (transfer : TransferKey) (clean : List Draft) : Type
   pub is_named : IsSaid (amounts_by transfer) clean named
   pub different : named.amount ≢ instructed.amount
 
--- Two recalls of that identification differ, in their original amount or their reason.
+-- Two recalls of that identification differ in their original amount or their reason.
 pub record DoRecallsDiffer (transfer : TransferKey) (clean : List Draft) (cxl : List ℕ) : Type 0 where
   pub one : RecallMade
   pub other : RecallMade
@@ -85,7 +85,7 @@ pub record DoRefusalsDiffer (transfer : TransferKey) (clean : List Draft) (cxl :
   pub other_of_it : other.cxl ≡ cxl
   pub different : one ≢ other
 
--- Two returns differ, in their identification, their recall or the amount that comes back.
+-- Two returns differ in their identification, their recall or the returned amount.
 pub record HasTwoReturns (transfer : TransferKey) (clean : List Draft) : Type 0 where
   pub one : ReturnMade
   pub other : ReturnMade
@@ -93,14 +93,14 @@ pub record HasTwoReturns (transfer : TransferKey) (clean : List Draft) : Type 0 
   pub other_made : IsSaid (returns_by transfer) clean other
   pub different : one ≢ other
 
--- Money comes back of a transfer that was rejected.
+-- Money was returned for a transfer that was rejected.
 pub record HasReturnOfRejected (transfer : TransferKey) (clean : List Draft) : Type 0 where
   pub return : ReturnMade
   pub returned : IsSaid (returns_by transfer) clean return
   pub reason : RejectionReason
   pub rejected : IsSaid rejections_by clean reason
 
--- The finding holds on a transfer, of which these are the clean messages and the contradicted identities.
+-- The finding holds for a transfer with these clean messages and these contradicted identities.
 abbrev pub IsFound : TransferKey → List Draft → List Identity → Finding → Type 0
 IsFound transfer clean asides (finding.Identity identity) = Contains asides identity
 IsFound transfer clean asides finding.TwoInstructions = HasTwoInstructions clean

@@ -14,20 +14,20 @@ use Rattle.sct_case.specs.declared.status.RecallStatus.{RecallStatus}
 use Rattle.sct_case.specs.Statuses.{amount_returned, answered, named_of_it, reason_refused, recalled, request_of_it}
 use Rattle.sct_case.specs.Told.{recall_of_it}
 
--- the list is in the order of the recalls that its items are about
+-- the list is sorted by the recalls that its items are about
 abbrev pub IsByRecall : {X : Type 0} → (X → List ℕ) → List X → Type 0
 IsByRecall recall said = IsSortedByKey recall text_order said
 
--- what is said of one recall
+-- the items about one recall
 abbrev pub said_of : {X : Type 0} → (X → List ℕ) → List ℕ → List X → List X
 said_of recall cxl said = filter (λ m. is_text (recall m) cxl) said
 
--- of each recall the one list says what the other says, in the same order
+-- the two lists have the same items about each recall, in the same order
 abbrev pub SayAlike : {X : Type 0} → (X → List ℕ) → List X → List X → Type 0
 SayAlike recall one other = (cxl : List ℕ) → said_of recall cxl one ≡ said_of recall cxl other
 
--- where a recall stands by all that is said of recalls: those that are named and made, and the returns, the refusals and
--- the requests for their status
+-- the status of a recall by all statements about recalls: those that name and those that make recalls, and the returns,
+-- the refusals and the requests for their status
 abbrev pub standing_by : List RecallNamed → List RecallMade → List ReturnMade → List RefusalMade → List RecallAsked → List ℕ → RecallStatus
 standing_by named made returns refusals requests cxl =
     recalled (list_any (named_of_it cxl) named) (list_any (recall_of_it cxl) made)

@@ -21,18 +21,18 @@ use Rattle.sct_case.specs.Said.{IsSaid, rejections_by, returns_by, refusals_by}
 use Rattle.sct_case.specs.Findings.{IsFound}
 use Rattle.sct_case.specs.Told.{findings_of}
 
--- no two of the messages have one identity, and so none stands twice among them
+-- no two of the messages have the same identity, so no message is among them twice
 abbrev pub AreApart : List Draft → Type 0
 AreApart [] = ⊤
 AreApart (m ∷ ms) = ((n : Draft) → Contains ms n → identity_of m ≢ identity_of n) × AreApart ms
 
--- a finding is told exactly where its relation holds
+-- a finding is reported exactly if its relation holds
 abbrev pub TellsExactly : Type 0
 TellsExactly = (transfer : TransferKey) (clean : List Draft) (asides : List Identity) → AreApart clean
     → (found : Finding) → Contains (findings_of transfer clean asides) found
     ↔ IsFound transfer clean asides found
 
--- ---- the order of findings: by their place, and those of one place by what they name
+-- ---- the order of findings: by their place in the list of findings, and in one place by what they name
 
 abbrev pub place : Finding → ℕ
 place (finding.Identity i) = 1
@@ -56,7 +56,7 @@ named_order f g = Equal
 abbrev pub finding_order : Finding → Finding → Ordering
 finding_order f g = ordering_then (nat_cmp (place f) (place g)) (named_order f g)
 
--- findings are told in that order, each once
+-- findings are reported in that order, each once
 abbrev pub TellsInOrder : Type 0
 TellsInOrder =
     (transfer : TransferKey) (clean : List Draft) (asides : List Identity)
@@ -69,7 +69,7 @@ TellsInOrder =
 abbrev pub findings_in : MessageSet → TransferKey → List Finding
 findings_in held transfer = findings_of transfer (messages_on held transfer) (asides_of held transfer)
 
--- every message of the one set is in the other
+-- every message of the first set is in the second
 abbrev pub IsWithin : MessageSet → MessageSet → Type 0
 IsWithin held larger = (m : Draft) → set.contains held m ≡ true → set.contains larger m ≡ true
 
@@ -83,9 +83,9 @@ ContradictionsStay =
 abbrev pub MessagesAreApart : Type 0
 MessagesAreApart = (held : MessageSet) (transfer : TransferKey) → AreApart (messages_on held transfer)
 
--- ---- what is told where nothing was found
+-- ---- transfers without findings
 
--- all rejections give one reason, all returns are one, and all refusals of one recall give one reason
+-- all rejections give one reason, all returns are equal, and all refusals of one recall give one reason
 pub record SaysOneThing (transfer : TransferKey) (clean : List Draft) : Type 0 where
   pub rejections : (one other : RejectionReason) → IsSaid rejections_by clean one
       → IsSaid rejections_by clean other → one ≡ other

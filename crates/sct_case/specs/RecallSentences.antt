@@ -15,7 +15,7 @@ use Rattle.sct_case.specs.Statuses.{recall_status_of}
 use Rattle.sct_case.specs.Sentences.{IsConsistent, Not}
 use Rattle.sct_case.specs.Laws.{AreApart}
 
--- a message names the recall, whatever it says of it
+-- a message names the recall, in whatever way
 abbrev pub IsNamed : TransferKey → List Draft → List ℕ → Type 0
 IsNamed transfer clean cxl = IsSaid (recalls_named_by transfer) clean (record { cxl = cxl })
 
@@ -23,7 +23,7 @@ IsNamed transfer clean cxl = IsSaid (recalls_named_by transfer) clean (record { 
 abbrev pub IsMade : TransferKey → List Draft → List ℕ → Type 0
 IsMade transfer clean cxl = (made : RecallMade) × IsSaid (recalls_by transfer) clean made × (made.cxl ≡ cxl)
 
--- that amount comes back after the recall
+-- that amount was returned after the recall
 abbrev pub IsReturnedAfter : TransferKey → List Draft → List ℕ → ℕ → Type 0
 IsReturnedAfter transfer clean cxl amount =
     (made : ReturnMade) × IsSaid (returns_by transfer) clean made × (made.cxl ≡ cxl) × (made.amount ≡ amount)
@@ -36,13 +36,13 @@ IsRefusedFor transfer clean cxl reason =
 abbrev pub IsChased : TransferKey → List Draft → List ℕ → Type 0
 IsChased transfer clean cxl = IsSaid (requests_by transfer) clean (record { cxl = cxl })
 
--- The recall was made, and nothing contradicts itself on its transfer.
+-- The recall was made, and its transfer has no finding.
 pub record RecallGoes (transfer : TransferKey) (clean : List Draft) (asides : List Identity) (cxl : List ℕ) : Type 0 where
   pub consistent : IsConsistent transfer clean asides
   pub named : IsNamed transfer clean cxl
   pub made : IsMade transfer clean cxl
 
--- No money comes back after it, and nobody refused it.
+-- No money was returned after the recall, and nobody refused it.
 pub record IsUnanswered (transfer : TransferKey) (clean : List Draft) (cxl : List ℕ) : Type 0 where
   pub not_returned : Not ((amount : ℕ) × IsReturnedAfter transfer clean cxl amount)
   pub not_refused : Not ((reason : Reason) × IsRefusedFor transfer clean cxl reason)
@@ -63,7 +63,7 @@ IsRecallStatus transfer clean asides cxl recall.Chased =
 IsRecallStatus transfer clean asides cxl recall.Open =
     RecallGoes transfer clean asides cxl × IsUnanswered transfer clean cxl × Not (IsChased transfer clean cxl)
 
--- each status of a recall is told exactly where its sentence holds
+-- each status of a recall is returned exactly if its sentence holds
 abbrev pub TellsEachRecallStatus : Type 0
 TellsEachRecallStatus =
     (transfer : TransferKey) (clean : List Draft) (asides : List Identity) (cxl : List ℕ) → AreApart clean

@@ -21,13 +21,13 @@ use Rattle.sct_case.specs.declared.said.RefusalMade.{RefusalMade}
 use Rattle.sct_case.specs.declared.said.RecallAsked.{RecallAsked}
 use Rattle.sct_case.specs.declared.said.RecallNamed.{RecallNamed}
 
--- One of the messages says it, in the way of saying that is named.
+-- One of the messages makes the statement, as a statement of the named sort.
 pub record IsSaid {X : Type 0} (by : Draft → List X) (clean : List Draft) (said : X) : Type 0 where
   pub message : Draft
   pub held : Contains clean message
   pub says : Contains (by message) said
 
--- ---- of the transfer itself: its instruction, its confirmations and the requests for its status
+-- ---- about the transfer itself: its instruction, its confirmations and the requests for its status
 
 -- an instruction (pacs.008), by its amount
 abbrev pub instructions_by : Draft → List InstructedAmount
@@ -43,7 +43,7 @@ abbrev pub reasons_in : Option Reason → List RejectionReason
 reasons_in None = []
 reasons_in (Some reason) = record { reason = reason } ∷ []
 
--- a rejection (pacs.002, RJCT), by its reason, which the rules of the kind ask for
+-- a rejection (pacs.002, RJCT), by its reason, which the rules of the kind require
 abbrev pub rejections_by : Draft → List RejectionReason
 rejections_by (StatusReport d) = if is_text d.status (codes "RJCT") then reasons_in d.reason else []
 rejections_by other = []
@@ -53,13 +53,13 @@ abbrev pub is_investigation : Draft → Bool
 is_investigation (StatusRequest d) = is_none d.cancellation_id
 is_investigation other = false
 
--- ---- of its recalls: what a message says under the key of another transfer is not said of them
+-- ---- about its recalls: a statement under the key of another transfer is not about them
 
 abbrev pub where_of : {X : Type 0} → TransferKey → TransferKey → List X → List X
 where_of transfer key said = if same_transfer key transfer then said else []
 
--- the recalls that it makes (camt.056), one for each of its transactions on the transfer, by its identification, the
--- original amount that it names, and its reason
+-- the recalls that it makes (camt.056), one for each of its transactions on the transfer: the identification, the
+-- original amount that it names, and the reason
 abbrev pub made_in : TransferKey → RecallTx → List RecallMade
 made_in transfer tx =
     where_of transfer (transfer_in tx)
@@ -80,7 +80,7 @@ amounts_by transfer (PaymentReturn d) =
     (record { amount = d.original_amount } ∷ [])
 amounts_by transfer other = []
 
--- the returns that it makes (pacs.004), each by its identification, its recall, and the amount that comes back
+-- the returns that it makes (pacs.004), each by its identification, its recall, and the returned amount
 abbrev pub returns_by : TransferKey → Draft → List ReturnMade
 returns_by transfer (PaymentReturn d) =
     where_of transfer (transfer_key d.debtor_agent d.original.transaction_id)
@@ -94,7 +94,7 @@ refusals_by transfer (Resolution d) =
     (record { cxl = d.cancellation_id; reason = d.reason } ∷ [])
 refusals_by transfer other = []
 
--- the recalls whose status it asks for (pacs.028 that names one)
+-- the recalls whose status it asks for (a pacs.028 that names one)
 abbrev pub cancellations_in : Option (List ℕ) → List RecallAsked
 cancellations_in None = []
 cancellations_in (Some cxl) = record { cxl = cxl } ∷ []
@@ -104,7 +104,7 @@ requests_by transfer (StatusRequest d) =
     where_of transfer (transfer_key d.debtor_agent d.original.transaction_id) (cancellations_in d.cancellation_id)
 requests_by transfer other = []
 
--- the recalls of the transfer that it names, whatever it says of them
+-- the recalls of the transfer that it names, in whatever way
 abbrev pub named_in : TransferKey → RecallKey → List RecallNamed
 named_in transfer recall = where_of transfer recall.transfer (record { cxl = recall.cxl } ∷ [])
 

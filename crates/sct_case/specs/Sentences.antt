@@ -27,7 +27,7 @@ IsRejected clean = (reason : Reason) × IsRejectedFor clean reason
 abbrev pub IsAccepted : List Draft → Type 0
 IsAccepted clean = (m : Draft) × Contains clean m × (is_acceptance m ≡ true)
 
--- that amount comes back
+-- that amount was returned
 abbrev pub IsReturned : TransferKey → List Draft → ℕ → Type 0
 IsReturned transfer clean amount =
     (made : ReturnMade) × IsSaid (returns_by transfer) clean made × (made.amount ≡ amount)
@@ -38,7 +38,7 @@ IsInvestigated clean = (m : Draft) × Contains clean m × (is_investigation m �
 abbrev pub Not : Type 0 → Type 0
 Not A = A → ⊥
 
--- A message instructs the transfer, none rejects it, and nothing contradicts itself.
+-- A message instructs the transfer, no message rejects it, and it has no finding.
 pub record Goes (transfer : TransferKey) (clean : List Draft) (asides : List Identity) : Type 0 where
   pub consistent : IsConsistent transfer clean asides
   pub instructed : IsInstructed clean
@@ -60,7 +60,7 @@ IsStatus transfer clean asides Investigated =
 IsStatus transfer clean asides Pending =
     Goes transfer clean asides × Not (IsAccepted clean) × Not (IsInvestigated clean)
 
--- each status is told exactly where its sentence holds
+-- each status is returned exactly if its sentence holds
 abbrev pub TellsEachStatus : Type 0
 TellsEachStatus = (transfer : TransferKey) (clean : List Draft) (asides : List Identity) → AreApart clean
     → (stands : Standing) → (transfer_status_of transfer clean asides ≡ stands)

@@ -20,7 +20,7 @@ use Rattle.sct_case.specs.Told.{findings_of, has_some, recall_of_it, return_of_i
 
 -- ---- the transfer
 
--- A status with its findings as a list.
+-- A status whose findings are a list.
 pub data Standing : Type 0 where
   Contradicted : List Finding → Standing
   Unknown : Standing
@@ -31,7 +31,7 @@ pub data Standing : Type 0 where
   Investigated : Standing
   Pending : Standing
 
--- what a status tells
+-- the status with its findings as a list
 abbrev pub told : Status → Standing
 told (status.Contradicted found) = Contradicted found.items
 told status.Unknown = Unknown
@@ -46,44 +46,44 @@ abbrev pub first : {X : Type 0} → List X → Option X
 first [] = None
 first (x ∷ xs) = Some x
 
--- the reason of the first rejection; where nothing was found, all rejections give the same one
+-- the reason of the first rejection; if there is no finding, all rejections give the same reason
 abbrev pub rejection_told : List Draft → Option Reason
 rejection_told clean = option_map (λ r. r.reason) (first (flat_map rejections_by clean))
 
--- the amount of the first return; where nothing was found, all returns give the same one
+-- the amount of the first return; if there is no finding, all returns have the same amount
 abbrev pub return_told : TransferKey → List Draft → Option ℕ
 return_told transfer clean = option_map (λ r. r.amount) (first (flat_map (returns_by transfer) clean))
 
--- accepted and money comes back; accepted; its status was asked for; nothing beyond the instruction
+-- four cases: accepted with a return; accepted; its status was asked for; nothing but the instruction
 abbrev pub confirmed : Bool → Option ℕ → Bool → Standing
 confirmed true (Some amount) investigated = Returned amount
 confirmed true None investigated = Accepted
 confirmed false amount true = Investigated
 confirmed false amount false = Pending
 
--- rejected; else as it was confirmed
+-- two cases: rejected; otherwise as confirmed
 abbrev pub instructed : Option Reason → Bool → Option ℕ → Bool → Standing
 instructed (Some reason) accepted amount investigated = Rejected reason
 instructed None accepted amount investigated = confirmed accepted amount investigated
 
--- no instruction; else as it was instructed
+-- two cases: no instruction; otherwise as instructed
 abbrev pub known : Bool → Option Reason → Bool → Option ℕ → Bool → Standing
 known false reason accepted amount investigated = Missing
 known true reason accepted amount investigated = instructed reason accepted amount investigated
 
--- where a transfer stands of which messages are known and nothing was found
+-- the status of a transfer that has messages and no finding
 abbrev pub standing_of : TransferKey → List Draft → Standing
 standing_of transfer clean =
     known (has_some (flat_map instructions_by clean)) (rejection_told clean) (list_any is_acceptance clean)
     (return_told transfer clean) (list_any is_investigation clean)
 
--- something contradicts itself; nothing is known; else as it is known
+-- three cases: there is a finding; there is no message; otherwise the given status
 abbrev pub first_standing : List Finding → Bool → Standing → Standing
 first_standing (f ∷ found) unknown stands = Contradicted (f ∷ found)
 first_standing [] true stands = Unknown
 first_standing [] false stands = stands
 
--- no message is on the transfer, and none of a contradicted identity
+-- no message is on the transfer, neither a clean one nor one of a contradicted identity
 abbrev pub is_unknown : List Draft → List Identity → Bool
 is_unknown clean asides = (length clean == 0) && (length asides == 0)
 
@@ -91,7 +91,7 @@ unfoldable pub transfer_status_of : TransferKey → List Draft → List Identity
 transfer_status_of transfer clean asides =
     first_standing (findings_of transfer clean asides) (is_unknown clean asides) (standing_of transfer clean)
 
--- ---- a recall of it
+-- ---- a recall of the transfer
 
 abbrev pub named_of_it : List ℕ → RecallNamed → Bool
 named_of_it cxl named = is_text named.cxl cxl
@@ -105,14 +105,14 @@ amount_returned cxl returns = option_map (λ r. r.amount) (find (return_of_it cx
 abbrev pub reason_refused : List ℕ → List RefusalMade → Option Reason
 reason_refused cxl refusals = option_map (λ r. r.reason) (find (refusal_of_it cxl) refusals)
 
--- money comes back; it was refused; its status was asked for; it is not answered
+-- four cases: money was returned; it was refused; its status was asked for; it is not answered
 abbrev pub answered : Option ℕ → Option Reason → Bool → RecallStatus
 answered (Some amount) reason chased = recall.Returned amount
 answered None (Some reason) chased = recall.Refused reason
 answered None None true = recall.Chased
 answered None None false = recall.Open
 
--- no message names the recall; none makes it; else as it was answered
+-- three cases: no message names the recall; no message makes it; otherwise as answered
 abbrev pub recalled : Bool → Bool → RecallStatus → RecallStatus
 recalled false made stands = recall.Unknown
 recalled true false stands = recall.Unasked
@@ -129,12 +129,12 @@ answer_of transfer clean cxl =
     answered (amount_returned cxl (flat_map (returns_by transfer) clean)) (reason_refused cxl (flat_map (refusals_by transfer) clean))
     (list_any (request_of_it cxl) (flat_map (requests_by transfer) clean))
 
--- where a recall stands on whose transfer nothing was found
+-- the status of a recall whose transfer has no finding
 abbrev pub recall_standing_of : TransferKey → List Draft → List ℕ → RecallStatus
 recall_standing_of transfer clean cxl =
     recalled (is_named transfer clean cxl) (is_made transfer clean cxl) (answer_of transfer clean cxl)
 
--- something contradicts itself on the transfer; else as the recall stands
+-- two cases: the transfer has a finding; otherwise the given status
 abbrev pub first_recall : List Finding → RecallStatus → RecallStatus
 first_recall (f ∷ found) stands = recall.Contradicted
 first_recall [] stands = stands

@@ -19,7 +19,7 @@ use Rattle.sct_case.specs.declared.said.ReturnMade.{ReturnMade}
 use Rattle.sct_case.specs.declared.said.RefusalMade.{RefusalMade}
 use Rattle.sct_case.specs.Said.{is_acceptance, instructions_by, rejections_by, recalls_by, amounts_by, returns_by, refusals_by}
 
--- ---- things said, compared in all their parts
+-- ---- statements, compared in all their parts
 
 abbrev pub same_reason : RejectionReason → RejectionReason → Bool
 same_reason one other = is_text (reason_text one.reason) (reason_text other.reason)
@@ -37,20 +37,20 @@ abbrev pub same_refusal : RefusalMade → RefusalMade → Bool
 same_refusal one other =
     is_text one.cxl other.cxl && is_text (reason_text one.reason) (reason_text other.reason)
 
--- ---- some of a list differ
+-- ---- items of a list that differ
 
 abbrev pub differ_from : {X : Type 0} → (X → Bool) → (X → X → Bool) → Option X → List X → Bool
 differ_from among same None xs = false
 differ_from among same (Some one) xs = list_any (λ other. among other && not (same one other)) xs
 
--- of those that pass the test, one differs from the first
+-- among the items that pass the test, one differs from the first
 abbrev pub differ_among : {X : Type 0} → (X → Bool) → (X → X → Bool) → List X → Bool
 differ_among among same xs = differ_from among same (find among xs) xs
 
 abbrev pub differ : {X : Type 0} → (X → X → Bool) → List X → Bool
 differ same xs = differ_among (λ x. true) same xs
 
--- ---- the ten tests, over what the messages say
+-- ---- the ten tests, over the statements of the messages
 
 abbrev pub has_some : {X : Type 0} → List X → Bool
 has_some xs = not (length xs == 0)
@@ -64,7 +64,7 @@ is_both_confirmed clean = list_any is_acceptance clean && has_some (flat_map rej
 abbrev pub do_reasons_differ : List Draft → Bool
 do_reasons_differ clean = differ same_reason (flat_map rejections_by clean)
 
--- of exactly one instruction: another amount is named
+-- there is exactly one instruction, and another amount is named
 abbrev pub names_another : List InstructedAmount → List OriginalAmount → Bool
 names_another [] named = false
 names_another (instructed ∷ []) named = list_any (λ other. not (nat_eq other.amount instructed.amount)) named
@@ -87,7 +87,7 @@ refusal_of_it cxl made = is_text made.cxl cxl
 abbrev pub cxls : List (List ℕ) → List (List ℕ)
 cxls found = ascending text_order found
 
--- the findings on those of some recalls that are made in differing ways, answered in both, refused in differing ways
+-- the findings on the recalls in a list: those made in different ways, answered in both ways, refused in different ways
 abbrev pub differing_recalls : List RecallMade → List (List ℕ) → List Finding
 differing_recalls made cs =
     map (λ c. finding.RecallsDiffer c) (filter (λ c. differ_among (recall_of_it c) same_recall made) cs)
@@ -123,7 +123,7 @@ has_return_of_rejected transfer clean =
 abbrev pub where_found : Bool → Finding → List Finding
 where_found holds found = if holds then found ∷ [] else []
 
--- those of the contradicted identities, the instruction and its confirmations
+-- the findings on the contradicted identities, the instruction and its confirmations
 unfoldable pub findings_of_instruction : TransferKey → List Draft → List Identity → List Finding
 findings_of_instruction transfer clean asides =
     map (λ i. finding.Identity i) asides
@@ -132,7 +132,7 @@ findings_of_instruction transfer clean asides =
     ++ where_found (do_reasons_differ clean) finding.ReasonsDiffer
     ++ where_found (does_amount_differ transfer clean) finding.AmountDiffers
 
--- those of each recall, ascending
+-- the findings on each recall, ascending
 abbrev pub told_recalls : TransferKey → List Draft → List Finding
 told_recalls transfer clean =
     map (λ c. finding.RecallsDiffer c) (recalls_that_differ (flat_map (recalls_by transfer) clean))
@@ -145,7 +145,7 @@ abbrev pub told_refusals : TransferKey → List Draft → List Finding
 told_refusals transfer clean =
     map (λ c. finding.RefusalsDiffer c) (refusals_that_differ (flat_map (refusals_by transfer) clean))
 
--- those of the recalls and their answers
+-- the findings on the recalls and their answers
 unfoldable pub findings_of_recalls : TransferKey → List Draft → List Finding
 findings_of_recalls transfer clean =
     told_recalls transfer clean
@@ -154,7 +154,7 @@ findings_of_recalls transfer clean =
     ++ where_found (has_two_returns transfer clean) finding.TwoReturns
     ++ where_found (has_return_of_rejected transfer clean) finding.ReturnOfRejected
 
--- all that contradicts itself
+-- all findings of a transfer
 unfoldable pub findings_of : TransferKey → List Draft → List Identity → List Finding
 findings_of transfer clean asides =
     findings_of_instruction transfer clean asides ++ findings_of_recalls transfer clean
