@@ -17,19 +17,19 @@ use Rattle.sct_set.specs.declared.added.Added.TheVariants as added
 use Rattle.sct_set.specs.Contents.{Contents}
 pub use Rattle.sct_set.specs.Contradictions.{IsContradicted, is_disputed, contradicted_identities}
 
--- ---- how a message comes
+-- ---- the answer to a message that is added
 
 -- some message of the set has the identity
 abbrev pub has_identity : Contents → Identity → Bool
 has_identity contents identity =
     list_any (λ held. same_identity (identity_of held) identity) (set.items contents)
 
--- how a message that the set does not hold comes to it, by whether another of its identity is held
+-- the answer to a message that the set does not hold, by whether another of its identity is held
 abbrev pub added_where : Bool → Added
 added_where has_another = if has_another then added.Against else added.Fresh
 
--- how a message comes to the set: as a repeat where it is held; against the set where it is not held
--- and another message of its identity is; fresh otherwise
+-- the answer to a message: a repeat if it is held; against if it is not held and another
+-- message of its identity is; fresh otherwise
 unfoldable pub added_of : Contents → Draft → Added
 added_of contents draft =
     if set.contains contents draft then added.Repeat
@@ -37,12 +37,12 @@ added_of contents draft =
 
 -- ---- the archive text
 
--- by written text, and then by elements: so that this is a total order whatever the written texts are.
--- Where a text is written for one message alone the elements are never asked
+-- by written text, and then by elements, so that this is a total order whatever the written texts are. If no two
+-- messages have one written text, the elements are never compared.
 abbrev pub written_order : Draft → Draft → Ordering
 written_order a b = ordering_then (slice_cmp nat_cmp (written_text a) (written_text b)) (message_order a b)
 
--- by identity and then by written text
+-- messages are ordered by identity and then by written text
 unfoldable pub line_order : Draft → Draft → Ordering
 line_order a b = ordering_then (identity_order (identity_of a) (identity_of b)) (written_order a b)
 
@@ -58,10 +58,10 @@ line_of draft = written_text draft ++ 10 ∷ []
 unfoldable pub archive_text_of : Contents → List ℕ
 archive_text_of contents = flat_map line_of (in_text_order contents)
 
--- a message is what its written text is read as
+-- the written text of a message is read as that message
 abbrev pub IsReadAgain : Draft → Type 0
 IsReadAgain draft = message_in (written_text draft) ≡ Ok draft
 
--- each message of the set is what its written text is read as
+-- the written text of each message of the set is read as that message
 abbrev pub AreReadAgain : Contents → Type 0
 AreReadAgain contents = (draft : Draft) → set.contains contents draft ≡ true → IsReadAgain draft

@@ -8,10 +8,10 @@ abbrev pub items_in : {V : Type 0} → Option (Vec V) → List V
 items_in None = []
 items_in (Some v) = v.items
 
--- the list at a key, empty where the map has none
+-- the list at a key, empty if the map does not have the key
 abbrev pub bucket : {K V S : Type 0} → (K → K → Bool) → IndexMap K (Vec V) S → K → List V
 bucket eq m k = items_in (get eq m k)
 
--- the map has a key exactly where there is an item of it: no key stays behind with an empty list
+-- the map has a key exactly if the key has an item: no key is left with an empty list
 abbrev pub HasNoEmptyList : {K V S : Type 0} → (K → K → Bool) → IndexMap K (Vec V) S → Type 0
 HasNoEmptyList eq m = (k : _) → is_some (get eq m k) ≡ nat_lt 0 (length (bucket eq m k))

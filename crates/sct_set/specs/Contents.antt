@@ -4,7 +4,7 @@ use Rattle.std.specs.Prelude.{◌≡◌, List, length}
 use Rattle.sct_message.specs.declared.draft.Draft.{Draft}
 use Rattle.sct_message.specs.Sets.{MessageSet}
 
--- what an archive holds: a finite set of messages
+-- the contents of an archive: a finite set of messages
 abbrev pub Contents : Type 0
 Contents = MessageSet
 
@@ -12,7 +12,7 @@ Contents = MessageSet
 abbrev pub contents_of : List Draft → Contents
 contents_of drafts = set.from_list drafts
 
--- no message stands twice in a list: it is as long as its set is large
+-- no message is in a list twice: the list is as long as its set is large
 abbrev pub HasNoRepeat : List Draft → Type 0
 HasNoRepeat drafts = set.len (contents_of drafts) ≡ length drafts
 

@@ -10,7 +10,7 @@ use Rattle.sct_set.specs.Contents.{Contents}
 use Rattle.sct_message.specs.Sets.{in_order}
 pub use Rattle.sct_message.specs.Sets.{IsContradicted, is_contradicted as is_disputed}
 
--- the message is another one with the identity of the first
+-- the other message differs from the first and has its identity
 abbrev pub is_rival : Draft → Draft → Bool
 is_rival draft other = same_identity (identity_of other) (identity_of draft) && not (same_message other draft)
 
@@ -19,7 +19,7 @@ unfoldable pub contradicted_identities : Contents → List Identity
 contradicted_identities contents =
     ascending identity_order (map identity_of (filter (is_disputed contents) (set.items contents)))
 
--- the messages of the set that have the identity, where it is not contradicted: at most one
+-- the messages of the set that have the identity, if it is not contradicted: at most one
 abbrev pub undisputed_of : Contents → Identity → List Draft
 undisputed_of contents identity =
     filter (λ draft. same_identity (identity_of draft) identity && not (is_disputed contents draft)) (in_order contents)

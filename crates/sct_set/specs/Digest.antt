@@ -5,6 +5,6 @@ use Rattle.std.specs.Hash.FoldHasher as folding
 use Rattle.sct_message.specs.declared.draft.Draft.{Draft}
 use Rattle.sct_message.specs.contracts.messages.MessageHash.TheImpl as hashed
 
--- what the hasher of std makes of a message's elements
+-- the number that the hasher of std computes from a message's elements
 unfoldable pub digest_of : Draft → ℕ
 digest_of draft = folding.finish (fold folding.write folding.initial (hashed.ghosts.hash_input draft))

@@ -11,11 +11,11 @@ use Rattle.sct_set.specs.Drafts.{drafts_of}
 abbrev pub group_of : List Draft → Identity → List Draft
 group_of drafts identity = ascending line_order (drafts_of identity drafts)
 
--- the messages of some identities, in the order of the identities
+-- the messages of these identities, in the order of the identities
 abbrev pub groups_of : List Draft → List Identity → List Draft
 groups_of drafts identities = flat_map (group_of drafts) identities
 
--- the text is the lines of these messages, and each of them is read again
+-- the text is the lines of these messages, and the written text of each is read as the message
 pub record AreWritten (drafts : List Draft) (identities : List Identity) (written : List ℕ) : Type 0 where
   pub text : written ≡ flat_map line_of (groups_of drafts identities)
   pub again : All IsReadAgain (groups_of drafts identities)

@@ -12,7 +12,7 @@ use Rattle.sct_set.specs.Archive.{added_of, archive_text_of, in_text_order, line
 use Rattle.sct_set.specs.Contents.{Contents, contents_of, HaveSameMessages}
 use Rattle.sct_set.specs.Contradictions.{IsContradicted, contradicted_identities}
 
--- ---- contents are merged as sets are joined
+-- ---- a merge is the union of the contents
 
 abbrev pub IsAssociative : Type 0
 IsAssociative = (a b c : Contents) → set.union (set.union a b) c ≡ set.union a (set.union b c)
@@ -23,14 +23,14 @@ IsCommutative = (a b : Contents) → set.union a b ≡ set.union b a
 abbrev pub IsIdempotent : Type 0
 IsIdempotent = (a : Contents) → set.union a a ≡ a
 
--- a message is held after a merge exactly where one side held it
+-- a message is held after a merge exactly if one side held it
 abbrev pub HoldsBothSides : Type 0
 HoldsBothSides = (a b : Contents) (draft : Draft)
     → set.contains (set.union a b) draft ≡ (set.contains a draft || set.contains b draft)
 
 -- ---- equal sets
 
--- the same bytes are given, and the same contradictions named
+-- the archive texts are the same bytes, and the contradictions are equal
 pub record AnswerAlike (a b : Contents) : Type 0 where
   pub texts : archive_text_of a ≡ archive_text_of b
   pub contradictions : contradicted_identities a ≡ contradicted_identities b
@@ -41,17 +41,16 @@ EqualSetsAnswerAlike = (a b : Contents) → HaveSameMessages a b → AnswerAlike
 
 -- ---- contradictions
 
--- an identity is told as contradicted exactly where two different messages have it
+-- an identity is reported as contradicted exactly if two different messages have it
 abbrev pub TellsContradictions : Type 0
 TellsContradictions = (contents : Contents) (identity : Identity)
     → Contains (contradicted_identities contents) identity ↔ IsContradicted contents identity
 
--- contradicted identities are told in ascending order, each once
+-- contradicted identities are reported in ascending order, each once
 abbrev pub TellsInOrder : Type 0
 TellsInOrder = (contents : Contents) → IsStrictlySortedBy identity_order (contradicted_identities contents)
 
--- of a message that is not held, Against is answered exactly where its identity is contradicted
--- once it is added
+-- a message that is not held is answered with Against exactly if its identity is contradicted after it is added
 abbrev pub AnswersAgainst : Type 0
 AnswersAgainst = (contents : Contents) (draft : Draft) → set.contains contents draft ≡ false
     → (added_of contents draft ≡ added.Against)
@@ -59,7 +58,7 @@ AnswersAgainst = (contents : Contents) (draft : Draft) → set.contains contents
 
 -- ---- the archive text
 
--- the list has the messages of the set, each once, by identity and then by written text
+-- the list has the messages of the set, each once, sorted by identity and then by written text
 pub record IsLineOrderOf (contents : Contents) (drafts : List Draft) : Type 0 where
   pub members : (draft : Draft) → Contains drafts draft ↔ (set.contains contents draft ≡ true)
   pub rises : IsStrictlySortedBy line_order drafts
