@@ -1,6 +1,6 @@
--- The delta text in both of its forms: which bytes are a form of a delta, what bytes are read as, or which of their lines
--- is the first wrong one, and what is written. Read by an auditor. The law `a_text_is_read_where_it_is_a_form` says that the
--- first two agree.
+-- The delta text in both of its forms: the forms of a delta, the delta that bytes are read as or their first wrong
+-- line, and the bytes that are written. Read by an auditor. The law `a_text_is_read_where_it_is_a_form` says that bytes
+-- are read as a delta exactly if they are a form of it.
 use Rattle.std.specs.Prelude.{◌≡◌, ◌⊎◌, ℕ, List, [], ◌∷◌, ◌++◌, length, take, flat_map, nat_eq, Option, Some, None, Result, Ok, Err, if◌then◌else◌, ⊤}
 use Rattle.std.specs.Cmp.Lexicographic.{pointwise}
 use Rattle.sct_delta.specs.declared.fault.DeltaFault.{DeltaFault}
@@ -19,9 +19,9 @@ unfoldable pub written_delta : List Placed → List ℕ
 written_delta entries =
     flat_map ended (groups_head ∷ lines_after 0 entries ++ end_line (length entries) ∷ [])
 
--- ---- what a text is read as
+-- ---- reading a text
 
--- what the lines behind a head line are read as, by the form that the head line names
+-- what the lines after a head line are read as, by the form that the head line names
 abbrev pub entries_behind : List ℕ → List Line → Result (List Placed) ℕ
 entries_behind head lines =
     if pointwise nat_eq head entries_head then entries_in 2 0 0 [] lines
@@ -41,15 +41,16 @@ abbrev pub wrong_line : Result (List Placed) ℕ → Option ℕ
 wrong_line (Ok entries) = None
 wrong_line (Err line) = Some line
 
--- the first line of a text, from 1, that is wrong: not of its shape, missing, without a line feed, or behind the end
+-- the first line of a text, from 1, that is wrong: it does not have its shape, is missing, has
+-- no line feed, or comes after the end line
 abbrev pub first_wrong_line : List ℕ → Option ℕ
 first_wrong_line bytes = wrong_line (delta_in bytes)
 
--- the first lines of both texts, so many, are the same; where one of them has fewer, all of them
+-- the first `count` lines of both texts are equal; if one of them has fewer lines, all lines are equal
 abbrev pub AgreeTo : ℕ → List ℕ → List ℕ → Type 0
 AgreeTo count some other = take count (lines_of some) ≡ take count (lines_of other)
 
--- A call answers what a text is read as, or is out of memory.
+-- A call returns what a text is read as, or is out of memory.
 abbrev pub Reads : Result (List Placed) DeltaFault → Result (List Placed) ℕ → Type 0
 Reads (Ok entries) read = read ≡ Ok entries
 Reads (Err fault.Memory) read = ⊤

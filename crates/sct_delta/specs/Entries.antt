@@ -1,4 +1,4 @@
--- Entries and lists of entries: logs, arrivals, deltas. Read by an auditor; logs, sites and worlds speak of these.
+-- Entries and lists of entries: logs, arrivals, deltas. Read by an auditor. Logs, sites and worlds use these words.
 use Rattle.std.specs.FinSet as set
 use Rattle.std.specs.Prelude.{◌≡◌, ◌≤◌, ◌+◌, ◌&&◌, ℕ, Bool, List, [], ◌∷◌, map, filter, length, nat_eq, IsTrue}
 use Rattle.std.specs.List.{list_any, list_all}
@@ -10,7 +10,7 @@ use Rattle.sct_message.specs.Order.{same_message}
 use Rattle.sct_message.specs.Sets.{MessageSet}
 use Rattle.sct_delta.specs.Sites.{is_site}
 
--- An entry: a message at its place, the number that its origin gave it. Numbers count from 1 at each origin.
+-- An entry: a message with the number that its origin gave it. Numbers count from 1 at each origin.
 pub record Placed : Type 0 where
   pub origin : ℕ
   pub n : ℕ
@@ -33,7 +33,7 @@ log_of origin entries = map (λ entry. entry.message) (entries_from origin entri
 abbrev pub held_from : ℕ → List Placed → ℕ
 held_from origin entries = length (entries_from origin entries)
 
--- messages as the entries of an origin, numbered from n on
+-- messages as the entries of an origin, numbered from n upwards
 abbrev pub numbered : ℕ → ℕ → List Draft → List Placed
 numbered origin n [] = []
 numbered origin n (message ∷ rest) = record { origin = origin; n = n; message = message } ∷ numbered origin (n + 1) rest
@@ -54,7 +54,7 @@ messages_of entries = set.from_list (map (λ entry. entry.message) entries)
 
 -- ---- the shapes of lists of entries
 
--- Arrivals: each origin's entries are in the list as 1, 2, 3 and on.
+-- Arrivals: the entries of each origin are in the list as 1, 2, 3 and so on.
 abbrev pub IsArrivals : List Placed → Type 0
 IsArrivals entries = (origin : ℕ) → entries_from origin entries ≡ numbered origin 1 (log_of origin entries)
 
@@ -64,11 +64,11 @@ pub record IsRun (origin : ℕ) (entries : List Placed) : Type 0 where
   pub above_0 : 1 ≤ first
   pub follow : entries_from origin entries ≡ numbered origin first (log_of origin entries)
 
--- entries by origin and then by number
+-- entries are ordered by origin and then by number
 abbrev pub place_order : Placed → Placed → Ordering
 place_order a b = ordering_then (nat_cmp a.origin b.origin) (nat_cmp a.n b.n)
 
--- A delta: its entries are of sites, they ascend by origin and number, and each origin's are without a hole.
+-- A delta: its entries are of sites and ascend by origin and number, and the numbers of each origin have no hole.
 pub record IsDelta (entries : List Placed) : Type 0 where
   pub runs : (origin : ℕ) → IsRun origin entries
   pub rises : IsStrictlySortedBy place_order entries

@@ -28,8 +28,8 @@ TellEntries (line ∷ lines) (entry ∷ entries) = TellsEntry line entry × Tell
 abbrev pub entries_head : List ℕ
 entries_head = codes "delta 1"
 
--- A text is the form 1 of a delta where its lines are the head line, one line for each entry in their order, and the end
--- line with their number, each of them ended by a line feed. Form 1 has the sites 1 to 64 alone.
+-- A text is the form 1 of a delta if its lines are the head line, one line for each entry in their order, and the end
+-- line with the number of entries, each ended by a line feed. Form 1 has only the sites 1 to 64.
 pub record IsEntryText (bytes : List ℕ) (entries : List Placed) : Type 0 where
   pub lines : List (List ℕ)
   pub text : lines_of bytes ≡ lines_as (entries_head ∷ lines ++ end_line (length entries) ∷ [])
@@ -39,7 +39,7 @@ pub record IsEntryText (bytes : List ℕ) (entries : List Placed) : Type 0 where
 
 -- ---- the fields of an entry line
 
--- the site of that number, where form 1 has it
+-- the site of that number; none if form 1 does not have it
 abbrev pub site_in : ℕ → Option ℕ
 site_in number = if is_site_of_form_1 number then Some number else None
 
@@ -65,16 +65,16 @@ entry_of fields =
 unfoldable pub entry_in : List ℕ → Option Placed
 entry_in line = option_and_then entry_of (fields_in line)
 
--- ---- what lines are read as: the entries of a delta, or the number of the first wrong line, from 1
+-- ---- reading lines: the entries of a delta, or the number of the first wrong line, from 1
 
--- Reads on from a line: an entry that may be the next one, or the end.
+-- Continues at a line: an entry that may be the next one, or the end.
 abbrev pub entries_on :
     ℕ → ℕ → ℕ → List Placed → List ℕ → List Line → (Placed → Result (List Placed) ℕ) → Option Placed → Result (List Placed) ℕ
 entries_on place origin n entries line lines more None = entries_ended place entries line lines
 entries_on place origin n entries line lines more (Some entry) =
     if may_be_next origin n entry then more entry else Err place
 
--- What the lines from a place on are read as, after these entries. The last of these has this origin and number.
+-- The reading of the lines from a place on, after these entries. The last entry has this origin and number.
 unfoldable pub entries_in : ℕ → ℕ → ℕ → List Placed → List Line → Result (List Placed) ℕ
 entries_in place origin n entries [] = Err place
 entries_in place origin n entries (None ∷ lines) = Err place

@@ -14,7 +14,7 @@ use Rattle.sct_delta.specs.TextLines.{Line, lines_of, lines_as, end_line, entrie
 abbrev pub origin_line : ℕ → ℕ → ℕ → List ℕ
 origin_line origin first count = codes "origin " ++ (decimal origin ++ 32 ∷ (decimal first ++ 32 ∷ decimal count))
 
--- The messages of one origin, from its first number on, and of each a JSON text.
+-- The messages of one origin, from its first number on, and a JSON text of each.
 pub record Group : Type 0 where
   pub origin : ℕ
   pub first : ℕ
@@ -34,8 +34,8 @@ TellMessages [] (message ∷ messages) = ⊥
 TellMessages (text ∷ texts) [] = ⊥
 TellMessages (text ∷ texts) (message ∷ messages) = (message_in text ≡ Ok message) × TellMessages texts messages
 
--- A group may begin after the groups up to an origin: its origin is a later site, it has at least one message, its
--- numbers begin at 1 at the least, and the last of them is at most 18446744073709551615.
+-- A group may begin after the groups up to an origin if its origin is a later site, it has at least one message, its
+-- first number is at least 1, and its last number is at most 18446744073709551615.
 abbrev pub may_begin : ℕ → ℕ → ℕ → ℕ → Bool
 may_begin before origin first count =
     nat_lt before origin && (is_site origin && (nat_le 1 first && (nat_le 1 count && nat_le (first + count) (2 ^ 64))))
@@ -51,8 +51,8 @@ AreGroups before (group ∷ groups) =
 abbrev pub groups_head : List ℕ
 groups_head = codes "delta 2"
 
--- A text is the form 2 of a delta where its lines are the head line, those of each group, whose origins ascend, and the
--- end line with the number of all entries, each of them ended by a line feed.
+-- A text is the form 2 of a delta if its lines are the head line, the lines of each group, and the end line with the
+-- number of all entries, each ended by a line feed. The origins of the groups ascend.
 pub record IsGroupText (bytes : List ℕ) (entries : List Placed) : Type 0 where
   pub groups : List Group
   pub text : lines_of bytes ≡ lines_as (groups_head ∷ flat_map group_lines groups ++ end_line (length entries) ∷ [])
@@ -66,7 +66,7 @@ abbrev pub run_length : ℕ → List Placed → ℕ
 run_length origin [] = 0
 run_length origin (entry ∷ entries) = if nat_eq entry.origin origin then 1 + run_length origin entries else 0
 
--- the line before an entry, where it is the first one of its origin
+-- the line before an entry, if the entry is the first one of its origin
 abbrev pub line_before : ℕ → Placed → List Placed → List (List ℕ)
 line_before previous entry entries =
     if nat_eq entry.origin previous then []
@@ -99,22 +99,22 @@ numbers_behind origin = option_and_then (count_behind origin.0) (number_before_s
 unfoldable pub origin_in : List ℕ → Option OriginFields
 origin_in line = option_and_then numbers_behind (option_and_then number_before_space (after_prefix (codes "origin ") line))
 
--- ---- what lines are read as: the entries of a delta, or the number of the first wrong line, from 1
+-- ---- reading lines: the entries of a delta, or the number of the first wrong line, from 1
 
--- Reads on where no message is due: a group that may begin, or the end.
+-- Continues if no message is due: a group that may begin, or the end.
 abbrev pub origin_on :
     ℕ → ℕ → List Placed → List ℕ → List Line → (OriginFields → Result (List Placed) ℕ) → Option OriginFields → Result (List Placed) ℕ
 origin_on place before entries line lines more None = entries_ended place entries line lines
 origin_on place before entries line lines more (Some fields) =
     if may_begin before fields.0 fields.1 fields.2 then more fields else Err place
 
--- Reads on where a message is due.
+-- Continues if a message is due.
 abbrev pub message_on : ℕ → (Draft → Result (List Placed) ℕ) → Option Draft → Result (List Placed) ℕ
 message_on place more None = Err place
 message_on place more (Some message) = more message
 
--- What the lines from a place on are read as, after these entries: so many messages are due, of this origin, the next
--- one of this number.
+-- The reading of the lines from a place on, after these entries: `due` messages of this origin
+-- are due, and the next one has this number.
 unfoldable pub groups_in : ℕ → ℕ → ℕ → ℕ → List Placed → List Line → Result (List Placed) ℕ
 groups_in place origin n due entries [] = Err place
 groups_in place origin n due entries (None ∷ lines) = Err place

@@ -1,4 +1,4 @@
--- Laws of logs and deltas, in the words of sets of entries. Read by an auditor; each is the contract of a function.
+-- Laws of logs and deltas, in terms of sets of entries. Read by an auditor. Each law is the contract of a function.
 use Rattle.std.specs.Prelude.{◌≡◌, ◌↔◌, ◌≤◌, ◌+◌, ◌&&◌, ◌||◌, ℕ, true, List, [], None, nat_lt}
 use Rattle.sct_message.specs.declared.draft.Draft.{Draft}
 use Rattle.sct_delta.specs.Entries.{Placed, holds, IsDelta}
@@ -15,7 +15,7 @@ pub record IsThere (held : Placed → Type 0) (origin n : ℕ) : Type 0 where
   pub message : Draft
   pub is_held : held (record { origin = origin; n = n; message = message })
 
--- An entry set: of each origin the numbers are 1 to some count, each with one message.
+-- An entry set: the numbers of each origin are 1 to some count, each with one message.
 pub record IsEntrySet (held : Placed → Type 0) (count : ℕ → ℕ) : Type 0 where
   pub within : (entry : Placed) → held entry → (1 ≤ entry.n) × (entry.n ≤ count entry.origin)
   pub each : (origin n : ℕ) → 1 ≤ n → n ≤ count origin → IsThere held origin n
@@ -25,7 +25,7 @@ pub record IsEntrySet (held : Placed → Type 0) (count : ℕ → ℕ) : Type 0 
 abbrev pub AreEntrySet : Type 0
 AreEntrySet = (log : Held) → IsEntrySet (λ entry. is_held log entry ≡ true) (vector_of log)
 
--- ---- what a delta is refused for
+-- ---- when a delta is refused
 
 -- A delta has an entry of the origin that is at most the next one.
 pub record IsReached (log : Held) (delta : List Placed) (origin : ℕ) : Type 0 where
@@ -34,16 +34,16 @@ pub record IsReached (log : Held) (delta : List Placed) (origin : ℕ) : Type 0 
   pub from : entry.origin ≡ origin
   pub reached : entry.n ≤ vector_of log origin + 1
 
--- A delta fits the site `own` of a group: each of its entries is of a site of the group; an own entry is no further than
--- the own count; where an origin has an entry, it has one that is at most the next one of that origin; and a number that is
--- held is held with the same message.
+-- A delta fits the site `own` of a group in this case: each of its entries is of a site of the group; no own entry is
+-- above the own count; each origin that has an entry has one that is at most the next one of that origin; and a number
+-- that is held is held with the same message.
 pub record IsFitting (own group : ℕ) (log : Held) (delta : List Placed) : Type 0 where
   pub inside : (entry : Placed) → holds delta entry ≡ true → has_site group entry.origin ≡ true
   pub known : (entry : Placed) → holds delta entry ≡ true → entry.origin ≡ own → entry.n ≤ vector_of log own
   pub no_gap : (entry : Placed) → holds delta entry ≡ true → IsReached log delta entry.origin
   pub no_fork : (entry : Placed) → holds delta entry ≡ true → entry.n ≤ vector_of log entry.origin → is_held log entry ≡ true
 
--- a delta is refused exactly where it does not fit
+-- a delta is refused exactly if it does not fit
 abbrev pub IsRefusedWhereItDoesNotFit : Type 0
 IsRefusedWhereItDoesNotFit =
     (own group : ℕ) (log : Held) (delta : List Placed) → IsDelta delta
@@ -51,17 +51,17 @@ IsRefusedWhereItDoesNotFit =
 
 -- ---- cutting and joining
 
--- what is cut above a vector is what is held, and numbered above the vector at its origin
+-- a cut above a vector has exactly the entries that are held and numbered above the vector's count of their origin
 abbrev pub CutsWhatIsAbove : Type 0
 CutsWhatIsAbove =
     (log : Held) (count : ℕ → ℕ) (delta : List Placed) → IsCut log count delta
     → (entry : Placed) → holds delta entry ≡ (is_held log entry && nat_lt (count entry.origin) entry.n)
 
--- what is cut for a site's own vector is empty
+-- a cut above a site's own vector is empty
 abbrev pub CutsNothingForItself : Type 0
 CutsNothingForItself = (log : Held) (delta : List Placed) → IsCut log (vector_of log) delta → delta ≡ []
 
--- A delta that fits is joined as a set: what is held afterwards was held or is in the delta.
+-- A delta that fits is joined as a set: an entry is held afterwards exactly if it was held before or is in the delta.
 abbrev pub JoinsBothSides : Type 0
 JoinsBothSides =
     (own group : ℕ) (log : Held) (delta : List Placed) → IsDelta delta → first_refusal own group log delta ≡ None
@@ -72,7 +72,7 @@ abbrev pub KeepsWhatWasHeld : Type 0
 KeepsWhatWasHeld =
     (log : Held) (delta : List Placed) (entry : Placed) → is_held log entry ≡ true → is_held (joined log delta) entry ≡ true
 
--- A delta that was joined fits again, and to join it again changes nothing.
+-- A delta that was joined fits again, and joining it again changes nothing.
 pub record IsJoinedAgain (own group : ℕ) (log : Held) (delta : List Placed) : Type 0 where
   pub fits : first_refusal own group log delta ≡ None
   pub same : (origin : ℕ) → joined log delta origin ≡ log origin
@@ -82,8 +82,8 @@ JoinsOnce =
     (own group : ℕ) (log : Held) (delta : List Placed) → IsDelta delta → first_refusal own group log delta ≡ None
     → IsJoinedAgain own group (joined log delta) delta
 
--- A site that holds the entries of another up to a vector, and joins what the other cuts above that vector, holds all
--- entries of the other.
+-- A site that holds the entries of another up to a vector, and joins the other's cut above
+-- that vector, holds all entries of the other.
 abbrev pub CatchesUp : Type 0
 CatchesUp =
     (own group : ℕ) (mine theirs : Held) (count : ℕ → ℕ) (delta : List Placed) → IsDelta delta → IsCut theirs count delta
@@ -91,17 +91,17 @@ CatchesUp =
     → ((entry : Placed) → is_held theirs entry ≡ true → entry.n ≤ count entry.origin → is_held mine entry ≡ true)
     → (entry : Placed) → is_held theirs entry ≡ true → is_held (joined mine delta) entry ≡ true
 
--- no number is named with two messages
+-- no number has two messages in the two deltas
 abbrev pub NameAlike : List Placed → List Placed → Type 0
 NameAlike a b =
     (x y : Placed) → holds a x ≡ true → holds b y ≡ true → x.origin ≡ y.origin → x.n ≡ y.n → x ≡ y
 
--- One delta after the other: the second fits where the first was joined, and the result is that of the other order.
+-- One delta after the other: the second fits after the first was joined, and the result is that of the other order.
 pub record JoinAlike (own group : ℕ) (log : Held) (a b : List Placed) : Type 0 where
   pub second_fits : first_refusal own group (joined log a) b ≡ None
   pub same : (origin : ℕ) → joined (joined log a) b origin ≡ joined (joined log b) a origin
 
--- two deltas that both fit, and that name no number with two messages, are joined in either order with one result
+-- if two deltas both fit, and no number has two messages in them, they can be joined in either order with one result
 abbrev pub JoinsInAnyOrder : Type 0
 JoinsInAnyOrder =
     (own group : ℕ) (log : Held) (a b : List Placed) → IsDelta a → IsDelta b → first_refusal own group log a ≡ None

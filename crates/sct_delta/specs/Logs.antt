@@ -1,4 +1,4 @@
--- Logs as a caller sees them: of each origin the messages held, and the room there is for more. Read by an auditor.
+-- Logs as a caller sees them: the messages held of each origin, and the room for more. Read by an auditor.
 use Rattle.std.specs.Prelude.{◌≡◌, ◌≤◌, ℕ, List, is_some, if◌then◌else◌}
 use Rattle.std.specs.BTreeMap.{get}
 use Rattle.std.specs.Ordering.{nat_cmp}
@@ -12,7 +12,7 @@ use Rattle.sct_delta.specs.declared.logs.Logs.{Logs}
 abbrev pub log_in : Logs → ℕ → List Draft
 log_in logs origin = log_on logs.shelf origin
 
--- how many more messages of an origin the logs take before they ask for memory
+-- how many more messages of an origin the logs can hold before they allocate
 abbrev pub room_at : Logs → ℕ → ℕ
 room_at logs origin = if is_some (get nat_cmp logs.vector.counts origin) then places_at logs.shelf origin else 0
 
@@ -28,6 +28,6 @@ HasRoomFor logs entries = (origin : ℕ) → held_from origin entries ≤ room_a
 abbrev pub HoldSame : Logs → Logs → Type 0
 HoldSame a b = (origin : ℕ) → log_in a origin ≡ log_in b origin
 
--- a log and a count are kept for those origins alone that hold a message
+-- a log and a count are kept only for origins that hold a message
 abbrev pub KeepsNoEmpty : Logs → Type 0
 KeepsNoEmpty logs = HasNoEmptyLog logs.shelf × HasNoZero logs.vector

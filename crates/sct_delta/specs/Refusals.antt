@@ -1,4 +1,5 @@
--- What a log holds, what of a delta is refused, and what joining one gives. Read by an auditor; logs and sites speak of it.
+-- The entries that logs hold, the refusals of a delta, and the join and the cut. Read by an
+-- auditor. Logs and sites use these words.
 use Rattle.std.specs.Prelude.{◌≡◌, ◌+◌, ◌-◌, ◌++◌, ◌&&◌, not, ℕ, Bool, false, List, [], ◌∷◌, filter, length, nat_eq, nat_lt, drop, if◌then◌else◌, Option, Some, None}
 use Rattle.std.specs.List.{find, slice_get}
 use Rattle.std.specs.Option.{option_or}
@@ -8,7 +9,7 @@ use Rattle.sct_delta.specs.Entries.{Placed, entries_from, log_of, numbered}
 use Rattle.sct_delta.specs.declared.fault.DeltaFault.{DeltaFault}
 use Rattle.sct_delta.specs.declared.fault.DeltaFault.TheVariants as fault
 
--- ---- what is held, by logs: of each origin the messages in the order of their numbers
+-- ---- logs: for each origin its messages in the order of their numbers
 
 -- the message numbered n in a log
 abbrev pub message_at : List Draft → ℕ → Option Draft
@@ -19,7 +20,7 @@ abbrev pub is_same_as : Draft → Option Draft → Bool
 is_same_as message None = false
 is_same_as message (Some held) = same_message held message
 
--- there is a message, and it is another one
+-- there is a message, and it is a different one
 abbrev pub is_other_than : Draft → Option Draft → Bool
 is_other_than message None = false
 is_other_than message (Some held) = not (same_message held message)
@@ -32,7 +33,7 @@ is_held log entry = is_same_as entry.message (message_at (log entry.origin) entr
 abbrev pub vector_of : (ℕ → List Draft) → ℕ → ℕ
 vector_of log origin = length (log origin)
 
--- the logs with one message more at an origin
+-- the logs with one more message at an origin
 abbrev pub appended : (ℕ → List Draft) → ℕ → Draft → ℕ → List Draft
 appended log at message origin = if nat_eq at origin then log origin ++ message ∷ [] else log origin
 
@@ -42,7 +43,7 @@ appended log at message origin = if nat_eq at origin then log origin ++ message 
 abbrev pub has_site : ℕ → ℕ → Bool
 has_site group site = nat_lt 0 site && not (nat_lt group site)
 
--- why there is no room for an entry of a site: 40 out of memory, or 44 the group does not have the site
+-- the refusal of an entry of a site: 44 if the group does not have the site, else 40, out of memory
 abbrev pub refusal_at : ℕ → ℕ → DeltaFault
 refusal_at group site = if has_site group site then fault.Memory else fault.BadSite
 
@@ -50,7 +51,7 @@ refusal_at group site = if has_site group site then fault.Memory else fault.BadS
 abbrev pub is_outside : ℕ → Placed → Bool
 is_outside group entry = not (has_site group entry.origin)
 
--- an entry of the own origin, numbered above what is held of it
+-- an entry of the own origin, numbered above the own count
 abbrev pub is_ahead : ℕ → (ℕ → List Draft) → Placed → Bool
 is_ahead own log entry = nat_eq entry.origin own && nat_lt (vector_of log own) entry.n
 
@@ -73,24 +74,24 @@ abbrev pub told : (Placed → DeltaFault) → Option Placed → Option DeltaFaul
 told tells None = None
 told tells (Some entry) = Some (tells entry)
 
--- 44: an origin that the group does not have
+-- 44: the group does not have an origin of the delta
 abbrev pub outside_refusal : ℕ → List Placed → Option DeltaFault
 outside_refusal group delta = told (λ entry. fault.BadSite) (find (is_outside group) delta)
 
--- 43: an own entry above the own count, the first such
+-- 43: an own entry is above the own count; the first such entry
 abbrev pub ahead_refusal : ℕ → (ℕ → List Draft) → List Placed → Option DeltaFault
 ahead_refusal own log delta = told (λ entry. fault.OwnAhead entry.n) (find (is_ahead own log) delta)
 
--- 41: an origin whose least number is past the next one, the first such
+-- 41: the least number of an origin is past the next one; the first such origin
 abbrev pub gap_refusal : (ℕ → List Draft) → List Placed → Option DeltaFault
 gap_refusal log delta =
     told (λ entry. fault.Gap entry.origin (vector_of log entry.origin) entry.n) (find (is_past log) (firsts_after 0 delta))
 
--- 42: an entry whose number is held with another message, the first such
+-- 42: a number is held with another message; the first such entry
 abbrev pub fork_refusal : (ℕ → List Draft) → List Placed → Option DeltaFault
 fork_refusal log delta = told (λ entry. fault.Fork entry.origin entry.n) (find (is_fork log) delta)
 
--- the first refusal of a delta at the site `own` of a group: 44, then 43, 41 and 42
+-- the first refusal of a delta at the site `own` of a group, in the order 44, 43, 41, 42
 unfoldable pub first_refusal : ℕ → ℕ → (ℕ → List Draft) → List Placed → Option DeltaFault
 first_refusal own group log delta =
     option_or (outside_refusal group delta)
@@ -102,11 +103,11 @@ first_refusal own group log delta =
 abbrev pub fresh_in : (ℕ → List Draft) → List Placed → List Placed
 fresh_in log delta = filter (λ entry. not (is_held log entry)) delta
 
--- the logs joined with a delta: what was held, and after it the entries that were not
+-- the logs joined with a delta: the messages held, followed by the fresh ones of the delta
 abbrev pub joined : (ℕ → List Draft) → List Placed → ℕ → List Draft
 joined log delta origin = log origin ++ log_of origin (fresh_in log delta)
 
--- of each origin the entries that are numbered above a count, and no other
+-- the entries of each origin that are numbered above a count, and no others
 abbrev pub IsCut : (ℕ → List Draft) → (ℕ → ℕ) → List Placed → Type 0
 IsCut log count delta =
     (origin : ℕ) → entries_from origin delta ≡ numbered origin (count origin + 1) (drop (count origin) (log origin))

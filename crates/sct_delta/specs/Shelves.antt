@@ -1,4 +1,4 @@
--- Logs as they are kept, read as the messages of each origin. Read by an auditor.
+-- Logs as they are stored, read as the messages of each origin. Read by an auditor.
 use Rattle.std.specs.Prelude.{ℕ, ◌-◌, ◌+◌, ◌≤◌, length, List, [], map, drop, Option, Some, None, vec_len, vec_capacity}
 use Rattle.std.specs.Global.{Vec, Global}
 use Rattle.std.specs.Arc.{arc_value}
@@ -15,7 +15,7 @@ abbrev pub messages_on : Option (Vec (Arc Draft Global)) → List Draft
 messages_on None = []
 messages_on (Some log) = map arc_value log.items
 
--- how many more messages a log takes before it asks for memory
+-- how many more messages a log can hold before it allocates
 abbrev pub places_on : Option (Vec (Arc Draft Global)) → ℕ
 places_on None = 0
 places_on (Some log) = vec_capacity log - vec_len log
@@ -24,11 +24,11 @@ places_on (Some log) = vec_capacity log - vec_len log
 abbrev pub log_on : Shelf → ℕ → List Draft
 log_on shelf origin = messages_on (get nat_cmp shelf.logs origin)
 
--- each log that is kept has a message
+-- each log that is stored has a message
 abbrev pub HasNoEmptyLog : Shelf → Type 0
 HasNoEmptyLog shelf = All (λ kept. 1 ≤ length kept.1.items) shelf.logs.entries
 
--- how many more messages the log of an origin takes before it asks for memory
+-- how many more messages the log of an origin can hold before it allocates
 abbrev pub places_at : Shelf → ℕ → ℕ
 places_at shelf origin = places_on (get nat_cmp shelf.logs origin)
 

@@ -9,7 +9,7 @@ most_sites = 1024
 abbrev pub is_site : ℕ → Bool
 is_site origin = nat_le 1 origin && nat_le origin most_sites
 
--- a group has sites numbered from 1 on, as many as its size says
+-- a group has the sites numbered from 1 to its size
 abbrev pub is_group : ℕ → Bool
 is_group size = nat_le 1 size && nat_le size most_sites
 

@@ -1,5 +1,5 @@
--- Lines of a text, the numbers and fields in them, and the line that ends a delta. Read by an auditor; both forms of the
--- delta text and scripts speak of these.
+-- Lines of a text, their numbers and fields, and the line that ends a delta. Read by an auditor. Both forms of
+-- the delta text and scripts use these words.
 use Rattle.std.specs.Prelude.{ℕ, ◌+◌, ◌^◌, ◌==◌, ◌&&◌, ◌||◌, not, Bool, List, [], ◌∷◌, ◌++◌, length, take, drop, map, nat_eq, nat_lt, slice_index, position, Option, Some, None, option_map, Result, Ok, Err, codes, decimal, if◌then◌else◌}
 use Rattle.std.specs.Char.{is_ascii_digit}
 use Rattle.std.specs.Cmp.Lexicographic.{pointwise}
@@ -9,23 +9,23 @@ use Rattle.sct_delta.specs.Entries.{Placed}
 
 -- ---- lines
 
--- a line of a text, without the line feed (10) that ends it; None is a last line that no line feed ends
+-- a line of a text, without the line feed (10) that ends it; None is a last line that is not ended by a line feed
 abbrev pub Line : Type 0
 Line = Option (List ℕ)
 
--- the lines after a byte that is no line feed: it begins the first
+-- the lines after a byte that is not a line feed: it begins the first line
 abbrev pub onto_first : ℕ → List Line → List Line
 onto_first byte [] = None ∷ []
 onto_first byte (None ∷ lines) = None ∷ lines
 onto_first byte (Some line ∷ lines) = Some (byte ∷ line) ∷ lines
 
--- the lines of a text: what comes before each line feed, and, if something comes after the last one, a last line
--- that none ends (law `lines_make_the_text`)
+-- the lines of a text: the bytes before each line feed, and, if bytes come after the last line feed, a last
+-- line without one (law `lines_make_the_text`)
 unfoldable pub lines_of : List ℕ → List Line
 lines_of [] = []
 lines_of (byte ∷ bytes) = if byte == 10 then Some [] ∷ lines_of bytes else onto_first byte (lines_of bytes)
 
--- the first line, where a line feed ends it
+-- the first line, if a line feed ends it
 abbrev pub ended_first : List Line → Option (List ℕ)
 ended_first [] = None
 ended_first (line ∷ lines) = line
@@ -52,7 +52,7 @@ unfoldable pub number_in : List ℕ → Option ℕ
 number_in text =
     if is_numeral text then (if nat_lt (digits_value 10 text) (2 ^ 64) then Some (digits_value 10 text) else None) else None
 
--- a number, and what comes after the space after it
+-- a number, and the bytes after the space that follows it
 abbrev pub Field : Type 0
 Field = ℕ × List ℕ
 
@@ -63,11 +63,11 @@ abbrev pub number_to : Option ℕ → List ℕ → Option Field
 number_to None text = None
 number_to (Some at) text = option_map (λ n. (n, drop (at + 1) text)) (number_in (take at text))
 
--- the number that comes before the first space, and what comes after it
+-- the number before the first space, and the bytes after that space
 unfoldable pub number_before_space : List ℕ → Option Field
 number_before_space text = number_to (position is_space text) text
 
--- what comes after the word that a line begins with
+-- the bytes after the word that a line begins with
 abbrev pub after_prefix : List ℕ → List ℕ → Option (List ℕ)
 after_prefix prefix text =
     if pointwise nat_eq (take (length prefix) text) prefix then Some (drop (length prefix) text) else None
@@ -81,7 +81,7 @@ end_line count = codes "end " ++ decimal count
 unfoldable pub is_end_line : ℕ → List ℕ → Bool
 is_end_line count line = pointwise nat_eq line (end_line count)
 
--- Ends with a line that is no entry. It is the end line, and no line comes after it.
+-- Ends at a line that is not an entry: it is the end line, and no line comes after it.
 abbrev pub entries_ended : ℕ → List Placed → List ℕ → List Line → Result (List Placed) ℕ
 entries_ended place entries line [] = if is_end_line (length entries) line then Ok entries else Err place
 entries_ended place entries line (next ∷ lines) =

@@ -1,4 +1,4 @@
--- Proof plumbing: the test for equal vectors is an equivalence, and says that they count alike.
+-- Proof plumbing: the test for equal vectors is an equivalence, and holds exactly if they count the same.
 use Rattle.std.proofs.Common.{ℕ, ◌≡◌, ◌∷◌, [], List, Bool, true, false, cond, Some, None, ◌==◌, ◌&&◌, ◌⊎◌, inl, inr, refl, sym, ap, ◌∙◌, arith, eqb-true}
 use Rattle.std.specs.Prelude.{nat_lt, nat_eq}
 use Rattle.std.specs.BTreeMap.{keys, is_at}
@@ -40,7 +40,7 @@ same_key k q tied =
       ]) refl
     ]) tied
 
--- a key passes what all keys pass, or it has no value
+-- a key passes a test that all keys pass, or it has no value
 named_passes : (P : ℕ → Bool) (k : ℕ) (es : List (ℕ × ℕ)) → list_all P (keys_of es) ≡ true
     → (P k ≡ true) ⊎ (lookup (is_at (nat_cmp k)) es ≡ None)
 named_passes P k [] all = inr refl

@@ -10,7 +10,7 @@ abbrev pub count_or_0 : Option ℕ → ℕ
 count_or_0 None = 0
 count_or_0 (Some count) = count
 
--- how many entries of an origin a vector counts, 0 where it does not name the origin
+-- how many entries of an origin a vector counts; 0 if it does not name the origin
 abbrev pub count_in : Vector → ℕ → ℕ
 count_in vector origin = count_or_0 (get nat_cmp vector.counts origin)
 
@@ -30,7 +30,7 @@ HasNoZero vector = All (λ kept. 1 ≤ kept.1) vector.counts.entries
 abbrev pub counted_alike : Vector → Vector → Bool
 counted_alike a b = list_all (λ origin. nat_eq (count_in a origin) (count_in b origin)) (keys a.counts)
 
--- both count the same at each origin that either of them names, and so at each origin (law
--- `vectors_are_equal_by_their_counts`)
+-- both count the same at each origin that either of them names, and therefore at each origin
+-- (law `vectors_are_equal_by_their_counts`)
 unfoldable pub same_counts : Vector → Vector → Bool
 same_counts a b = counted_alike a b && counted_alike b a

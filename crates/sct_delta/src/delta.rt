@@ -1,4 +1,4 @@
-//! A delta: entries of several origins, each origin's without a hole.
+//! A delta: entries of several origins, without a hole in the numbers of an origin.
 
 ghost use Rattle.std.specs.Prelude.{◌≡◌, ◌↔◌, List, Some, None, Ok, Err, OnOk, MatchOption};
 ghost use Rattle.sct_delta.specs.Entries.{Placed, IsDelta};
@@ -9,7 +9,7 @@ use crate::fault::DeltaFault;
 use crate::sites::is_site;
 use std::marker::Model;
 
-/// Entries that ascend by origin and number, where the numbers of each origin follow each other without a hole.
+/// Entries that ascend by origin and number. The numbers of each origin follow each other without a hole.
 #[derive(Drop)]
 pub struct Delta {
     entries: Vec<Entry>,
@@ -26,19 +26,19 @@ impl Model for Delta {
     ghost invariant = { λ d. IsDelta d.entries.items };
 }
 
-/// Entries make a delta exactly where they are not refused.
+/// Entries make a delta exactly if they are not refused.
 pub fn entries_make_a_delta()
     ensures { (entries : List Placed) → IsDelta entries ↔ (delta_refusal entries ≡ None) }
 {}
 
-// Each entry is of a site.
+// Whether each entry has the number of a site as its origin.
 fn are_of_sites(entries: &[Entry]) -> bool
     ensures { result ≡ are_of_sites entries.now }
 {
     entries.iter().all(|entry| is_site(entry.origin))
 }
 
-/// The entry may come after an entry of that origin and number, or be the first if both are 0.
+/// Whether the entry may come after an entry of this origin and number. Both are 0 before the first entry.
 pub(crate) fn may_be_next(origin: u16, n: u64, entry: &Entry) -> bool
     ensures { result ≡ may_be_next origin n entry.now }
 {
@@ -52,7 +52,7 @@ pub(crate) fn may_be_next(origin: u16, n: u64, entry: &Entry) -> bool
     }
 }
 
-// The place, from 1, of the first entry that may not come where it is.
+// The place, from 1, of the first entry that may not come after the one before it.
 fn first_break(entries: &[Entry]) -> Option<u64>
     ensures { result ≡ first_break 1 0 0 entries.now }
 {
@@ -70,7 +70,7 @@ fn first_break(entries: &[Entry]) -> Option<u64>
     None
 }
 
-// Why the entries make no delta.
+// Why the entries do not make a delta, or none if they do.
 #[tactic(auto, unfolding(crate::specs::Shapes::delta_refusal))]
 fn refusal(entries: &[Entry]) -> Option<DeltaFault>
     ensures { result ≡ delta_refusal entries.now }
@@ -85,9 +85,10 @@ fn refusal(entries: &[Entry]) -> Option<DeltaFault>
 }
 
 impl Delta {
-    /// Takes entries as a delta. Refused are 44 (BadSite) an origin outside 1 to 1024, and then 45 (BadDelta) with the
-    /// place, from 1, of the first entry that does not ascend by origin and number, leaves a hole behind the one
-    /// before it, or has number 0.
+    /// Makes a delta of entries. The first refusal is returned, and the entries are dropped:
+    /// - `BadSite` (44): an origin is outside 1 to 1024;
+    /// - `BadDelta` (45) with the place, from 1, of the first entry that is out of order: it does not ascend by origin
+    ///   and number, it leaves a hole after the entry before it, or it has number 0.
     pub fn of(entries: Vec<Entry>) -> Result<Delta, DeltaFault>
         ensures refused { MatchOption (delta_refusal entries.items) (result ≡ Ok entries.items)
             (λ refusal. result ≡ Err refusal) }
@@ -99,7 +100,7 @@ impl Delta {
         }
     }
 
-    // Entries of that shape, as a delta.
+    // A delta of entries that have its shape.
     pub(crate) fn of_shape(entries: Vec<Entry>) -> Delta
         requires { IsDelta entries.items }
         ensures { result ≡ entries.items }
@@ -107,7 +108,7 @@ impl Delta {
         Delta { entries }
     }
 
-    /// The entries, by origin and number.
+    /// The entries, ordered by origin and number.
     pub fn entries(&self) -> &[Entry]
         ensures entries { result.now ≡ self.now }
         ensures shape { IsDelta result.now }
@@ -115,7 +116,7 @@ impl Delta {
         &self.entries
     }
 
-    // The entries, and nothing is left of the delta.
+    // Takes the entries out of the delta.
     pub(crate) fn into_entries(self) -> Vec<Entry>
         ensures entries { result.items ≡ self }
         ensures shape { IsDelta result.items }

@@ -4,8 +4,9 @@ use sct_message::Message;
 use std::marker::Model;
 use std::sync::Arc;
 
-/// A message under the number that its origin, the site that took it, gave it. Numbers count from 1 at each origin.
-/// Whoever holds the entry shares the message.
+/// A message with the number that its origin gave it. The origin is the site that took the
+/// message, and numbers its messages from 1.
+/// Copies of an entry share the message.
 #[derive(Drop)]
 pub struct Entry {
     pub origin: u16,

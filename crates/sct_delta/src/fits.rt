@@ -1,4 +1,4 @@
-//! Why a delta is refused.
+//! Whether a delta fits the logs of a site, and why not.
 
 ghost use Rattle.std.specs.Prelude.{◌≡◌, ◌≢◌, None, Ok, Err, OnOk, IfErr, MatchOption};
 
@@ -62,7 +62,7 @@ impl Logs {
         None
     }
 
-    // Whether the number of an entry is held with another message.
+    // Whether the logs hold another message under the number of an entry.
     fn is_fork(&self, entry: &Entry) -> bool
         ensures { result ≡ is_fork (log_in self.now) entry.now }
     {
@@ -100,9 +100,11 @@ impl Logs {
         self.fork(delta)
     }
 
-    /// Whether the site `own` takes a delta, and the first reason why it does not: 44 `BadSite` for an origin that the
-    /// group does not have, 43 `OwnAhead` for an own entry above the own count, 41 `Gap` for an origin that begins past
-    /// its next number, 42 `Fork` for an entry whose number is held with another message.
+    /// Whether the site `own` accepts a delta. If not, the first of these errors is returned. It does not allocate.
+    /// - `BadSite` (44): the group does not have an origin of the delta;
+    /// - `OwnAhead` (43): an entry of the own origin is above the own count;
+    /// - `Gap` (41): the least number of an origin is past the next one;
+    /// - `Fork` (42): a number of the delta is held with another message.
     pub fn fits(&self, own: u16, delta: &Delta) -> Result<(), DeltaFault>
         ensures first { MatchOption (first_refusal own self.now.group (log_in self.now) delta.now)
             (result ≡ Ok tt) (λ refusal. result ≡ Err refusal) }

@@ -1,4 +1,4 @@
-//! Entries of another site's delta, taken into the logs.
+//! Joins the delta of another site into the logs.
 
 ghost use Rattle.std.specs.Prelude.{◌≡◌, ◌≢◌, ◌≤◌, ◌+◌, ◌++◌, ℕ, None, false, length, OnOk, OnErr, IfOk, IfErr, IsOk, MatchOption};
 
@@ -14,7 +14,7 @@ impl Logs {
     ghost use Rattle.sct_delta.specs.Logs.{log_in, room_at, HasRoomFor, HoldSame, KeepsNoEmpty};
     ghost use Rattle.sct_delta.specs.Refusals.{first_refusal, fresh_in, is_held, is_outside, joined};
 
-    // Makes room for the entries of a delta. Where memory is refused some of it may be made.
+    // Makes room for the entries of a delta. If out of memory, some of the room may have been made.
     fn room_for_each(&mut self, delta: &Delta) -> Result<(), DeltaFault>
         ensures group { self.new.group ≡ self.old.group }
         ensures same { HoldSame self.new self.old }
@@ -35,9 +35,9 @@ impl Logs {
         Ok(())
     }
 
-    /// Makes room for the entries of a delta: joining it then asks for no memory. Where memory is refused, 40 `Memory`,
-    /// the logs keep nothing of an origin that holds no message. The room is kept until a `join`, or until
-    /// `drop_empty` where nothing is joined.
+    /// Makes room for the entries of a delta, so that joining it does not allocate. The entries held stay as they are.
+    /// Error: `Memory` (40); the logs then keep nothing for an origin that holds no message.
+    /// The room is kept until a `join`, or until `drop_empty` if nothing is joined.
     pub fn reserve(&mut self, delta: &Delta) -> Result<(), DeltaFault>
         ensures group { self.new.group ≡ self.old.group }
         ensures same { HoldSame self.new self.old }
@@ -53,7 +53,7 @@ impl Logs {
         Ok(())
     }
 
-    // Whether the entry is held.
+    // Whether the logs hold the entry.
     fn is_held(&self, entry: &Entry) -> bool
         ensures { result ≡ is_held (log_in self.now) entry.now }
     {
@@ -63,14 +63,14 @@ impl Logs {
         }
     }
 
-    // Drops the entries that are held.
+    // Removes the entries that the logs hold.
     fn keep_fresh(&self, entries: &mut Vec<Entry>)
         ensures { entries.new.items ≡ fresh_in (log_in self.now) entries.old.items }
     {
         entries.retain(|entry| !self.is_held(entry));
     }
 
-    // Appends entries, for which there is room, each to the log of its origin.
+    // Appends each entry to the log of its origin. There is room for all of them.
     fn append_all(&mut self, entries: Vec<Entry>) -> Result<(), DeltaFault>
         requires room { HasRoomFor self.old entries.items }
         requires inside { list_any (is_outside self.old.group) entries.items ≡ false }
@@ -85,9 +85,10 @@ impl Logs {
         Ok(())
     }
 
-    /// Joins a delta that fits the site `own`, and returns how many of its entries were not held. A delta that does not
-    /// fit is refused as `fits` refuses it, and dropped; the logs are then what they were. Right after `reserve` of the
-    /// delta it asks for no memory.
+    /// Joins a delta that fits the site `own`. Returns how many of its entries were not held. It does not
+    /// allocate right after `reserve` of the delta.
+    /// A delta that does not fit is refused as by `fits`, and dropped. Further error: `Memory`
+    /// (40). The entries held are then unchanged.
     pub fn join(&mut self, own: u16, delta: Delta) -> Result<u64, DeltaFault>
         ensures group { self.new.group ≡ self.old.group }
         ensures answer { IfOk result (λ fresh. fresh ≡ length (fresh_in (log_in self.old) delta)) }

@@ -1,5 +1,5 @@
-//! What one site holds and what another lacks: entries numbered by the site that took their message, version vectors
-//! that count them, deltas cut by a vector, and logs that a delta is joined into.
+//! Exchange between sites: entries numbered by the site that took their message, version vectors that count entries,
+//! deltas cut above a vector, and logs that deltas are joined into.
 #![tactic(auto)]
 
 mod delta;

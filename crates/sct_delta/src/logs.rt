@@ -1,4 +1,4 @@
-//! What one site holds: a log for each origin, beside the vector that counts them.
+//! The logs of one site: one log for each origin, with the vector that counts their entries.
 
 ghost use Rattle.std.specs.Prelude.{◌≡◌, ◌≢◌, ◌≤◌, ◌+◌, ℕ, [], true, false, length, nat_eq, if◌then◌else◌, OnOk, OnErr, IfOk, IfErr, IsOk, option_map};
 ghost use Rattle.std.specs.Arc.{arc_value};
@@ -18,7 +18,7 @@ use sct_message::Message;
 use std::alloc::Global;
 use std::sync::Arc;
 
-/// The entries that one site holds: of each origin of the group those with the numbers 1 to some count.
+/// The entries that one site holds. For each origin of the group these are the numbers 1 to some count.
 #[derive(Drop)]
 pub struct Logs {
     group: u16,
@@ -33,7 +33,7 @@ impl Logs {
     ghost use Rattle.sct_delta.specs.declared.fault.DeltaFault.TheVariants as fault;
     ghost use Rattle.sct_delta.specs.Logs.{log_in, room_at, HasRoom, HoldSame, KeepsNoEmpty};
 
-    /// Empty logs of a group of 1 to 1024 sites; any other size is 44 `BadSite`.
+    /// Empty logs for a group of 1 to 1024 sites. Error: `BadSite` (44) for any other size.
     pub fn new(alloc: Global, group: u16) -> Result<Logs, DeltaFault>
         ensures empty { IfOk result (λ logs. (origin : ℕ) → log_in logs origin ≡ []) }
         ensures group { IfOk result (λ logs. logs.group ≡ group) }
@@ -50,21 +50,22 @@ impl Logs {
         })
     }
 
-    /// How many entries of each origin are held.
+    /// The version vector: how many entries of each origin are held.
     pub fn vector(&self) -> &Vector
         ensures { (origin : ℕ) → count_in result.now origin ≡ vector_of (log_in self.now) origin }
     {
         &self.vector
     }
 
-    /// The message of an entry: its number counts from 1. None where no such entry is held.
+    /// The message of an entry, whose number counts from 1. None if no such entry is held.
     pub fn get(&self, origin: u16, n: u64) -> Option<&Arc<Message>>
         ensures { option_map arc_value (option_copied result) ≡ message_at (log_in self.now origin) n }
     {
         self.shelf.get(origin, n)
     }
 
-    /// What a site that holds the entries up to a vector lacks of these: the entries numbered above it, of each origin.
+    /// The entries numbered above `vector`, of every origin, as a delta. Error: `Memory` (40).
+    /// O(entries cut), plus one look at each origin.
     pub fn cut(&self, vector: &Vector) -> Result<Delta, DeltaFault>
         ensures cut { IfOk result (λ delta. IsCut (log_in self.now) (count_in vector.now) delta) }
         ensures shape { IfOk result (λ delta. IsDelta delta) }
@@ -88,7 +89,7 @@ impl Logs {
         0 < site && site <= self.group
     }
 
-    // Room for more messages of an origin, whatever the group.
+    // Makes room for `places` more messages of an origin, whether or not the group has it.
     pub(crate) fn room_for(&mut self, origin: u16, places: usize) -> Result<(), DeltaFault>
         ensures group { self.new.group ≡ self.old.group }
         ensures same { HoldSame self.new self.old }
@@ -102,8 +103,8 @@ impl Logs {
         Ok(())
     }
 
-    /// Drops the logs and the counts of origins that hold no message, and the room in them. It asks for no memory.
-    /// Its cost is one pass over the origins.
+    /// Drops the logs and counts of origins that hold no message, with the room in them.
+    /// It does not allocate. O(origins).
     pub fn drop_empty(&mut self)
         ensures group { self.new.group ≡ self.old.group }
         ensures same { HoldSame self.new self.old }
@@ -113,9 +114,11 @@ impl Logs {
         self.vector.drop_zeros();
     }
 
-    /// Makes room for one more message of the origin: a `push` at that origin then asks for no memory. An origin that
-    /// the group does not have is 44 `BadSite`. Where memory is refused, 40 `Memory`, the logs keep nothing of an origin
-    /// that holds no message. The room is kept until a `push`, or until `drop_empty` if nothing is pushed.
+    /// Makes room for one more message of the origin, so that a `push` at that origin does not
+    /// allocate. The entries held stay as they are.
+    /// Errors: `BadSite` (44) if the group does not have the origin; `Memory` (40), and the logs then keep
+    /// nothing for an origin that holds no message.
+    /// The room is kept until a `push`, or until `drop_empty` if nothing is pushed.
     pub fn room(&mut self, origin: u16) -> Result<(), DeltaFault>
         ensures group { self.new.group ≡ self.old.group }
         ensures same { HoldSame self.new self.old }
@@ -134,9 +137,10 @@ impl Logs {
         Ok(())
     }
 
-    /// Appends a message as the next entry of its origin, and returns the number of that entry. An origin that the group
-    /// does not have is 44 `BadSite`. Right after `room` of the origin it asks for no memory. Where memory is refused, 40
-    /// `Memory`, the logs keep nothing of an origin that holds no message.
+    /// Appends a message as the next entry of its origin. Returns the number of that entry. It does not
+    /// allocate right after `room` of the origin.
+    /// Errors: `BadSite` (44) if the group does not have the origin; `Memory` (40), and the logs then keep nothing for
+    /// an origin that holds no message. The entries held are then unchanged.
     pub fn push(&mut self, origin: u16, message: Arc<Message>) -> Result<u64, DeltaFault>
         ensures group { self.new.group ≡ self.old.group }
         ensures answer { IfOk result (λ n. n ≡ vector_of (log_in self.old) origin + 1) }

@@ -1,4 +1,4 @@
-//! Vectors that keep step with logs.
+//! Changes of a version vector that follow its logs.
 
 ghost use Rattle.std.specs.Prelude.{◌≡◌, ℕ, nat_eq, if◌then◌else◌, OnOk, OnErr, IsOk};
 
@@ -9,7 +9,7 @@ use std::collections::BTreeMap;
 impl Vector {
     ghost use Rattle.sct_delta.specs.Vectors.{count_in, HasNoZero, Names};
 
-    // A vector that counts nothing.
+    // A vector of zero counts.
     pub(crate) fn empty(alloc: Global) -> Vector
         ensures { (origin : ℕ) → count_in result origin ≡ 0 }
     {
@@ -32,7 +32,7 @@ impl Vector {
         Ok(())
     }
 
-    // Counts the entries of the origin anew.
+    // Sets the count of the origin.
     pub(crate) fn set(&mut self, origin: u16, count: u64) -> Result<(), AllocError>
         ensures ok { OnOk result ((k : ℕ) → count_in self.new k
             ≡ (if nat_eq origin k then count else count_in self.old k)) }

@@ -7,7 +7,7 @@ use crate::entry::Entry;
 use std::alloc::{AllocError, Global};
 
 impl Entry {
-    /// The same entry, sharing the message.
+    /// A copy that shares the message. The only error is that it is out of memory.
     pub fn share(&self) -> Result<Entry, AllocError>
         ensures { IfOk result (λ entry. entry ≡ self.now) }
     {
@@ -19,7 +19,7 @@ impl Entry {
     }
 }
 
-// The same entries, sharing their messages.
+// Copies of the entries that share their messages.
 fn shared(alloc: Global, entries: &[Entry]) -> Result<Vec<Entry>, AllocError>
     ensures { IfOk result (λ copy. copy.items ≡ entries.now) }
 {
@@ -31,7 +31,7 @@ fn shared(alloc: Global, entries: &[Entry]) -> Result<Vec<Entry>, AllocError>
 }
 
 impl Delta {
-    /// The same delta, sharing the messages.
+    /// A copy that shares the messages. The only error is that it is out of memory. O(entries).
     pub fn share(&self, alloc: Global) -> Result<Delta, AllocError>
         ensures { IfOk result (λ delta. delta ≡ self.now) }
     {

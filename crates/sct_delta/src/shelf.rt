@@ -1,4 +1,4 @@
-//! The logs themselves: one list of messages for each origin.
+//! The storage of logs: one list of messages for each origin.
 
 ghost use Rattle.std.specs.Prelude.{◌≡◌, ◌≤◌, ◌+◌, ◌++◌, ℕ, [], map, drop, length, nat_eq, if◌then◌else◌, OnOk, OnErr, IfOk, IsOk, option_map};
 ghost use Rattle.std.specs.Arc.{arc_value};
@@ -15,7 +15,7 @@ use std::alloc::{AllocError, Global};
 use std::collections::BTreeMap;
 use std::sync::Arc;
 
-// Appends the entries of one origin's log that are numbered above a count.
+// Appends the entries of one origin's log that are numbered above `have`.
 fn push_above(
     out: &mut Vec<Entry>,
     origin: u16,
@@ -37,7 +37,7 @@ fn push_above(
     Ok(())
 }
 
-/// Messages by origin, each origin's in the order of their numbers.
+/// Messages by origin. Those of one origin are in the order of their numbers.
 #[derive(Drop)]
 pub struct Shelf {
     alloc: Global,
@@ -71,7 +71,7 @@ impl Shelf {
         }
     }
 
-    /// The message of a number, from 1.
+    /// The message with this number, from 1, or none.
     pub fn get(&self, origin: u16, n: u64) -> Option<&Arc<Message>>
         ensures { option_map arc_value (option_copied result) ≡ message_at (log_on self.now origin) n }
     {
@@ -82,7 +82,7 @@ impl Shelf {
         log.get((n - 1) as usize)
     }
 
-    /// Makes room for more messages of the origin, as many as are named.
+    /// Makes room for `places` more messages of the origin.
     pub fn room(&mut self, origin: u16, places: usize) -> Result<(), AllocError>
         ensures same { (k : ℕ) → log_on self.new k ≡ log_on self.old k }
         ensures keeps { (k : ℕ) → places_at self.old k ≤ places_at self.new k }
@@ -117,7 +117,7 @@ impl Shelf {
         Ok(())
     }
 
-    /// Drops the logs without a message, and the room in them. It asks for no memory.
+    /// Drops the logs without a message, with the room in them. It does not allocate.
     pub fn drop_empty(&mut self)
         ensures same { (k : ℕ) → log_on self.new k ≡ log_on self.old k }
         ensures filled { HasNoEmptyLog self.new }
@@ -125,7 +125,7 @@ impl Shelf {
         self.logs.retain(|_, log| !log.is_empty());
     }
 
-    /// The entries of each origin that are numbered above the vector's count, by origin and number.
+    /// The entries of each origin that are numbered above the vector's count, ordered by origin and number.
     pub fn above(&self, vector: &Vector) -> Result<Vec<Entry>, AllocError>
         ensures ok { IfOk result (λ entries. entries.items ≡ above_in (count_in vector.now) self.now) }
         ensures ascend { IsOrdered nat_cmp self.now.logs }

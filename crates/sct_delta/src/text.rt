@@ -1,5 +1,5 @@
-//! The delta text in its two forms. Both begin with a head line and end with the number of the entries. Form 1 has a line
-//! for each entry, form 2 a line for each origin and one for each of its messages.
+//! The delta text in its two forms. Both begin with a head line and end with a line that has the number of entries.
+//! Form 1 has a line for each entry. Form 2 has a line for each origin and one for each of its messages.
 
 mod entries;
 pub mod fields;

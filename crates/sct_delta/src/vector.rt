@@ -14,13 +14,13 @@ use crate::sites::is_site;
 use std::alloc::Global;
 use std::collections::BTreeMap;
 
-/// How many entries of each origin are held. An origin that holds no entry counts 0, whether it is named or not.
+/// How many entries of each origin are held. An origin without entries counts 0, whether or not the vector names it.
 #[derive(Drop)]
 pub struct Vector {
     pub(crate) counts: BTreeMap<u16, u64>,
 }
 
-// Each origin is a site.
+// Whether each origin is the number of a site.
 fn are_sites(pairs: &[(u16, u64)]) -> bool
     ensures { result ≡ are_sites pairs.now }
 {
@@ -43,7 +43,7 @@ fn first_fall(pairs: &[(u16, u64)]) -> Option<u64>
     None
 }
 
-// Why the pairs make no vector.
+// Why the pairs do not make a vector, or none if they do.
 #[tactic(auto, unfolding(crate::specs::Shapes::vector_refusal))]
 fn refusal(pairs: &[(u16, u64)]) -> Option<DeltaFault>
     ensures { result ≡ vector_refusal pairs.now }
@@ -57,7 +57,7 @@ fn refusal(pairs: &[(u16, u64)]) -> Option<DeltaFault>
     }
 }
 
-// The counts that pairs give.
+// The vector with the counts of the pairs.
 fn counted(alloc: Global, pairs: &[(u16, u64)]) -> Result<Vector, DeltaFault>
     ensures counts { IfOk result (λ vector. (origin : ℕ)
         → count_in vector origin ≡ count_among pairs.now origin 0) }
@@ -70,7 +70,7 @@ fn counted(alloc: Global, pairs: &[(u16, u64)]) -> Result<Vector, DeltaFault>
     Ok(vector)
 }
 
-// Both count the same at each origin that the first one names.
+// Whether both vectors count the same at each origin that the first one names.
 fn counted_alike(some: &Vector, other: &Vector) -> bool
     ensures { result ≡ counted_alike some.now other.now }
 {
@@ -80,9 +80,10 @@ fn counted_alike(some: &Vector, other: &Vector) -> bool
 }
 
 impl Vector {
-    /// The vector with the counts of these pairs of an origin and a count, which ascend by origin. Refused are 44
-    /// (BadSite) an origin outside 1 to 1024, and then 45 (BadDelta) with the place, from 1, of the first pair that does
-    /// not ascend.
+    /// The vector of these pairs of an origin and a count, which ascend by origin. Errors, the first that holds:
+    /// - `BadSite` (44): an origin is outside 1 to 1024;
+    /// - `BadDelta` (45) with the place, from 1, of the first pair whose origin does not ascend;
+    /// - `Memory` (40).
     pub fn of(alloc: Global, pairs: &[(u16, u64)]) -> Result<Vector, DeltaFault>
         ensures counts { IfOk result (λ vector. (origin : ℕ)
             → count_in vector origin ≡ count_among pairs.now origin 0) }
@@ -96,7 +97,7 @@ impl Vector {
         counted(alloc, pairs)
     }
 
-    /// How many entries of the origin are held, 0 where the vector does not name it.
+    /// How many entries of the origin are held; 0 if the vector does not name it.
     pub fn get(&self, origin: u16) -> u64
         ensures { result ≡ count_in self.now origin }
     {
@@ -107,7 +108,7 @@ impl Vector {
     }
 }
 
-/// Vectors are equal exactly where they count the same at each origin.
+/// Vectors are equal exactly if they count the same at each origin.
 pub fn vectors_are_equal_by_their_counts()
     ensures { (some other : Vector) → (same_counts some other ≡ true) ↔ CountAlike some other }
 {}

@@ -1,4 +1,4 @@
-//! Form 1 of the delta text: from its entry lines to the entries.
+//! Form 1 of the delta text: reads entry lines as entries.
 ghost use Rattle.std.specs.Prelude.{◌≡◌, ◌+◌, ◌<◌, ◌^◌, [], Ok, Err, IfOk, IfErr, length};
 ghost use Rattle.sct_delta.specs.declared.fault.DeltaFault.TheVariants as fault;
 ghost use Rattle.sct_delta.specs.DeltaText.{Reads};
@@ -14,7 +14,7 @@ use crate::text::parts::{ended, message_of};
 use std::alloc::Global;
 use std::sync::Arc;
 
-// The entry of a line; `None` if it is no entry line.
+// The entry of a line, or none if it is not an entry line.
 #[tactic(auto, unfolding(crate::specs::EntryText::entry_in))]
 fn read_entry(alloc: Global, line: &[u8]) -> Result<Option<Entry>, DeltaFault>
     ensures read { IfOk result (λ entry. entry ≡ entry_in line.now) }
@@ -30,8 +30,9 @@ fn read_entry(alloc: Global, line: &[u8]) -> Result<Option<Entry>, DeltaFault>
     Ok(Some(Entry { origin, n, message }))
 }
 
-/// Reads what comes after the head line of form 1: entries, and the end line after the last one. Refused is 45
-/// (BadDelta) with the first wrong line of the whole text; 40 (Memory) says nothing of the text.
+/// Reads the lines after the head line of form 1: entry lines and the end line.
+/// Errors: `BadDelta` (45) with the first wrong line, counted in the whole text; `Memory`
+/// (40), which says nothing about the text.
 #[tactic(auto, using(crate::proofs::ReadingLemmas::read_missing))]
 pub fn read_entries(alloc: Global, text: &[u8]) -> Result<Vec<Entry>, DeltaFault>
     requires { length text.now + 4 < 2 ^ 64 }

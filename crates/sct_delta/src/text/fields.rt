@@ -6,7 +6,7 @@ ghost use Rattle.sct_delta.specs.EntryText.{fields_in, site_in};
 use crate::sites::is_site_of_form_1;
 use crate::text::numbers::number_of;
 
-// Where the first space is.
+// The place of the first space.
 fn space(text: &[u8]) -> Option<usize>
     ensures place { result ≡ position is_space text.now }
     ensures within { IfSome result (λ at. at < length text.now) }
@@ -14,8 +14,7 @@ fn space(text: &[u8]) -> Option<usize>
     text.iter().position(|byte| *byte == b' ')
 }
 
-/// The number that a text begins with, up to the first space, and what comes after the space; `None` if no number
-/// comes before a space.
+/// The number before the first space of a text, and the bytes after that space. None if no number comes before a space.
 #[tactic(auto, unfolding(crate::specs::TextLines::number_before_space))]
 pub fn number_before_space(text: &[u8]) -> Option<(u64, &[u8])>
     ensures { option_map (λ field. (field.0, field.1.now)) result ≡ number_before_space text.now }
@@ -27,7 +26,7 @@ pub fn number_before_space(text: &[u8]) -> Option<(u64, &[u8])>
     Some((n, rest))
 }
 
-// The site of that number, where form 1 has it.
+// The site of this number, or none if form 1 does not have it.
 fn site_of(number: u64) -> Option<u16>
     ensures { result ≡ site_in number }
 {
@@ -37,14 +36,14 @@ fn site_of(number: u64) -> Option<u16>
     }
 }
 
-// What comes after the word that an entry line begins with.
+// The line without the word `entry ` at its front, or none if it begins otherwise.
 fn behind_word(line: &[u8]) -> Option<&[u8]>
     ensures { option_map (λ rest. rest.now) result ≡ after_prefix (codes "entry ") line.now }
 {
     line.strip_prefix(b"entry ")
 }
 
-/// The origin, the number and the JSON text of an entry line; none where the line is not of this shape.
+/// The origin, the number and the JSON text of an entry line, or none if the line does not have this shape.
 #[tactic(auto, unfolding(crate::specs::EntryText::fields_in))]
 pub fn fields_of(line: &[u8]) -> Option<(u16, u64, &[u8])>
     ensures { option_map (λ fields. (fields.0, fields.1, fields.2.now)) result ≡ fields_in line.now }

@@ -1,4 +1,4 @@
-//! Form 2 of the delta text: from its origin lines and message lines to the entries.
+//! Form 2 of the delta text: reads origin lines and message lines as entries.
 ghost use Rattle.std.specs.Prelude.{◌≡◌, ◌+◌, ◌<◌, ◌^◌, [], Some, None, Ok, Err, IfOk, IfErr, codes, length, if◌then◌else◌, option_map};
 ghost use Rattle.sct_delta.specs.DeltaText.{Reads};
 ghost use Rattle.sct_delta.specs.GroupText.{groups_in, may_begin, origin_in};
@@ -14,14 +14,14 @@ use crate::text::parts::{ended, message_of};
 use std::alloc::Global;
 use std::sync::Arc;
 
-// What comes after the word that an origin line begins with.
+// The line without the word `origin ` at its front, or none if it begins otherwise.
 fn behind_origin(line: &[u8]) -> Option<&[u8]>
     ensures { option_map (λ rest. rest.now) result ≡ after_prefix (codes "origin ") line.now }
 {
     line.strip_prefix(b"origin ")
 }
 
-// The origin, the first number and the count of an origin line; none where the line is not of this shape.
+// The origin, the first number and the count of an origin line, or none if the line does not have this shape.
 #[tactic(auto, unfolding(crate::specs::GroupText::origin_in))]
 fn origin_of(line: &[u8]) -> Option<(u64, u64, u64)>
     ensures { result ≡ origin_in line.now }
@@ -33,7 +33,8 @@ fn origin_of(line: &[u8]) -> Option<(u64, u64, u64)>
     Some((origin, first, count))
 }
 
-// The site of an origin that may begin behind another, with so many numbers from the first one on.
+// The site of an origin line, or none if the line may not come here. `before` is the
+// origin of the line before it, or 0.
 fn site_of_group(before: u16, origin: u64, first: u64, count: u64) -> Option<u16>
     ensures { result ≡ (if may_begin before origin first count then Some origin else None) }
 {
@@ -48,8 +49,9 @@ fn site_of_group(before: u16, origin: u64, first: u64, count: u64) -> Option<u16
     }
 }
 
-/// Reads what comes after the head line of form 2: the messages of each origin, and the end line after the last one.
-/// Refused is 45 (BadDelta) with the first wrong line of the whole text; 40 (Memory) says nothing of the text.
+/// Reads the lines after the head line of form 2: the messages of each origin, and the end line.
+/// Errors: `BadDelta` (45) with the first wrong line, counted in the whole text; `Memory`
+/// (40), which says nothing about the text.
 #[tactic(auto, using(crate::proofs::GroupReadingLemmas::groups_missing))]
 pub fn read_groups(alloc: Global, text: &[u8]) -> Result<Vec<Entry>, DeltaFault>
     requires { length text.now + 4 < 2 ^ 64 }

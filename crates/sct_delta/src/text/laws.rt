@@ -1,4 +1,4 @@
-//! What holds of the delta text. These functions do nothing; their contracts are laws.
+//! Laws of the delta text. Each law is the contract of a function with an empty body.
 ghost use Rattle.std.specs.Prelude.{◌≡◌, ◌≢◌, ◌↔◌, ◌<◌, ◌+◌, ◌^◌, ℕ, List, Some, Ok, IsTrue, flat_map, length};
 ghost use Rattle.std.specs.List.{list_all};
 ghost use Rattle.sct_message.specs.declared.draft.Draft.{Draft};
@@ -9,32 +9,32 @@ ghost use Rattle.sct_delta.specs.TextLines.{ended, ended_first, lines_of, lines_
 ghost use Rattle.sct_delta.specs.GroupText.{groups_head};
 ghost use Rattle.sct_delta.specs.DeltaText.{AgreeTo, IsDeltaText, delta_in, first_wrong_line};
 
-/// The lines of a text are the ones given, each ended by a line feed, exactly where they make the text one after
-/// another and no line has a line feed of its own.
+/// The lines of a text are the given ones, each ended by a line feed, in exactly this case: one after another they make
+/// the text, and no line has a line feed inside.
 pub fn lines_make_the_text()
     ensures { (bytes : List ℕ) (lines : List (List ℕ)) → (lines_of bytes ≡ lines_as lines)
         ↔ ((bytes ≡ flat_map ended lines) × IsTrue (list_all has_no_line_feed lines)) }
 {}
 
-/// A text is read as a delta exactly where it is a form of it.
+/// A text is read as a delta exactly if it is a form of that delta.
 pub fn a_text_is_read_where_it_is_a_form()
     ensures { (bytes : List ℕ) (entries : List Placed)
         → (delta_in bytes ≡ Ok entries) ↔ IsDeltaText bytes entries }
 {}
 
-/// A text is a form of one delta at most.
+/// A text is a form of at most one delta.
 pub fn a_text_is_a_form_of_one_delta()
     ensures { (bytes : List ℕ) (left right : List Placed)
         → IsDeltaText bytes left → IsDeltaText bytes right → left ≡ right }
 {}
 
-/// Texts of one delta are read as it, whatever form each of them has.
+/// Texts of one delta are read as that delta, whatever form each of them has.
 pub fn both_forms_are_read_alike()
     ensures { (some other : List ℕ) (entries : List Placed)
         → IsDeltaText some entries → IsDeltaText other entries → delta_in some ≡ delta_in other }
 {}
 
-/// A text with a wrong line is a form of no delta, and each other text is one of some delta.
+/// A text with a wrong line is not a form of any delta. A text without one is a form of some delta.
 pub fn a_wrong_line_means_no_form()
     ensures none { (bytes : List ℕ) (line : ℕ) (entries : List Placed)
         → first_wrong_line bytes ≡ Some line → ¬ (IsDeltaText bytes entries) }
@@ -42,15 +42,16 @@ pub fn a_wrong_line_means_no_form()
         → (entries : List Placed) × IsDeltaText bytes entries }
 {}
 
-/// The lines behind the first wrong one do not matter: a text with the same lines up to it has the same first wrong
-/// line, and so is a form of no delta either.
+/// The lines after the first wrong one do not matter. A text with the same lines up to it has the same first wrong
+/// line, so it is not a form of any delta either.
 pub fn a_wrong_line_goes_by_its_front()
     ensures { (bytes other : List ℕ) (line : ℕ) → first_wrong_line bytes ≡ Some line → AgreeTo line bytes other
         → first_wrong_line other ≡ Some line }
 {}
 
-/// The lines before the first wrong one are right: some text that begins with the same lines is a form of a delta. In form 2
-/// messages may still be due there. So it takes a JSON text on one line that is read as a message, and has that line for each.
+/// The lines before the first wrong one are right: some text that begins with the same lines is a form of a delta.
+/// In form 2 messages may still be due there. The law therefore takes a JSON text on one line that is read as a
+/// message, and uses that line for each message due.
 pub fn the_lines_before_a_wrong_one_are_right()
     ensures entries { (bytes : List ℕ) (before : ℕ) → length bytes < 2 ^ 64
         → ended_first (lines_of bytes) ≢ Some groups_head → first_wrong_line bytes ≡ Some (before + 1)

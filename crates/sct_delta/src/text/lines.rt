@@ -3,7 +3,7 @@ ghost use Rattle.std.specs.Prelude.{◌≡◌, ◌+◌, ◌<◌, ◌==◌, ◌�
 ghost use Rattle.std.specs.List.{position_from};
 ghost use Rattle.sct_delta.specs.TextLines.{lines_of, ended_first};
 
-// Where the first line feed is.
+// The place of the first line feed.
 fn line_feed(bytes: &[u8]) -> Option<usize>
     ensures first { result ≡ position_from (λ byte. byte == 10) 0 bytes.now }
     ensures within { IfSome result (λ at. at < length bytes.now) }
@@ -11,7 +11,7 @@ fn line_feed(bytes: &[u8]) -> Option<usize>
     bytes.iter().position(|byte| *byte == b'\n')
 }
 
-/// What comes before the first line feed, and what comes after it; `None` if there is no line feed.
+/// The bytes before the first line feed, and the bytes after it. None if there is no line feed.
 pub fn first_line(bytes: &[u8]) -> Option<(&[u8], &[u8])>
     ensures lines { MatchOption result (ended_first (lines_of bytes.now) ≡ None)
         (λ parts. lines_of bytes.now ≡ Some parts.0.now ∷ lines_of parts.1.now) }

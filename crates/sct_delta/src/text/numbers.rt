@@ -4,28 +4,28 @@ ghost use Rattle.std.specs.Char.{is_ascii_digit};
 ghost use Rattle.std.specs.List.{list_all};
 ghost use Rattle.sct_delta.specs.TextLines.{is_numeral, number_in, begins_right, is_space};
 
-// Digits alone.
+// Whether all bytes are digits.
 fn are_digits(text: &[u8]) -> bool
     ensures { result ≡ list_all is_ascii_digit text.now }
 {
     text.iter().all(|byte| byte.is_ascii_digit())
 }
 
-// At least one character, and a zero only where it is the only one.
+// Whether there is a character, and no zero comes before others.
 fn begins_right(text: &[u8]) -> bool
     ensures { result ≡ begins_right text.now }
 {
     text.len() == 1 || text.len() > 1 && text[0] != b'0'
 }
 
-// A number in decimal, of any size.
+// Whether the text is a number in decimal, of any size.
 fn is_numeral(text: &[u8]) -> bool
     ensures { result ≡ is_numeral text.now }
 {
     begins_right(text) && are_digits(text)
 }
 
-// The number that digits write.
+// The number that digits write, or none if it is not below 2^64.
 fn number_of_digits(text: &[u8]) -> Option<u64>
     requires { IsTrue (is_numeral text.now) }
     ensures { result ≡ number_in text.now }
@@ -36,7 +36,8 @@ fn number_of_digits(text: &[u8]) -> Option<u64>
     }
 }
 
-/// The number that a text writes in decimal, without a sign or a leading zero; none where it writes none below 2^64.
+/// The number that a text writes in decimal, without a sign or a leading zero. None if
+/// the text is not a number below 2^64.
 #[tactic(auto, unfolding(crate::specs::TextLines::number_in))]
 pub fn number_of(text: &[u8]) -> Option<u64>
     ensures { result ≡ number_in text.now }

@@ -1,4 +1,4 @@
-//! What both forms of the delta text have: messages, and the end line.
+//! The parts that both forms of the delta text have: messages and the end line.
 ghost use Rattle.std.specs.Prelude.{◌≡◌, ◌-◌, ◌<◌, ◌^◌, Ok, Err, IfOk, IfErr, codes, option_and_then};
 ghost use Rattle.std.specs.Result.{result_ok};
 ghost use Rattle.sct_json.specs.Reading.{message_in};
@@ -13,7 +13,7 @@ use sct_json::{JsonFault, read_message};
 use sct_message::Message;
 use std::alloc::Global;
 
-/// The message of a JSON text; none where it is refused. 40 (Memory) says nothing of the text.
+/// The message of a JSON text, or none if the text is refused. Error: `Memory` (40), which says nothing about the text.
 pub fn message_of(alloc: Global, json: &[u8]) -> Result<Option<Message>, DeltaFault>
     ensures read { IfOk result (λ message. message ≡ result_ok (message_in json.now)) }
     ensures memory { IfErr result (λ refusal. refusal ≡ fault.Memory) }
@@ -33,7 +33,7 @@ fn told_count(line: &[u8]) -> Option<u64>
     number_of(number)
 }
 
-// The line is the end line behind so many entries.
+// Whether the line is the end line after `count` entries.
 #[tactic(auto, using(crate::proofs::ReadingLemmas::end_by_count, crate::proofs::ReadingLemmas::no_count_no_end))]
 fn is_end_line(line: &[u8], count: u64) -> bool
     ensures { result ≡ is_end_line count line.now }
@@ -44,8 +44,8 @@ fn is_end_line(line: &[u8], count: u64) -> bool
     }
 }
 
-/// Ends with a line that is no entry and begins no origin, with what comes after it. 45 (BadDelta) if it is not
-/// the end line, or something comes after it.
+/// Ends the reading at a line that is neither an entry line nor an origin line. `after` is the text after that line.
+/// Error: `BadDelta` (45) if the line is not the end line, or if there is text after it.
 pub fn ended(
     entries: Vec<Entry>,
     place: u64,

@@ -1,4 +1,4 @@
-//! From a text to the delta that it is a form of, or to its first wrong line.
+//! Reads a delta text as its delta, or finds its first wrong line.
 ghost use Rattle.std.specs.Prelude.{◌≡◌, ◌≢◌, ◌+◌, ◌<◌, ◌^◌, List, Ok, Err, IfOk, IfErr, length, nat_eq};
 ghost use Rattle.std.specs.Cmp.Lexicographic.{pointwise};
 ghost use Rattle.sct_delta.specs.declared.fault.DeltaFault.TheVariants as fault;
@@ -16,21 +16,21 @@ use crate::text::groups::read_groups;
 use crate::text::lines::first_line;
 use std::alloc::Global;
 
-// The line is the head line of form 1.
+// Whether the line is the head line of form 1.
 fn heads_entries(line: &[u8]) -> bool
     ensures { result ≡ pointwise nat_eq line.now entries_head }
 {
     line == b"delta 1".as_slice()
 }
 
-// The line is the head line of form 2.
+// Whether the line is the head line of form 2.
 fn heads_groups(line: &[u8]) -> bool
     ensures { result ≡ pointwise nat_eq line.now groups_head }
 {
     line == b"delta 2".as_slice()
 }
 
-// Reads what comes after a head line, by the form that it names.
+// Reads the lines after a head line, by the form that it names.
 fn read_behind(alloc: Global, head: &[u8], text: &[u8]) -> Result<Vec<Entry>, DeltaFault>
     requires { length text.now + 4 < 2 ^ 64 }
     ensures read { IfOk result (λ entries. entries_behind head.now (lines_of text.now) ≡ Ok entries.items) }
@@ -45,16 +45,16 @@ fn read_behind(alloc: Global, head: &[u8], text: &[u8]) -> Result<Vec<Entry>, De
     Err(DeltaFault::BadDelta(1))
 }
 
-/// Reads a text of form 1 or of form 2 as the delta that it is a form of, each message put into its `Arc` once. Refused
-/// is 45 (BadDelta) with the number, from 1, of the first line that is wrong:
-/// - it is not of its shape, it is missing, or no line feed ends it;
+/// Reads a text of form 1 or form 2 as its delta. Each message is put into an `Arc` once. O(bytes of the text).
+/// Error: `BadDelta` (45) with the number, from 1, of the first wrong line. A line is wrong in these cases:
+/// - it does not have its shape, it is missing, or no line feed ends it;
 /// - its origin is outside 1 to 64 in form 1, or outside 1 to 1024 in form 2;
-/// - its entry may not come behind the one before it, or its origin is not above the one before it;
-/// - its numbers begin at 0 or go past 18446744073709551615, or it counts no message;
-/// - its message is refused, or no message is there where one is due;
-/// - it counts another number of entries, or it comes behind the end line.
+/// - its entry may not follow the entry before it, or its origin is not above the origin before it;
+/// - its numbers begin at 0 or go past 18446744073709551615, or its count of messages is 0;
+/// - its message is refused, or it is not a message line and a message is due;
+/// - it gives another number of entries than the text has, or it comes after the end line.
 ///
-/// 40 (Memory) says nothing of the text. The cost is one pass over the text.
+/// Further error: `Memory` (40), which says nothing about the text.
 pub fn read_delta(alloc: Global, bytes: &[u8]) -> Result<Delta, DeltaFault>
     ensures read { Reads result (delta_in bytes.now) }
     ensures form { IfOk result (λ delta. IsDeltaText bytes.now delta) }

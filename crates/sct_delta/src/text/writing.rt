@@ -1,4 +1,4 @@
-//! From a delta to its text, of form 2.
+//! Writes a delta as its text of form 2.
 ghost use Rattle.std.specs.Prelude.{◌≡◌, ◌<◌, ◌≤◌, ◌^◌, ◌+◌, ◌++◌, ◌∷◌, [], Ok, OnOk, IfOk, IfErr, codes, decimal, flat_map, length, nat_eq, string_bytes};
 ghost use Rattle.std.specs.List.{All};
 ghost use Rattle.sct_json.specs.Reading.{message_in};
@@ -27,7 +27,7 @@ fn text_of(alloc: Global, message: &Message) -> Result<Vec<u8>, DeltaFault>
     }
 }
 
-// How many entries of an origin there are in front.
+// How many entries of the origin the list begins with.
 fn run_length(origin: u16, entries: &[Entry]) -> u64
     ensures run { result ≡ run_length origin entries.now }
     ensures few { result ≤ length entries.now }
@@ -52,7 +52,7 @@ fn origin_line(alloc: Global, origin: u16, first: u64, count: u64) -> Result<Str
     format!(in alloc; "origin {origin} {first} {count}\n")
 }
 
-// Adds the line that begins an origin, where no entry of the origin comes before the entry.
+// Appends the line that begins an origin, if the entry before is of another origin.
 fn begin_origin(
     alloc: Global,
     text: &mut Vec<u8>,
@@ -73,14 +73,14 @@ fn begin_origin(
     Ok(())
 }
 
-// Adds the line of a message.
+// Appends the line of a message.
 fn push_message(alloc: Global, text: &mut Vec<u8>, entry: &Entry) -> Result<(), DeltaFault>
     ensures written { OnOk result (text.new.items
         ≡ text.old.items ++ ended (written_text entry.now.message)) }
     ensures reads_back { OnOk result (IsWritten entry.now) }
     ensures memory { IfErr result (λ refusal. refusal ≡ fault.Memory) }
 {
-    // Read for its range alone.
+    // Read only so that its range is known.
     let _number = entry.n;
     let message = text_of(alloc, &entry.message)?;
     text.extend_from_slice(&message)?;
@@ -88,7 +88,7 @@ fn push_message(alloc: Global, text: &mut Vec<u8>, entry: &Entry) -> Result<(), 
     Ok(())
 }
 
-// Adds the lines of entries.
+// Appends the lines of the entries.
 fn push_entries(alloc: Global, text: &mut Vec<u8>, entries: &[Entry]) -> Result<(), DeltaFault>
     ensures written { OnOk result (text.new.items
         ≡ text.old.items ++ flat_map ended (lines_after 0 entries.now)) }
@@ -106,7 +106,7 @@ fn push_entries(alloc: Global, text: &mut Vec<u8>, entries: &[Entry]) -> Result<
     Ok(())
 }
 
-// The end line behind so many entries.
+// The end line after `count` entries, with its line feed.
 fn end_of(alloc: Global, count: u64) -> Result<String, AllocError>
     ensures { IfOk result (λ line. string_bytes line ≡ ended (end_line count)) }
 {
@@ -128,10 +128,10 @@ fn text_of_entries(alloc: Global, entries: &[Entry]) -> Result<Vec<u8>, DeltaFau
     Ok(text)
 }
 
-/// Writes the one written text of a delta, of form 2: the head line, for each origin a line with its first number and how
-/// many messages follow, the written form of each message on a line, and the end line with the number of all entries. It
-/// is a form of the delta and is read back as it. The only fault is 40 (Memory). The cost is twice one pass over the
-/// entries.
+/// Writes a delta as its one written text, of form 2. The text is a form of the delta and is read back as the delta.
+/// It has the head line, for each origin a line with the first number and the count of its messages, then the written
+/// form of each message on a line of its own, and the end line with the number of all entries.
+/// Error: `Memory` (40). The cost is two passes over the entries.
 pub fn write_delta(alloc: Global, delta: &Delta) -> Result<Vec<u8>, DeltaFault>
     ensures written { IfOk result (λ text. text.items ≡ written_delta delta.now) }
     ensures form { IfOk result (λ text. IsDeltaText text.items delta.now) }
