@@ -34,7 +34,7 @@ fn origin_of(line: &[u8]) -> Option<(u64, u64, u64)>
 }
 
 // The site of an origin line, or none if the line may not come here. `before` is the
-// origin of the line before it, or 0.
+// origin of the group before it, or 0.
 fn site_of_group(before: u16, origin: u64, first: u64, count: u64) -> Option<u16>
     ensures { result ≡ (if may_begin before origin first count then Some origin else None) }
 {
