@@ -8,8 +8,8 @@ use logbook::{Seen, Start, Word};
 use sct_delta::Entry;
 use std::marker::Model;
 
-/// The history of one site. All that it has in memory is its length, a word that is written only where the history
-/// grows. Contracts see which history it is.
+/// The history of one site. In memory it is only its length, a word that is written only when the history grows.
+/// Contracts see which history it is.
 #[derive(Drop)]
 pub struct History {
     pub(crate) head: Word<Entry, u64, Law>,
@@ -30,7 +30,7 @@ impl Model for History {
 }
 
 impl History {
-    /// A new history with no arrival, and the beginning of it that has none.
+    /// A new history without arrivals, and the track of its empty beginning.
     pub fn open() -> (History, Track)
         ensures book { result.1.book ≡ result.0 }
         ensures empty { result.1.log ≡ [] }

@@ -1,5 +1,5 @@
-//! The history of a site: its arrivals in the order in which they came. The list exists in proofs alone, where it only
-//! grows, and whoever has seen a beginning of it can carry that to other threads.
+//! The history of a site: its arrivals in the order in which they came. The list exists only in proofs, and only grows.
+//! A thread that has seen a beginning of it can pass that on to other threads.
 #![tactic(auto)]
 
 mod history;

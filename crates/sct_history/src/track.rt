@@ -11,8 +11,8 @@ use logbook::{Offer, Seen};
 use sct_delta::Entry;
 use std::marker::Model;
 
-/// A beginning of a site's history that was seen: the arrivals up to some position. All that it has in memory is how
-/// many these are. Contracts see which history it is of, and the arrivals.
+/// A beginning of a site's history that was seen: the arrivals up to some position. In memory it is only the number of
+/// these arrivals. Contracts see the arrivals, and which history they are of.
 #[derive(Drop)]
 pub struct Track {
     len: u64,
@@ -32,7 +32,7 @@ impl Model for Track {
 }
 
 impl Track {
-    // What was seen of a history with no arrival.
+    // The track of a history without arrivals.
     pub(crate) fn of(seen: Seen<Entry, u64, Law>) -> Track
         requires { seen.log ≡ [] }
         ensures { result ≡ record { book = seen.book; log = [] } }
@@ -48,7 +48,7 @@ impl Track {
         self.len
     }
 
-    /// A copy.
+    /// A copy. It does not allocate.
     pub fn again(&self) -> Track
         ensures { result ≡ self.now }
     {
@@ -58,7 +58,7 @@ impl Track {
         }
     }
 
-    /// The longer of two beginnings of one history, which the other begins.
+    /// The longer of two beginnings of one history. The other is a prefix of it. O(1).
     pub fn longer(&self, other: &Track) -> Track
         requires { self.now.book ≡ other.now.book }
         ensures book { result.book ≡ self.now.book }
@@ -73,7 +73,8 @@ impl Track {
         }
     }
 
-    /// Whether the other beginning of this history begins with this one; else it is shorter.
+    /// Whether `self` is a prefix of `other`; if not, `other` is the shorter one. Both
+    /// are beginnings of one history. O(1).
     pub fn begins(&self, other: &Track) -> bool
         requires { self.now.book ≡ other.now.book }
         ensures { MatchBool result (IsPrefix self.now.log other.now.log)
@@ -84,8 +85,8 @@ impl Track {
         if self.len <= other.len { true } else { false }
     }
 
-    /// Adds an arrival to the history, and says whether it did. Where the history has other arrivals than these it
-    /// did not, and nothing has changed.
+    /// Adds an arrival to the history. Returns whether it did. It does not if the history has other arrivals than
+    /// this track; nothing has then changed. O(1).
     pub fn add(&mut self, history: &History, entry: &Entry) -> bool
         requires history { history.now ≡ self.old.book }
         requires next { IsArrivals (self.old.log ++ entry.now ∷ []) }
