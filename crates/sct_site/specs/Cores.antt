@@ -1,5 +1,5 @@
--- One site as a caller sees it: its number, its group and its arrivals, and what takes, deltas and cuts make of
--- them. Read by an auditor; worlds and desks speak of sites in these words.
+-- One site as a caller sees it: its number, its group and its arrivals, and the effects of takes, deltas and cuts. Read
+-- by an auditor. Worlds and desks use these words.
 use Rattle.std.specs.FinSet as set
 use Rattle.std.specs.Prelude.{◌≡◌, ℕ, ◌+◌, ◌++◌, ◌∷◌, [], not, ◌&&◌, Bool, true, List, Option, filter, nat_lt, if◌then◌else◌}
 use Rattle.std.specs.List.{list_all}
@@ -22,7 +22,7 @@ pub record Core : Type 0 where
   pub group : ℕ
   pub arrivals : List Placed
 
--- a group has at least one site and at most the most that may be, and these are numbered from 1
+-- a group has at least one site and at most the greatest number of sites, and its sites are numbered from 1
 abbrev pub is_open : ℕ → ℕ → Bool
 is_open number group = nat_lt 0 number && not (nat_lt group number) && not (nat_lt most_sites group)
 
@@ -32,13 +32,13 @@ pub record IsSite (core : Core) : Type 0 where
   pub order : IsArrivals core.arrivals
   pub inside : (entry : Placed) → holds core.arrivals entry ≡ true → has_site core.group entry.origin ≡ true
 
--- the logs of a list of entries: of each origin its messages, in the order in which they stand
+-- the logs of a list of entries: the messages of each origin, in the order of the list
 abbrev pub logs_of : List Placed → ℕ → List Draft
 logs_of entries origin = log_of origin entries
 
 -- ---- taking a message
 
--- the message is held, from whatever origin
+-- the message is held, from any origin
 abbrev pub is_repeat : Core → Draft → Bool
 is_repeat core message = set.contains (messages_of core.arrivals) message
 
@@ -50,7 +50,7 @@ next_own core = held_from core.number core.arrivals + 1
 abbrev pub own_entry : Core → Draft → Placed
 own_entry core message = record { origin = core.number; n = next_own core; message = message }
 
--- what a take is answered: a repeat, or the number of the new own entry
+-- the answer to a take: a repeat, or the number of the new own entry
 unfoldable pub took_by : Core → Draft → Took
 took_by core message = if is_repeat core message then took.Repeat else took.Taken (next_own core)
 
@@ -61,7 +61,7 @@ arrivals_taken core message =
 
 -- ---- accepting a delta
 
--- the first reason why the site does not take the delta, where there is one
+-- the first reason why the site does not accept the delta, if there is one
 abbrev pub refusal_by : Core → List Placed → Option DeltaFault
 refusal_by core delta = first_refusal core.number core.group (logs_of core.arrivals) delta
 
@@ -92,6 +92,6 @@ entry_order a b =
 abbrev pub is_above : (ℕ → ℕ) → Placed → Bool
 is_above count entry = nat_lt (count entry.origin) entry.n
 
--- the entries above a version vector, whatever their origin, by origin and number
+-- the entries above a version vector, of every origin, ordered by origin and number
 unfoldable pub entries_above : (ℕ → ℕ) → List Placed → List Placed
 entries_above count arrivals = ascending entry_order (filter (is_above count) arrivals)

@@ -1,4 +1,4 @@
--- What a site keeps beside its arrivals, and how it follows from them. Read by an auditor.
+-- The data of a site besides its arrivals, and how it follows from them. Read by an auditor.
 use Rattle.std.specs.Option.{is_none}
 use Rattle.std.specs.Prelude.{◌≡◌, ℕ, Bool, true, List, filter}
 use Rattle.sct_message.specs.declared.draft.Draft.{Draft}
@@ -17,12 +17,13 @@ pub record IsCore (number group : ℕ) (logs : Logs) (arrivals : List Placed) (a
   pub by_origin : (origin : ℕ) → log_in logs origin ≡ log_of origin arrivals
   pub messages : archive ≡ messages_of arrivals
 
--- ---- what a site looks up in its logs
+-- ---- the look-ups of a site in its logs
 
 -- the number of the entry is not held
 abbrev pub is_new : (ℕ → List Draft) → Placed → Bool
 is_new log entry = is_none (message_at (log entry.origin) entry.n)
 
--- the entries of a delta whose numbers are not held, in its order; of a delta that is no fork, those that are not held
+-- the entries of a delta whose numbers are not held, in its order; if the delta is not a
+-- fork, these are the entries not held
 abbrev pub new_in : (ℕ → List Draft) → List Placed → List Placed
 new_in log delta = filter (is_new log) delta

@@ -1,1 +1,1 @@
--- What holds of sites, whatever they hold. Read by an auditor.
+-- Laws of sites, whatever they hold. Read by an auditor.

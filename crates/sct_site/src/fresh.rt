@@ -11,22 +11,22 @@ use sct_message::Message;
 use std::alloc::{AllocError, Global};
 use std::sync::Arc;
 
-// Whether the number of an entry is not held.
+// Whether no entry is held under the number of this one.
 fn is_new(logs: &Logs, entry: &Entry) -> bool
     ensures { result ≡ is_new (log_in logs.now) entry.now }
 {
     logs.get(entry.origin, entry.n).is_none()
 }
 
-/// Whether no number of the entries is new. No message is looked at.
+/// Whether an entry is held under the number of each of the entries. No message is looked at.
 pub fn are_numbers_held(logs: &Logs, entries: &[Entry]) -> bool
     ensures { result ≡ list_all (λ entry. not (is_new (log_in logs.now) entry)) entries.now }
 {
     entries.iter().all(|entry| !is_new(logs, entry))
 }
 
-/// The entries whose numbers are not held, in their order, with their messages shared. They are the entries that are not
-/// held if no number is held with another message.
+/// The entries whose numbers are not held, in their order, sharing their messages. If no number is held with another
+/// message, these are the entries that are not held.
 pub fn new_in(alloc: Global, logs: &Logs, entries: &[Entry]) -> Result<Vec<Entry>, AllocError>
     ensures { IfOk result (λ fresh. fresh.items ≡ new_in (log_in logs.now) entries.now) }
 {

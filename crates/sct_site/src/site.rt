@@ -16,8 +16,8 @@ use std::alloc::Global;
 use std::marker::Model;
 use std::sync::Arc;
 
-/// What one site of a group holds: the messages that it took under its own numbers, and the entries of others that it
-/// accepted. Its number is for the life of this site alone.
+/// The core of one site of a group: the messages that it took under its own numbers, and the entries of others that it
+/// accepted. Its number belongs to this site for the site's lifetime; a new site takes a new number.
 #[derive(Drop)]
 pub struct SiteCore {
     alloc: Global,
@@ -40,8 +40,8 @@ impl Model for SiteCore {
 }
 
 impl SiteCore {
-    /// The site `number` of a group of `group` sites, with no entry. 44 `BadSite` where the group is not one of 1 to 1024
-    /// sites, or has no such site.
+    /// The site `number` of a group of `group` sites, without entries. Error: `BadSite` (44) if the group does not have
+    /// 1 to 1024 sites, or does not have this site.
     pub fn open(alloc: Global, number: u16, group: u16) -> Result<SiteCore, DeltaFault>
         ensures ok { IfOk result (λ core. core ≡ record { number = number; group = group; arrivals = [] }) }
         ensures site { OnOk result (is_open number group ≡ true) }
@@ -74,7 +74,7 @@ impl SiteCore {
         self.group
     }
 
-    /// How many entries of each origin the site holds.
+    /// The version vector: how many entries of each origin the site holds.
     pub fn vector(&self) -> &Vector
         ensures { (origin : ℕ) → count_in result.now origin ≡ held_from origin self.now.arrivals }
     {
@@ -88,7 +88,7 @@ impl SiteCore {
         &self.archive
     }
 
-    /// All entries that the site holds, in the order in which they came; those of one delta in the delta's order.
+    /// All entries that the site holds, in the order in which they came. Those of one delta are in the delta's order.
     pub fn arrivals(&self) -> &[Entry]
         ensures arrivals { result.now ≡ self.now.arrivals }
         ensures order { IsArrivals result.now }
@@ -97,8 +97,8 @@ impl SiteCore {
         &self.arrivals
     }
 
-    /// Takes a message: it becomes the next own entry, unless the site holds it from whatever origin. Where memory is
-    /// wanting (40) nothing has changed.
+    /// Takes a message. It becomes the next own entry, unless the site holds it from any origin.
+    /// Error: `Memory` (40), with the site unchanged.
     pub fn take(&mut self, message: Arc<Message>) -> Result<Took, DeltaFault>
         ensures answer { IfOk result (λ took. took ≡ took_by self.old (arc_value message)) }
         ensures number { self.new.number ≡ self.old.number }
@@ -127,15 +127,15 @@ impl SiteCore {
         Ok(Took::Taken { n })
     }
 
-    /// Whether the site holds an entry under each number of a delta, whatever its message. No message is looked at, so this
-    /// takes as long as a walk along the delta.
+    /// Whether the site holds an entry under each number of a delta, whatever its message. It
+    /// looks at no message. O(entries of the delta).
     pub fn has_numbers(&self, delta: &Delta) -> bool
         ensures { result ≡ has_numbers self.now.arrivals delta.now }
     {
         are_numbers_held(&self.logs, delta.entries())
     }
 
-    // The first reason why the site does not take a delta.
+    // The first reason why the site does not accept a delta, or none.
     fn refusal(&self, delta: &Delta) -> Option<DeltaFault>
         ensures first { result ≡ refusal_by self.now delta.now }
         ensures site { IsSite self.now }
@@ -146,7 +146,7 @@ impl SiteCore {
         }
     }
 
-    // Takes in the entries of a delta that nothing refuses. Where memory is wanting nothing has changed.
+    // Adds the entries of a delta that fits. If out of memory, nothing changes.
     fn admit(&mut self, delta: &Delta) -> Result<Accepted, DeltaFault>
         requires { refusal_by self.old delta.now ≡ None }
         ensures answer { IfOk result (λ accepted. accepted.fresh
@@ -174,10 +174,13 @@ impl SiteCore {
         Ok(Accepted { fresh: count })
     }
 
-    /// Accepts another site's delta: the entries that the site does not hold come to it, in the delta's order. A delta
-    /// is refused for the first of these reasons: 44 `BadSite` for an origin that the group does not have, 43 `OwnAhead`
-    /// for an own entry above the own count, 41 `Gap` for an origin that begins past its next number, 42 `Fork` for an
-    /// entry whose number is held with another message, 40 `Memory`. Where it is refused nothing has changed.
+    /// Accepts another site's delta. The entries that the site does not hold are added, in the delta's order.
+    /// If the delta is refused, nothing changes. The first of these errors is returned:
+    /// - `BadSite` (44): the group does not have an origin of the delta;
+    /// - `OwnAhead` (43): an entry of the own origin is above the own count;
+    /// - `Gap` (41): the least number of an origin is past the next one;
+    /// - `Fork` (42): a number of the delta is held with another message;
+    /// - `Memory` (40).
     pub fn accept(&mut self, delta: &Delta) -> Result<Accepted, DeltaFault>
         ensures answer { IfOk result (λ accepted. accepted.fresh
             ≡ length (fresh_of self.old.arrivals delta.now)) }
@@ -196,7 +199,8 @@ impl SiteCore {
         self.admit(delta)
     }
 
-    /// The entries that a site lacks which holds those up to a vector, whatever their origin.
+    /// The entries numbered above `vector`, of every origin, as a delta. Error: `Memory` (40).
+    /// O(entries cut), plus one look at each origin.
     pub fn cut(&self, vector: &Vector) -> Result<Delta, DeltaFault>
         ensures cut { IfOk result (λ delta. delta ≡ entries_above (count_in vector.now) self.now.arrivals) }
         ensures shape { IfOk result (λ delta. IsDelta delta) }
