@@ -3,7 +3,7 @@ use Rattle.std.specs.Prelude.{ℕ}
 use Rattle.sct_desk.specs.declared.fault.DeskFault.{DeskFault}
 use Rattle.sct_desk.specs.declared.fault.DeskFault.TheVariants as fault
 
--- the number by which a fault is told
+-- the number of a fault
 abbrev pub desk_fault_number : DeskFault → ℕ
 desk_fault_number fault.BadSite = 44
 desk_fault_number fault.Memory = 50

@@ -1,4 +1,4 @@
--- What lies under a desk's lock agrees. Read by an auditor.
+-- The parts of the state under a desk's lock agree. Read by an auditor.
 use Rattle.std.specs.Prelude.{◌≡◌, ◌≤◌, ℕ, List, length, take}
 use mathlib.Core.List.{IsPrefix}
 use Rattle.logbook.specs.Pages.{Book}
@@ -8,9 +8,9 @@ use Rattle.sct_desk.specs.declared.shown.Shown.{Shown}
 use Rattle.sct_desk.specs.declared.shown.Batch.{Batch}
 use Rattle.sct_desk.specs.Rules.{view_of, handed_over}
 
--- The core is that of the desk's site. What is published is the view of a beginning of the core's arrivals. The history
--- has a beginning of them, and with the batches that are handed over the view is that of the first `handed` ones. There
--- is a mark for each arrival.
+-- The core is that of the desk's site. The published view is the view of a beginning of the core's arrivals. The
+-- history has a beginning of them. With the batches that are handed over, the view is that of the first `handed`
+-- arrivals. There is a mark for each arrival.
 pub record IsHeld (book : Book) (number group : ℕ) (core : Core) (track : Sight) (shown : Shown) (batches : List Batch) (handed : ℕ) (marks : List ℕ) : Type 0 where
   pub number_is : core.number ≡ number
   pub group_is : core.group ≡ group

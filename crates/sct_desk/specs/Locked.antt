@@ -1,4 +1,4 @@
--- What lies under a desk's lock, and what its calls do to it. Read by an auditor.
+-- The state under a desk's lock, and the effects of its calls. Read by an auditor.
 use Rattle.std.specs.Prelude.{◌≡◌, ◌+◌, ◌≤◌, ℕ, List, length, Option, Some, None, Result, Ok, Err, if◌then◌else◌, nat_eq}
 use Rattle.sct_delta.specs.Entries.{Placed}
 use Rattle.sct_delta.specs.declared.fault.DeltaFault.{DeltaFault}
@@ -10,7 +10,7 @@ use Rattle.sct_site.specs.declared.answers.Took.TheVariants as took
 use Rattle.sct_desk.specs.declared.fault.DeskFault.{DeskFault}
 use Rattle.sct_desk.specs.declared.fault.DeskFault.TheVariants as fault
 
--- The site with its arrivals, and those of them that are published. The others are pending.
+-- The site with its arrivals, and the published ones among them. The others are pending.
 pub record Locked : Type 0 where
   pub core : Core
   pub published : List Placed
@@ -19,13 +19,13 @@ pub record Locked : Type 0 where
 abbrev pub IsShown : Locked → Type 0
 IsShown held = held.published ≡ held.core.arrivals
 
--- the position is the first of a pending arrival
+-- the position is that of the first pending arrival
 abbrev pub IsHeldBack : ℕ → Locked → Type 0
 IsHeldBack from held = (from ≡ length held.published + 1) × (from ≤ length held.core.arrivals)
 
--- ---- a delta that is handed over
+-- ---- a delta that is accepted or refused
 
--- why a delta is refused: 44, 43, 41 or 42, and nothing else
+-- the reasons why a delta is refused: 44, 43, 41 or 42, and no others
 abbrev pub IsDeltaRefusal : DeltaFault → Type 0
 IsDeltaRefusal delta_fault.BadSite = Unit {0}
 IsDeltaRefusal (delta_fault.OwnAhead n) = Unit {0}
@@ -37,7 +37,7 @@ abbrev pub answer_for : Option DeltaFault → ℕ → Result Accepted DeltaFault
 answer_for None fresh = Ok (record { fresh = fresh })
 answer_for (Some refusal) fresh = Err refusal
 
--- what the delta is answered: the first reason why it is refused, or how many of its entries were not held
+-- the answer to the delta: the first reason why it is refused, or how many of its entries were not held
 abbrev pub answer_to : Core → List Placed → Result Accepted DeltaFault
 answer_to core delta = answer_for (refusal_by core delta) (length (fresh_of core.arrivals delta))
 
@@ -45,7 +45,7 @@ abbrev pub arrivals_for : Option DeltaFault → List Placed → List Placed → 
 arrivals_for None joined arrivals = joined
 arrivals_for (Some refusal) joined arrivals = arrivals
 
--- the arrivals afterwards: a delta that is refused changes nothing
+-- the arrivals afterwards; a delta that is refused changes nothing
 abbrev pub arrivals_handed : Core → List Placed → List Placed
 arrivals_handed core delta = arrivals_for (refusal_by core delta) (arrivals_joined core.arrivals delta) core.arrivals
 
@@ -61,20 +61,20 @@ came_by_delta (Err refusal) = 0
 
 -- ---- refused calls
 
--- Memory was wanting: before anything changed; or after the call's arrivals were held, for their publication.
+-- The call was out of memory: before anything changed, or for the publication, after the call's arrivals were held.
 abbrev pub Fails : Locked → List Placed → Locked → DeskFault → Type 0
 Fails old arrivals new fault.Memory = new ≡ old
 Fails old arrivals new (fault.Unpublished from) =
     (new.core.arrivals ≡ arrivals) × (new.published ≡ old.published) × IsHeldBack from new
 Fails old arrivals new other = ⊥
 
--- want of memory, before anything changed or for a publication
+-- the call was out of memory, before anything changed or for a publication
 abbrev pub IsWant : DeskFault → Type 0
 IsWant fault.Memory = Unit {0}
 IsWant (fault.Unpublished from) = 1 ≤ from
 IsWant other = ⊥
 
--- why nothing was published: 51 where an arrival is pending, else 50
+-- why nothing was published: 51 if an arrival is pending, else 50
 abbrev pub unpublished : Locked → DeskFault
 unpublished held =
     if nat_eq (length held.published) (length held.core.arrivals) then fault.Memory

@@ -10,8 +10,8 @@ use Rattle.sct_desk.specs.declared.fault.DeskFault.TheVariants as fault
 abbrev pub IsNewQuery : Book → ℕ → Asked → Type 0
 IsNewQuery book number query = query ≡ record { site = number; book = book; seen = [] }
 
--- Why a desk does not open. There is no such site (44). Or there is, and the places are fewer than 1 or more than 16 (52). Or
--- the site and the places are right, and memory is wanting (50).
+-- Why a desk does not open. 44: there is no such site. 52: there is, but the places are fewer than 1 or more than 16.
+-- 50: the site and the places are right, but it is out of memory.
 abbrev pub FailsToOpen : ℕ → ℕ → ℕ → DeskFault → Type 0
 FailsToOpen number group places fault.BadSite = is_open number group ≡ false
 FailsToOpen number group places fault.NoPlace = (is_open number group ≡ true) × ((places < 1) ⊎ (16 < places))

@@ -1,11 +1,11 @@
--- What receipts show, and what queries have seen. Read by an auditor.
+-- The arrivals that receipts show and that queries have seen. Read by an auditor.
 use Rattle.std.specs.Prelude.{◌≡◌, ◌+◌, ◌-◌, ◌≤◌, ℕ, List, length, take}
 use Rattle.logbook.specs.Pages.{Book}
 use Rattle.sct_delta.specs.Entries.{Placed}
 use Rattle.sct_site.specs.Cores.{Core}
 
--- A receipt: it tells that the site's arrivals from position `from` on, `count` of them, were published, the first
--- `carried` of which came by earlier calls; and it shows all arrivals up to these. Positions count from 1.
+-- A receipt. It says that `count` of the site's arrivals were published, from position `from` on, and that the first
+-- `carried` of these came by earlier calls. It shows all arrivals up to these. Positions count from 1.
 pub record Told : Type 0 where
   pub site : ℕ
   pub from : ℕ
@@ -14,7 +14,7 @@ pub record Told : Type 0 where
   pub book : Book
   pub shown : List Placed
 
--- A query: the site that it is of, and the arrivals that it has seen.
+-- A query: its site, and the arrivals that it has seen.
 pub record Asked : Type 0 where
   pub site : ℕ
   pub book : Book
@@ -24,17 +24,17 @@ pub record Asked : Type 0 where
 abbrev pub IsOf : Book → ℕ → Told → Type 0
 IsOf book number receipt = (receipt.site ≡ number) × (receipt.book ≡ book)
 
--- The receipt reports positions up to the last one that it shows, each of them once: they begin at 1 or later, and no more of
--- them are carried than there are.
+-- The receipt reports positions up to the last one that it shows, each of them once. They begin at 1 or later, and no
+-- more of them are carried than there are.
 abbrev pub ReportsRange : Told → Type 0
 ReportsRange receipt =
     (1 ≤ receipt.from) × (receipt.from + receipt.count ≡ length receipt.shown + 1) × (receipt.carried ≤ receipt.count)
 
--- how many of the arrivals that a receipt tells came by the very call that it is of
+-- how many of the arrivals that a receipt reports came by the receipt's own call
 abbrev pub came : Told → ℕ
 came receipt = receipt.count - receipt.carried
 
--- the arrivals before the call that a receipt is of
+-- the arrivals before the receipt's own call
 abbrev pub before : Told → List Placed
 before receipt = take (length receipt.shown - came receipt) receipt.shown
 

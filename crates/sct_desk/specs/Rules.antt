@@ -1,4 +1,4 @@
--- The rule of the published view, and what its steps tell. Read by an auditor.
+-- The rule of the published view, and the effects of its steps. Read by an auditor.
 use Rattle.std.specs.FinSet as set
 use Rattle.std.specs.Prelude.{◌≡◌, ℕ, List, [], Option, Some, None, MatchOption, if◌then◌else◌, fold, length, nat_lt}
 use mathlib.Core.List.{IsPrefix}
@@ -14,7 +14,7 @@ use Rattle.sct_desk.specs.declared.shown.Batch.{Batch}
 
 -- ---- what seats know
 
--- What a seat knows: a list of the site's arrivals, and of which history these are, if it knows of one.
+-- What a seat knows: a list of the site's arrivals, and the history that these are of, if it knows one.
 pub record Known : Type 0 where
   pub book : Option Book
   pub log : List Placed
@@ -27,7 +27,7 @@ nothing_known = record { book = None; log = [] }
 abbrev pub known_of : Sight → Known
 known_of sight = record { book = Some sight.book; log = sight.log }
 
--- what the longer of two lists is known of, the second of two that are equally long
+-- the knowledge with the longer list; the second one if both lists have the same length
 abbrev pub longer_known : Known → Known → Known
 longer_known v w = if nat_lt (length w.log) (length v.log) then v else w
 
@@ -45,10 +45,10 @@ AllKnow s views = (seat : ℕ) (v : Known) → get_elem? views seat ≡ some v �
 abbrev pub Keeps : Shown → List Known → Type 0
 Keeps x views = (x.view ≡ messages_of x.track.log) × AllKnow x.track views
 
--- ---- its steps
+-- ---- the steps of the rule
 
--- A publication or an entry: what the seat knows afterwards is what y shows, which is the view of its arrivals, and
--- begins with what the seat knew.
+-- A publication or an entry. Afterwards the seat knows what y shows, which is the view of its
+-- arrivals and begins with what the seat knew.
 abbrev pub Shows : Known → Shown → Shown → Known → Type 0
 Shows v x y w = (w ≡ known_of y.track) × (y.view ≡ messages_of y.track.log) × Knows y.track v
 
@@ -62,7 +62,7 @@ GoesOn x y = (x.track.book ≡ y.track.book) × IsPrefix x.track.log y.track.log
 abbrev pub view_of : Book → List Placed → Shown
 view_of book entries = record { view = messages_of entries; track = record { book = book; log = entries } }
 
--- the view after one batch more
+-- the view after one more batch
 abbrev pub absorbed : Shown → Batch → Shown
 absorbed s b = record { view = set.union s.view (contents_of (messages_in b.messages.items)); track = b.track }
 

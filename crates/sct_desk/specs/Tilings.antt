@@ -9,32 +9,33 @@ use Rattle.sct_desk.specs.Passes.{Told}
 use Rattle.sct_desk.specs.declared.fault.DeskFault.{DeskFault}
 use Rattle.sct_desk.specs.declared.fault.DeskFault.TheVariants as fault
 
--- the receipt is of this site and tells that this position was published
+-- the receipt is of this site and covers the position: it reports that the position was published
 abbrev pub tells : ℕ → ℕ → Told → Bool
 tells number position receipt =
     receipt.site == number && (nat_le receipt.from position && nat_lt position (receipt.from + receipt.count))
 
--- how many of the receipts of this site tell the position
+-- how many of the receipts of this site cover the position
 abbrev pub tellings : ℕ → ℕ → List Told → ℕ
 tellings number position receipts = length (filter (tells number position) receipts)
 
--- what each receipt of this site shows is a beginning of the arrivals
+-- each receipt of this site shows a beginning of the arrivals
 abbrev pub AllBegin : ℕ → List Placed → List Told → Type 0
 AllBegin number arrivals receipts = All (λ receipt. receipt.site ≡ number → IsPrefix receipt.shown arrivals) receipts
 
--- The receipts of this site tile its arrivals: each position lies in exactly one of them, and what each shows is a
--- beginning of the arrivals.
+-- The receipts of this site tile its arrivals: each position is covered by exactly one of them,
+-- and each shows a beginning of the arrivals.
 pub record Tiles (number : ℕ) (arrivals : List Placed) (receipts : List Told) : Type 0 where
   pub once : (position : ℕ) → 1 ≤ position → position ≤ length arrivals → tellings number position receipts ≡ 1
   pub begin : AllBegin number arrivals receipts
 
--- the least position that is not told exactly once
+-- the least position that is not covered by exactly one receipt
 pub record IsLeastUntold (number : ℕ) (receipts : List Told) (position : ℕ) : Type 0 where
   pub untold : tellings number position receipts ≢ 1
   pub first : 1 ≤ position
   pub told : (before : ℕ) → 1 ≤ before → before < position → tellings number before receipts ≡ 1
 
--- why a desk is not closed: arrivals are pending from some position on; or a position is not told exactly once
+-- why a desk is not closed: arrivals are pending from some position on, or a position is
+-- not covered by exactly one receipt
 abbrev pub FailsToClose : ℕ → List Told → DeskFault → Type 0
 FailsToClose number receipts (fault.Pending from) = 1 ≤ from
 FailsToClose number receipts (fault.Untold position) = IsLeastUntold number receipts position
@@ -45,16 +46,16 @@ abbrev pub PendingFirst : Locked → Option DeskFault → Type 0
 PendingFirst held (Some (fault.Pending from)) = Unit {0}
 PendingFirst held other = IsShown held
 
--- a receipt of this site shows more than all of the arrivals
+-- a receipt of this site shows more arrivals than there are
 abbrev pub ShowsMore : ℕ → List Placed → Told → Type 0
 ShowsMore number arrivals receipt = (receipt.site ≡ number) × (length arrivals < length receipt.shown)
 
--- one of the receipts does
+-- one of the receipts shows more arrivals than there are
 abbrev pub OneShowsMore : ℕ → List Placed → List Told → Type 0
 OneShowsMore number arrivals receipts = Any (ShowsMore number arrivals) receipts
 
--- why a desk is not closed for what is pending from a position on, the first that is not published: some arrival is pending
--- (or a receipt shows more than what is published, which never comes)
+-- why a desk is not closed for arrivals pending from a position on, the first that is not published: some arrival is
+-- pending (or a receipt shows more than what is published, which never happens)
 abbrev pub IsPendingFrom : ℕ → Locked → List Told → ℕ → Type 0
 IsPendingFrom number held receipts from =
     (from ≡ length held.published + 1)
@@ -66,7 +67,7 @@ AreOurs book number receipts = All (λ receipt. receipt.site ≡ number → rece
 
 -- ---- marks, one for each arrival
 
--- what is counted to two
+-- a count that stops at two
 abbrev pub up_to_two : ℕ → ℕ
 up_to_two n = min 2 n
 

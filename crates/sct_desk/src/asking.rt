@@ -1,4 +1,4 @@
-//! What a query can be asked.
+//! The questions that a query answers.
 
 ghost use Rattle.std.specs.Prelude.{◌≡◌, ◌⊎◌, length, IfOk, IfErr};
 ghost use mathlib.Core.List.{IsPrefix};
@@ -19,7 +19,8 @@ use sct_view::Totals;
 use std::alloc::Global;
 
 impl Query {
-    /// Where a transfer stands. Refused are 55 (`Closed`) after the desk was closed or dropped, and 50 (`Memory`).
+    /// The status of a transfer. Errors: `Closed` (55) only after the desk was closed or dropped; `Memory` (50).
+    /// What the query has seen may have grown after `Memory`.
     pub fn status(
         &mut self,
         alloc: Global,
@@ -38,8 +39,9 @@ impl Query {
         })
     }
 
-    /// What contradicts itself on a transfer. Refused are 55 (`Closed`) after the desk was closed or dropped, and 50
-    /// (`Memory`).
+    /// The findings of a transfer, in their order; empty if it has none. Errors: `Closed` (55) only after the
+    /// desk was closed or dropped; `Memory` (50).
+    /// What the query has seen may have grown after `Memory`.
     pub fn findings(
         &mut self,
         alloc: Global,
@@ -58,7 +60,7 @@ impl Query {
         })
     }
 
-    /// Where a recall stands. Refused is 55 (`Closed`) after the desk was closed or dropped.
+    /// The status of a recall. Error: `Closed` (55), only after the desk was closed or dropped. It does not allocate.
     pub fn recall(&mut self, recall: &RecallKey) -> Result<Answer<RecallStatus>, DeskFault>
         ensures same { (self.new.site ≡ self.old.site) × (self.new.book ≡ self.old.book) }
         ensures later { IsPrefix self.old.seen self.new.seen }
@@ -75,7 +77,8 @@ impl Query {
         )
     }
 
-    /// The totals of a bank. Refused is 55 (`Closed`) after the desk was closed or dropped.
+    /// The totals of a bank, with amounts in cents. Error: `Closed` (55), only after the desk was
+    /// closed or dropped. It does not allocate.
     pub fn totals(&mut self, bank: &Bic) -> Result<Answer<Totals>, DeskFault>
         ensures same { (self.new.site ≡ self.old.site) × (self.new.book ≡ self.old.book) }
         ensures later { IsPrefix self.old.seen self.new.seen }

@@ -26,7 +26,8 @@ use crate::site::Site;
 use sct_history::Track;
 use std::sync::Wait;
 
-// What a receipt of this site shows is a beginning of the arrivals. Else it shows more than all of them.
+// Whether the arrivals that a receipt of this site shows are a prefix of the arrivals. If
+// not, the receipt shows more arrivals.
 fn begins(receipt: &Receipt, number: u16, arrivals: &Track) -> bool
     requires { receipt.now.site ≡ number → receipt.now.book ≡ arrivals.now.book }
     ensures { MatchBool result (receipt.now.site ≡ number → IsPrefix receipt.now.shown arrivals.now.log)
@@ -39,7 +40,7 @@ fn begins(receipt: &Receipt, number: u16, arrivals: &Track) -> bool
     }
 }
 
-// What each receipt of this site shows is a beginning of the arrivals. Else one shows more than all of them.
+// Whether each receipt of this site shows a prefix of the arrivals. If not, one of them shows more arrivals.
 fn all_begin(receipts: &[Receipt], number: u16, arrivals: &Track) -> bool
     requires { AreOurs arrivals.now.book number receipts.now }
     ensures { MatchBool result (AllBegin number arrivals.now.log receipts.now)
@@ -53,7 +54,7 @@ fn all_begin(receipts: &[Receipt], number: u16, arrivals: &Track) -> bool
     true
 }
 
-// All marks are 0.
+// Sets all marks to 0.
 fn clear(marks: &mut [u8])
     ensures len { length marks.new ≡ length marks.old }
     ensures clear { (at : ℕ) → at < length marks.new → slice_index marks.new at ≡ 0 }
@@ -63,7 +64,7 @@ fn clear(marks: &mut [u8])
     }
 }
 
-// The marks from `start` to `end` count one more, up to two.
+// Adds one to the marks from `start` up to `end`, but to no more than two.
 fn mark(marks: &mut [u8], start: usize, end: usize)
     requires { (start ≤ end) × (end ≤ length marks.old) }
     ensures len { length marks.new ≡ length marks.old }
@@ -77,7 +78,7 @@ fn mark(marks: &mut [u8], start: usize, end: usize)
     }
 }
 
-// Each mark counts, up to two, how many receipts of this site tell its position.
+// Sets each mark to the number of receipts of this site that cover its position, at most two.
 fn mark_all(marks: &mut [u8], receipts: &[Receipt], number: u16)
     requires clear { (at : ℕ) → at < length marks.old → slice_index marks.old at ≡ 0 }
     requires room { All
@@ -107,8 +108,8 @@ fn first_unmarked(marks: &[u8]) -> Option<u64>
     None
 }
 
-// The least position, of as many as there are marks, that is not told exactly once. The time goes by the marks and what
-// the receipts count.
+// The least position, among as many as there are marks, that is not covered by exactly one receipt.
+// O(marks + arrivals that the receipts cover).
 fn first_untold(marks: &mut [u8], receipts: &[Receipt], number: u16) -> Option<u64>
     requires { All (λ receipt. receipt.site ≡ number → length receipt.shown ≤ length marks.old) receipts.now }
     ensures len { length marks.new ≡ length marks.old }
@@ -122,7 +123,7 @@ fn first_untold(marks: &mut [u8], receipts: &[Receipt], number: u16) -> Option<u
     first_unmarked(marks)
 }
 
-// The least of the first `len` positions that is not told exactly once.
+// The least of the first `len` positions that is not covered by exactly one receipt.
 fn first_untold_of(
     marks: &mut Vec<u8>,
     len: usize,
@@ -140,7 +141,7 @@ fn first_untold_of(
 }
 
 impl<J: Site, R: Wait + Drop> Held<J, R> {
-    // Why the desk can't be closed with these receipts, if it can't.
+    // Why the desk cannot be closed with these receipts, or none if it can.
     pub(crate) fn untold(&mut self, receipts: &[Receipt]) -> Option<DeskFault>
         requires { AreOurs J.book J.number receipts.now }
         ensures same { self.new ≡ self.old }

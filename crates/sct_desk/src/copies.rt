@@ -1,4 +1,4 @@
-//! Findings and statuses once more, to be answered.
+//! Copies of findings and statuses, for the answers of queries.
 
 ghost use Rattle.std.specs.Prelude.{◌≡◌, IfOk};
 ghost use Rattle.sct_case.specs.Statuses.{told};
@@ -7,7 +7,7 @@ ghost use Rattle.sct_view.specs.Listed.{found_in};
 use sct_case::{Finding, Status};
 use std::alloc::{AllocError, Global};
 
-// The same finding once more. It takes no memory.
+// A copy of a finding. It does not allocate.
 fn copied(finding: &Finding) -> Finding
     ensures { result ≡ finding.now }
 {
@@ -25,7 +25,7 @@ fn copied(finding: &Finding) -> Finding
     }
 }
 
-// The same findings once more.
+// Copies of the findings.
 fn copied_all(alloc: Global, findings: &[Finding]) -> Result<Vec<Finding>, AllocError>
     ensures { IfOk result (λ copies. copies.items ≡ findings.now) }
 {
@@ -36,7 +36,7 @@ fn copied_all(alloc: Global, findings: &[Finding]) -> Result<Vec<Finding>, Alloc
     Ok(copies)
 }
 
-/// The same status once more.
+/// A copy of a status.
 pub(crate) fn copied_status(alloc: Global, status: &Status) -> Result<Status, AllocError>
     ensures { IfOk result (λ copy. told copy ≡ told status.now) }
 {
@@ -52,7 +52,7 @@ pub(crate) fn copied_status(alloc: Global, status: &Status) -> Result<Status, Al
     }
 }
 
-/// The findings that a status tells.
+/// Copies of the findings that a status holds; empty for a status other than contradicted.
 pub(crate) fn findings_of(alloc: Global, status: &Status) -> Result<Vec<Finding>, AllocError>
     ensures { IfOk result (λ found. found.items ≡ found_in (told status.now)) }
 {

@@ -20,8 +20,9 @@ use sct_site::{Accepted, SiteCore, Took};
 use std::alloc::Global;
 use std::sync::{Arc, Mutex, Wait};
 
-/// One running site. Threads take messages, hand it deltas and cut some, one call at a time under its lock; each call
-/// publishes what is pending, and tells by a receipt what that was. Queries read what is published, without the lock.
+/// One running site. Threads take messages, accept deltas and cut deltas, one call at a time under the
+/// desk's lock. Each call publishes the pending arrivals, and its receipt says which these were. Queries
+/// read the published view without the lock.
 #[derive(Drop)]
 pub struct Desk<J: Site, R: Wait + Drop> {
     pub(crate) history: History,
@@ -29,7 +30,7 @@ pub struct Desk<J: Site, R: Wait + Drop> {
     ghost book_is: { history ≡ J.book },
 }
 
-/// A desk that was not closed, with the receipts as they were, and why.
+/// A desk that was not closed, with its receipts unchanged, and the reason.
 #[derive(Drop)]
 pub struct NotClosed<J: Site, R: Wait + Drop> {
     pub desk: Desk<J, R>,
@@ -38,7 +39,7 @@ pub struct NotClosed<J: Site, R: Wait + Drop> {
 }
 
 impl<J: Site, R: Wait + Drop> Desk<J, R> {
-    /// The history of the site. Which one it is tells the receipts of this desk from others.
+    /// The history of the site. It identifies the receipts of this desk.
     pub fn history(&self) -> &History
         ensures history { result.now ≡ self.now.history }
         ensures book { result.now ≡ J.book }
@@ -46,8 +47,10 @@ impl<J: Site, R: Wait + Drop> Desk<J, R> {
         &self.history
     }
 
-    /// Takes a message: it becomes the next own entry, unless the site holds it from whatever origin. Where memory is
-    /// wanting nothing has changed (50 `Memory`), or the message is taken and not shown yet (51 `Unpublished`).
+    /// Takes a message. It becomes the next own entry, unless the site holds it from any
+    /// origin. The call waits for the lock.
+    /// Errors: `Memory` (50), with nothing changed; `Unpublished` (51): the message is held, but
+    /// it or an earlier arrival is not shown yet.
     pub fn take<W: Wait>(
         &self,
         rt: &W,
@@ -68,9 +71,11 @@ impl<J: Site, R: Wait + Drop> Desk<J, R> {
         held.take(alloc, &self.history, message)
     }
 
-    /// Hands a delta to the site. A delta that is refused, for 44, 43, 41 or 42, changes nothing, and the refusal is an
-    /// answer. Where memory is wanting nothing has changed (50 `Memory`), or what came with the delta is not shown yet (51
-    /// `Unpublished`).
+    /// Hands a delta to the site. The call waits for the lock.
+    /// A delta that does not fit (`BadSite` 44, `OwnAhead` 43, `Gap` 41 or `Fork` 42) changes nothing;
+    /// this refusal is an answer with a receipt.
+    /// Errors: `Memory` (50), with nothing changed; `Unpublished` (51): what came with the delta is
+    /// held, but some arrival is not shown yet.
     pub fn accept<W: Wait>(
         &self,
         rt: &W,
@@ -92,8 +97,9 @@ impl<J: Site, R: Wait + Drop> Desk<J, R> {
         held.accept(alloc, &self.history, delta)
     }
 
-    /// Cuts what a site lacks that holds the entries up to a vector. Where memory is wanting nothing has changed: 50
-    /// `Memory`, or 51 `Unpublished` where arrivals are pending.
+    /// Cuts the entries numbered above `vector`, of every origin, as a delta. The call waits for the lock.
+    /// Errors if out of memory, with nothing changed: `Memory` (50), or `Unpublished`
+    /// (51) only if arrivals are pending.
     pub fn cut<W: Wait>(
         &self,
         rt: &W,
@@ -111,8 +117,8 @@ impl<J: Site, R: Wait + Drop> Desk<J, R> {
         held.cut(alloc, &self.history, vector)
     }
 
-    /// Publishes what is pending. Where memory is wanting nothing has changed: 50 `Memory`, or 51 `Unpublished` where
-    /// arrivals are pending.
+    /// Publishes the pending arrivals. The call waits for the lock.
+    /// Errors if out of memory, with nothing changed: `Unpublished` (51) if arrivals are pending, else `Memory` (50).
     pub fn publish<W: Wait>(&self, rt: &W, alloc: Global) -> Result<Receipt, DeskFault>
         ensures receipt { IfOk result (λ receipt. IsOf J.book J.number receipt) }
         ensures range { IfOk result ReportsRange }
@@ -124,9 +130,11 @@ impl<J: Site, R: Wait + Drop> Desk<J, R> {
         held.publish(alloc, &self.history)
     }
 
-    /// Closes the desk, with all its receipts: the site's core comes back where they tile its arrivals. Otherwise the desk
-    /// comes back, and the receipts as they were: 53 (`Pending`) arrivals are pending, or 54 (`Untold`) a position is not
-    /// told by exactly one receipt of this site, and it is the first such. It takes no memory.
+    /// Closes the desk with all its receipts, and returns the site's core if the receipts
+    /// tile its arrivals. It does not allocate.
+    /// Otherwise the desk and the unchanged receipts are returned with the error:
+    /// - `Pending` (53): arrivals are pending;
+    /// - `Untold` (54) with the least position that is not covered by exactly one receipt of this site.
     pub fn close(self, receipts: Vec<Receipt>) -> Result<SiteCore, NotClosed<J, R>>
         requires { AreOurs J.book J.number receipts.items }
         ensures core { IfOk result (λ core. core ≡ site_with J.number J.group core.arrivals) }

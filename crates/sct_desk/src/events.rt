@@ -1,5 +1,5 @@
-//! What happens under a desk's lock: a message is taken, a delta is handed over, a delta is cut, pending arrivals are
-//! published.
+//! The events under a desk's lock: a message is taken, a delta is accepted, a delta is
+//! cut, pending arrivals are published.
 
 ghost use Rattle.std.specs.Arc.{arc_value};
 ghost use Rattle.std.specs.Prelude.{◌≡◌, ◌≢◌, ◌+◌, ◌≤◌, Err, IfNone, IfOk, IfErr, IfSome, MatchOption, OnOk, length};
@@ -21,7 +21,7 @@ use sct_site::{Accepted, SiteCore, Took};
 use std::alloc::{AllocError, Global};
 use std::sync::{Arc, Wait};
 
-// There are at least so many marks.
+// Makes sure that there are at least `least` marks.
 fn make_marks(marks: &mut Vec<u8>, least: usize) -> Result<(), AllocError>
     ensures ok { OnOk result (least ≤ length marks.new.items) }
     ensures more { length marks.old.items ≤ length marks.new.items }
@@ -42,7 +42,7 @@ fn came_by(took: &Took) -> u64
     }
 }
 
-// How many arrivals came with a delta. There is no such number where memory was wanting.
+// How many arrivals came with a delta, or none if it was out of memory.
 fn came_with(answer: &Result<Accepted, DeltaFault>) -> Option<u64>
     ensures { MatchOption result (answer.now ≡ Err delta_fault.Memory)
         (λ news. (news ≡ came_by_delta answer.now) × (answer.now ≢ Err delta_fault.Memory)) }
@@ -54,7 +54,7 @@ fn came_with(answer: &Result<Accepted, DeltaFault>) -> Option<u64>
     }
 }
 
-// What a core answers to a delta, and how many arrivals came with it. There is nothing where memory was wanting.
+// The answer of a core to a delta, and how many arrivals came with it. None if it was out of memory.
 #[tactic(auto, using(crate::proofs::Arrived::answered_so, crate::proofs::Arrived::arrived_so, crate::proofs::Arrived::refused_so))]
 fn handed(core: &mut SiteCore, delta: &Delta) -> Option<(Result<Accepted, DeltaFault>, u64)>
     ensures number { core.new.number ≡ core.old.number }
@@ -72,7 +72,7 @@ fn handed(core: &mut SiteCore, delta: &Delta) -> Option<(Result<Accepted, DeltaF
     }
 }
 
-// What is cut from a core. There is nothing where memory was wanting.
+// The delta that is cut from a core, or none if it was out of memory.
 fn cut_from(core: &SiteCore, vector: &Vector) -> Option<Delta>
     ensures { IfSome result (λ delta. delta ≡ entries_above (count_in vector.now) core.now.arrivals) }
 {
@@ -80,7 +80,7 @@ fn cut_from(core: &SiteCore, vector: &Vector) -> Option<Delta>
 }
 
 impl<J: Site, R: Wait + Drop> Held<J, R> {
-    // Takes a message and publishes what is pending.
+    // Takes a message and publishes the pending arrivals.
     pub(crate) fn take(
         &mut self,
         alloc: Global,
@@ -118,7 +118,7 @@ impl<J: Site, R: Wait + Drop> Held<J, R> {
         }
     }
 
-    // Hands a delta to the core and publishes what is pending. A delta that is refused changes nothing.
+    // Hands a delta to the core and publishes the pending arrivals. A delta that is refused changes nothing.
     pub(crate) fn accept(
         &mut self,
         alloc: Global,
@@ -154,7 +154,7 @@ impl<J: Site, R: Wait + Drop> Held<J, R> {
         }
     }
 
-    // Cuts a delta from the core and publishes what is pending.
+    // Cuts a delta from the core and publishes the pending arrivals.
     pub(crate) fn cut(
         &mut self,
         alloc: Global,
@@ -182,7 +182,7 @@ impl<J: Site, R: Wait + Drop> Held<J, R> {
         }
     }
 
-    // Publishes what is pending.
+    // Publishes the pending arrivals.
     pub(crate) fn publish(&mut self, alloc: Global, history: &History) -> Result<Receipt, DeskFault>
         requires { history.now ≡ J.book }
         ensures core { self.new.core ≡ self.old.core }

@@ -8,23 +8,23 @@ use thiserror::Error;
 /// Why a call of a desk or of a query is refused.
 #[derive(Clone, Copy, Debug, PartialEq, Eq, Error)]
 pub enum DeskFault {
-    /// 44: a group is of 1 to 1024 sites, and has no such site.
+    /// 44: the group does not have 1 to 1024 sites, or does not have this site.
     #[error("no such site")]
     BadSite,
-    /// 50: memory is wanting. What the desk holds and shows is what it was.
+    /// 50: out of memory. The arrivals that the desk holds and shows are unchanged.
     #[error("memory is wanting")]
     Memory,
-    /// 51: memory is wanting for the publication. What the call did stands, and the arrivals from this position on are
-    /// not shown yet; the next publication that succeeds shows them.
+    /// 51: out of memory for the publication. The effect of the call stays, and the arrivals from this position on are
+    /// not shown yet. The next publication that succeeds shows them.
     #[error("arrivals are held back from position {from} on")]
     Unpublished { from: u64 },
-    /// 52: there is no place for so many queries: 1 to 16 are possible.
+    /// 52: there is no place for this number of queries, which must be 1 to 16.
     #[error("no place for a query")]
     NoPlace,
     /// 53: arrivals are pending, from this position on.
     #[error("arrivals are pending from position {from} on")]
     Pending { from: u64 },
-    /// 54: not exactly one of the receipts tells of this position, and it is the first such.
+    /// 54: this position is not covered by exactly one of the receipts, and is the first such position.
     #[error("position {position} is not told by exactly one receipt")]
     Untold { position: u64 },
     /// 55: the desk was closed or dropped.
@@ -33,7 +33,7 @@ pub enum DeskFault {
 }
 
 impl DeskFault {
-    /// The number by which the fault is told.
+    /// The fault's number: 44, or 50 to 55.
     pub fn number(&self) -> u8
         ensures { result ≡ desk_fault_number self.now }
     {

@@ -1,4 +1,4 @@
-//! What lies under a desk's lock.
+//! The state under a desk's lock.
 
 ghost use Rattle.std.specs.Prelude.{◌≡◌};
 ghost use Rattle.sct_desk.specs.Passes.{site_with};
@@ -10,16 +10,16 @@ use sct_site::SiteCore;
 use std::marker::{Model, PhantomData};
 use std::sync::Wait;
 
-/// The core of a site, and the writer of its published view. The published arrivals, followed by the pending ones, are
-/// the core's.
+/// The core of a site, and the writer of its published view. The published arrivals, followed by
+/// the pending ones, are the core's arrivals.
 pub struct Held<J: Site, R: Wait + Drop> {
     pub(crate) core: SiteCore,
     pub(crate) writer: ShownWriter,
-    /// What the history has of the core's arrivals.
+    /// The beginning of the core's arrivals that the history has.
     pub(crate) track: Track,
-    /// So many arrivals were handed to the writer.
+    /// How many arrivals were handed to the writer.
     pub(crate) handed: usize,
-    /// One for each arrival, to count receipts by when the desk is closed.
+    /// A mark for each arrival. When the desk is closed, it counts the receipts that cover the arrival.
     pub(crate) marks: Vec<u8>,
     pub(crate) rt: R,
     pub(crate) of: PhantomData<J>,
@@ -54,7 +54,7 @@ impl<J: Site, R: Wait + Drop> Drop for Held<J, R> {
 }
 
 impl<J: Site, R: Wait + Drop> Held<J, R> {
-    // The core, when nothing is published any more.
+    // Ends the publication and returns the core.
     pub(crate) fn end(self) -> SiteCore
         ensures { result ≡ site_with J.number J.group self.core.arrivals }
     {

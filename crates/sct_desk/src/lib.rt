@@ -1,5 +1,5 @@
-//! One running site for many threads: they take messages, accept and cut deltas under its lock, while others ask and never
-//! wait.
+//! One running site for many threads. Some take messages, and accept and cut deltas, under its
+//! lock. Others ask queries and never wait.
 #![tactic(auto)]
 
 mod asking;

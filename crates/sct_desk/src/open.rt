@@ -22,10 +22,10 @@ use std::alloc::Global;
 use std::marker::PhantomData;
 use std::sync::{Mutex, Wait};
 
-/// A desk has places for at most so many queries.
+/// A desk has places for at most this many queries.
 const MOST_PLACES: usize = 16;
 
-// The view of no message, beside a beginning of the history with no arrival.
+// The view of no message, with the empty beginning of the history.
 fn nothing(alloc: Global, track: &Track) -> Shown
     requires { track.now.log ≡ [] }
     ensures { result ≡ view_of track.now.book [] }
@@ -36,7 +36,7 @@ fn nothing(alloc: Global, track: &Track) -> Shown
     }
 }
 
-// A writer that has published the view of no message. It knows from then on which history it is of.
+// A writer that has published the view of no message. From then on it knows which history it is of.
 fn writer<R: Wait>(
     rt: &R,
     alloc: Global,
@@ -65,8 +65,8 @@ fn writer<R: Wait>(
     }
 }
 
-// One more query, which knows the history and has seen nothing. The writer has a place for each query of its desk, so a
-// reader is refused only if memory is: its owners can't be counted any further.
+// One more query, which knows the history and has seen nothing. The writer has a place for each query of its desk. So a
+// reader is refused only for memory: its owners cannot be counted any further.
 fn query(writer: &mut ShownWriter, number: u16, track: &Track) -> Result<Query, DeskFault>
     requires { (seat_view writer.old.desk.place).book ≡ Some track.now.book }
     ensures shown { writer.new.desk.shown ≡ writer.old.desk.shown }
@@ -88,7 +88,7 @@ fn query(writer: &mut ShownWriter, number: u16, track: &Track) -> Result<Query, 
     })
 }
 
-// So many queries.
+// As many queries as `places`.
 fn queries(
     alloc: Global,
     writer: &mut ShownWriter,
@@ -116,10 +116,12 @@ fn queries(
 }
 
 impl<J: Site, R: Wait + Drop> Desk<J, R> {
-    /// Opens the desk of the site `number` of a group of `group` sites, on a history that was just opened, with so many
-    /// queries. Refused are 44 (`BadSite`) a group that is not of 1 to 1024 sites, or has no such site; then 52 (`NoPlace`)
-    /// fewer than 1 or more than 16 places, and no other number of them; then 50 (`Memory`). The desk keeps `rt`, to wait
-    /// for readers when it is dropped.
+    /// Opens the desk of the site `number` of a group of `group` sites, on a history that
+    /// was just opened, with `places` queries.
+    /// The desk keeps `rt`, so that it can wait for readers when it is dropped. The first of these errors is returned:
+    /// - `BadSite` (44): the group does not have 1 to 1024 sites, or does not have this site;
+    /// - `NoPlace` (52): `places` is not 1 to 16;
+    /// - `Memory` (50).
     pub fn open(
         rt: R,
         alloc: Global,

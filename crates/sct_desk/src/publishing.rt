@@ -1,4 +1,4 @@
-//! How the arrivals that are pending come to be published.
+//! Publishes the pending arrivals.
 
 ghost use Rattle.std.specs.FinSet as set;
 ghost use Rattle.std.specs.Prelude.{◌≡◌, ◌+◌, ◌<◌, ◌≤◌, List, [], length, map, take, drop, IfOk, IfErr, MatchBool, OnOk, OnErr};
@@ -33,7 +33,8 @@ fn messages_of(alloc: Global, entries: &[Entry]) -> Result<Vec<Arc<Message>>, Al
     Ok(messages)
 }
 
-// The history gets the arrivals that it lacks. It does not where it has others, which no one adds who has not the lock.
+// Adds the arrivals that the history lacks. It fails if the history has other arrivals,
+// which nobody adds without the lock.
 fn follow(track: &mut Track, history: &History, arrivals: &[Entry]) -> bool
     requires history { history.now ≡ track.old.book }
     requires order { IsArrivals arrivals.now }
@@ -51,7 +52,7 @@ fn follow(track: &mut Track, history: &History, arrivals: &[Entry]) -> bool
     true
 }
 
-// The writer gets the arrivals from `handed` on.
+// Hands the arrivals from `handed` on to the writer.
 fn hand_over(
     alloc: Global,
     writer: &mut ShownWriter,
@@ -83,7 +84,7 @@ fn hand_over(
     }
 }
 
-// The writer, once queries see what was handed over.
+// Publishes what was handed over, and returns the writer.
 fn published<R: Wait>(writer: ShownWriter, rt: &R) -> (ShownWriter, Result<(), AllocError>)
     requires { GoesOn writer.desk.shown.value
         (handed_over writer.desk.shown.value (drop writer.behind writer.log.items)) }
@@ -97,7 +98,7 @@ fn published<R: Wait>(writer: ShownWriter, rt: &R) -> (ShownWriter, Result<(), A
     writer.publish_as::<Sees, R>(rt)
 }
 
-// Queries see from now on what was handed over.
+// Shows queries what was handed over.
 fn show<R: Wait>(writer: &mut ShownWriter, rt: &R) -> Result<(), AllocError>
     requires { GoesOn writer.old.desk.shown.value
         (handed_over writer.old.desk.shown.value (drop writer.old.behind writer.old.log.items)) }
@@ -111,7 +112,7 @@ fn show<R: Wait>(writer: &mut ShownWriter, rt: &R) -> Result<(), AllocError>
     replace_with(writer, rt, |writer, rt| published(writer, rt))
 }
 
-// The receipt of a call that published the arrivals from this position on, of which the last `news` came by it.
+// The receipt of a call that published the arrivals from this position on. The last `news` of them came by the call.
 fn receipt_of(site: u16, from: u64, track: &Track, news: u64) -> Receipt
     requires from { 1 ≤ from }
     requires news { news + from ≤ length track.now.log + 1 }
@@ -133,7 +134,7 @@ fn receipt_of(site: u16, from: u64, track: &Track, news: u64) -> Receipt
 }
 
 impl<J: Site, R: Wait + Drop> Held<J, R> {
-    // Why nothing is published where memory is wanting.
+    // The error of a publication that is out of memory: 51 if arrivals are pending, else 50.
     fn unpublished(&self) -> DeskFault
         ensures { result ≡ unpublished self.now }
     {
@@ -147,7 +148,7 @@ impl<J: Site, R: Wait + Drop> Held<J, R> {
         }
     }
 
-    // Publishes all that is pending, of which the last `news` arrivals came by this very call.
+    // Publishes all pending arrivals. The last `news` of them came by this call.
     pub(crate) fn publish_after(
         &mut self,
         alloc: Global,

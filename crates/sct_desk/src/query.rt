@@ -1,4 +1,4 @@
-//! Queries: they read what is published, and wait for nobody.
+//! Queries: they read the published view, and never wait.
 
 ghost use Rattle.std.specs.Prelude.{◌≡◌, ◌≢◌, ◌⊎◌, length, IfOk, IfErr};
 ghost use mathlib.Core.List.{IsPrefix};
@@ -13,15 +13,15 @@ use crate::rule::{Sees, ShownReader};
 use sct_history::Track;
 use std::marker::Model;
 
-/// An answer, and how many of the site's arrivals it stands on.
+/// An answer, and the number of the site's arrivals that it is based on.
 #[derive(Debug, Drop, PartialEq, Eq)]
 pub struct Answer<T> {
     pub value: T,
     pub front: u64,
 }
 
-/// A place at a desk from which the published view is read. Each answer stands on a beginning of the site's arrivals that
-/// has all that the query has seen before, and all that the receipts show that it learned.
+/// A place at a desk from which the published view is read. Each answer is based on a beginning of the site's arrivals.
+/// That beginning has all that the query has seen before, and all that the receipts show that it learned.
 #[derive(Drop)]
 pub struct Query {
     pub(crate) site: u16,
@@ -42,7 +42,8 @@ impl Model for Query {
 }
 
 impl Query {
-    /// Sees from now on no less than a receipt of this desk shows. A receipt of another site's desk teaches nothing.
+    /// Makes later answers include everything that `receipt` shows. No effect for a
+    /// receipt of another site. It does not allocate.
     pub fn learn(&mut self, receipt: &Receipt)
         requires { receipt.now.site ≡ self.old.site → receipt.now.book ≡ self.old.book }
         ensures same { (self.new.site ≡ self.old.site) × (self.new.book ≡ self.old.book) }
@@ -57,7 +58,7 @@ impl Query {
         let _seen = self.track.len();
     }
 
-    /// Asks what is published. The query comes back, with what it has seen then.
+    /// Asks the published view. The query is returned, with what it has seen by then.
     pub(crate) fn asked<Q: Question>(
         self,
         question: &Q,

@@ -1,4 +1,4 @@
-//! What a query asks of the published view.
+//! The questions of a query to the published view.
 
 ghost use Rattle.std.specs.Prelude.{◌≡◌, IfOk, OnErr};
 
@@ -9,16 +9,16 @@ use sct_message::{RecallKey, TransferKey};
 use sct_view::{Totals, View};
 use std::alloc::Global;
 
-/// A question, which each set of messages answers.
+/// A question that each set of messages answers.
 pub(crate) trait Question {
     ghost use Rattle.sct_message.specs.Sets.{MessageSet};
 
     type Value;
 
-    // What a set of messages answers.
+    // The answers of a set of messages.
     ghost is_answer: { Self → MessageSet → Self.Value → Type 0 };
 
-    // What shows that memory may be wanting for the answer.
+    // A proof that the answer may be out of memory.
     ghost may_want: { Type 0 };
 
     fn ask(&self, view: &View) -> Result<Self::Value, CaseFault>
@@ -26,7 +26,7 @@ pub(crate) trait Question {
         ensures memory { OnErr result may_want };
 }
 
-/// Where does the transfer stand?
+/// The question for the status of a transfer.
 #[derive(Drop)]
 pub(crate) struct StatusOf<'a> {
     pub(crate) alloc: Global,
@@ -48,7 +48,7 @@ impl Question for StatusOf<'_> {
     }
 }
 
-/// What contradicts itself on the transfer?
+/// The question for the findings of a transfer.
 #[derive(Drop)]
 pub(crate) struct FindingsOf<'a> {
     pub(crate) alloc: Global,
@@ -70,7 +70,7 @@ impl Question for FindingsOf<'_> {
     }
 }
 
-/// Where does the recall stand?
+/// The question for the status of a recall.
 #[derive(Drop)]
 pub(crate) struct RecallOf<'a> {
     pub(crate) recall: &'a RecallKey,
@@ -90,7 +90,7 @@ impl Question for RecallOf<'_> {
     }
 }
 
-/// What are the totals of the bank?
+/// The question for the totals of a bank.
 #[derive(Drop)]
 pub(crate) struct TotalsOf<'a> {
     pub(crate) bank: &'a Bic,

@@ -1,13 +1,14 @@
-//! What a desk tells of a call.
+//! The receipts of a desk.
 
 ghost use Rattle.std.specs.Prelude.{◌≡◌};
 
 use sct_history::Track;
 use std::marker::Model;
 
-/// A desk's receipt of a call: the call published the site's arrivals from some position on, so many of them, of which the
-/// first ones came by earlier calls. Positions count from 1. Where nothing was pending it published none, and stands one
-/// past the last position that was published. It can't be copied. A query that learns it sees no less than it shows.
+/// A desk's receipt of a call. It says which of the site's arrivals the call published: `count` of them, from position
+/// `from` on, the first `carried` of which came by earlier calls. Positions count from 1. If nothing was pending,
+/// `count` is 0 and `from` is one past the last published position.
+/// A receipt cannot be copied. The answers of a query that learned it include all that it shows.
 #[derive(Drop)]
 pub struct Receipt {
     pub(crate) site: u16,
@@ -58,14 +59,14 @@ impl Receipt {
         self.from
     }
 
-    /// How many arrivals it published.
+    /// How many arrivals the call published.
     pub fn count(&self) -> u64
         ensures { result ≡ self.now.count }
     {
         self.count
     }
 
-    /// How many of these came by earlier calls.
+    /// How many of the published arrivals came by earlier calls.
     pub fn carried(&self) -> u64
         ensures carried { result ≡ self.now.carried }
         ensures most { result ≤ self.now.count }

@@ -1,5 +1,5 @@
-//! The rule of the published view, and the steps that keep it: a place is taken, arrivals are published, the writer tells
-//! a reader, the reader learns it, a query enters.
+//! The rule of the published view, and the steps that keep it. The steps: a place is taken, arrivals are published, the
+//! writer informs a reader, the reader learns it, a query enters.
 
 use crate::shown::{Batch, Shown};
 use atomic_table::{Join, Split};
@@ -9,7 +9,7 @@ use left_right::writer::Writer;
 use sct_history::Track;
 use std::marker::Model;
 
-/// What a seat knows of the published arrivals. Seats have it in proofs alone.
+/// What a seat knows of the published arrivals. A seat has this only in proofs.
 pub struct Glimpse {
     track: Option<Track>,
 }
@@ -23,8 +23,8 @@ impl Model for Glimpse {
     ghost view = { λ g. unwrap_or (option_map known_of g.track) nothing_known };
 }
 
-/// The rule: what is published is the view of its arrivals, and each seat knows a beginning of these. A seat that was just
-/// taken knows the empty list.
+/// The rule: what is published is the view of its arrivals, and each seat knows a beginning of these. A seat
+/// that was just taken knows the empty list.
 pub struct Published;
 
 impl Protocol<Shown, Glimpse> for Published {
@@ -44,7 +44,8 @@ impl Outcome<Shown, Glimpse> for Sees {
     ghost then = { Shows };
 }
 
-/// What the writer reports to a reader: all that it knows. The reader knows the longer of two lists from then on.
+/// The report of the writer to a reader: all that the writer knows. From then on the
+/// reader knows the longer of the two lists.
 pub struct Notes;
 
 impl Split<Glimpse> for Notes {

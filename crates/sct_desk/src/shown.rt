@@ -1,4 +1,4 @@
-//! What queries read: the view of the arrivals that are published.
+//! The data that queries read: the view of the published arrivals.
 
 ghost use Rattle.std.specs.FinSet as set;
 ghost use Rattle.sct_message.specs.Sets.{messages_in};
@@ -11,14 +11,14 @@ use sct_view::View;
 use std::alloc::AllocError;
 use std::sync::Arc;
 
-/// A view, beside the arrivals that it is of.
+/// A view, with the arrivals that it is of.
 #[derive(Drop)]
 pub struct Shown {
     pub view: View,
     pub track: Track,
 }
 
-/// Messages that a view takes in, and the arrivals that it is of from then on.
+/// Messages to add to a view, with the arrivals that it is of afterwards.
 #[derive(Drop)]
 pub struct Batch {
     pub messages: Vec<Arc<Message>>,

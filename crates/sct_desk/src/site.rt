@@ -1,9 +1,9 @@
-//! Which site a desk runs.
+//! The identity of a desk's site.
 
 use std::marker::Brand;
 
-/// The site of a desk: its history, its number and its group. Each call of a program that opens a desk picks it, so that
-/// what lies under a lock is known to be of this site.
+/// The site of a desk: its history, its number and its group. Each call of a program that opens a desk picks its own,
+/// so that the state under a lock is known to be of this site.
 pub trait Site {
     ghost use Rattle.std.specs.Prelude.{ℕ};
     ghost use Rattle.logbook.specs.Pages.{Book};
