@@ -1,4 +1,4 @@
--- The rows of a list, filed by transfer. Serves proofs.
+-- The rows of a list, filed by transfer. Proof plumbing.
 use Rattle.std.specs.Prelude.{◌≡◌, List}
 use Rattle.std.specs.Global.{Vec}
 use Rattle.indexmap.specs.IndexMap.{IndexMap}

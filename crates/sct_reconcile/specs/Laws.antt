@@ -1,4 +1,4 @@
--- What holds of every list and of every report. Each law is the contract of a function. Read by an auditor.
+-- Laws of lists and reports. Each law is the contract of a function. Read by an auditor.
 use Rattle.std.specs.Prelude.{◌≡◌, ◌≢◌, ◌↔◌, ◌⊎◌, ◌+◌, ◌++◌, ◌∷◌, [], ⊤, ℕ, List, length, map, Contains, Option, Some, None, Ok, Err, true, false}
 use Rattle.std.specs.List.Sorted.{IsStrictlySortedBy}
 use Rattle.sct_message.specs.Order.{transfer_order}
@@ -28,8 +28,8 @@ pub record IsListOf (records : List (List (List ℕ))) (rows : List ListedRow) :
   pub header_is : is_header header ≡ true
   pub rows_are : map row_of below ≡ map Some rows
 
--- The records are a header, below it one for each of some rows, and then one that is no row, which has this number,
--- counted from 1 with the header.
+-- The records are a header, below it one for each of the rows, and then one that is not a row and has
+-- this number, counted from 1 with the header.
 pub record IsBadBelow (records : List (List (List ℕ))) (number : ℕ) : Type 0 where
   pub header : List (List ℕ)
   pub before : List (List (List ℕ))
@@ -42,12 +42,12 @@ pub record IsBadBelow (records : List (List (List ℕ))) (number : ℕ) : Type 0
   pub bad_is : row_of bad ≡ None
   pub counted : number ≡ length before + 2
 
--- there is no record, or the first is no header
+-- there is no record, or the first is not a header
 abbrev pub IsHeadless : List (List (List ℕ)) → Type 0
 IsHeadless [] = ⊤
 IsHeadless (first ∷ behind) = is_header first ≡ false
 
--- A list is told exactly where the records are one, and a bad record exactly where it is the first one.
+-- A list is read exactly if the records are one, and a bad record is reported exactly if it is the first one.
 pub record ListsAreExact : Type 0 where
   pub read : (records : List (List (List ℕ))) (rows : List ListedRow) → (list_in records ≡ Ok rows) ↔ IsListOf records rows
   pub refused : (records : List (List (List ℕ))) (number : ℕ) → (list_in records ≡ Err (BadList number))
@@ -72,14 +72,14 @@ abbrev pub RowsAscend : Type 0
 RowsAscend = (held : MessageSet) (bank day : List ℕ) (list : List ListedRow)
     → IsStrictlySortedBy transfer_order (keys_told (report_of held bank day list))
 
--- A transfer has a row exactly where it is listed, or is one of the bank whose instruction has no other day.
+-- A transfer has a row exactly if it is listed, or is a transfer of the bank whose instruction has no other day.
 abbrev pub OthersAreOfTheBank : Type 0
 OthersAreOfTheBank = (held : MessageSet) (bank day : List ℕ) (list : List ListedRow) (key : TransferKey)
     → Contains (keys_told (report_of held bank day list)) key
     ↔ (Contains (keys_listed list) key ⊎ (Contains (transfers_of held bank) key × (is_of_day day (instruction_of held key) ≡ true)))
 
--- One row is on the transfer, its messages do not contradict each other, one instructs it, and the amounts and the words
--- are the same.
+-- One row is on the transfer, its messages do not contradict each other, one of them instructs it,
+-- and the amounts and the words are equal.
 pub record IsMatch (listed : List Listed) (told : StatusWord) (amount : Option ℕ) : Type 0 where
   pub row : Listed
   pub once : listed ≡ row ∷ []
@@ -89,23 +89,24 @@ pub record IsMatch (listed : List Listed) (told : StatusWord) (amount : Option �
   pub same_amount : amount ≡ Some row.amount
   pub same_word : word_text told ≡ list_status_text row.status
 
--- a transfer is matched exactly where that holds
+-- a transfer is matched exactly if that holds
 abbrev pub MatchedExactly : Type 0
 MatchedExactly = (listed : List Listed) (told : StatusWord) (amount : Option ℕ)
     → (verdict_of listed told amount ≡ verdict.Matched) ↔ IsMatch listed told amount
 
--- A list changes nothing of a transfer that is not on it: it has a row where it has one without the list, and the same one.
+-- A list does not change the row of a transfer that it does not name: the transfer has a row exactly if it has one
+-- without the list, and the rows are equal.
 pub record ListsChangeNoOthers : Type 0 where
   pub told : (held : MessageSet) (bank day : List ℕ) (list : List ListedRow) (key : TransferKey) → ¬ (Contains (keys_listed list) key)
       → Contains (keys_reported held bank day list) key ↔ Contains (keys_reported held bank day []) key
   pub same : (held : MessageSet) (list : List ListedRow) (key : TransferKey) → ¬ (Contains (keys_listed list) key)
       → row_on held list key ≡ row_on held [] key
 
--- sets that hold the same messages give one report
+-- sets that hold the same messages have the same report
 abbrev pub EqualSetsHaveEqualReports : Type 0
 EqualSetsHaveEqualReports = (a b : MessageSet) (bank day : List ℕ) (list : List ListedRow) → HaveSameMessages a b
     → report_text_of (report_of a bank day list) ≡ report_text_of (report_of b bank day list)
 
--- what is written as a report reads as the header and the fields of each row
+-- the text of a report is read as the header and the fields of each row
 abbrev pub ReportsReadBack : Type 0
 ReportsReadBack = (rows : List ReportRow) → records_of (report_text_of rows) ≡ report_header ∷ map fields_of_row rows

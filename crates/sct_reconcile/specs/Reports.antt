@@ -22,7 +22,7 @@ use Rattle.sct_reconcile.specs.declared.words.StatusWord.TheVariants as word
 use Rattle.sct_reconcile.specs.declared.words.Verdict.{Verdict}
 use Rattle.sct_reconcile.specs.declared.words.Verdict.TheVariants as verdict
 
--- ---- what is known of a transfer
+-- ---- the facts on a transfer
 
 -- what the rows of a list on a transfer say, in the order of the list
 abbrev pub listed_on : List ListedRow → TransferKey → List Listed
@@ -33,17 +33,17 @@ abbrev pub amount_in : Option Draft → Option ℕ
 amount_in (Some (CreditTransfer d)) = Some d.settlement_amount
 amount_in other = None
 
--- where the set says that a transfer stands, in a word
+-- the status of a transfer in the set, as a word
 abbrev pub word_on : MessageSet → TransferKey → StatusWord
 word_on held key = word_of (status_of held key)
 
 -- ---- the sentences on a transfer
 
--- the list names it more than once
+-- the list names the transfer more than once
 abbrev pub is_listed_twice : List Listed → Bool
 is_listed_twice listed = nat_lt 1 (length listed)
 
--- the list names it
+-- the list names the transfer
 abbrev pub is_listed : List Listed → Bool
 is_listed listed = nat_lt 0 (length listed)
 
@@ -52,7 +52,7 @@ abbrev pub is_contradicted : StatusWord → Bool
 is_contradicted word.Contradicted = true
 is_contradicted other = false
 
--- no message instructs it: none is on it, or none of those that are
+-- no message instructs the transfer
 abbrev pub is_uninstructed : StatusWord → Bool
 is_uninstructed word.Unknown = true
 is_uninstructed word.Missing = true
@@ -83,8 +83,8 @@ verdict_of listed told amount =
 
 -- ---- the rows
 
--- the row of a transfer of which the list, the messages and the instruction say this; what the list says stands in it
--- where one row alone is on the transfer
+-- the row of a transfer, from what the list, the messages and the instruction say of it; it has what the list says if
+-- exactly one row of the list is on the transfer
 abbrev pub row_from : TransferKey → List Listed → StatusWord → Option ℕ → ReportRow
 row_from key listed told amount = record {
   key = key;
@@ -94,7 +94,7 @@ row_from key listed told amount = record {
   status = told;
 }
 
--- the row of a transfer of which a list says this
+-- the row of a transfer, from what the rows of a list say of it
 abbrev pub row_beside : MessageSet → List Listed → TransferKey → ReportRow
 row_beside held listed key = row_from key listed (word_on held key) (amount_in (instruction_of held key))
 
@@ -107,7 +107,7 @@ abbrev pub is_of_day : List ℕ → Option Draft → Bool
 is_of_day day (Some (CreditTransfer d)) = is_text d.settlement_date day
 is_of_day day other = true
 
--- the transfers of the bank, but for those whose instruction has another settlement day
+-- the transfers of the bank, except those whose instruction has another settlement day
 abbrev pub transfers_on_day : MessageSet → List ℕ → List ℕ → List TransferKey
 transfers_on_day held bank day = filter (λ key. is_of_day day (instruction_of held key)) (transfers_of held bank)
 
@@ -115,7 +115,7 @@ transfers_on_day held bank day = filter (λ key. is_of_day day (instruction_of h
 abbrev pub keys_reported : MessageSet → List ℕ → List ℕ → List ListedRow → List TransferKey
 keys_reported held bank day list = ascending transfer_order (map (λ row. row.key) list ++ transfers_on_day held bank day)
 
--- the report: the row of each of them
+-- the report: the row of each of these transfers
 unfoldable pub report_of : MessageSet → List ℕ → List ℕ → List ListedRow → List ReportRow
 report_of held bank day list = map (row_on held list) (keys_reported held bank day list)
 
@@ -132,7 +132,7 @@ report_header =
     ∷ codes "Sts"
     ∷ []
 
--- what is absent is written as nothing
+-- an absent amount is written as an empty field
 abbrev pub amount_field : Option ℕ → List ℕ
 amount_field (Some cents) = amount_text cents
 amount_field None = []

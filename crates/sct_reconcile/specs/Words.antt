@@ -9,7 +9,7 @@ use Rattle.sct_reconcile.specs.declared.words.StatusWord.TheVariants as word
 use Rattle.sct_reconcile.specs.declared.words.Verdict.{Verdict}
 use Rattle.sct_reconcile.specs.declared.words.Verdict.TheVariants as verdict
 
--- ---- where a list says that a transfer stands
+-- ---- the status of a transfer in a list
 
 abbrev pub list_status_text : ListStatus → List ℕ
 list_status_text listed.Accepted = codes "ACCEPTED"
@@ -18,7 +18,7 @@ list_status_text listed.Returned = codes "RETURNED"
 list_status_text listed.Pending = codes "PENDING"
 list_status_text listed.Investigated = codes "INVESTIGATED"
 
--- the status of a word; none where it is none of the five
+-- the status that a word names; none if it is not one of the five
 abbrev pub list_status_of : List ℕ → Option ListStatus
 list_status_of text =
     if is_text text (codes "ACCEPTED") then Some listed.Accepted
@@ -28,7 +28,7 @@ list_status_of text =
     else if is_text text (codes "INVESTIGATED") then Some listed.Investigated
     else None
 
--- ---- where a transfer stands
+-- ---- the status of a transfer
 
 -- the word of a status, without its argument
 abbrev pub word_of : Standing → StatusWord
@@ -55,7 +55,7 @@ word_text word.Pending = codes "PENDING"
 abbrev pub agrees : ListStatus → StatusWord → Bool
 agrees status told = is_text (list_status_text status) (word_text told)
 
--- ---- what a comparison gives
+-- ---- the result of a comparison
 
 abbrev pub verdict_text : Verdict → List ℕ
 verdict_text verdict.ListedTwice = codes "LISTED_TWICE"

@@ -1,4 +1,4 @@
-//! Why a list was not read, or a report not made.
+//! Why a list was not read, or a report was not made.
 
 ghost use Rattle.std.specs.Prelude.{◌≡◌};
 ghost use Rattle.sct_reconcile.specs.Lists.{fault_number};
@@ -8,10 +8,10 @@ use sct_case::CaseFault;
 use std::alloc::{AllocError, AllocFailed};
 use thiserror::Error;
 
-/// A list that is none, or want of memory.
+/// A text that is not a valid list, or out of memory.
 #[derive(Debug, Drop, PartialEq, Eq, Error)]
 pub enum ReconcileFault {
-    /// The first bad record of a list, counted from 1 with the header row.
+    /// 48: the number of the first bad record of a list, counted from 1 with the header.
     #[error("record {0} of the list is no row of a list")]
     BadList(u64),
     #[error("memory is wanting")]
@@ -19,7 +19,7 @@ pub enum ReconcileFault {
 }
 
 impl ReconcileFault {
-    /// The number by which the fault is told.
+    /// The fault's number: 48 for a bad list, 49 if out of memory.
     pub fn number(&self) -> u8
         ensures { result ≡ fault_number self.now }
     {

@@ -10,10 +10,10 @@ use sct_message::{TransferKey, keys_are_ordered};
 use sct_set::buckets::file;
 use std::alloc::{AllocError, Global};
 
-/// What the rows of a list say, by transfer.
+/// What the rows of a list say of each transfer.
 pub(crate) type Index = IndexMap<TransferKey, Vec<Listed>>;
 
-/// The rows filed by transfer, each transfer's in the order of the list.
+/// The rows filed by transfer. Those of one transfer are in the order of the list.
 pub(crate) fn by_transfer(alloc: Global, rows: &[ListedRow]) -> Result<Index, AllocError>
     ensures { IfOk result (λ index. IsFiled index rows.now) }
 {
@@ -25,7 +25,7 @@ pub(crate) fn by_transfer(alloc: Global, rows: &[ListedRow]) -> Result<Index, Al
     Ok(index)
 }
 
-/// What the rows on a transfer say.
+/// What the rows on a transfer say, in the order of the list.
 pub(crate) fn listed_on<'a>(index: &'a Index, key: &TransferKey) -> &'a [Listed]
     ensures { (rows : Rows Row) → IsFiled index.now rows → result.now ≡ listed_on rows key.now }
 {

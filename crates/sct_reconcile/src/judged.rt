@@ -22,7 +22,7 @@ fn is_uninstructed(told: StatusWord) -> bool
     matches!(told, StatusWord::Unknown | StatusWord::Missing)
 }
 
-// What a list says of a transfer that it names once.
+// What a list says of a transfer, if it names the transfer exactly once.
 fn sole(listed: &[Listed]) -> Option<Listed>
     ensures { result ≡ sole listed.now }
 {
@@ -50,7 +50,7 @@ fn has_status(listed: Option<Listed>, told: StatusWord) -> bool
     }
 }
 
-// The first case that holds.
+// The first case that holds, in the order of [`Verdict`].
 #[tactic(auto, unfolding(crate::specs::Reports::verdict_of))]
 fn verdict_of(listed: &[Listed], told: StatusWord, amount: &Option<Amount>) -> Verdict
     ensures { result ≡ verdict_of listed.now told amount.now }
@@ -79,7 +79,7 @@ fn verdict_of(listed: &[Listed], told: StatusWord, amount: &Option<Amount>) -> V
     Verdict::Matched
 }
 
-// The amount of a message that instructs a transfer.
+// The amount of a message, if it instructs a transfer.
 fn amount_of(message: &Message) -> Option<Amount>
     ensures { result ≡ amount_in (Some message.now) }
 {
@@ -89,7 +89,7 @@ fn amount_of(message: &Message) -> Option<Amount>
     }
 }
 
-// The amount of the instruction, where there is exactly one.
+// The amount of the instruction, if there is exactly one.
 fn amount_on(view: &View, key: &TransferKey) -> Option<Amount>
     ensures { result ≡ amount_in (instruction_of view.now key.now) }
 {
@@ -99,7 +99,7 @@ fn amount_on(view: &View, key: &TransferKey) -> Option<Amount>
     }
 }
 
-// The row of a transfer, of which a list, the messages and the instruction say this.
+// The row of a transfer, from what the list, the messages and the instruction say of it.
 fn row_from(
     key: TransferKey,
     listed: &[Listed],
@@ -118,7 +118,7 @@ fn row_from(
     }
 }
 
-/// The row of a transfer, of which a list says this.
+/// The report row of the transfer `key`. `listed` is what the rows of a list say of it.
 pub fn row_on(view: &View, listed: &[Listed], key: &TransferKey) -> ReportRow
     ensures { result ≡ row_beside view.now listed.now key.now }
 {

@@ -11,7 +11,7 @@ use sct_message::{Draft, Message, TransferKey, keys_are_ordered};
 use sct_view::View;
 use std::alloc::{AllocError, Global};
 
-// Whether a message has no other settlement day, if it instructs a transfer.
+// Whether a message is of this settlement day, or does not instruct a transfer.
 fn is_dated(day: &Day, message: &Message) -> bool
     ensures { result ≡ is_of_day day.now (Some message.now) }
 {
@@ -21,7 +21,7 @@ fn is_dated(day: &Day, message: &Message) -> bool
     }
 }
 
-// Whether no instruction of a transfer has another settlement day.
+// Whether the instruction of a transfer is of this settlement day. True if it has no sole instruction.
 fn is_of_day(view: &View, day: &Day, key: &TransferKey) -> bool
     ensures { result ≡ is_of_day day.now (instruction_of view.now key.now) }
 {
@@ -31,7 +31,7 @@ fn is_of_day(view: &View, day: &Day, key: &TransferKey) -> bool
     }
 }
 
-// Adds a transfer where no instruction of it has another settlement day.
+// Appends a transfer, unless its instruction has another settlement day.
 fn push_of_day(
     keys: &mut Vec<TransferKey>,
     view: &View,
@@ -47,7 +47,7 @@ fn push_of_day(
     Ok(())
 }
 
-// Adds the transfers of the bank on the day.
+// Appends the transfers of the bank, except those whose instruction has another settlement day.
 fn push_all_of_day(
     keys: &mut Vec<TransferKey>,
     view: &View,
@@ -62,7 +62,7 @@ fn push_all_of_day(
     Ok(())
 }
 
-// The transfers that the rows are on.
+// The transfer of each row.
 fn keys_of_list(alloc: Global, rows: &[ListedRow]) -> Result<Vec<TransferKey>, AllocError>
     ensures { IfOk result (λ keys. keys.items ≡ map (λ row. row.key) rows.now) }
 {
@@ -73,7 +73,7 @@ fn keys_of_list(alloc: Global, rows: &[ListedRow]) -> Result<Vec<TransferKey>, A
     Ok(keys)
 }
 
-/// The transfers that the rows are on, and those of the bank on the day.
+/// The transfer of each row, followed by those of the bank on the day.
 pub(crate) fn keys_named(
     alloc: Global,
     view: &View,
@@ -89,7 +89,7 @@ pub(crate) fn keys_named(
     Ok(keys)
 }
 
-/// The same, ascending, each once: the transfers of a report.
+/// The transfers of a report: those of the rows and those of the bank on the day, ascending, each once.
 pub(crate) fn keys_reported(
     alloc: Global,
     view: &View,

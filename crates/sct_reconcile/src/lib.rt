@@ -1,4 +1,4 @@
-//! Reconciliation of a participant's list: row by row, where the list and the messages held differ.
+//! Reconciliation of a participant's list with the messages held: a report with a row for each transfer.
 #![tactic(auto)]
 
 mod fault;

@@ -36,11 +36,12 @@ impl Model for List {
 }
 
 impl List {
-    /// Reads a list: CSV whose first record is the header `DbtrAgt,TxId,Amt,Sts`, and each further record a
-    /// bank, an identification, an amount and one of the words ACCEPTED, REJECTED, RETURNED, PENDING and
-    /// INVESTIGATED. The first record that is not so is refused 48 (BadList) with its number, counted from 1
-    /// with the header; a list of no record with number 1. Want of memory is 49 (Memory), which a fault of
-    /// `csv` underneath is told as, too.
+    /// Reads a list. It is CSV with the header `DbtrAgt,TxId,Amt,Sts` as its first record. Each further record has a
+    /// bank, an identification, an amount, and one of the words ACCEPTED, REJECTED, RETURNED, PENDING and INVESTIGATED.
+    /// Errors:
+    /// - `BadList` (48) with the number of the first bad record, counted from 1 with the
+    ///   header; 1 for a text without records;
+    /// - `Memory` (49), which also stands for any fault of `csv`.
     pub fn read(alloc: Global, text: &[u8]) -> Result<List, ReconcileFault>
         ensures { Gives result (list_of text.now) }
     {
@@ -81,7 +82,7 @@ fn read_status(field: &[u8]) -> Option<ListStatus>
     ListStatus::read(text_of(field)?)
 }
 
-// What four fields say.
+// The row that four fields are, if each is valid.
 fn read_fields(bank: &[u8], tx: &[u8], amount: &[u8], status: &[u8]) -> Option<ListedRow>
     ensures { result ≡ row_in bank.now tx.now amount.now status.now }
 {
@@ -95,7 +96,7 @@ fn read_fields(bank: &[u8], tx: &[u8], amount: &[u8], status: &[u8]) -> Option<L
     })
 }
 
-// What a record says, if it is a row of a list.
+// The row that a record is, if it is a row of a list.
 fn read_row(row: &ByteRecord) -> Option<ListedRow>
     ensures { result ≡ row_of (fields_of row.now) }
 {
@@ -105,7 +106,7 @@ fn read_row(row: &ByteRecord) -> Option<ListedRow>
     read_fields(field(row, 0), field(row, 1), field(row, 2), field(row, 3))
 }
 
-// Whether four fields are the names of what a list says.
+// Whether four fields are the names of the columns.
 fn are_names(bank: &[u8], tx: &[u8], amount: &[u8], status: &[u8]) -> bool
     ensures { result ≡ are_names bank.now tx.now amount.now status.now }
 {
@@ -125,7 +126,7 @@ fn is_header(row: &ByteRecord) -> bool
     are_names(field(row, 0), field(row, 1), field(row, 2), field(row, 3))
 }
 
-// The record at an index is bad: records are counted from 1.
+// The refusal of the record at an index, from 0. Records are counted from 1.
 fn bad_record(index: usize) -> ReconcileFault
     requires { index + 1 < 2 ^ 64 }
     ensures { result ≡ fault.BadList (index + 1) }
@@ -147,7 +148,7 @@ fn rows_after_first(alloc: Global, records: &[ByteRecord]) -> Result<Vec<ListedR
     Ok(rows)
 }
 
-// The rows of all records.
+// The rows of all records, the first of which must be the header.
 fn rows_in(alloc: Global, records: &[ByteRecord]) -> Result<Vec<ListedRow>, ReconcileFault>
     ensures { GivesRows result (list_in (map fields_of records.now)) }
 {

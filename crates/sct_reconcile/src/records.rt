@@ -8,7 +8,7 @@ use csv::{ByteRecord, Error, ReaderBuilder};
 use std::alloc::Global;
 use std::str;
 
-/// The records of a text, each of as many fields as it has.
+/// The records of a text. They may have different numbers of fields.
 pub(crate) fn all_records(alloc: Global, text: &[u8]) -> Result<Vec<ByteRecord>, Error>
     ensures { IfOk result (λ records. map fields_of records.items ≡ records_of text.now) }
 {
@@ -25,7 +25,7 @@ pub(crate) fn all_records(alloc: Global, text: &[u8]) -> Result<Vec<ByteRecord>,
     Ok(records)
 }
 
-/// A field as text, if it is UTF-8.
+/// A field as text, or none if it is not UTF-8.
 pub(crate) fn text_of(field: &[u8]) -> Option<&str>
     ensures { option_map (λ s. s.now) result ≡ text_of field.now }
 {
@@ -35,7 +35,7 @@ pub(crate) fn text_of(field: &[u8]) -> Option<&str>
     }
 }
 
-/// The field at a place, empty past the end.
+/// The field at a place, from 0; empty past the last field.
 pub(crate) fn field(row: &ByteRecord, at: usize) -> &[u8]
     ensures { result.now ≡ field_or (field_at (fields_of row.now) at) }
 {

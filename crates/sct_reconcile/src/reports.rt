@@ -20,7 +20,7 @@ use std::alloc::{AllocError, Global};
 use std::marker::Model;
 use std::thread::Threads;
 
-/// What the comparison of a list with the messages held gives, a row for each transfer, ascending.
+/// The comparison of a list with the messages held: a row for each transfer, ascending.
 #[derive(Debug, Drop)]
 pub struct Report {
     alloc: Global,
@@ -44,8 +44,8 @@ impl Report {
         &self.rows
     }
 
-    /// The report as CSV: the header `DbtrAgt,TxId,Result,ListAmt,ListSts,Amt,Sts`, and a record for each
-    /// row, each ended by a line feed. Want of memory is 49 (Memory).
+    /// The report as CSV: the header `DbtrAgt,TxId,Result,ListAmt,ListSts,Amt,Sts`, and a record for each row, each
+    /// ended by a line feed. Error: `Memory` (49).
     pub fn write(&self) -> Result<Vec<u8>, ReconcileFault>
         ensures text { IfOk result (λ text. text.items ≡ report_text_of self.now) }
         ensures fault { IfErr result (λ refusal. refusal ≡ fault.Memory) }
@@ -54,7 +54,7 @@ impl Report {
     }
 }
 
-// The row of each transfer, found in as many threads as there are processors.
+// The report row of each transfer, found in as many threads as there are processors.
 fn rows_on<R: Threads + Sync>(
     rt: &R,
     alloc: Global,
@@ -75,9 +75,11 @@ fn rows_on<R: Threads + Sync>(
         .collect(rt, alloc)
 }
 
-/// Compares a bank's list for a settlement day with the messages held: a row for each transfer that the list
-/// names, and for each transfer of the bank whose instruction has no other settlement day. The rows are found in as many
-/// threads as there are processors; where no thread can be made, one does the work of several. Want of memory is 49 (Memory).
+/// Compares a bank's list for a settlement day with the messages held. There is a row for each transfer that the list
+/// names, and for each transfer of the bank whose instruction has no other settlement day.
+/// The rows are found in as many threads as there are processors. If a thread cannot be started, another
+/// thread does its work. Error: `Memory` (49).
+/// It looks at every transfer of the view once.
 #[tactic(auto, unfolding(crate::specs::Reports::report_of))]
 pub fn reconcile<R: Threads + Sync>(
     rt: &R,

@@ -23,9 +23,9 @@ pub struct ListedRow {
 pub struct ReportRow {
     pub key: TransferKey,
     pub verdict: Verdict,
-    /// What the list says, where one row alone is on the transfer.
+    /// What the list says, if exactly one row is on the transfer.
     pub listed: Option<Listed>,
-    /// The amount of the instruction, where there is exactly one.
+    /// The amount of the instruction, if there is exactly one.
     pub amount: Option<Amount>,
     pub status: StatusWord,
 }

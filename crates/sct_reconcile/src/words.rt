@@ -6,7 +6,7 @@ ghost use Rattle.sct_reconcile.specs.Words.{word_of, word_text};
 
 use sct_case::Status;
 
-/// Where a list says that a transfer stands.
+/// The status of a transfer in a list.
 #[derive(Clone, Copy, Debug, PartialEq, Eq)]
 pub enum ListStatus {
     Accepted,
@@ -17,7 +17,7 @@ pub enum ListStatus {
 }
 
 impl ListStatus {
-    /// The status of a word, if it is one of the five.
+    /// The status that a word names, or none if it is not one of the five.
     pub fn read(word: &str) -> Option<ListStatus>
         ensures { result ≡ list_status_of word.now }
     {
@@ -31,7 +31,7 @@ impl ListStatus {
         }
     }
 
-    /// The word.
+    /// The word, as `ACCEPTED`.
     pub fn text(self) -> &'static str
         ensures { result.now ≡ list_status_text self }
     {
@@ -44,7 +44,7 @@ impl ListStatus {
         }
     }
 
-    /// Whether a transfer that stands so is where the list says.
+    /// Whether the list has the word of the transfer's status.
     pub(crate) fn agrees(self, told: StatusWord) -> bool
         ensures { result ≡ agrees self told }
     {
@@ -52,7 +52,7 @@ impl ListStatus {
     }
 }
 
-/// Where a transfer stands, without the reason or the amount that goes with it.
+/// The status of a transfer without its argument (a reason or an amount).
 #[derive(Clone, Copy, Debug, PartialEq, Eq)]
 pub enum StatusWord {
     Contradicted,
@@ -82,7 +82,7 @@ impl StatusWord {
         }
     }
 
-    /// The word as it is written.
+    /// The word as it is written, such as `MISSING`.
     pub fn text(self) -> &'static str
         ensures { result.now ≡ word_text self }
     {
@@ -99,29 +99,29 @@ impl StatusWord {
     }
 }
 
-/// What the comparison of list and messages gives for a transfer: the first of these that holds.
+/// The result of a comparison for a transfer: the first of these that holds.
 #[derive(Clone, Copy, Debug, PartialEq, Eq)]
 pub enum Verdict {
-    /// Two rows of the list or more are on it.
+    /// Two or more rows of the list are on it.
     ListedTwice,
     /// The messages on it contradict each other.
     Contradicted,
-    /// It is listed, and no message instructs it.
+    /// It is listed, and it has no instruction.
     OnlyInList,
-    /// It is not listed, and messages are on it, but none instructs it.
+    /// It is not listed. There are messages on it, but no instruction.
     Missing,
-    /// It is not listed.
+    /// It is not listed, and it has an instruction.
     OnlyInArchive,
-    /// The list has another amount than the instruction.
+    /// The amount of the list differs from that of the instruction.
     AmountDiffers,
-    /// The list has another status.
+    /// The status of the list differs from that of the messages.
     StatusDiffers,
-    /// List and messages agree.
+    /// The list and the messages agree.
     Matched,
 }
 
 impl Verdict {
-    /// The word as it is written.
+    /// The word as it is written, such as `LISTED_TWICE`.
     pub fn text(self) -> &'static str
         ensures { result.now ≡ verdict_text self }
     {

@@ -34,7 +34,7 @@ fn finish(writer: Writer<Vec<u8>>) -> Result<Vec<u8>, Error>
     }
 }
 
-// An amount, or nothing where there is none.
+// The field of an amount, empty if there is none.
 fn amount_field(amount: Option<Amount>) -> ArrayString<12>
     ensures { result.bytes ≡ amount_field amount }
 {
@@ -44,7 +44,7 @@ fn amount_field(amount: Option<Amount>) -> ArrayString<12>
     }
 }
 
-// The amount that a list says, or nothing.
+// The field of the amount in a list, empty if the transfer is not listed exactly once.
 fn listed_amount_field(listed: Option<Listed>) -> ArrayString<12>
     ensures { result.bytes ≡ listed_amount_field listed }
 {
@@ -54,7 +54,7 @@ fn listed_amount_field(listed: Option<Listed>) -> ArrayString<12>
     }
 }
 
-// The status that a list says, or nothing.
+// The field of the status in a list, empty if the transfer is not listed exactly once.
 fn listed_status_field(listed: Option<Listed>) -> &'static str
     ensures { result.now ≡ listed_status_field listed }
 {
