@@ -1,5 +1,5 @@
--- What the receipts that a worker keeps say of the entries that came to its site. Read by an auditor; workers speak of
--- these.
+-- What the receipts that a worker keeps say of the entries that came to its site. Read by
+-- an auditor. Workers use these words.
 use Rattle.std.specs.FinSet as set
 use Rattle.std.specs.Prelude.{◌≡◌, ◌≢◌, ◌+◌, ◌≤◌, ℕ, Bool, true, List, Some, length}
 use Rattle.std.specs.List.{All, list_any, slice_get}
@@ -10,30 +10,30 @@ use Rattle.sct_delta.specs.Entries.{Placed, messages_of}
 use Rattle.sct_delta.specs.Refusals.{has_site}
 use Rattle.sct_desk.specs.Passes.{IsOf, Told}
 
--- ---- what may come to a site
+-- ---- the entries that may come to a site
 
 -- an own entry has one of these messages
 abbrev pub OwnOf : ℕ → MessageSet → Placed → Type 0
 OwnOf own held entry = entry.origin ≡ own → set.contains held entry.message ≡ true
 
--- an entry of another origin is of a site of the group
+-- an entry of another origin has a site of the group as its origin
 abbrev pub OtherOf : ℕ → ℕ → Placed → Type 0
 OtherOf own size entry = entry.origin ≢ own → has_site size entry.origin ≡ true
 
--- An entry that may come to the site `own` of a group of this size, where it takes these messages.
+-- An entry that may come to the site `own` of a group of this size, if the site takes these messages.
 pub record MayCome (own size : ℕ) (held : MessageSet) (entry : Placed) : Type 0 where
   pub own_of : OwnOf own held entry
   pub other_of : OtherOf own size entry
 
 -- ---- receipts
 
--- what holds of each entry that the receipt's call published
+-- the property holds of each entry that the receipt's call published
 abbrev pub Adds : (Placed → Type 0) → Told → Type 0
 Adds P receipt =
     (at : ℕ) (entry : Placed) → receipt.from ≤ at + 1 → slice_get receipt.shown at ≡ Some entry → P entry
 
--- A receipt that may be kept: it is of this desk, and each entry that its call published is one that may come to the site
--- where it takes these messages.
+-- A receipt that may be kept: it is of this desk, and each entry that its call published may come to
+-- the site if the site takes these messages.
 pub record Keeps (book : Book) (own size : ℕ) (held : MessageSet) (receipt : Told) : Type 0 where
   pub of_desk : IsOf book own receipt
   pub first : 1 ≤ receipt.from
@@ -44,7 +44,7 @@ pub record Keeps (book : Book) (own size : ℕ) (held : MessageSet) (receipt : T
 abbrev pub AllKeep : Book → ℕ → ℕ → MessageSet → List Told → Type 0
 AllKeep book own size held receipts = All (Keeps book own size held) receipts
 
--- ---- what receipts show
+-- ---- the messages that receipts show
 
 -- some entry that the receipt shows has the message
 abbrev pub shows : Draft → Told → Bool

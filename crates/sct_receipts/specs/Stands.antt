@@ -1,5 +1,5 @@
--- The core of a site whose desk was closed with all receipts that were kept. Read by an auditor; workers and runs speak of
--- it.
+-- The core of a site whose desk was closed with all receipts that were kept. Read by an
+-- auditor. Workers and runs use this word.
 use Rattle.std.specs.FinSet as set
 use Rattle.std.specs.Prelude.{◌≡◌, ℕ, true}
 use Rattle.sct_message.specs.declared.draft.Draft.{Draft}
@@ -9,8 +9,8 @@ use Rattle.sct_delta.specs.Refusals.{has_site}
 use Rattle.sct_site.specs.Cores.{Core}
 use Rattle.sct_receipts.specs.Kept.{OwnOf}
 
--- The core is that of the site `own` of a group of this size. It holds all of these messages, and of its own entries each
--- has one of them. Its other entries are of sites of the group; what these are is not said.
+-- The core is that of the site `own` of a group of this size. It holds all of these messages, and each of its own
+-- entries has one of them. Its other entries are of sites of the group; nothing more is said of them.
 pub record Stands (own size : ℕ) (held : MessageSet) (core : Core) : Type 0 where
   pub number_is : core.number ≡ own
   pub group_is : core.group ≡ size

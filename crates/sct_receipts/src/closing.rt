@@ -13,9 +13,11 @@ use sct_message::Message;
 use sct_site::SiteCore;
 use std::sync::{Arc, Wait};
 
-/// Closes the desk of a site with all receipts that its workers kept, where all that is taken are these messages and some
-/// receipt shows each of them. 66 `Refused` with what the desk refuses: 53 if an arrival is pending, then 54 if a position is
-/// not reported by exactly one of the receipts.
+/// Closes the desk of a site with all receipts that its workers kept, and returns the site's core.
+/// The caller guarantees that the receipts are of this desk, that the own entries which they report have these
+/// messages, and that some receipt shows each message.
+/// Error: `Refused` (66) with the number of the desk's refusal: 53 (`Pending`) if an arrival is pending, else 54
+/// (`Untold`) if a position is not covered by exactly one of the receipts.
 #[tactic(auto, using(crate::proofs::StandLemmas::refused_to_close))]
 pub fn closed<J: Site, H: Wait + Drop>(
     desk: Desk<J, H>,

@@ -15,19 +15,19 @@ pub enum WorkFault {
     /// 61: a gate held the worker back.
     #[error("a gate held a worker back")]
     Held,
-    /// 65: memory is wanting, or was at an earlier call, whose arrival was published by a later one.
+    /// 65: out of memory at this call, or at an earlier call whose arrival a later call published.
     #[error("memory is wanting")]
     Memory,
     /// 66: a call was refused, with the number of its own fault.
     #[error("a call was refused with {number}")]
     Refused { number: u8 },
-    /// 67: there is no thread for a worker.
+    /// 67: a thread for a worker could not be started.
     #[error("no thread for a worker")]
     NoWorker,
 }
 
 impl WorkFault {
-    /// The number by which the fault is told.
+    /// The fault's number: 61 or 65 to 67.
     pub fn number(&self) -> u8
         ensures { result ≡ work_fault_number self.now }
     {

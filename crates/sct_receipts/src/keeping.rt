@@ -18,7 +18,7 @@ use sct_site::{Accepted, Took};
 use std::alloc::Global;
 use std::sync::{Arc, Wait};
 
-// The receipt tells of its own call alone.
+// Refuses a receipt with an arrival of an earlier call.
 fn uncarried(receipt: &Receipt) -> Result<(), WorkFault>
     ensures none { OnOk result (receipt.now.carried ≡ 0) }
     ensures first { OnOk result (1 ≤ receipt.now.from) }
@@ -32,8 +32,8 @@ fn uncarried(receipt: &Receipt) -> Result<(), WorkFault>
     Ok(())
 }
 
-/// Takes a message at the desk. 65 `Memory` also where the receipt tells of an arrival of an earlier call, to which memory
-/// was wanting: what is told of such a receipt would not be of this message alone.
+/// Takes a message at the desk. Error: `Memory` (65), also if the receipt has an arrival of an earlier call, which was
+/// out of memory. Such a receipt is not about this message alone.
 pub fn taken<J: Site, H: Wait + Drop, W: Wait>(
     rt: &W,
     alloc: Global,
@@ -52,7 +52,8 @@ pub fn taken<J: Site, H: Wait + Drop, W: Wait>(
     Ok((took, receipt))
 }
 
-/// Publishes what is pending at the desk. 65 `Memory` also where there was an arrival of an earlier call.
+/// Publishes the pending arrivals of the desk. Error: `Memory` (65), also if the receipt
+/// has an arrival of an earlier call.
 pub fn published<J: Site, H: Wait + Drop, W: Wait>(
     rt: &W,
     alloc: Global,
@@ -66,8 +67,8 @@ pub fn published<J: Site, H: Wait + Drop, W: Wait>(
     Ok(receipt)
 }
 
-/// Hands a delta to the desk. No entry of the site's own comes by it. 65 `Memory` also where the receipt tells of an arrival
-/// of an earlier call.
+/// Hands a delta to the desk. It adds no entry of the site's own. Error: `Memory` (65), also if the
+/// receipt has an arrival of an earlier call.
 pub fn accepted<J: Site, H: Wait + Drop, W: Wait>(
     rt: &W,
     alloc: Global,
@@ -85,7 +86,7 @@ pub fn accepted<J: Site, H: Wait + Drop, W: Wait>(
     Ok((answer, receipt))
 }
 
-/// Keeps one more receipt, of a desk that takes these messages.
+/// Appends `receipt` to `kept`. Only contracts read `messages`, the messages that the site takes. Error: `Memory` (65).
 pub fn keep<J: Site>(
     kept: &mut Vec<Receipt>,
     messages: &[Arc<Message>],

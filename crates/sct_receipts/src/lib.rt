@@ -1,5 +1,5 @@
-//! What workers do at the desk of a site: they take messages, publish and accept deltas, and keep the receipts. A desk that
-//! is closed with all of them gives a core of which it is known what it holds.
+//! The calls of workers at the desk of a site: they take messages, publish and accept deltas, and keep the receipts.
+//! The contents of a core are known if its desk was closed with all these receipts.
 #![tactic(auto)]
 
 mod closing;
