@@ -1,5 +1,5 @@
--- What the workers of several sites exchange: the entries that they send, and what becomes of an entry that is handed over.
--- Read by an auditor.
+-- What the workers of several sites exchange: the entries that they send, and the result for an entry
+-- that is handed over. Read by an auditor.
 use Rattle.std.specs.Prelude.{ℕ, ◌≡◌, ◌≤◌, ◌++◌, Bool, true, false, List, [], ◌∷◌, Result, Ok, Err}
 use Rattle.sct_message.specs.declared.draft.Draft.{Draft}
 use Rattle.sct_delta.specs.Entries.{Placed}
@@ -15,7 +15,7 @@ use Rattle.sct_receipts.specs.declared.fault.WorkFault.{WorkFault}
 
 -- ---- what is sent
 
--- a new message has a number from 1 on
+-- a new message has a number of at least 1
 abbrev pub IsNumbered : Took → Type 0
 IsNumbered (took.Taken n) = 1 ≤ n
 IsNumbered took.Repeat = Unit {0}
@@ -28,15 +28,15 @@ pub record IsEntryOf (site : ℕ) (answer : Took) (message : Draft) (entry : Pla
 
 -- ---- what is handed over
 
--- What an exchange worker makes of the answer to a delta: it was accepted, or it was not because an entry before it is
--- missing (41), which is no fault. Every other refusal is a fault of the worker.
+-- The result of an answer to a delta for an exchange worker: it was accepted, or an entry before it is missing (41),
+-- which is not a fault. Every other refusal is a fault of the worker.
 abbrev pub accepted_by : Result Accepted DeltaFault → Result Bool WorkFault
 accepted_by (Ok accepted) = Ok true
 accepted_by (Err (delta.Gap origin have first)) = Ok false
 accepted_by (Err refusal) = Err (fault_of_delta refusal)
 
--- An entry was handed over to the site `own`, and whether it was accepted is what the arrivals before it say. The receipt
--- of the call is kept after the others.
+-- An entry was handed over to the site `own`. Whether it was accepted follows from the arrivals before it. The
+-- receipt of the call is kept after the others.
 pub record IsHandedOver (own size : ℕ) (entry : Placed) (old new : List Told) (accepted : Bool) : Type 0 where
   pub receipt : Told
   pub kept : new ≡ old ++ receipt ∷ []

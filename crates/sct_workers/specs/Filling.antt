@@ -1,4 +1,4 @@
--- Sites that workers filled from inputs. Read by an auditor; runs speak of these sites.
+-- Sites that workers filled from inputs. Read by an auditor. Runs use these words.
 use Rattle.std.specs.Prelude.{ℕ, ◌≡◌, ◌+◌, List, [], ◌∷◌, length, string_bytes}
 use Rattle.sct_lines.specs.Lines.{refusals_told, set_read}
 use Rattle.sct_receipts.specs.Stands.{Stands}
@@ -13,7 +13,7 @@ pub record IsFilled (number size : ℕ) (input : List ℕ) (site : Filled) : Typ
   pub told : string_bytes site.told ≡ told_of_file number input
   pub refused : site.refused ≡ length (refusals_told input)
 
--- each core is of a site that takes what is read of its input, and the sites are numbered on from the number given
+-- each core is that of a site that takes the messages read from its input; the sites are numbered from `number` upwards
 abbrev pub AllStand : ℕ → ℕ → List (List ℕ) → List Core → Type 0
 AllStand number size [] [] = Unit {0}
 AllStand number size (input ∷ inputs) (core ∷ cores) =

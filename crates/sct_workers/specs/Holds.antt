@@ -1,5 +1,5 @@
--- What ends workers: where a gate may have held them, with which numbers calls are refused, and which of several faults is
--- told. Read by an auditor.
+-- How workers end: the points at which a gate may have held them, the numbers with which calls are refused, and which
+-- of several faults is reported. Read by an auditor.
 use Rattle.std.specs.Prelude.{ℕ, ◌+◌, ◌≤◌, Result, IfErr}
 use Rattle.sct_receipts.specs.declared.fault.WorkFault.{WorkFault}
 use Rattle.sct_receipts.specs.declared.fault.WorkFault.TheVariants as fault
@@ -8,19 +8,19 @@ use Rattle.sct_workers.specs.declared.fault.SiteFault.{SiteFault}
 use Rattle.sct_workers.specs.declared.fault.SiteFault.TheVariants as site
 use Rattle.sct_workers.specs.declared.gate.Point.{Point}
 
--- a worker was held (61) only where there is a point at which the gate may hold it, and a call was refused (66) with the
--- number of a refusal
+-- a worker was held (61) only if there is a point at which the gate may hold it, and a call was
+-- refused (66) with the number of a refusal
 abbrev pub EndsWhere : (Point → Type 0) → WorkFault → Type 0
 EndsWhere may fault.Held = (point : Point) × may point
 EndsWhere may (fault.Refused number) = IsRefusalNumber number
 EndsWhere may other = Unit {0}
 
--- the same of a site; a desk is not closed only with 53 or 54
+-- the same for a site; a desk is refused to be closed only with 53 or 54
 abbrev pub SiteEndsWhere : (Point → Type 0) → SiteFault → Type 0
 SiteEndsWhere may (site.Working reason) = EndsWhere may reason
 SiteEndsWhere may (site.Closing reason) = IsNotClosed reason
 
--- the site's workers did their work, and its desk was not closed: 53 or 54
+-- the site's workers did their work, but its desk was not closed: 53 or 54
 abbrev pub IsClosingFault : SiteFault → Type 0
 IsClosingFault (site.Working reason) = ⊥
 IsClosingFault (site.Closing reason) = IsNotClosed reason
@@ -30,7 +30,7 @@ abbrev pub reason_of : SiteFault → WorkFault
 reason_of (site.Working reason) = reason
 reason_of (site.Closing reason) = reason
 
--- the order in which the faults of workers are told: 67, then 65, then 61, then 66 with the least number
+-- the order in which the faults of workers are reported: 67, then 65, then 61, then 66 with the least number
 abbrev pub rank_of : WorkFault → ℕ
 rank_of fault.NoWorker = 0
 rank_of fault.Memory = 1
@@ -41,7 +41,7 @@ rank_of (fault.Refused number) = 3 + number
 abbrev pub ComesFirst : {T : Type 0} → WorkFault → Result T WorkFault → Type 0
 ComesFirst reported result = IfErr result (λ reason. rank_of reported ≤ rank_of reason)
 
--- what ended workers is told before a refusal to close a desk, and of such refusals that of the first site
+-- a fault of workers is reported before a refusal to close a desk; among such refusals the first site's is reported
 abbrev pub site_rank_of : SiteFault → ℕ
 site_rank_of (site.Working reason) = rank_of reason
 site_rank_of (site.Closing reason) = 300

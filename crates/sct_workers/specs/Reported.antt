@@ -7,7 +7,7 @@ use Rattle.sct_workers.specs.Each.{AtEach}
 use Rattle.sct_workers.specs.Filling.{IsFilled}
 use Rattle.sct_workers.specs.Holds.{site_rank_of}
 
--- what a site answers that was to be filled from the input at its place, in a group of this size
+-- the answer of the site that is filled from the input at its place, in a group of this size
 abbrev pub AnswersTo : ℕ → List (List ℕ) → ℕ → Result Filled SiteFault → Type 0
 AnswersTo size inputs place answer =
     (input : List ℕ) → slice_get inputs place ≡ Some input → IfOk answer (IsFilled (place + 1) size input)
@@ -24,7 +24,7 @@ pub record IsReported (answers : List (Result Filled SiteFault)) (reported : Sit
   pub least : AtEach (λ place answer. IfErr answer (λ reason. site_rank_of reported ≤ site_rank_of reason)) answers
   pub first : AtEach (λ place answer. place < site → IfErr answer (λ reason. site_rank_of reported < site_rank_of reason)) answers
 
--- what is reported of several sites: a fault, or nothing if no site failed
+-- the report of several sites: a fault, or none if no site failed
 abbrev pub Reports : List (Result Filled SiteFault) → Option SiteFault → Type 0
 Reports answers None = NoneFails answers
 Reports answers (Some reported) = IsReported answers reported

@@ -1,4 +1,4 @@
-//! The worker that asks a site while the others work.
+//! The worker that queries a site while the others work.
 
 ghost use Rattle.std.specs.Prelude.{◌≡◌, [], IfErr, IfOk};
 ghost use Rattle.sct_receipts.specs.Kept.{AllKeep, Keeps};
@@ -13,7 +13,7 @@ use sct_receipts::{WorkFault, keep};
 use std::alloc::Global;
 use std::sync::Wait;
 
-// Learns the receipt of a note and asks for its transfer. The receipt comes back.
+// Learns the receipt of a note and queries its transfer. Returns the receipt.
 #[tactic(auto, using(crate::proofs::Holding::desk_ends))]
 fn answer<J: Site, G: Gate, R: Wait>(
     rt: &R,
@@ -34,8 +34,8 @@ fn answer<J: Site, G: Gate, R: Wait>(
     Ok(note.into_receipt())
 }
 
-/// Asks for the transfers of the notes that come, until the site's intake worker has ended. By the receipts that it kept
-/// no own entry came to the site.
+/// Queries the transfers of the notes that arrive, until the site's intake worker has ended. The
+/// receipts that it keeps add no own entry.
 pub(crate) fn answers<J: Site, G: Gate, R: Wait>(
     rt: &R,
     alloc: Global,

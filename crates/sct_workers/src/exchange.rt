@@ -1,4 +1,4 @@
-//! The worker that accepts what other sites took.
+//! The worker that accepts the entries of other sites.
 
 ghost use Rattle.std.specs.Prelude.{◌≡◌, [], ◌∷◌, IfErr, IfOk, OnOk};
 ghost use Rattle.sct_receipts.specs.Kept.{AllKeep};
@@ -29,7 +29,7 @@ fn delta_of(alloc: Global, entry: NewEntry) -> Result<Delta, WorkFault>
     }
 }
 
-// Whether an entry was accepted, by what its delta was answered. It is no fault that an entry before it is missing.
+// Whether an entry was accepted, by the answer to its delta. A missing entry before it is not a fault.
 fn is_accepted(answer: Result<Accepted, DeltaFault>) -> Result<bool, WorkFault>
     ensures { result ≡ accepted_by answer }
 {
@@ -40,7 +40,7 @@ fn is_accepted(answer: Result<Accepted, DeltaFault>) -> Result<bool, WorkFault>
     }
 }
 
-// Hands an entry to the desk, keeps the receipt and answers whether the entry was accepted.
+// Hands an entry to the desk and keeps the receipt. Returns whether the entry was accepted.
 #[tactic(auto, using(crate::proofs::Refusing::answer_ends))]
 fn accept_one<J: Site, H: Wait + Drop, R: Wait>(
     rt: &R,
@@ -60,8 +60,8 @@ fn accept_one<J: Site, H: Wait + Drop, R: Wait>(
     is_accepted(answer)
 }
 
-/// Accepts the entries that come, until no other site's intake worker is left. By the receipts that it kept no own entry
-/// came to the site.
+/// Accepts the entries that arrive, until the intake workers of all other sites have ended. The
+/// receipts that it keeps add no own entry.
 #[tactic(auto, using(crate::proofs::Holding::no_gate))]
 pub(crate) fn exchange<J: Site, H: Wait + Drop, G: Gate, R: Wait>(
     rt: &R,

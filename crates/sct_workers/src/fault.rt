@@ -1,4 +1,4 @@
-//! Which of several faults is told.
+//! Which of several faults is reported.
 
 ghost use Rattle.std.specs.Prelude.{◌≡◌, ◌⊎◌, ◌≤◌, ◌<◌};
 ghost use Rattle.sct_workers.specs.Holds.{rank_of, site_rank_of};
@@ -9,9 +9,9 @@ use sct_receipts::WorkFault;
 /// Why a site has no core.
 #[derive(Clone, Copy, Debug, PartialEq, Eq)]
 pub enum SiteFault {
-    /// The site did not come to be, or a worker of it ended early.
+    /// The site could not be opened, or one of its workers ended early.
     Working(WorkFault),
-    /// All its workers did their work, and its desk was not closed.
+    /// All workers of the site did their work, but its desk was not closed.
     Closing(WorkFault),
 }
 
@@ -23,7 +23,7 @@ impl From<WorkFault> for SiteFault {
     }
 }
 
-// The place of a worker's fault among those of several workers: the least is told.
+// The rank of a worker's fault. Among several faults, the one of the least rank is reported.
 fn rank(fault: WorkFault) -> u16
     ensures { result ≡ rank_of fault }
 {
@@ -35,7 +35,7 @@ fn rank(fault: WorkFault) -> u16
     }
 }
 
-// The fault of two workers that is told.
+// The fault of least rank among those of two workers.
 pub(crate) fn told_of_two(first: WorkFault, second: WorkFault) -> WorkFault
     ensures one { (result ≡ first) ⊎ (result ≡ second) }
     ensures least { (rank_of result ≤ rank_of first) × (rank_of result ≤ rank_of second) }
@@ -47,7 +47,7 @@ pub(crate) fn told_of_two(first: WorkFault, second: WorkFault) -> WorkFault
     }
 }
 
-// The place of a site's fault among those of several sites.
+// The rank of a site's fault among those of several sites.
 fn site_rank(fault: SiteFault) -> u16
     ensures { result ≡ site_rank_of fault }
 {
@@ -57,7 +57,7 @@ fn site_rank(fault: SiteFault) -> u16
     }
 }
 
-// The fault of two sites that is told, the first site's where they tie.
+// The fault of least rank among those of two sites; the first site's if the ranks are equal.
 pub(crate) fn told_of_sites(first: SiteFault, second: SiteFault) -> SiteFault
     ensures one { (result ≡ first) ⊎ (result ≡ second) }
     ensures least { (site_rank_of result ≤ site_rank_of first) × (site_rank_of result ≤ site_rank_of second) }

@@ -7,7 +7,7 @@ use sct_receipts::WorkFault;
 use sct_site::SiteCore;
 use std::alloc::Global;
 
-/// A site that was filled from an input, and what tells the input's refused lines.
+/// A site that was filled from an input, with the text of the input's refused lines and their number.
 #[derive(Drop)]
 pub struct Filled {
     pub core: SiteCore,
@@ -15,7 +15,7 @@ pub struct Filled {
     pub refused: u64,
 }
 
-/// The sites of some inputs in their order, the lines that tell the inputs' refused lines, and how many these are.
+/// The sites of the inputs in their order, with the text of the refused lines of all inputs and their number.
 #[derive(Drop)]
 pub struct Sites {
     pub cores: Vec<SiteCore>,
@@ -24,7 +24,7 @@ pub struct Sites {
 }
 
 impl Sites {
-    // Of no inputs.
+    // The sites of no inputs.
     pub(crate) fn none(alloc: Global) -> Sites
         ensures cores { result.cores.items ≡ [] }
         ensures told { string_bytes result.told ≡ [] }
@@ -37,7 +37,7 @@ impl Sites {
         }
     }
 
-    // With the site of one input more.
+    // Adds the site of one more input.
     pub(crate) fn with(self, site: Filled) -> Result<Sites, WorkFault>
         requires few { self.refused ≤ length (string_bytes self.told) }
         requires few_more { site.refused ≤ length (string_bytes site.told) }

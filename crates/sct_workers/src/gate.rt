@@ -1,4 +1,4 @@
-//! Gates: they may hold workers at the points that these pass.
+//! Gates: they may hold workers at certain points.
 
 ghost use Rattle.std.specs.Prelude.{IfErr};
 ghost use Rattle.sct_workers.specs.Holds.{EndsWhere};
@@ -11,29 +11,29 @@ use std::sync::Wait;
 pub enum Point {
     /// The intake worker of the site is about to take the message of its k-th accepted line, counted from 1.
     Take { site: u16, k: u64 },
-    /// The exchange worker of the site handed over a delta that was accepted.
+    /// The exchange worker of the site handed over a delta, and it was accepted.
     Accepted { site: u16 },
     /// The query worker of the site has its answer.
     Answered { site: u16 },
 }
 
-/// A gate holds a worker for good: 61.
+/// 61: a gate holds a worker for good.
 #[derive(Clone, Copy, Debug, PartialEq, Eq)]
 pub struct Held;
 
-/// What all workers of a run pass. It may let a worker wait, or hold it for good.
+/// A gate, which all workers of a run pass. It may make a worker wait, or hold it for good.
 pub trait Gate {
     ghost use Rattle.sct_workers.specs.declared.gate.Point.{Point};
 
-    /// The points at which it may answer [`Held`].
+    /// The points at which it may return [`Held`].
     ghost may_hold: { Self → Point → Type 0 };
 
-    /// Lets a worker pass a point, at once or later, or holds it for good.
+    /// Lets a worker pass a point, at once or later, or returns [`Held`].
     fn pass<R: Wait>(&self, rt: &R, point: Point) -> Result<(), Held>
         ensures { IfErr result (λ held. may_hold self.now point) };
 }
 
-/// The gate that lets all pass: it names no point.
+/// The gate that lets all workers pass: it names no point.
 #[derive(Clone, Copy)]
 pub struct FreeGate;
 
@@ -45,7 +45,7 @@ impl Gate for FreeGate {
     }
 }
 
-// Passes a point of a gate. 61 `Held` where the gate holds the worker.
+// Passes a point of a gate. Error: `Held` (61) if the gate holds the worker.
 pub(crate) fn pass<G: Gate, R: Wait>(rt: &R, gate: &G, point: Point) -> Result<(), WorkFault>
     ensures { IfErr result (EndsWhere (G.may_hold gate.now)) }
 {

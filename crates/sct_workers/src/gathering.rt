@@ -23,7 +23,7 @@ use std::sync::Wait;
 use std::thread;
 use std::thread::{Promise, PromisedHandle, Scope, Threads};
 
-// Copies of all senders but that of this place.
+// Copies of all senders, except the one at this place.
 fn others(
     alloc: Global,
     senders: &[Sender<NewEntry>],
@@ -38,7 +38,7 @@ fn others(
     Ok(others)
 }
 
-// So many channels: the ends to send to, and the ends to receive from.
+// `count` channels: the ends to send to, and the ends to receive from.
 fn channels(
     alloc: Global,
     count: usize,
@@ -55,7 +55,7 @@ fn channels(
     Ok((senders, inboxes))
 }
 
-// So many posts, from each of which channels lead to all others.
+// `count` posts, each with channels to all others.
 fn posts(alloc: Global, count: usize) -> Result<Vec<Post>, AllocError>
     ensures { IfOk result (λ posts. vec_len posts ≡ count) }
 {
@@ -68,8 +68,8 @@ fn posts(alloc: Global, count: usize) -> Result<Vec<Post>, AllocError>
     Ok(posts)
 }
 
-/// What a site's thread promises: the site was filled from the input, a worker was held only where the gate may hold it, and
-/// a call was refused only with the number of a refusal.
+/// The promise of a site's thread. The site was filled from the input, a worker was held only at a point at which the
+/// gate may hold it, and a call was refused only with the number of a refusal.
 #[derive(Drop)]
 pub(crate) struct Fills<'a, G: Gate> {
     gate: &'a G,
@@ -85,7 +85,7 @@ impl<'a, G: Gate> Promise<Result<Filled, SiteFault>> for Fills<'a, G> {
 
 type Child<'a, G> = PromisedHandle<Result<Filled, SiteFault>, Fills<'a, G>>;
 
-// Starts a site. 67 `NoWorker` where there is no thread for it.
+// Starts a site. Error: `NoWorker` (67) if no thread can be started for it.
 fn start_one<'s, E, G: Gate + Sync, R: Threads + Wait + Sync>(
     rt: &'s R,
     alloc: Global,
@@ -119,7 +119,7 @@ fn start_one<'s, E, G: Gate + Sync, R: Threads + Wait + Sync>(
     }
 }
 
-// A list with one element more, for which there is room.
+// The list with one more element, for which there is room.
 fn with<T: Drop>(list: Vec<T>, one: T) -> Vec<T>
     requires { length list.items < vec_capacity list }
     ensures items { result.items ≡ list.items ++ one ∷ [] }
@@ -132,7 +132,7 @@ fn with<T: Drop>(list: Vec<T>, one: T) -> Vec<T>
     all
 }
 
-// Starts one site for each input, numbered from 1. Only a thread that cannot be started is a fault.
+// Starts one site for each input, numbered from 1. Error: `NoWorker` (67) if a thread cannot be started.
 fn start<'s, E, G: Gate + Sync, R: Threads + Wait + Sync>(
     rt: &'s R,
     alloc: Global,
@@ -170,7 +170,7 @@ fn start<'s, E, G: Gate + Sync, R: Threads + Wait + Sync>(
     Ok(children)
 }
 
-// Waits for all sites, in the order of their inputs, and keeps what each of them answers.
+// Waits for all sites, in the order of their inputs, and collects their answers.
 fn gather<'s, G: Gate, R: Threads>(
     rt: &R,
     gate: &G,
@@ -196,13 +196,14 @@ fn gather<'s, G: Gate, R: Threads>(
     answers
 }
 
-/// Fills one site from each input, numbered from 1, each on threads of its own, whose workers exchange what they take. Each
-/// core stands for its input, whatever came through the channels. Each line that reports a refused line of an input begins
-/// with the number of the input, as in `file 2 line 1: 31`.
+/// Fills one site from each input, numbered from 1, each on threads of its own. The workers of the sites
+/// exchange what they take. Whatever came through the channels, each core holds all messages of its
+/// input, and its own entries have only these.
+/// Each line that reports a refused line of an input begins with the number of the input, as in `file 2 line 1: 31`.
 ///
-/// The call ends after all workers have ended. The faults of workers come first: 67 `NoWorker`, then 65 `Memory`, then 61
-/// `Held`, then 66 `Refused` with the least number. If no worker failed, the first site whose desk is not closed is
-/// reported: 66 with 53 or 54.
+/// The call returns after all workers have ended. Errors of workers come first, in this order: `NoWorker` (67),
+/// `Memory` (65), `Held` (61), and `Refused` (66) with the least number. If no worker failed, the first site whose desk
+/// is not closed is reported: `Refused` (66) with 53 or 54.
 #[tactic(auto, using(crate::proofs::Holding::no_gate))]
 pub fn fill_sites<G: Gate + Sync, R: Threads + Wait + Sync>(
     rt: &R,

@@ -44,7 +44,7 @@ fn take_one<J: Site, H: Wait + Drop, R: Wait>(
     Ok(took)
 }
 
-// Has the query worker ask for the message's first transfer, with a receipt. The receipt comes back if it can't be sent.
+// Asks the query worker for the message's first transfer, with a receipt. Returns the receipt if it cannot be sent.
 fn ask<J: Site, R: Wait>(
     rt: &R,
     outlets: &Outlets<J>,
@@ -60,7 +60,7 @@ fn ask<J: Site, R: Wait>(
     }
 }
 
-// Publishes, and has the query worker ask for the message's first transfer then. A receipt that can't be sent is kept.
+// Publishes, and then asks the query worker for the message's first transfer. A receipt that cannot be sent is kept.
 #[tactic(auto, using(crate::proofs::MoreKept::shows_more))]
 fn publish<J: Site, H: Wait + Drop, R: Wait>(
     rt: &R,
@@ -84,7 +84,7 @@ fn publish<J: Site, H: Wait + Drop, R: Wait>(
     Ok(())
 }
 
-// Takes one of the messages, publishes, and sends out what is new.
+// Takes one of the messages, publishes it, and sends a new entry to the other sites.
 fn work_on<J: Site, H: Wait + Drop, R: Wait>(
     rt: &R,
     alloc: Global,
@@ -109,7 +109,7 @@ fn work_on<J: Site, H: Wait + Drop, R: Wait>(
     Ok(())
 }
 
-/// Takes the messages of a site in their order. The receipts that it kept show all of them.
+/// Takes the messages of a site in their order. The receipts that it keeps show all of them.
 #[tactic(auto, using(crate::proofs::MoreKept::all_shown))]
 pub(crate) fn intake<J: Site, H: Wait + Drop, G: Gate, R: Wait>(
     rt: &R,

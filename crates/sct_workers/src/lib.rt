@@ -1,7 +1,8 @@
-//! Several sites of one run, each on threads of its own: an intake worker takes the site's messages, an exchange worker
-//! accepts what the other sites took, and a query worker asks while the others work. [`fill_sites`] fills one site from each
-//! input, closes the desks with all receipts that the workers kept, and hands out the cores. If several sites fail,
-//! [`reported_fault`] says which fault is reported. A [`Gate`] may hold workers at the points that they pass.
+//! Several sites of one run, each on threads of its own. An intake worker takes the site's messages, an exchange worker
+//! accepts the entries of the other sites, and a query worker asks queries while the others work.
+//! [`fill_sites`] fills one site from each input, closes the desks with all receipts that the workers kept,
+//! and returns the cores. If several sites fail, [`reported_fault`] says which fault is reported. A
+//! [`Gate`] may hold workers at certain points.
 #![tactic(auto)]
 
 mod asking;

@@ -1,4 +1,4 @@
-//! What an intake worker sends to the other sites.
+//! The entry that an intake worker sends to the other sites.
 
 ghost use Rattle.std.specs.Arc.{arc_value};
 ghost use Rattle.std.specs.Prelude.{◌≡◌, ◌≤◌, IfSome};
@@ -17,7 +17,7 @@ pub(crate) struct NewEntry {
 }
 
 impl NewEntry {
-    /// The entry of a message that a site took. There is none for a repeat, or if the message cannot be shared.
+    /// The entry of a message that a site took. None for a repeat, and if the message cannot be shared.
     pub(crate) fn of(site: u16, took: &Took, message: &Arc<Message>) -> Option<NewEntry>
         requires { IsNumbered took.now }
         ensures { IfSome result (λ one. IsEntryOf site took.now (arc_value message.now) one.entry) }

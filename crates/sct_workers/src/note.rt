@@ -1,4 +1,4 @@
-//! What an intake worker sends to the query worker of its site.
+//! The note that an intake worker sends to the query worker of its site.
 
 ghost use Rattle.std.specs.Prelude.{◌≡◌, []};
 ghost use Rattle.sct_receipts.specs.Kept.{Keeps};
@@ -8,7 +8,7 @@ use sct_desk::{Receipt, Site};
 use sct_message::TransferKey;
 use std::marker::PhantomData;
 
-/// A receipt of the site's desk by which no own entry came, and a transfer to ask for once it is learned.
+/// A receipt of the site's desk that added no own entry, and a transfer to query after the receipt is learned.
 #[derive(Drop)]
 pub(crate) struct Note<J: Site> {
     pub(crate) receipt: Receipt,

@@ -1,4 +1,4 @@
-//! Where an intake worker sends what it has taken.
+//! The channels through which an intake worker sends what it has taken.
 
 ghost use Rattle.std.specs.Prelude.{◌≡◌, [], IfSome};
 ghost use Rattle.sct_receipts.specs.Kept.{Keeps};
@@ -13,8 +13,8 @@ use sct_message::{Message, TransferKey};
 use sct_site::Took;
 use std::sync::{Arc, Wait};
 
-/// The ends of channels to the query worker of the site and to the exchange workers of the other sites. These end when
-/// they are dropped.
+/// The ends of channels to the query worker of the site and to the exchange workers of the other sites. Those
+/// workers end after these ends are dropped.
 #[derive(Drop)]
 pub(crate) struct Outlets<J: Site> {
     pub(crate) asks: Sender<Note<J>>,
@@ -22,7 +22,7 @@ pub(crate) struct Outlets<J: Site> {
 }
 
 impl<J: Site> Outlets<J> {
-    // Sends a receipt and a transfer to the query worker. The receipt comes back where that fails, which is no fault.
+    // Sends a receipt and a transfer to the query worker. Returns the receipt if that fails, which is not a fault.
     pub(crate) fn ask<R: Wait>(
         &self,
         rt: &R,
@@ -38,8 +38,8 @@ impl<J: Site> Outlets<J> {
         }
     }
 
-    // Sends the entry of a message that the site took to the other sites. There is none for a repeat. One that cannot be
-    // sent is left out, which is no fault.
+    // Sends the entry of a message that the site took to the other sites. A repeat has no entry. An entry that cannot
+    // be sent is left out, which is not a fault.
     pub(crate) fn tell<R: Wait>(&self, rt: &R, site: u16, took: &Took, message: &Arc<Message>)
         requires { IsNumbered took.now }
     {

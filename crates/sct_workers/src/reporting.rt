@@ -1,4 +1,4 @@
-//! What several sites come to: all of them, or the fault that is reported.
+//! The result of several sites: all of them, or the fault that is reported.
 
 ghost use Rattle.std.specs.Prelude.{◌≡◌, ◌⊎◌, ◌++◌, ◌∷◌, [], List, Result, Err, Ok, IfErr, IfOk, OnOk, length};
 ghost use Rattle.sct_receipts.specs.declared.fault.WorkFault.TheVariants as fault;
@@ -17,7 +17,7 @@ use crate::gate::Gate;
 use sct_receipts::WorkFault;
 use std::alloc::Global;
 
-// What is reported of some sites and the next one.
+// The fault that is reported of the sites so far and the next one.
 #[tactic(auto, using(crate::proofs::ReportLemmas::reports_when_ok, crate::proofs::ReportLemmas::reports_when_first, crate::proofs::ReportLemmas::reports_when_next))]
 fn later(so_far: Option<SiteFault>, answer: &Result<Filled, SiteFault>) -> Option<SiteFault>
     ensures { (before : List (Result Filled SiteFault)) → Reports before so_far
@@ -30,9 +30,9 @@ fn later(so_far: Option<SiteFault>, answer: &Result<Filled, SiteFault>) -> Optio
     }
 }
 
-/// The fault that is reported of several sites, by their answers in the order of their inputs. There is none if no site
-/// failed. The faults of workers come first: 67 `NoWorker`, then 65 `Memory`, then 61 `Held`, then 66 `Refused` with the
-/// least number. After these comes the first site whose desk is not closed.
+/// The fault that is reported of several sites, by their answers in the order of their inputs; none if no site failed.
+/// Faults of workers come first, in this order: `NoWorker` (67), `Memory` (65), `Held` (61), and `Refused` (66) with
+/// the least number. After these comes the first site whose desk is not closed.
 pub fn reported_fault(answers: &[Result<Filled, SiteFault>]) -> Option<SiteFault>
     ensures { Reports answers.now result }
 {
@@ -43,7 +43,7 @@ pub fn reported_fault(answers: &[Result<Filled, SiteFault>]) -> Option<SiteFault
     reported
 }
 
-// The sites, if none of them failed. 65 `Memory` alone is a fault.
+// The sites, none of which failed. The only error is `Memory` (65).
 fn all_of(
     alloc: Global,
     inputs: &[Vec<u8>],
@@ -63,8 +63,8 @@ fn all_of(
     Ok(sites)
 }
 
-/// What several sites come to by their answers, in the order of their inputs: all of them if none failed, else the fault
-/// that is reported. 65 `Memory` also where the sites cannot be put together.
+/// The result of several sites, by their answers in the order of their inputs: all of them if none failed, else the
+/// fault that is reported. Further error: `Memory` (65) if there is no memory to put the sites together.
 pub(crate) fn sites_of<G: Gate>(
     alloc: Global,
     gate: &G,
@@ -86,7 +86,7 @@ pub(crate) fn sites_of<G: Gate>(
     }
 }
 
-/// The same for a caller to whom a fault of workers and a desk that is not closed are alike.
+/// The same result for a caller that does not distinguish a fault of workers from a desk that is not closed.
 #[tactic(auto, using(crate::proofs::Holding::not_closed_ends))]
 pub(crate) fn told<G: Gate>(
     gate: &G,

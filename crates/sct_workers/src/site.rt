@@ -36,7 +36,7 @@ fn one_of<J: Site>(mut queries: Vec<Query>) -> Option<Query>
     queries.pop()
 }
 
-// A desk of a site, and its one query.
+// Opens the desk of a site with its one query.
 #[tactic(auto, using(crate::proofs::Holding::desk_ends))]
 fn opened<'a, J: Site, R: Wait>(
     rt: &'a R,
@@ -59,7 +59,7 @@ fn opened<'a, J: Site, R: Wait>(
     }
 }
 
-// The core of a site, by what its workers answered. A fault of theirs comes before a refusal to close the desk.
+// The core of a site, by the answer of its workers. A fault of theirs is reported before a refusal to close the desk.
 fn closed_after<J: Site, H: Wait + Drop, G: Gate>(
     gate: &G,
     desk: Desk<J, H>,
@@ -82,7 +82,7 @@ fn closed_after<J: Site, H: Wait + Drop, G: Gate>(
     }
 }
 
-// Has the workers of a site take the messages, and closes its desk.
+// Runs the workers of a site on its messages, and closes its desk.
 #[tactic(auto, using(crate::proofs::Holding::no_gate))]
 fn worked<J: Site + Send + Sync, G: Gate + Sync, R: Threads + Wait + Sync>(
     rt: &R,
@@ -106,14 +106,14 @@ fn worked<J: Site + Send + Sync, G: Gate + Sync, R: Threads + Wait + Sync>(
     closed_after(gate, desk, messages, kept)
 }
 
-// What stands in front of each line that tells a refused line of the input of this number.
+// The text before each line that reports a refused line of the input of this number, such as `file 2 `.
 fn front_of(alloc: Global, number: u16) -> Result<String, AllocError>
     ensures { IfOk result (λ front. string_bytes front ≡ file_front number) }
 {
     format!(in alloc; "file {number} ")
 }
 
-// The messages of an input, and what tells its refused lines.
+// The messages of an input, with the text of its refused lines and their number.
 fn read(alloc: Global, number: u16, input: &[u8]) -> Result<Intake, AllocError>
     ensures messages { IfOk result (λ intake. messages_in intake.messages.items ≡ messages_read input.now) }
     ensures told { IfOk result (λ intake. string_bytes intake.told ≡ told_of_file number input.now) }
@@ -123,7 +123,8 @@ fn read(alloc: Global, number: u16, input: &[u8]) -> Result<Intake, AllocError>
     read_lines_after(alloc, front.as_str(), input)
 }
 
-/// Fills the site of this number in the group from its input.
+/// Fills the site of this number in the group from its input. The input is read in this
+/// thread, before the desk is opened.
 pub(crate) fn fill<G: Gate + Sync, R: Threads + Wait + Sync>(
     rt: &R,
     alloc: Global,

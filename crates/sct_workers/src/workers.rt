@@ -24,15 +24,15 @@ use std::sync::{Arc, Wait};
 use std::thread;
 use std::thread::{Promise, PromisedHandle, SpawnError, Threads};
 
-/// The ends of channels that lead from a site to the others and back.
+/// The channel ends of a site: where it receives entries, and where it sends them to each other site.
 #[derive(Drop)]
 pub(crate) struct Post {
     pub(crate) inbox: Receiver<NewEntry>,
     pub(crate) others: Vec<Sender<NewEntry>>,
 }
 
-/// What a worker's thread promises: by the receipts that it kept no own entry came, it is held only where the gate may hold
-/// it, and a call is refused only with the number of a refusal.
+/// The promise of a worker's thread. The receipts that it keeps add no own entry, it is held only at a point at which
+/// the gate may hold it, and a call is refused only with the number of a refusal.
 #[derive(Drop)]
 struct AddsNothing<'a, J: Site, G: Gate> {
     gate: &'a G,
@@ -45,7 +45,7 @@ impl<'a, J: Site, G: Gate> Promise<Result<Vec<Receipt>, WorkFault>> for AddsNoth
         × IfErr r (EndsWhere (G.may_hold p.gate.now)) };
 }
 
-// What a worker answered that was to be started. 67 `NoWorker` where there was no thread for it.
+// Waits for a worker and returns its answer. Error: `NoWorker` (67) if no thread was started for it.
 fn ended<'a, J: Site, G: Gate, F: Drop, R: Threads>(
     rt: &R,
     started: Result<
@@ -65,7 +65,7 @@ fn ended<'a, J: Site, G: Gate, F: Drop, R: Threads>(
     }
 }
 
-// The receipts of two workers, the second of which added nothing.
+// The receipts of two workers. Those of the second add no own entry.
 #[tactic(auto, using(crate::proofs::MoreKept::all_shown_more))]
 fn joined<J: Site>(
     messages: &[Arc<Message>],
@@ -86,7 +86,7 @@ fn joined<J: Site>(
     Ok(all)
 }
 
-// What two workers answered, the second of which added nothing.
+// The answers of two workers, put together. The second adds no own entry.
 fn both<J: Site, G: Gate>(
     gate: &G,
     messages: &[Arc<Message>],
@@ -115,7 +115,7 @@ fn both<J: Site, G: Gate>(
     }
 }
 
-// What the three workers of a site answered. The second and the third added nothing.
+// The answers of the three workers of a site, put together. The second and the third add no own entry.
 #[tactic(auto, using(crate::proofs::ReportLemmas::before_both))]
 fn all_three<J: Site, G: Gate>(
     gate: &G,
@@ -145,8 +145,8 @@ fn all_three<J: Site, G: Gate>(
     both::<J, G>(gate, messages, first, answered)
 }
 
-/// Has the three workers of a site do their work, on this thread and two more. All receipts come back, and they show all
-/// messages; or the fault that is told first, 67 `NoWorker` where there was no thread.
+/// Runs the three workers of a site, on this thread and two more. Returns all their receipts, which show all messages,
+/// or the fault of least rank. Error: `NoWorker` (67) if a thread cannot be started.
 pub(crate) fn workers<
     J: Site + Send + Sync,
     H: Wait + Drop + Send + Sync,
