@@ -1,0 +1,85 @@
+"""load_sqlite.py: an example of how a desk asks questions. It loads what desk.sh wrote about a day into a new SQLite database.
+
+Tables: message has a row for each transfer that a message of the archive names, so a recall of several transactions has several;
+transfer, finding and recall have the T, F and R lines of the status text; refused has the refused lines with their texts. Amounts are
+in cents. The SELECTs of queries.sql ask the database, by ask_sqlite.py or by the program sqlite3.
+
+Usage: load_sqlite.py FOLDER DATABASE   (FOLDER is what desk.sh made; DATABASE is a new file)
+"""
+import json, pathlib, sqlite3, sys
+
+TABLES = """
+CREATE TABLE message (sender TEXT, kind TEXT, message_id TEXT, created TEXT, bank TEXT, transfer_id TEXT, recall_id TEXT,
+    word TEXT, reason TEXT, cents INTEGER, returned_cents INTEGER, day TEXT, beneficiary_bank TEXT, text TEXT);
+CREATE TABLE transfer (bank TEXT, transfer_id TEXT, status TEXT, detail TEXT, PRIMARY KEY (bank, transfer_id));
+CREATE TABLE finding (bank TEXT, transfer_id TEXT, finding TEXT, detail TEXT);
+CREATE TABLE recall (bank TEXT, transfer_id TEXT, recall_id TEXT, status TEXT, detail TEXT,
+    PRIMARY KEY (bank, transfer_id, recall_id));
+CREATE TABLE refused (fault TEXT, place TEXT, text TEXT);
+CREATE INDEX message_on ON message (bank, transfer_id);
+"""
+
+
+def cents(amount):
+    """An amount as the archive has it, always with two decimals, in cents."""
+    return None if amount is None else int(amount.replace(".", ""))
+
+
+def messages(archive):
+    """The rows of message."""
+    for text in archive:
+        message = json.loads(text)
+        for part in message.get("TxInf", [message]):
+            get = part.get
+            yield (message["InstgAgt"], message["MsgNmId"][:8], message["MsgId"], message["CreDtTm"], get("DbtrAgt"),
+                   get("TxId", get("OrgnlTxId")), get("CxlId", get("OrgnlCxlId")), get("TxSts", get("Conf")), get("Rsn"),
+                   cents(get("IntrBkSttlmAmt", get("OrgnlIntrBkSttlmAmt"))), cents(get("RtrdIntrBkSttlmAmt")),
+                   get("IntrBkSttlmDt"), get("CdtrAgt"), text)
+
+
+def told(status, letter, many):
+    """The rows of the lines with a letter: so many fields, and the rest as one."""
+    for line in status:
+        first, *fields = line.split("|", many + 1)
+        if first == letter:
+            yield fields + [None] * (many + 1 - len(fields))
+
+
+def refusals(refused, mend):
+    """The rows of refused. Both files have the refused lines in one order."""
+    for line, text in zip(refused, mend):
+        fault = line.partition(": ")[2]
+        place, _, text = text.partition(f": {fault}: ")
+        yield fault, place, text
+
+
+def load(folder, database):
+    lines = lambda name: (folder / name).read_bytes().decode(errors="replace").split("\n")[:-1]
+    status = lines("day.status")
+    tables = {
+        "message": messages(lines("day.archive")), "transfer": told(status, "T", 3), "finding": told(status, "F", 3),
+        "recall": told(status, "R", 4), "refused": refusals(lines("day.refused"), lines("day.mend"))}
+    connection = sqlite3.connect(str(database))
+    connection.executescript(TABLES)
+    for table, rows in tables.items():
+        rows = list(rows)
+        if rows:
+            connection.executemany(f"INSERT INTO {table} VALUES ({', '.join('?' * len(rows[0]))})", rows)
+        print(f"{table}: {len(rows)}")
+    connection.commit()
+    connection.close()
+
+
+def main():
+    if len(sys.argv) != 3:
+        sys.exit(__doc__)
+    folder, database = map(pathlib.Path, sys.argv[1:])
+    if not (folder / "day.status").is_file():
+        sys.exit(f"load_sqlite: {folder} is no folder of desk.sh")
+    if database.exists():
+        sys.exit(f"load_sqlite: there is a {database} already")
+    load(folder, database)
+
+
+if __name__ == "__main__":
+    main()
