@@ -14,6 +14,7 @@ CHECKS = {
     "refuse_growths": "refuses each growth of an archive, of a view, and of a take at a desk",
     "refuse_forms": "refuses each growth of a message of each form that is read and written",
     "run_examples": "runs the program on the examples",
+    "document_examples": "runs the program on the examples of docs/MODEL.md and docs/FORMATS.md",
     "readme": "runs the commands of the README",
     "too_long": "runs the program on inputs that are too long, and on folders",
     "growing_times": "times the program on a transfer, a script and a run of four times the size",
