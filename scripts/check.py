@@ -11,6 +11,7 @@ if sys.version_info < (3, 8):
 from gate import verdict
 
 CHECKS = {
+    "documents": "compares the names in documents with the code",
     "refuse_growths": "refuses each growth of an archive, of a view, and of a take at a desk",
     "refuse_forms": "refuses each growth of a message of each form that is read and written",
     "run_examples": "runs the program on the examples",
