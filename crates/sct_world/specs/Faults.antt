@@ -1,4 +1,4 @@
--- The numbers of a world's faults, and those that a site of a world never answers. Read by an auditor.
+-- The numbers of a world's faults, and the faults that a site of a world never answers. Read by an auditor.
 use Rattle.std.specs.Prelude.{ℕ, Bool, true, false}
 use Rattle.sct_delta.specs.Faults.{delta_fault_number}
 use Rattle.sct_delta.specs.declared.fault.DeltaFault.{DeltaFault}
@@ -8,14 +8,14 @@ use Rattle.sct_world.specs.declared.event.Outcome.TheVariants as outcome
 use Rattle.sct_world.specs.declared.fault.WorldFault.{WorldFault}
 use Rattle.sct_world.specs.declared.fault.WorldFault.TheVariants as fault
 
--- the number by which a fault is told
+-- the number of a fault
 abbrev pub world_fault_number : WorldFault → ℕ
 world_fault_number fault.BadSite = 44
 world_fault_number fault.NoSuchDelta = 47
 world_fault_number (fault.Delta refusal) = delta_fault_number refusal
 
--- a site did not refuse a delta for a fork (42), nor for an entry ahead of its owner (43), nor for an origin that the group
--- does not have (44), nor for the form of the delta (45)
+-- a site did not refuse a delta for a fork (42), for an entry ahead of its owner (43), for an origin outside the
+-- group (44) or for the form of the delta (45)
 abbrev pub IsNoFork : DeltaFault → Type 0
 IsNoFork (delta.Fork origin n) = ⊥
 IsNoFork (delta.OwnAhead n) = ⊥
@@ -23,17 +23,17 @@ IsNoFork delta.BadSite = ⊥
 IsNoFork (delta.BadDelta line) = ⊥
 IsNoFork refusal = Unit {0}
 
--- a world did not pass on such a refusal; its own 44, that it has no such site, is another value
+-- a world did not pass on such a refusal; its own 44, for a site that it does not have, is another value
 abbrev pub IsNoForkFault : WorldFault → Type 0
 IsNoForkFault (fault.Delta refusal) = IsNoFork refusal
 IsNoForkFault other = Unit {0}
 
--- memory was wanting
+-- the fault is out of memory
 abbrev pub is_memory : WorldFault → Bool
 is_memory (fault.Delta delta.Memory) = true
 is_memory other = false
 
--- an event was not refused by such a refusal of a site
+-- an event did not end with such a refusal of a site
 abbrev pub IsNoForkOutcome : Outcome → Type 0
 IsNoForkOutcome (outcome.Done step) = Unit {0}
 IsNoForkOutcome (outcome.Refused refusal) = IsNoForkFault refusal

@@ -1,5 +1,5 @@
--- What happens in a world, told by values alone: by the message that is taken and not by where it lies in memory, and by
--- what a version vector counts. Read by an auditor.
+-- The events of a world by their values alone: a message counts by its elements and not by its place in memory, and a
+-- version vector by its counts. Read by an auditor.
 use Rattle.std.specs.Prelude.{ℕ, List, map}
 use Rattle.std.specs.Arc.{arc_value}
 use Rattle.sct_message.specs.declared.draft.Draft.{Draft}
@@ -7,14 +7,14 @@ use Rattle.sct_delta.specs.Vectors.{count_in}
 use Rattle.sct_world.specs.declared.event.Event.{Event}
 use Rattle.sct_world.specs.declared.event.Event.TheVariants as event
 
--- a site takes a message; a site cuts a delta above so many entries of each origin; the delta of a number is handed to
--- a site
+-- a site takes a message; a site cuts a delta above these counts of each origin; the
+-- delta of a number is handed to a site
 pub data Happening : Type 0 where
   Taken : (site : ℕ) (message : Draft) → Happening
   Cut : (site : ℕ) (counts : ℕ → ℕ) → Happening
   Handed : (delta site : ℕ) → Happening
 
--- what an event is, by its values
+-- the values of an event
 abbrev pub happening_of : Event → Happening
 happening_of (event.Take site message) = Taken site (arc_value message)
 happening_of (event.Cut site vector) = Cut site (count_in vector)
@@ -23,7 +23,7 @@ happening_of (event.Hand delta site) = Handed delta site
 abbrev pub happenings_of : List Event → List Happening
 happenings_of events = map happening_of events
 
--- the site at which it happens
+-- the site of an event
 abbrev pub place_of : Happening → ℕ
 place_of (Taken site message) = site
 place_of (Cut site counts) = site

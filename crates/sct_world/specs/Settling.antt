@@ -1,4 +1,4 @@
--- Several sites of one group brought to one answer: what settling leaves, and why it is refused. Read by an auditor.
+-- Settling several sites of one group: its effect, and why it is refused. Read by an auditor.
 use Rattle.std.specs.Prelude.{◌≡◌, ◌≢◌, ◌<◌, ◌&&◌, not, ℕ, Bool, true, List, [], ◌∷◌, length, nat_eq, slice_index_or, ⊤}
 use Rattle.std.specs.List.{list_any, list_all}
 use Rattle.sct_message.specs.declared.draft.Draft.{Draft}
@@ -9,11 +9,11 @@ use Rattle.sct_site.specs.Cores.{Core, IsSite}
 
 -- ---- several sites
 
--- a site that holds nothing
+-- a site without entries
 abbrev pub no_core : Core
 no_core = record { number = 0; group = 0; arrivals = [] }
 
--- the site at a place, from 0; past the last one, a site that holds nothing
+-- the site at a place, from 0; past the last one, a site without entries
 abbrev pub core_in : List Core → ℕ → Core
 core_in cores place = slice_index_or cores place no_core
 
@@ -21,20 +21,20 @@ core_in cores place = slice_index_or cores place no_core
 abbrev pub held_by_some : List Core → Placed → Bool
 held_by_some cores entry = list_any (λ core. holds core.arrivals entry) cores
 
--- each of the others is of the site's group, and none has its number
+-- each of the others is of the site's group and has another number
 abbrev pub is_beside : Core → List Core → Bool
 is_beside core others =
     list_all (λ other. nat_eq other.group core.group && not (nat_eq other.number core.number)) others
 
--- the sites are of one group, and no number stands twice
+-- the sites are of one group and their numbers differ
 abbrev pub are_one_group : List Core → Bool
 are_one_group [] = true
 are_one_group (core ∷ others) = is_beside core others && are_one_group others
 
--- ---- what is left
+-- ---- the effect
 
--- A site as it was and as it is: it has the same number and group, it holds all that it held, beyond that only what
--- some site held, and of its own entries those that it had.
+-- A site before and after. Its number and group are the same. It holds all that it held, and beyond that only entries
+-- that some site held. Of its own number it has the entries that it had.
 pub record IsKept (before : List Core) (old new : Core) : Type 0 where
   pub number : new.number ≡ old.number
   pub group : new.group ≡ old.group
@@ -76,8 +76,8 @@ pub record IsAhead (cores : List Core) (n : ℕ) : Type 0 where
   pub of_owner : entry.origin ≡ (core_in cores owner).number
   pub above : held_from entry.origin (core_in cores owner).arrivals < n
 
--- want of memory (40), a fork (42) or an entry ahead of its owner (43), each only where there is one; and never a gap
--- (41), a site that the group does not have (44) or a wrong place (45)
+-- the reasons: out of memory (40), a fork (42) or an entry ahead of its owner (43), the last two only if there is one;
+-- never a gap (41), a site that the group does not have (44) or a wrong place (45)
 abbrev pub IsWhy : List Core → DeltaFault → Type 0
 IsWhy cores fault.Memory = ⊤
 IsWhy cores (fault.Gap origin have first) = ⊥
@@ -88,27 +88,27 @@ IsWhy cores (fault.BadDelta line) = ⊥
 
 -- ---- one site after another
 
--- all that a site holds, as a delta
+-- all entries of a site, as a delta
 pub record IsWhole (delta : List Placed) (core : Core) : Type 0 where
   pub site : IsSite core
   pub shape : IsDelta delta
   pub among : (entry : Placed) → holds delta entry ≡ true → holds core.arrivals entry ≡ true
   pub has : (entry : Placed) → holds core.arrivals entry ≡ true → holds delta entry ≡ true
 
--- all that one of the sites holds, as a delta
+-- all entries of one of the sites, as a delta
 pub record IsWholeOfOne (delta : List Placed) (cores : List Core) : Type 0 where
   pub place : ℕ
   pub there : place < length cores
   pub whole : IsWhole delta (core_in cores place)
 
--- what the delta has the site holds
+-- the site holds every entry of the delta
 abbrev pub HasEach : List Placed → Core → Type 0
 HasEach delta core = (entry : Placed) → holds delta entry ≡ true → holds core.arrivals entry ≡ true
 
--- what one site holds the other holds, too
+-- the second site holds every entry of the first
 abbrev pub HasAll : Core → Core → Type 0
 HasAll one other = (entry : Placed) → holds one.arrivals entry ≡ true → holds other.arrivals entry ≡ true
 
--- the sites are of the group of the first
+-- the sites are of the group of the first one
 abbrev pub OfOneGroup : List Core → Type 0
 OfOneGroup cores = (place : ℕ) → place < length cores → (core_in cores place).group ≡ (core_in cores 0).group

@@ -1,4 +1,4 @@
--- What holds of settled sites. Read by an auditor; each law is the contract of a function.
+-- Laws of settled sites. Read by an auditor. Each law is the contract of a function.
 use Rattle.std.specs.Prelude.{◌≡◌, ◌<◌, ℕ, List, length, IsPermutation}
 use Rattle.sct_delta.specs.Entries.{Placed, holds, messages_of}
 use Rattle.sct_delta.specs.declared.fault.DeltaFault.{DeltaFault}
@@ -13,7 +13,7 @@ SettledAnswerAlike = (before after : List Core) → AreSettled before after
     → (i j : ℕ) → i < length before → j < length before
     → texts_of (messages_of (core_in after i).arrivals) ≡ texts_of (messages_of (core_in after j).arrivals)
 
--- Settled sites are not refused when they are settled again, but for want of memory; and it brings none of them an entry.
+-- Settled sites can be settled again: the only refusal is out of memory, and no site gains an entry.
 pub record IsSettledAgain (settled : List Core) : Type 0 where
   pub refusal : (refusal : DeltaFault) → IsWhy settled refusal → refusal ≡ fault.Memory
   pub same : (again : List Core) → AreSettled settled again → (place : ℕ) → place < length settled
@@ -24,7 +24,7 @@ abbrev pub SettlesOnce : Type 0
 SettlesOnce = (before settled : List Core) → AreSettled before settled
     → ((place : ℕ) → place < length settled → IsSite (core_in settled place)) → IsSettledAgain settled
 
--- Sites settled in one order hold what they hold when settled in another.
+-- Sites settled in one order hold the same as when settled in another order.
 abbrev pub SettlesInAnyOrder : Type 0
 SettlesInAnyOrder = (some other settled also_settled : List Core) → IsPermutation some other
     → AreSettled some settled → AreSettled other also_settled

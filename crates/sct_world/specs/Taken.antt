@@ -1,5 +1,5 @@
--- The messages that a site took or accepted, told from the events, their outcomes and the deltas cut, with no look at
--- what any site holds. Read by an auditor.
+-- The messages that a site took or accepted, computed from the events, their outcomes and the deltas cut, without
+-- looking at what any site holds. Read by an auditor.
 use Rattle.std.specs.FinSet as set
 use Rattle.std.specs.Prelude.{ℕ, ◌++◌, List, [], ◌∷◌, map, nat_eq, Option, Some, None, if◌then◌else◌}
 use Rattle.std.specs.Arc.{arc_value}
@@ -13,19 +13,20 @@ use Rattle.sct_world.specs.declared.event.Step.TheVariants as step
 use Rattle.sct_world.specs.declared.event.Outcome.{Outcome}
 use Rattle.sct_world.specs.declared.event.Outcome.TheVariants as outcome
 
--- the messages of a delta, where there is one
+-- the messages of a delta, if there is one
 abbrev pub messages_in : Option (List Placed) → List Draft
 messages_in None = []
 messages_in (Some delta) = map (λ entry. entry.message) delta
 
--- what one event brought to a site: the message that it was given to take, and those of a delta that it accepted
+-- the messages that one event brought to a site: the message that it was given to take,
+-- or those of a delta that it accepted
 abbrev pub got_by : ℕ → List (List Placed) → Event → Outcome → List Draft
 got_by site deltas (event.Take at message) came = if nat_eq at site then arc_value message ∷ [] else []
 got_by site deltas (event.Hand delta at) (outcome.Done (step.Accepted fresh)) =
     if nat_eq at site then messages_in (delta_at deltas delta) else []
 got_by site deltas e came = []
 
--- what events brought to a site
+-- the messages that events brought to a site
 abbrev pub all_got_by : ℕ → List (List Placed) → List Event → List Outcome → List Draft
 all_got_by site deltas [] outcomes = []
 all_got_by site deltas (e ∷ events) [] = []

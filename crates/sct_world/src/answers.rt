@@ -1,4 +1,4 @@
-//! What a site answers of the messages that it holds.
+//! The answers of a site about the messages that it holds.
 
 ghost use Rattle.std.specs.Prelude.{◌≡◌, IfOk, IfErr};
 ghost use Rattle.sct_delta.specs.declared.fault.DeltaFault.TheVariants as delta;
@@ -17,18 +17,18 @@ use sct_view::View;
 use std::alloc::Global;
 use std::thread::Threads;
 
-/// What a site answers: three texts of the messages that it holds.
+/// The answers of a site: three texts about the messages that it holds.
 #[derive(Drop)]
 pub struct Answers {
-    /// The messages, a line each.
+    /// The archive text: one line for each message.
     pub archive: Vec<u8>,
-    /// Where each transfer and each recall stands, and what contradicts itself.
+    /// The status text: the status of each transfer and of each recall, and the findings.
     pub statuses: Vec<u8>,
-    /// The totals of each bank.
+    /// The totals text: the totals of each bank.
     pub totals: Vec<u8>,
 }
 
-// A view of the messages of an archive, which it shares.
+// A view of the messages of an archive. It shares the messages.
 fn view_of(alloc: Global, archive: &Archive) -> Result<View, WorldFault>
     ensures ok { IfOk result (λ view. view ≡ archive.now) }
     ensures err { IfErr result (λ refusal. refusal ≡ fault.Delta delta.Memory) }
@@ -52,7 +52,7 @@ fn texts_of(archive: &Archive, view: &View) -> Result<Answers, WorldFault>
     })
 }
 
-/// The texts of the messages of an archive. Nothing but want of memory (40) refuses them.
+/// The texts of the messages of an archive. The only error is out of memory (40).
 pub(crate) fn answers_of(alloc: Global, archive: &Archive) -> Result<Answers, WorldFault>
     ensures archive { IfOk result (λ answers. answers.archive.items ≡ archive_text_of archive.now) }
     ensures statuses { IfOk result (λ answers. answers.statuses.items ≡ status_text_of archive.now) }
@@ -81,8 +81,8 @@ fn reconciled<R: Threads + Sync>(
     }
 }
 
-/// The report on a bank's list for a settlement day, over the messages of an archive. Nothing but want of memory (40)
-/// refuses it.
+/// The report on a bank's list for a settlement day, over the messages of an archive. The
+/// only error is out of memory (40).
 pub(crate) fn report_on<R: Threads + Sync>(
     rt: &R,
     alloc: Global,

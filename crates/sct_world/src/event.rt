@@ -1,38 +1,38 @@
-//! What happens in a world, and how it ends.
+//! The events of a world, and their outcomes.
 
 use crate::fault::WorldFault;
 use sct_delta::Vector;
 use sct_message::Message;
 use std::sync::Arc;
 
-/// What happens at one site of a world. Sites and deltas are numbered from 1.
+/// An event at one site of a world. Sites and deltas are numbered from 1.
 #[derive(Drop)]
 pub enum Event {
     /// The site takes a message.
     Take { site: u16, message: Arc<Message> },
-    /// The site cuts a delta for whoever holds the entries up to a vector.
+    /// The site cuts a delta of the entries above a vector.
     Cut { site: u16, vector: Vector },
-    /// The site is handed a delta that was cut: at any later time, again, or after later ones.
+    /// The site is handed a delta that was cut: at any later time, again, or out of order.
     Hand { delta: u64, site: u16 },
 }
 
-/// What an event did.
+/// The effect of an event that was not refused.
 #[derive(Debug, Drop, PartialEq, Eq)]
 pub enum Step {
     /// The message is the site's own entry of this number.
     Taken { n: u64 },
     /// The site held the message already.
     Repeat,
-    /// The delta of this number was cut, with so many entries.
+    /// The delta of this number was cut. It has `entries` entries.
     Cut { delta: u64, entries: u64 },
-    /// The delta was accepted, and so many of its entries were new.
+    /// The delta was accepted. `fresh` of its entries were new to the site.
     Accepted { fresh: u64 },
 }
 
-/// How an event ended.
+/// The outcome of an event.
 #[derive(Debug, Drop, PartialEq, Eq)]
 pub enum Outcome {
     Done(Step),
-    /// The world is what it was.
+    /// The event was refused. The world is unchanged.
     Refused(WorldFault),
 }

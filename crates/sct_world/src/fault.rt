@@ -10,19 +10,19 @@ use sct_set::SetFault;
 use std::alloc::{AllocError, AllocFailed};
 use thiserror::Error;
 
-/// Why an event is refused, or why a world could not be made. The world is then what it was.
+/// Why an event is refused, or why a world could not be made. A refused event leaves the world unchanged.
 ///
-/// Two values have the number 44, `BadSite` and `Delta(DeltaFault::BadSite)`. A call of a world returns the first alone.
+/// Two values have the number 44, `BadSite` and `Delta(DeltaFault::BadSite)`. A call of a world returns only the first.
 #[derive(Debug, Drop, PartialEq, Eq, Error)]
 pub enum WorldFault {
-    /// 44: the world has no such site, or no world has so many sites.
+    /// 44: the world does not have this site, or a world cannot have this number of sites.
     #[error("no such site")]
     BadSite,
     /// 47: no delta of that number was cut.
     #[error("no such delta")]
     NoSuchDelta,
-    /// What a site answered. A call of a world returns 40, out of memory, and 41, a gap. The other values of `DeltaFault`
-    /// are 42 to 45, and in a world no site answers them.
+    /// The refusal of a site. A call of a world returns only 40, out of memory, and 41, a gap. The other values of
+    /// `DeltaFault` are 42 to 45; in a world no site returns them.
     #[error("{0}")]
     Delta(DeltaFault),
 }
@@ -30,7 +30,7 @@ pub enum WorldFault {
 impl WorldFault {
     ghost use Rattle.sct_world.specs.Faults.{world_fault_number, is_memory};
 
-    /// The number by which the fault is told.
+    /// The fault's number: 47, or 40 to 45.
     pub fn number(&self) -> u8
         ensures { result ≡ world_fault_number self.now }
     {
@@ -41,7 +41,7 @@ impl WorldFault {
         }
     }
 
-    /// Whether memory was wanting.
+    /// Whether the fault is out of memory.
     pub fn is_memory(&self) -> bool
         ensures { result ≡ is_memory self.now }
     {

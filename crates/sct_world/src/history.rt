@@ -1,4 +1,4 @@
-//! Histories: lists of events, from a world without an entry on.
+//! Histories: lists of events, starting from a world without entries.
 
 ghost use Rattle.std.specs.Prelude.{◌≡◌, ◌≢◌, ℕ, false, All, OnOk, IfOk, IfErr};
 ghost use Rattle.sct_delta.specs.Entries.{messages_of};
@@ -24,14 +24,14 @@ use sct_reconcile::{List, Report};
 use std::alloc::Global;
 use std::thread::Threads;
 
-/// A world after a list of events, and how each of the events ended.
+/// A world after a list of events, with the outcome of each event.
 #[derive(Drop)]
 pub struct Ran {
     pub world: World,
     pub outcomes: Vec<Outcome>,
 }
 
-/// What a site answers after a list of events.
+/// The answers of a site after a list of events.
 #[derive(Drop)]
 pub struct AnswersAfter {
     /// The three texts of the messages that the site holds.
@@ -40,7 +40,7 @@ pub struct AnswersAfter {
     pub contradictions: Vec<Identity>,
 }
 
-// How an event ends. Want of memory alone is no outcome.
+// The outcome of an event. Out of memory is not an outcome but an error.
 fn outcome(world: &mut World, event: &Event) -> Result<Outcome, WorldFault>
     ensures ok { IfOk result (λ outcome. outcome ≡ outcome_of world.old event.now) }
     ensures world { OnOk result (world.new ≡ world_after world.old event.now) }
@@ -58,11 +58,12 @@ fn outcome(world: &mut World, event: &Event) -> Result<Outcome, WorldFault>
     }
 }
 
-/// Runs events, one after the other, in a new world of so many sites. Each event has its outcome, be it done or refused;
-/// `run` itself is refused by 44 `BadSite`, where the number of sites is not 1 to 1024, and by 40 alone.
+/// Runs events, one after another, in a new world of `sites` sites.
+/// Each event has an outcome, whether done or refused.
+/// Errors: `BadSite` (44) if `sites` is not 1 to 1024; out of memory (40).
 ///
-/// The clause `exactly` is the promise of convergence: the messages that a site holds after the events are exactly those
-/// that it took or accepted, as events, outcomes and deltas tell them.
+/// The clause `exactly` is the promise of convergence: the messages that a site holds after the events are exactly
+/// those that it took or accepted, as events, outcomes and deltas say.
 pub fn run(alloc: Global, sites: u16, events: &[Event]) -> Result<Ran, WorldFault>
     ensures world { IfOk result (λ ran. ran.world ≡ world_after_all (opened sites) events.now) }
     ensures outcomes { IfOk result (λ ran. ran.outcomes.items ≡ outcomes_of (opened sites) events.now) }
@@ -80,12 +81,11 @@ pub fn run(alloc: Global, sites: u16, events: &[Event]) -> Result<Ran, WorldFaul
     Ok(Ran { world, outcomes })
 }
 
-/// Runs events in a new world of so many sites, and returns what one of the sites then answers. The refusal is 44
-/// (`BadSite`) if the number of sites is not 1 to 1024, or if the world has no such site. Any other refusal is 40, out of
-/// memory.
+/// Runs events in a new world of `sites` sites, and returns the answers of one of the sites.
+/// Errors: `BadSite` (44) if `sites` is not 1 to 1024, or if the world does not have this site; out of memory (40).
 ///
-/// This is the whole promise of convergence. The texts and the contradictions are those of exactly the messages that the
-/// site took or accepted.
+/// This is the whole promise of convergence. The texts and the contradictions are those of exactly the
+/// messages that the site took or accepted.
 pub fn answers_after(
     alloc: Global,
     sites: u16,
@@ -113,8 +113,8 @@ pub fn answers_after(
     })
 }
 
-/// The report on a bank's list for a settlement day that a site gives after events in a new world of so many sites: that
-/// of exactly the messages that the site took or accepted. Refused as `answers_after` is.
+/// Runs events in a new world of `sites` sites, and returns a site's report on a bank's list for a settlement day. The
+/// report is that of exactly the messages that the site took or accepted. The errors are those of `answers_after`.
 pub fn report_after<R: Threads + Sync>(
     rt: &R,
     alloc: Global,

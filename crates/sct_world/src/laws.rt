@@ -1,19 +1,19 @@
-//! What holds of worlds, whatever their histories: each law is the contract of a function that does nothing.
+//! Laws of worlds, whatever their histories. Each law is the contract of a function with an empty body.
 
 ghost use Rattle.sct_world.specs.Laws.{EqualSetsHoldAlike, EqualSetsAnswerAlike, EqualSetsReportAlike, NeverLosesAnEntry, EqualVectorsHoldAlike, HandingAgainChangesNothing, HistoriesGoByValues};
 ghost use Rattle.sct_world.specs.SettlingLaws.{SettledAnswerAlike, SettlesOnce, SettlesInAnyOrder};
 
-/// Sites, of one world or of two, that took or accepted the same messages hold the same.
+/// Sites of one world or of two that took or accepted the same messages hold the same messages.
 pub fn equal_sets_hold_alike()
     ensures { EqualSetsHoldAlike }
 {}
 
-/// Sites, of one world or of two, that took or accepted the same messages answer the same bytes.
+/// Sites of one world or of two that took or accepted the same messages answer the same bytes.
 pub fn equal_sets_answer_alike()
     ensures { EqualSetsAnswerAlike }
 {}
 
-/// Sites, of one world or of two, that took or accepted the same messages give the same report on a list.
+/// Sites of one world or of two that took or accepted the same messages give the same report on a list.
 pub fn equal_sets_report_alike()
     ensures { EqualSetsReportAlike }
 {}
@@ -23,17 +23,19 @@ pub fn a_site_never_loses_an_entry()
     ensures { NeverLosesAnEntry }
 {}
 
-/// In one world sites with equal version vectors hold the same entries: vectors may be compared in place of archives.
+/// In one world, sites with equal version vectors hold the same entries. So vectors may
+/// be compared in place of archives.
 pub fn equal_vectors_hold_alike()
     ensures { EqualVectorsHoldAlike }
 {}
 
-/// To hand a site a delta again that it accepted changes nothing, at whatever later time.
+/// If a site accepted a delta, handing it the delta again changes nothing, at any later time.
 pub fn handing_again_changes_nothing()
     ensures { HandingAgainChangesNothing }
 {}
 
-/// A history goes by what happens: events of the same values end alike and leave the same, wherever their messages lie.
+/// A history depends only on values: events of equal values have equal outcomes and equal
+/// effects, wherever their messages are in memory.
 pub fn histories_go_by_values()
     ensures { HistoriesGoByValues }
 {}
@@ -48,7 +50,7 @@ pub fn settling_twice_is_settling_once()
     ensures { SettlesOnce }
 {}
 
-/// In whatever order sites are settled, each holds the same afterwards.
+/// After sites are settled, each holds the same, in whatever order they were settled.
 pub fn sites_settle_in_any_order()
     ensures { SettlesInAnyOrder }
 {}

@@ -1,5 +1,5 @@
-//! Worlds of sites that take messages, cut deltas and are handed them: after every list of events each site's archive is
-//! exactly the set of messages that it took or accepted.
+//! Worlds of sites that take messages, cut deltas and are handed deltas. After every list of events, each site's
+//! archive is exactly the set of messages that the site took or accepted.
 #![tactic(auto)]
 
 mod answers;

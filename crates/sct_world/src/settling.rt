@@ -1,4 +1,4 @@
-//! Several sites of one group brought to one answer.
+//! Settles several sites of one group, so that all of them give the same answers.
 
 ghost use Rattle.std.specs.Prelude.{◌≡◌, ◌≢◌, ◌<◌, ℕ, true, false, length, OnOk, OnErr, IfOk, IfErr};
 ghost use Rattle.sct_delta.specs.Vectors.{count_in};
@@ -9,14 +9,14 @@ use sct_delta::{Delta, DeltaFault, Vector};
 use sct_site::SiteCore;
 use std::alloc::Global;
 
-// Whether each of the others is of the site's group, and none has its number.
+// Whether each of the others is of the site's group and has another number.
 fn is_beside(core: &SiteCore, others: &[SiteCore]) -> bool
     ensures { result ≡ is_beside core.now others.now }
 {
     others.iter().all(|other| other.group() == core.group() && other.number() != core.number())
 }
 
-// Whether the sites are of one group, and no number stands twice.
+// Whether the sites are of one group and their numbers differ.
 fn are_one_group(cores: &[SiteCore]) -> bool
     ensures { result ≡ are_one_group cores.now }
 {
@@ -37,7 +37,7 @@ fn empty_vector(alloc: Global) -> Result<Vector, DeltaFault>
     }
 }
 
-// All that a site holds, as a delta.
+// All entries of a site, as a delta.
 fn whole_of(core: &SiteCore, empty: &Vector) -> Result<Delta, DeltaFault>
     requires { (origin : ℕ) → count_in empty.now origin ≡ 0 }
     ensures whole { IfOk result (λ delta. IsWhole delta core.now) }
@@ -46,7 +46,7 @@ fn whole_of(core: &SiteCore, empty: &Vector) -> Result<Delta, DeltaFault>
     core.cut(empty)
 }
 
-// Hands all that one of the sites holds to the one at a place.
+// Hands all entries of one of the sites to the site at the place `to`.
 fn hand(cores: &mut [SiteCore], whole: &Delta, to: usize) -> Result<(), DeltaFault>
     requires giver { IsWholeOfOne whole.now cores.old }
     requires taker { to < length cores.old }
@@ -62,7 +62,7 @@ fn hand(cores: &mut [SiteCore], whole: &Delta, to: usize) -> Result<(), DeltaFau
     Ok(())
 }
 
-// Hands all that the others hold to the first.
+// Hands all entries of the other sites to the first.
 fn gather(cores: &mut [SiteCore], empty: &Vector) -> Result<(), DeltaFault>
     requires group { OfOneGroup cores.old }
     requires empty { (origin : ℕ) → count_in empty.now origin ≡ 0 }
@@ -78,7 +78,7 @@ fn gather(cores: &mut [SiteCore], empty: &Vector) -> Result<(), DeltaFault>
     Ok(())
 }
 
-// Hands all that the first holds, which was cut, to each of the others.
+// Hands all entries of the first site, which were cut, to each of the others.
 fn hand_on(cores: &mut [SiteCore], whole: &Delta) -> Result<(), DeltaFault>
     requires some { 0 < length cores.old }
     requires whole { IsWhole whole.now (core_in cores.old 0) }
@@ -94,7 +94,7 @@ fn hand_on(cores: &mut [SiteCore], whole: &Delta) -> Result<(), DeltaFault>
     Ok(())
 }
 
-// Hands all that the first holds to each of the others. It is cut once.
+// Hands all entries of the first site to each of the others. They are cut once.
 fn spread(cores: &mut [SiteCore], empty: &Vector) -> Result<(), DeltaFault>
     requires group { OfOneGroup cores.old }
     requires empty { (origin : ℕ) → count_in empty.now origin ≡ 0 }
@@ -110,13 +110,16 @@ fn spread(cores: &mut [SiteCore], empty: &Vector) -> Result<(), DeltaFault>
     hand_on(cores, &whole)
 }
 
-/// Brings sites of one group to one answer: all that each holds comes to the first, and then from it to each. Afterwards
-/// each site holds what any of them held, and has of its own entries those that it had.
+/// Settles sites of one group: all entries of each are handed to the first, and then all entries of the first to each.
+/// Afterwards each site holds what any of them held, and has gained no entry of its own number.
 ///
-/// 44 `BadSite` where the groups differ or a number stands twice; then nothing has changed. Else it is refused by 42
-/// `Fork` where two sites hold different messages under one origin and number, by 43 `OwnAhead` where a site holds an
-/// entry of another above that one's own count, and by want of memory (40), and by nothing else. After such a refusal
-/// each site holds all that it held, and beyond that only entries that another held.
+/// Errors:
+/// - `BadSite` (44) if the groups differ or two sites have the same number; nothing has then changed;
+/// - `Fork` (42) only if two sites hold different messages under one origin and number;
+/// - `OwnAhead` (43) only if a site holds an entry of another site above that site's own count;
+/// - `Memory` (40).
+///
+/// After 42, 43 or 40 each site holds all that it held, and beyond that only entries that another site held.
 pub fn settle(alloc: Global, cores: &mut [SiteCore]) -> Result<(), DeltaFault>
     ensures ok { OnOk result (AreSettled cores.old cores.new) }
     ensures one_group { OnOk result (are_one_group cores.old ≡ true) }

@@ -28,7 +28,7 @@ use std::marker::Model;
 use std::sync::Arc;
 use std::thread::Threads;
 
-/// The sites 1 to n of one group, and every delta that was cut.
+/// The sites 1 to n of one group, and every delta that they cut.
 #[derive(Drop)]
 pub struct World {
     alloc: Global,
@@ -47,7 +47,7 @@ impl Model for World {
     ghost invariant = { λ w. IsWorld w.cores.items w.deltas.items };
 }
 
-// The sites from 1 on, none with an entry.
+// The sites numbered from 1, each without entries.
 fn open_cores(alloc: Global, sites: u16) -> Result<Vec<SiteCore>, DeltaFault>
     requires { is_size sites ≡ true }
     ensures ok { IfOk result (λ cores. cores.items ≡ cores_from 1 sites (replicate sites [])) }
@@ -62,7 +62,7 @@ fn open_cores(alloc: Global, sites: u16) -> Result<Vec<SiteCore>, DeltaFault>
     Ok(cores)
 }
 
-// The step that a take was.
+// The step of a take.
 fn step_taken(took: Took) -> Step
     ensures { result ≡ step_taken took }
 {
@@ -88,7 +88,8 @@ impl World {
     ghost use Rattle.sct_world.specs.Histories.{step_of, step_at, world_after, after_at};
     ghost use Rattle.sct_world.specs.States.{opened, is_no_site, held_at};
 
-    /// A world of 1 to 1024 sites, without an entry or a delta. Any other number of sites is 44 `BadSite`.
+    /// A world of 1 to 1024 sites, without entries or deltas. Errors: `BadSite` (44) for any
+    /// other number of sites; out of memory (40).
     pub fn open(alloc: Global, sites: u16) -> Result<World, WorldFault>
         ensures ok { IfOk result (λ world. world ≡ opened sites) }
         ensures size { OnOk result (is_size sites ≡ true) }
@@ -108,7 +109,7 @@ impl World {
         }
     }
 
-    /// How many sites there are.
+    /// How many sites the world has.
     pub fn sites(&self) -> u16
         ensures count { result ≡ length self.now.held }
         ensures size { is_size result ≡ true }
@@ -116,7 +117,7 @@ impl World {
         self.cores.len() as u16
     }
 
-    /// The archive of a site; 44 `BadSite` where there is no such site.
+    /// The archive of a site. Error: `BadSite` (44) if the world does not have this site.
     pub fn archive(&self, site: u16) -> Result<&Archive, WorldFault>
         ensures ok { IfOk result (λ archive. archive.now ≡ messages_of (held_at self.now site)) }
         ensures there { OnOk result (is_no_site self.now site ≡ false) }
@@ -129,8 +130,8 @@ impl World {
         Ok(core.archive())
     }
 
-    /// What a site answers of the messages that it holds. 44 `BadSite` where there is no such site, and else nothing but
-    /// want of memory (40) refuses it.
+    /// The answers of a site about the messages that it holds. Errors: `BadSite` (44) if the world does not have this
+    /// site; out of memory (40). Its view is built anew at each call, and sorts all transfers.
     pub fn answers(&self, site: u16) -> Result<Answers, WorldFault>
         ensures archive { IfOk result (λ answers. answers.archive.items
             ≡ archive_text_of (messages_of (held_at self.now site))) }
@@ -148,8 +149,8 @@ impl World {
         answers_of(self.alloc, archive)
     }
 
-    /// The contradicted identities of a site, in ascending order. The site holds two different messages of each. The
-    /// refusal is 44 (`BadSite`) if there is no such site, and otherwise 40, out of memory.
+    /// The contradicted identities of a site, in ascending order. The site holds two different messages of each.
+    /// Errors: `BadSite` (44) if the world does not have this site; out of memory (40).
     pub fn contradictions(&self, site: u16) -> Result<Vec<Identity>, WorldFault>
         ensures identities { IfOk result (λ identities. identities.items
             ≡ contradicted_identities (messages_of (held_at self.now site))) }
@@ -163,8 +164,8 @@ impl World {
         Ok(archive.contradictions()?)
     }
 
-    /// The report on a bank's list for a settlement day, over the messages that a site holds. 44 `BadSite` where there is
-    /// no such site, and else nothing but want of memory (40) refuses it.
+    /// The report on a bank's list for a settlement day, over the messages that a site holds. Errors: `BadSite` (44) if
+    /// the world does not have this site; out of memory (40). Its view is built anew at each call.
     pub fn report<R: Threads + Sync>(
         &self,
         rt: &R,
@@ -185,7 +186,7 @@ impl World {
         report_on(rt, self.alloc, archive, bank, day, list)
     }
 
-    // There is no such site.
+    // Whether the world does not have this site.
     fn is_no_site(&self, site: u16) -> bool
         ensures { result ≡ is_no_site self.now site }
     {
@@ -240,7 +241,7 @@ impl World {
             return Err(WorldFault::NoSuchDelta);
         }
         let delta = &self.deltas[(number - 1) as usize];
-        // In a world an entry's origin and number say which message it has, so nothing of such a delta is new.
+        // In a world an entry's origin and number determine its message, so such a delta has nothing new.
         if self.cores[(site - 1) as usize].has_numbers(delta) {
             return Ok(Step::Accepted { fresh: 0 });
         }
@@ -253,9 +254,11 @@ impl World {
         })
     }
 
-    /// Runs one event. The refusals come in this order: 44 (`BadSite`) if there is no such site, 47 (`NoSuchDelta`) if no
-    /// delta of that number was cut, and 41 (`Gap`) if the site answers it to the delta. In a world no site answers 42 to
-    /// 45. 40 means out of memory. A refused event leaves the world as it was.
+    /// Runs one event. A refused event leaves the world unchanged. The first of these errors is returned:
+    /// - `BadSite` (44): the world does not have this site;
+    /// - `NoSuchDelta` (47): no delta of this number was cut;
+    /// - `Delta(Gap)` (41): the site refuses the delta for a gap; in a world no site refuses one with 42 to 45;
+    /// - `Delta(Memory)` (40).
     #[tactic(auto, unfolding(crate::specs::Histories::step_of, crate::specs::Histories::world_after))]
     pub fn step(&mut self, event: &Event) -> Result<Step, WorldFault>
         ensures answer { IfOk result (λ step. step_of self.old event.now ≡ Ok step) }
