@@ -4,7 +4,7 @@ use Rattle.sct_receipts.specs.declared.fault.WorkFault.TheVariants as work
 use Rattle.sct_run.specs.declared.fault.RunFault.{RunFault}
 use Rattle.sct_run.specs.declared.fault.RunFault.TheVariants as fault
 
--- what ends a run where it ends the work at one of its sites
+-- the fault of a run, by the fault that ended the work at one of its sites
 abbrev pub fault_of_work : WorkFault → RunFault
 fault_of_work work.Held = fault.Held
 fault_of_work work.Memory = fault.Memory

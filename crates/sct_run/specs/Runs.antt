@@ -1,5 +1,5 @@
--- What inputs come to, each of which fills a site of its own: which messages are read of them all, and what ends a run. How
--- their refused lines are told stands with the workers that read them. Read by an auditor.
+-- A run of several inputs, each of which fills a site of its own: the messages that are read of all of them, and the
+-- faults of the run. The text of their refused lines is defined with the workers that read them. Read by an auditor.
 use Rattle.std.specs.FinSet as set
 use Rattle.std.specs.Prelude.{ℕ, ◌≡◌, ◌↔◌, ◌⊎◌, ◌&&◌, not, Bool, List, [], ◌∷◌, nat_lt, string_bytes}
 use Rattle.std.specs.List.{Contains}
@@ -25,27 +25,27 @@ abbrev pub set_of_all : List (List ℕ) → Contents
 set_of_all [] = set.empty
 set_of_all (input ∷ inputs) = set.union (set_read input) (set_of_all inputs)
 
--- a run is held (61) only where there is a point at which its gate may hold a worker, and a call is refused (66) with the
--- number of a refusal
+-- a run is held (61) only if there is a point at which its gate may hold a worker, and a call is
+-- refused (66) with the number of a refusal
 abbrev pub RunEndsWhere : (Point → Type 0) → RunFault → Type 0
 RunEndsWhere may fault.Held = (point : Point) × may point
 RunEndsWhere may (fault.Refused number) = IsRefusalNumber number
 RunEndsWhere may other = Unit {0}
 
--- inputs that are the same but for their order, and for how often each is there, have one set
+-- two lists of inputs that have the same inputs, in any order and any number of times, have the same set
 abbrev pub NoOrderMatters : Type 0
 NoOrderMatters = (some others : List (List ℕ)) → ((input : List ℕ) → Contains some input ↔ Contains others input)
     → set_of_all some ≡ set_of_all others
 
 -- ---- settling
 
--- What ends a run whose sites were all filled: out of memory, or a refusal to settle them, with 42, 43 or 44.
+-- The fault of a run whose sites were all filled: out of memory, or a refusal to settle them, with 42, 43 or 44.
 abbrev pub IsSettlingFault : RunFault → Type 0
 IsSettlingFault fault.Memory = Unit {0}
 IsSettlingFault (fault.Refused number) = (number ≡ 42) ⊎ ((number ≡ 43) ⊎ (number ≡ 44))
 IsSettlingFault other = ⊥
 
--- The answer of a run is that of its sites once they are settled: what the first of them then holds.
+-- The answer of a run is that of the first of its sites after they are settled.
 pub record IsSettledAnswer (sites : Sites) (answer : RunAnswer) : Type 0 where
   pub settled : List Core
   pub are_settled : AreSettled sites.cores.items settled

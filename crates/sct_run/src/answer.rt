@@ -1,11 +1,11 @@
-//! What a run answers.
+//! The answer of a run.
 
-/// What sites that were filled from inputs come to.
+/// The answer of a run of several inputs.
 #[derive(Drop)]
 pub struct RunAnswer {
-    /// The status text of the messages that are read from any of the inputs.
+    /// The status text of the messages that are read from all inputs.
     pub status: Vec<u8>,
-    /// The lines that tell the refused lines, input by input.
+    /// The text of the refused lines, input by input.
     pub told: String,
     /// How many lines are refused.
     pub refused: u64,

@@ -1,4 +1,4 @@
-//! Why inputs have no answer.
+//! Why a run has no answer.
 ghost use Rattle.std.specs.Prelude.{◌≡◌};
 ghost use Rattle.sct_run.specs.Faults.{fault_of_work};
 ghost use Rattle.sct_run.specs.declared.fault.RunFault.TheVariants as fault;
@@ -8,24 +8,24 @@ use sct_receipts::WorkFault;
 use std::alloc::{AllocError, AllocFailed};
 use thiserror::Error;
 
-/// Why inputs have no answer.
+/// Why a run has no answer.
 #[derive(Clone, Copy, Debug, PartialEq, Eq, Error)]
 pub enum RunFault {
     /// 64: there are no inputs, or more than 16.
     #[error("a run has 1 to 16 inputs")]
     Usage,
-    /// 61: the work at a site was held back.
+    /// 61: a gate held the work at a site.
     #[error("the work at a site was held back")]
     Held,
-    /// 65: memory is wanting.
+    /// 65: out of memory.
     #[error("memory is wanting")]
     Memory,
-    /// 66: a call at a site was refused, with the number of its own fault. A run may meet arrivals that are pending (53) or
-    /// not reported once (54) when a desk is closed, entries of other sites that are refused (42 to 44), or sites that
-    /// cannot be settled (42 to 44). No other number but 52 and 55 is possible.
+    /// 66: a call at a site was refused, with the number of its own fault. When a desk is closed, arrivals may be
+    /// pending (53) or not covered by exactly one receipt (54). An entry of another site may be refused (42 to 44), or
+    /// the sites cannot be settled (42 to 44). Of other numbers only 52 and 55 are possible.
     #[error("a call at a site was refused with {number}")]
     Refused { number: u8 },
-    /// 67: there is no thread for the work at a site.
+    /// 67: a thread for the work at a site could not be started.
     #[error("no thread for the work at a site")]
     NoWorker,
 }

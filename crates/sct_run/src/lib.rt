@@ -1,5 +1,5 @@
-//! Several sites brought to one answer: each input of messages fills a site of its own, the sites are settled, and what
-//! they all hold then is answered.
+//! Runs of several sites: each input of messages fills a site of its own, the sites are settled, and the answer
+//! is the status text of all their messages.
 #![tactic(auto)]
 
 mod answer;

@@ -1,4 +1,4 @@
-//! A run: one site for each input, and what they come to.
+//! A run: one site for each input, and one answer of all sites.
 ghost use Rattle.std.specs.Prelude.{◌≡◌, ◌≢◌, ◌↔◌, ◌<◌, ◌≤◌, ◌+◌, ◌++◌, ◌∷◌, [], false, true, Err, length, IfErr, IfOk, OnOk, string_bytes};
 ghost use Rattle.sct_delta.specs.Entries.{messages_of};
 ghost use Rattle.sct_run.specs.Faults.{fault_of_work};
@@ -23,7 +23,7 @@ use std::thread::Threads;
 
 const MOST_SITES: usize = 16;
 
-// So many sites can be run.
+// Whether a run can have this number of sites.
 fn are_sites(count: usize) -> bool
     ensures { result ≡ are_sites count }
 {
@@ -46,7 +46,7 @@ fn filled<G: Gate + Sync, R: Threads + Wait + Sync>(
     fill_sites(rt, alloc, gate, inputs)
 }
 
-// Settles the sites. A refusal has its number.
+// Settles the sites. A refusal is passed on with its number.
 #[tactic(auto, using(crate::proofs::RunLemmas::settling))]
 fn settle_all(alloc: Global, cores: &mut [SiteCore]) -> Result<(), RunFault>
     ensures settled { OnOk result (AreSettled cores.old cores.new) }
@@ -58,7 +58,7 @@ fn settle_all(alloc: Global, cores: &mut [SiteCore]) -> Result<(), RunFault>
     }
 }
 
-// The status text of the first of some sites.
+// The status text of the first site.
 fn first_status<R: Threads + Sync>(
     rt: &R,
     alloc: Global,
@@ -72,7 +72,7 @@ fn first_status<R: Threads + Sync>(
     status_text(rt, alloc, cores[0].archive())
 }
 
-// Settles the sites, and answers the status text of what the first of them then holds.
+// Settles the sites. Returns the status text of the first of them.
 fn settled_status<R: Threads + Sync>(
     rt: &R,
     alloc: Global,
@@ -88,7 +88,7 @@ fn settled_status<R: Threads + Sync>(
     first_status(rt, alloc, cores)
 }
 
-// What a run answers by what its sites came to. They are settled only if all of them were filled.
+// The answer of a run, by the result of filling its sites. They are settled only if all of them were filled.
 fn answered<R: Threads + Sync>(
     rt: &R,
     alloc: Global,
@@ -112,20 +112,25 @@ fn answered<R: Threads + Sync>(
     })
 }
 
-// The inputs that a run is asked of may stand in any order.
+// A law: the inputs of a run may be in any order.
 fn no_order_matters()
     ensures { NoOrderMatters }
 {}
 
-/// Fills one site from each input, numbered from 1, side by side. Workers on threads of its own fill a site, through a desk
-/// that is closed with all their receipts. Then the sites are settled. The answer is the status text of all that is read
-/// from any of the inputs, whatever their order, however the threads are scheduled and whatever came through their
-/// channels. Each line that reports a refused line begins with the number of its input, as in `file 2 line 1: 31`.
+/// Fills one site from each input, numbered from 1, in parallel, and then settles the sites. Workers on threads of its
+/// own fill each site, through a desk that is closed with all their receipts.
+/// The answer is the status text of all messages that are read from the inputs. It does not depend on the order of the
+/// inputs, on the schedule of the threads, or on what came through their channels.
+/// Each line that reports a refused line begins with the number of its input, as in `file 2 line 1: 31`.
 ///
-/// 64 `Usage` exactly if the inputs are not 1 to 16. Every other fault is reported after all workers have ended. The faults
-/// of workers come first: 67 `NoWorker` if there was no thread, then 65 `Memory`, then 61 `Held` if the gate held a worker,
-/// then 66 `Refused` with the least number. After these comes 66 of the first site whose desk is not closed, and then a
-/// refusal to settle the sites, 66 with 42, 43 or 44.
+/// Error: `Usage` (64) exactly if there are not 1 to 16 inputs. Every other error is returned after
+/// all workers have ended, the first of these:
+/// - `NoWorker` (67): a thread could not be started;
+/// - `Memory` (65);
+/// - `Held` (61): the gate held a worker;
+/// - `Refused` (66) with the least number of a refused call;
+/// - `Refused` (66) with 53 or 54, for the first site whose desk is not closed;
+/// - `Refused` (66) with 42, 43 or 44, for sites that cannot be settled.
 #[tactic(auto, using(crate::proofs::RunLemmas::run_ends, crate::proofs::RunLemmas::settling_ends))]
 pub fn run_sites<G: Gate + Sync, R: Threads + Wait + Sync>(
     rt: &R,

@@ -1,4 +1,4 @@
-//! The status text of what a site holds.
+//! The status text of a site.
 ghost use Rattle.std.specs.Prelude.{◌≡◌, IfErr, IfOk};
 ghost use Rattle.sct_run.specs.declared.fault.RunFault.TheVariants as fault;
 ghost use Rattle.sct_view.specs.StatusText.{status_text_of};
@@ -9,7 +9,7 @@ use sct_view::View;
 use std::alloc::Global;
 use std::thread::Threads;
 
-// The view of what an archive holds, made in as many threads as there are processors.
+// The view of an archive, built in as many threads as there are processors.
 fn view_of<R: Threads + Sync>(rt: &R, alloc: Global, archive: &Archive) -> Result<View, RunFault>
     ensures held { IfOk result (λ view. view ≡ archive.now) }
     ensures memory { IfErr result (λ e. e ≡ fault.Memory) }
@@ -25,7 +25,7 @@ fn text_of(view: &View) -> Result<Vec<u8>, RunFault>
     Ok(view.status_text()?)
 }
 
-/// The status text of an archive. The only fault is `Memory`.
+/// The status text of an archive. The only error is `Memory` (65).
 pub fn status_text<R: Threads + Sync>(
     rt: &R,
     alloc: Global,
