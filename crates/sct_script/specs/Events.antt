@@ -1,4 +1,4 @@
--- What one line of a script tells: what happens at one site, or why the line is refused. Read by an auditor.
+-- One line of a script: its event at one site, or why the line is refused. Read by an auditor.
 use Rattle.std.specs.Prelude.{ℕ, ◌≡◌, ◌+◌, ◌^◌, ◌==◌, Bool, List, [], ◌∷◌, take, drop, nat_eq, nat_lt, position, codes, Option, Some, None, is_some, not, option_map, option_and_then, Result, Ok, Err, if◌then◌else◌}
 use Rattle.std.specs.Cmp.Lexicographic.{pointwise}
 use Rattle.std.specs.List.{slice_split}
@@ -14,7 +14,7 @@ use Rattle.sct_script.specs.declared.fault.LineFault.TheVariants as fault
 
 -- ---- fields
 
--- a site as a line names it: any number below 65,536, whether the world has such a site or not
+-- a site in a line: any number below 65,536, whether or not the world has such a site
 abbrev pub site_named : ℕ → Option ℕ
 site_named number = if nat_lt number (2 ^ 16) then Some number else None
 
@@ -24,7 +24,7 @@ site_in text = option_and_then site_named (number_in text)
 abbrev pub site_field : Field → Option Field
 site_field field = option_map (λ site. (site, field.1)) (site_named field.0)
 
--- the site that stands before the first space, and what stands behind it
+-- the site before the first space, and the text after the space
 unfoldable pub site_before_space : List ℕ → Option Field
 site_before_space text = option_and_then site_field (number_before_space text)
 
@@ -54,12 +54,12 @@ abbrev pub onto_pairs : Option (List Pair) → Option Pair → Option (List Pair
 onto_pairs pairs None = None
 onto_pairs pairs (Some pair) = option_map (λ others. pair ∷ others) pairs
 
--- a pair in each part; none where a part is no pair
+-- the pair of each part; none if a part is not a pair
 abbrev pub pairs_among : List (List ℕ) → Option (List Pair)
 pairs_among [] = Some []
 pairs_among (part ∷ parts) = onto_pairs (pairs_among parts) (pair_in part)
 
--- no pairs, written `-`, or pairs with a comma between each two
+-- the pairs of a text: no pairs, written `-`, or pairs separated by commas
 unfoldable pub pairs_in : List ℕ → Option (List Pair)
 pairs_in text = if pointwise nat_eq text (codes "-") then Some [] else pairs_among (slice_split is_comma text)
 
@@ -76,7 +76,7 @@ counts_of pairs = λ origin. count_among pairs origin 0
 
 -- ---- the three kinds of event
 
--- A take: a site, and a JSON text of the message. A message that is refused is no event, whatever the site.
+-- A take: a site, and a JSON text of the message. A take with a refused message is not an event, whatever the site.
 abbrev pub taken_at : ℕ → Result Draft JsonFault → Result Happening LineFault
 taken_at site (Ok message) = Ok (Taken site message)
 taken_at site (Err refusal) = Err (fault.Message refusal)
@@ -114,12 +114,12 @@ hand_in rest = handed_by (number_before_space rest)
 
 -- ---- a line
 
--- what stands behind a word is read so; a line without that word, otherwise
+-- the text after a word is read in this way; a line without the word is read in another way
 abbrev pub behind : Option (List ℕ) → (List ℕ → Result Happening LineFault) → Result Happening LineFault → Result Happening LineFault
 behind None reads other = other
 behind (Some rest) reads other = reads rest
 
--- what a line tells, by the word that it begins with
+-- the event of a line, by the word that it begins with
 unfoldable pub happening_in : List ℕ → Result Happening LineFault
 happening_in line =
     behind (after_prefix (codes "take ") line) take_in

@@ -1,4 +1,4 @@
--- What a script is answered: how each event ended, and what each site then holds. Read by an auditor.
+-- The answer to a script: the outcome of each event, and then the answers of each site. Read by an auditor.
 use Rattle.std.specs.Prelude.{ℕ, ◌+◌, ◌++◌, List, [], ◌∷◌, codes, decimal, length, Option, Some, None}
 use Rattle.std.specs.List.{flat_map, enumerate_from}
 use Rattle.sct_message.specs.Sets.{MessageSet}
@@ -19,13 +19,13 @@ use Rattle.sct_world.specs.Histories.{world_by, outcomes_by}
 use Rattle.sct_world.specs.States.{State, opened}
 use Rattle.sct_script.specs.Scripts.{sites_told, happenings_told}
 
--- ---- how events ended
+-- ---- the outcomes of events
 
--- a number behind a bar (124)
+-- a number after a bar (124)
 abbrev pub field : ℕ → List ℕ
 field number = 124 ∷ decimal number
 
--- the number of a site's refusal, and what it tells
+-- the number of a site's refusal, and its fields
 unfoldable pub delta_fault_text : DeltaFault → List ℕ
 delta_fault_text delta.Memory = codes "40"
 delta_fault_text (delta.Gap origin have first) = codes "41" ++ field origin ++ field have ++ field first
@@ -34,7 +34,7 @@ delta_fault_text (delta.OwnAhead n) = codes "43" ++ field n
 delta_fault_text delta.BadSite = codes "44"
 delta_fault_text (delta.BadDelta line) = codes "45" ++ field line
 
--- the number of a world's refusal, and what it tells
+-- the number of a world's refusal, and its fields
 unfoldable pub world_fault_text : WorldFault → List ℕ
 world_fault_text fault.BadSite = codes "44"
 world_fault_text fault.NoSuchDelta = codes "47"
@@ -50,7 +50,7 @@ unfoldable pub outcome_text : Outcome → List ℕ
 outcome_text (outcome.Done done) = step_text done
 outcome_text (outcome.Refused refusal) = codes "REFUSED|" ++ world_fault_text refusal
 
--- the line of an event, by its number and how it ended, with its line feed
+-- the line of an event: its number and its outcome, with its line feed
 unfoldable pub outcome_line : ℕ × Outcome → List ℕ
 outcome_line came = codes "E" ++ field came.0 ++ 124 ∷ outcome_text came.1 ++ 10 ∷ []
 
@@ -58,7 +58,7 @@ outcome_line came = codes "E" ++ field came.0 ++ 124 ∷ outcome_text came.1 ++ 
 unfoldable pub outcomes_text : List Outcome → List ℕ
 outcomes_text outcomes = flat_map outcome_line (enumerate_from 1 outcomes)
 
--- ---- what sites hold
+-- ---- the answers of sites
 
 -- the archive text, the status text and the totals text of a set of messages
 abbrev pub answers_text : MessageSet → List ℕ
@@ -67,17 +67,17 @@ answers_text held = archive_text_of held ++ status_text_of held ++ totals_text_o
 abbrev pub site_head : ℕ → List ℕ
 site_head site = codes "S" ++ field site ++ 10 ∷ []
 
--- the head line of a site, and what is answered of the messages that it holds
+-- the head line of a site, and its answers about the messages that it holds
 unfoldable pub site_text : ℕ × List Placed → List ℕ
 site_text site = site_head site.0 ++ answers_text (messages_of site.1)
 
--- the same of each site; sites count from 1
+-- the head line and the answers of each site; sites count from 1
 unfoldable pub sites_text : State → List ℕ
 sites_text w = flat_map site_text (enumerate_from 1 w.held)
 
 -- ---- the whole
 
--- what happens in a world of so many sites: how each event ended, and then what each site holds
+-- the replay of events in a world of `sites` sites: the outcome of each event, and then the answers of each site
 unfoldable pub replay_text : ℕ → List Happening → List ℕ
 replay_text sites happenings =
     outcomes_text (outcomes_by (opened sites) happenings) ++ sites_text (world_by (opened sites) happenings)

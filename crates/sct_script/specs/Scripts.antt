@@ -1,4 +1,4 @@
--- Scripts: how many sites there are, what happens at them line by line, and which lines are refused. Read by an auditor.
+-- Scripts: the number of sites, the events line by line, and the refused lines. Read by an auditor.
 use Rattle.std.specs.Prelude.{ℕ, ◌++◌, List, [], ◌∷◌, drop, codes, decimal, Option, Some, None, option_map, option_and_then, if◌then◌else◌}
 use Rattle.std.specs.List.{filter_map, flat_map}
 use Rattle.std.specs.Result.{result_ok, result_err}
@@ -23,7 +23,7 @@ script_lines input = numbered_from 1 (lines_of input)
 abbrev pub size_named : ℕ → Option ℕ
 size_named number = if is_size number then Some number else None
 
--- how many sites a first line tells
+-- the number of sites in a first line
 unfoldable pub size_in : List ℕ → Option ℕ
 size_in line = option_and_then size_named (option_and_then number_in (after_prefix (codes "sites ") line))
 
@@ -31,20 +31,20 @@ abbrev pub size_among : List Numbered → Option ℕ
 size_among [] = None
 size_among (first ∷ others) = size_in first.1
 
--- how many sites a script has; none where the input is no script
+-- the number of sites of a script; none if the input is not a script
 unfoldable pub sites_told : List ℕ → Option ℕ
 sites_told input = size_among (script_lines input)
 
--- ---- the lines behind it
+-- ---- the lines after the first one
 
 abbrev pub event_lines : List ℕ → List Numbered
 event_lines input = drop 1 (script_lines input)
 
--- what happens by these lines, in their order
+-- the events of these lines, in their order
 unfoldable pub happenings_among : List Numbered → List Happening
 happenings_among lines = filter_map (λ line. result_ok (happening_in line.1)) lines
 
--- which of these lines are refused, each with the reason
+-- the refused lines among these, each with the reason
 unfoldable pub refusals_among : List Numbered → List (ℕ × LineFault)
 refusals_among lines = filter_map (λ line. option_map (λ fault. (line.0, fault)) (result_err (happening_in line.1))) lines
 
@@ -54,14 +54,14 @@ happenings_told input = happenings_among (event_lines input)
 abbrev pub refusals_told : List ℕ → List (ℕ × LineFault)
 refusals_told input = refusals_among (event_lines input)
 
--- ---- how refused lines are told
+-- ---- the text of refused lines
 
--- 64 where the line is no event, and else what the message was refused for
+-- 64 if the line is not an event, else the refusal of the message
 unfoldable pub line_fault_text : LineFault → List ℕ
 line_fault_text fault.NoEvent = codes "64"
 line_fault_text (fault.Message refusal) = json_fault_text refusal
 
--- the line that tells a refusal, with its line feed
+-- the line that reports a refusal, with its line feed
 unfoldable pub refusal_line : ℕ × LineFault → List ℕ
 refusal_line refusal = codes "line " ++ decimal refusal.0 ++ codes ": " ++ line_fault_text refusal.1 ++ 10 ∷ []
 

@@ -1,4 +1,4 @@
-//! One line of a script: the event that it tells, or why it is refused.
+//! One line of a script: its event, or why the line is refused.
 ghost use Rattle.std.specs.Prelude.{◌≡◌, IfOk};
 ghost use Rattle.sct_script.specs.Events.{cut_in, hand_in, happening_in, take_in, told_by};
 
@@ -11,7 +11,7 @@ use sct_world::Event;
 use std::alloc::{AllocError, Global};
 use std::sync::Arc;
 
-// A take: a site, and a JSON text of the message.
+// Reads the rest of a take: a site, and a JSON text of the message.
 fn read_take(alloc: Global, text: &[u8]) -> Result<Result<Event, LineFault>, AllocError>
     ensures { IfOk result (λ read. told_by read ≡ take_in text.now) }
 {
@@ -26,7 +26,7 @@ fn read_take(alloc: Global, text: &[u8]) -> Result<Result<Event, LineFault>, All
     Ok(Ok(Event::Take { site, message }))
 }
 
-// A cut: a site, and a version vector.
+// Reads the rest of a cut: a site, and a version vector.
 fn read_cut(alloc: Global, text: &[u8]) -> Result<Result<Event, LineFault>, AllocError>
     ensures { IfOk result (λ read. told_by read ≡ cut_in text.now) }
 {
@@ -39,7 +39,7 @@ fn read_cut(alloc: Global, text: &[u8]) -> Result<Result<Event, LineFault>, Allo
     Ok(Ok(Event::Cut { site, vector }))
 }
 
-// A hand: the number of a delta, and the site that it is handed to.
+// Reads the rest of a hand: the number of a delta, and the site that it is handed to.
 fn read_hand(text: &[u8]) -> Result<Event, LineFault>
     ensures { told_by result ≡ hand_in text.now }
 {
@@ -52,7 +52,7 @@ fn read_hand(text: &[u8]) -> Result<Event, LineFault>
     Ok(Event::Hand { delta, site })
 }
 
-/// The event that a line tells, or why the line is refused.
+/// The event of a line, or why the line is refused. The outer error is that it is out of memory.
 #[tactic(auto, unfolding(crate::specs::Events::happening_in))]
 pub fn read_event(alloc: Global, line: &[u8]) -> Result<Result<Event, LineFault>, AllocError>
     ensures { IfOk result (λ read. told_by read ≡ happening_in line.now) }

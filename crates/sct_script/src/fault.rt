@@ -6,10 +6,10 @@ use sct_json::JsonFault;
 use std::alloc::{AllocError, AllocFailed};
 use thiserror::Error;
 
-/// Why a line behind the first is no event.
+/// Why a line after the first one is not an event.
 #[derive(Debug, Drop, Error)]
 pub enum LineFault {
-    /// 64: the line is not of the shape of an event, or its pairs make no version vector.
+    /// 64: the line does not have the shape of an event, or its pairs do not make a version vector.
     #[error("no event")]
     NoEvent,
     /// 31 to 38, 46 or 56: why the message of a take is refused.
@@ -20,10 +20,10 @@ pub enum LineFault {
 /// Why an input is not read as a script.
 #[derive(Clone, Copy, Debug, PartialEq, Eq, Error)]
 pub enum ScriptFault {
-    /// 40: memory is wanting.
+    /// 40: out of memory.
     #[error("memory is wanting")]
     Memory,
-    /// 64: the first line that is not skipped does not tell the number of sites, or there is none.
+    /// 64: the first line that is not skipped does not give the number of sites, or there is no such line.
     #[error("no script")]
     NoScript,
 }

@@ -5,14 +5,14 @@ ghost use Rattle.sct_script.specs.Events.{site_before_space, site_in, site_named
 
 use sct_delta::{number_before_space, number_of};
 
-// The site that a number names.
+// The site of this number, or none if the number is not below 65,536.
 fn site_named(number: u64) -> Option<u16>
     ensures { result ≡ site_named number }
 {
     u16::try_from(number).ok()
 }
 
-/// The site of that number, be it there or not; none where the text is no number below 65,536.
+/// The site that a text names, whether or not the world has it. None if the text is not a number below 65,536.
 #[tactic(auto, unfolding(crate::specs::Events::site_in))]
 pub fn site_of(text: &[u8]) -> Option<u16>
     ensures { result ≡ site_in text.now }
@@ -21,7 +21,8 @@ pub fn site_of(text: &[u8]) -> Option<u16>
     site_named(number)
 }
 
-/// The site that a text begins with, up to the first space, and what stands behind the space.
+/// The site before the first space of a text, and the bytes after that space. None if no
+/// number below 65,536 comes before a space.
 #[tactic(auto, unfolding(crate::specs::Events::site_before_space))]
 pub fn site_before_space(text: &[u8]) -> Option<(u16, &[u8])>
     ensures { option_map (λ field. (field.0, field.1.now)) result ≡ site_before_space text.now }
@@ -31,7 +32,7 @@ pub fn site_before_space(text: &[u8]) -> Option<(u16, &[u8])>
     Some((site, rest))
 }
 
-/// What stands behind the word that a line begins with; none where it begins with another one.
+/// `line` without the prefix `word`, or none if it does not begin with the word.
 pub fn behind<'a>(line: &'a [u8], word: &[u8]) -> Option<&'a [u8]>
     ensures { option_map (λ rest. rest.now) result ≡ after_prefix word.now line.now }
 {

@@ -1,8 +1,8 @@
-//! Scripts of a world: what happens at its sites, line by line, and what each event and each site is answered.
+//! Scripts of a world: the events at its sites, line by line, and the answer to each event and of each site.
 //!
-//! [`read_script`] reads the bytes of a script, and [`replay`] answers its events. [`behind`], [`site_before_space`] and
-//! [`site_of`] are the steps by which a line is read, for those who read lines of another kind too, and
-//! [`push_delta_fault`] tells what a site refused.
+//! [`read_script`] reads the bytes of a script, and [`replay`] runs its events. [`behind`], [`site_before_space`] and
+//! [`site_of`] are the steps by which a line is read. They are public for programs that read lines of another kind. So
+//! is [`push_delta_fault`], which writes the refusal of a site.
 #![tactic(auto)]
 
 mod event;

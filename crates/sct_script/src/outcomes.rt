@@ -1,4 +1,4 @@
-//! How events ended, a line each.
+//! The outcomes of events, one line each.
 ghost use Rattle.std.specs.Prelude.{◌≡◌, ◌++◌, IfOk, string_bytes};
 ghost use Rattle.sct_script.specs.Replays.{delta_fault_text, outcome_line, outcome_text, outcomes_text, step_text, world_fault_text};
 
@@ -7,7 +7,7 @@ use sct_world::{Outcome, Step, WorldFault};
 use std::alloc::{AllocError, Global};
 use std::fmt::Write;
 
-/// Adds the number of a site's refusal, and what it tells, with a bar before each, as in `41|1|0|2`.
+/// Appends the number of a site's refusal and its fields, with a bar between each two, as in `41|1|0|2`.
 #[tactic(auto, unfolding(crate::specs::Replays::delta_fault_text))]
 pub fn push_delta_fault(text: &mut String, fault: &DeltaFault) -> Result<(), AllocError>
     ensures { IfOk result (λ _. string_bytes text.new ≡ string_bytes text.old ++ delta_fault_text fault.now) }
@@ -26,7 +26,7 @@ pub fn push_delta_fault(text: &mut String, fault: &DeltaFault) -> Result<(), All
     }
 }
 
-// Adds the number of a world's refusal, and what it tells.
+// Appends the number of a world's refusal and its fields.
 #[tactic(auto, unfolding(crate::specs::Replays::world_fault_text))]
 fn push_world_fault(text: &mut String, fault: &WorldFault) -> Result<(), AllocError>
     ensures { IfOk result (λ _. string_bytes text.new ≡ string_bytes text.old ++ world_fault_text fault.now) }
@@ -38,7 +38,7 @@ fn push_world_fault(text: &mut String, fault: &WorldFault) -> Result<(), AllocEr
     }
 }
 
-// Adds what a step did.
+// Appends a step and its numbers.
 #[tactic(auto, unfolding(crate::specs::Replays::step_text))]
 fn push_step(text: &mut String, step: &Step) -> Result<(), AllocError>
     ensures { IfOk result (λ _. string_bytes text.new ≡ string_bytes text.old ++ step_text step.now) }
@@ -51,7 +51,7 @@ fn push_step(text: &mut String, step: &Step) -> Result<(), AllocError>
     }
 }
 
-// Adds how an event ended.
+// Appends the outcome of an event.
 #[tactic(auto, unfolding(crate::specs::Replays::outcome_text))]
 fn push_outcome(text: &mut String, outcome: &Outcome) -> Result<(), AllocError>
     ensures { IfOk result (λ _. string_bytes text.new ≡ string_bytes text.old ++ outcome_text outcome.now) }
@@ -65,7 +65,7 @@ fn push_outcome(text: &mut String, outcome: &Outcome) -> Result<(), AllocError>
     }
 }
 
-// Adds the line of an event, by its number and how it ended.
+// Appends the line of an event: its number and its outcome.
 #[tactic(auto, unfolding(crate::specs::Replays::outcome_line))]
 fn push_line(text: &mut String, number: u64, outcome: &Outcome) -> Result<(), AllocError>
     ensures { IfOk result (λ _. string_bytes text.new
@@ -76,7 +76,7 @@ fn push_line(text: &mut String, number: u64, outcome: &Outcome) -> Result<(), Al
     text.push('\n')
 }
 
-/// A line for each event, by its number from 1 and how it ended.
+/// The text of outcomes: a line for each event, with its number from 1 and its outcome.
 pub fn outcomes_text(alloc: Global, outcomes: &[Outcome]) -> Result<String, AllocError>
     ensures { IfOk result (λ text. string_bytes text ≡ outcomes_text outcomes.now) }
 {

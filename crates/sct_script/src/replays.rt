@@ -1,4 +1,4 @@
-//! What a script is answered: how its events ended, and what each site then holds.
+//! The answer to a script: the outcomes of its events, and then the answers of each site.
 ghost use Rattle.std.specs.Prelude.{◌≡◌, ◌≢◌, ◌++◌, [], ◌∷◌, false, true, IfErr, IfOk, string_bytes, OnOk};
 ghost use Rattle.sct_delta.specs.Entries.{messages_of};
 ghost use Rattle.sct_delta.specs.declared.fault.DeltaFault.TheVariants as delta;
@@ -19,7 +19,7 @@ fn head_of(alloc: Global, site: u16) -> Result<String, AllocError>
     format!(in alloc; "S|{site}\n")
 }
 
-// Adds the head line of a site, and what is answered of the messages that it holds.
+// Appends the head line of a site, and its answers about the messages that it holds.
 #[tactic(auto, unfolding(crate::specs::Replays::site_text))]
 fn push_site(alloc: Global, text: &mut Vec<u8>, world: &World, site: u16) -> Result<(), WorldFault>
     ensures text { OnOk result (text.new.items ≡ text.old.items ++ site_text (site, held_at world.now site)) }
@@ -35,7 +35,7 @@ fn push_site(alloc: Global, text: &mut Vec<u8>, world: &World, site: u16) -> Res
     Ok(())
 }
 
-// Adds the same of each site.
+// Appends the head line and the answers of each site.
 fn push_sites(alloc: Global, text: &mut Vec<u8>, world: &World) -> Result<(), WorldFault>
     ensures text { OnOk result (text.new.items ≡ text.old.items ++ sites_text world.now) }
     ensures err { IfErr result (λ refusal. refusal ≡ fault.Delta delta.Memory) }
@@ -46,7 +46,7 @@ fn push_sites(alloc: Global, text: &mut Vec<u8>, world: &World) -> Result<(), Wo
     Ok(())
 }
 
-// How the events ended, and then what each site holds.
+// The outcomes of the events, followed by the answers of each site.
 fn text_of(alloc: Global, ran: &Ran) -> Result<Vec<u8>, WorldFault>
     ensures text { IfOk result (λ text. text.items
         ≡ outcomes_text ran.now.outcomes.items ++ sites_text ran.now.world) }
@@ -57,9 +57,10 @@ fn text_of(alloc: Global, ran: &Ran) -> Result<Vec<u8>, WorldFault>
     Ok(text)
 }
 
-/// What happens in a new world of so many sites by the events: a line for each event, numbered from 1, with how it ended,
-/// and then for each site a line with its number, its archive text, its status text and its totals text. Refused are 44
-/// (BadSite) a number of sites that is not 1 to 1024, and 40 alone.
+/// Runs events in a new world of `sites` sites, and returns the text of the replay: a line for each
+/// event, with its number from 1 and its outcome. Then, for each site, a line with its number, its
+/// archive text, its status text and its totals text.
+/// Errors: `BadSite` (44) if `sites` is not 1 to 1024; out of memory (40).
 #[tactic(auto, unfolding(crate::specs::Replays::replay_text))]
 pub fn replay(alloc: Global, sites: u16, events: &[Event]) -> Result<Vec<u8>, WorldFault>
     ensures text { IfOk result (λ text. text.items ≡ replay_text sites (happenings_of events.now)) }

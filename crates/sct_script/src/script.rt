@@ -1,4 +1,4 @@
-//! A script: how many sites there are, what happens at them, and which lines are refused.
+//! A script: its number of sites, its events, and its refused lines.
 ghost use Rattle.std.specs.Prelude.{◌≡◌, ◌≢◌, ◌+◌, ◌<◌, ◌≤◌, ◌++◌, ◌∷◌, [], ◌^◌, ◌-◌, None, Some, length, true, option_and_then, string_bytes, IfErr, IfOk, IfSome, MatchOption, OnOk};
 ghost use Rattle.sct_lines.specs.Lines.{lines_of, numbered_from};
 ghost use Rattle.sct_world.specs.Happenings.{happenings_of};
@@ -25,8 +25,8 @@ use sct_lines::{first_line, is_blank_line};
 use sct_world::Event;
 use std::alloc::{AllocError, Global};
 
-/// A script as it was read: the number of its sites, the events in their order, the lines that tell the refused ones, and
-/// how many these are.
+/// A script as it was read: the number of its sites, the events in their order, the text
+/// of the refused lines, and their number.
 #[derive(Drop)]
 pub struct Script {
     pub sites: u16,
@@ -35,7 +35,7 @@ pub struct Script {
     pub refused: u64,
 }
 
-// A number of sites that a world may have.
+// The number of sites, or none if a world cannot have this number.
 fn size_named(number: u64) -> Option<u16>
     ensures size { result ≡ size_named number }
     ensures right { IfSome result (λ sites. is_size sites ≡ true) }
@@ -46,7 +46,7 @@ fn size_named(number: u64) -> Option<u16>
     Some(number as u16)
 }
 
-// How many sites a first line tells.
+// The number of sites in a first line, or none if the line does not give one.
 #[tactic(auto, unfolding(crate::specs::Scripts::size_in))]
 fn size_of(line: &[u8]) -> Option<u16>
     ensures size { result ≡ size_in line.now }
@@ -57,7 +57,7 @@ fn size_of(line: &[u8]) -> Option<u16>
     size_named(number)
 }
 
-// The first line that is not blank: its number, the line, and what comes after it.
+// The first line that is not blank: its number, the line, and the text after it. None if there is none.
 fn first_told(input: &[u8]) -> Option<(u64, &[u8], &[u8])>
     ensures lines { MatchOption result (script_lines input.now ≡ [])
         (λ first. script_lines input.now
@@ -77,7 +77,7 @@ fn first_told(input: &[u8]) -> Option<(u64, &[u8], &[u8])>
 }
 
 impl Script {
-    // Of so many sites, and of no lines.
+    // A script of `sites` sites and no lines.
     fn new(alloc: Global, sites: u16) -> Script
         ensures sites { result.sites ≡ sites }
         ensures events { happenings_of result.events.items ≡ [] }
@@ -92,7 +92,7 @@ impl Script {
         }
     }
 
-    // Adds what one line tells.
+    // Adds one line: its event, or its refusal. A blank line adds nothing.
     #[tactic(auto, using(crate::proofs::ScriptLemmas::one_line))]
     fn take(&mut self, alloc: Global, number: u64, line: &[u8]) -> Result<(), AllocError>
         requires { self.old.refused < 2 ^ 64 - 1 }
@@ -120,7 +120,7 @@ impl Script {
     }
 }
 
-// Reads the lines of a text, which stand behind the line of that number.
+// Reads the lines of a text that follows the line numbered `before`.
 fn read_lines(alloc: Global, sites: u16, before: u64, text: &[u8]) -> Result<Script, AllocError>
     requires { before + length text.now < 2 ^ 64 }
     ensures sites { IfOk result (λ script. script.sites ≡ sites) }
@@ -142,9 +142,10 @@ fn read_lines(alloc: Global, sites: u16, before: u64, text: &[u8]) -> Result<Scr
     Ok(script)
 }
 
-/// Reads a script. Its first line that is not blank tells how many sites there are, 1 to 1024; each further one tells an
-/// event, or is refused. An input whose first line tells no such number, or that has none, is no script: `NoScript`.
-/// `Memory` says nothing of the input.
+/// Reads a script. Its first line that is not blank gives the number of sites, 1 to 1024. Each further line that is not
+/// blank is an event, or is refused. A refused line is not an error of the call.
+/// Errors: `NoScript` (64) if the first line does not give the number of sites, or if there is none; `Memory`
+/// (40), which says nothing about the input.
 #[tactic(auto, unfolding(crate::specs::Scripts::sites_told))]
 pub fn read_script(alloc: Global, input: &[u8]) -> Result<Script, ScriptFault>
     ensures sites { IfOk result (λ script. sites_told input.now ≡ Some script.sites) }

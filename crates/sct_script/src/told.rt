@@ -1,4 +1,4 @@
-//! How a refused line of a script is told.
+//! The text of a refused line of a script.
 ghost use Rattle.std.specs.Prelude.{◌≡◌, ◌++◌, IfOk, string_bytes};
 ghost use Rattle.sct_script.specs.Scripts.{line_fault_text, refusal_line};
 
@@ -7,7 +7,7 @@ use sct_lines::push_json_fault;
 use std::alloc::{AllocError, Global};
 use std::fmt::Write;
 
-// Adds why a line is refused.
+// Appends why a line is refused.
 #[tactic(auto, unfolding(crate::specs::Scripts::line_fault_text))]
 fn push_fault(alloc: Global, text: &mut String, fault: &LineFault) -> Result<(), AllocError>
     ensures { IfOk result (λ _. string_bytes text.new ≡ string_bytes text.old ++ line_fault_text fault.now) }
@@ -18,7 +18,7 @@ fn push_fault(alloc: Global, text: &mut String, fault: &LineFault) -> Result<(),
     }
 }
 
-/// Adds the line that tells a refused line by its number, with its line feed.
+/// Appends the line that reports a refused line by its number, with its line feed.
 #[tactic(auto, unfolding(crate::specs::Scripts::refusal_line))]
 pub fn push_refusal(
     alloc: Global,

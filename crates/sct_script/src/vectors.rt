@@ -1,4 +1,4 @@
-//! Version vectors, as a line of a script writes them.
+//! Version vectors as a line of a script writes them.
 ghost use Rattle.std.specs.Prelude.{◌≡◌, ◌<◌, ◌∷◌, [], codes, length, nat_eq, option_map, position, IfOk, IfSome, MatchOption};
 ghost use Rattle.std.specs.Cmp.Lexicographic.{pointwise};
 ghost use Rattle.std.specs.List.{slice_split};
@@ -9,7 +9,7 @@ use crate::fields::site_of;
 use sct_delta::{DeltaFault, Vector, number_of};
 use std::alloc::{AllocError, Global};
 
-// Where the first colon stands.
+// The place of the first colon.
 fn colon(text: &[u8]) -> Option<usize>
     ensures place { result ≡ position is_colon text.now }
     ensures within { IfSome result (λ at. at < length text.now) }
@@ -17,7 +17,7 @@ fn colon(text: &[u8]) -> Option<usize>
     text.iter().position(|byte| *byte == b':')
 }
 
-// Where the first comma stands.
+// The place of the first comma.
 fn comma(text: &[u8]) -> Option<usize>
     ensures place { result ≡ position is_comma text.now }
     ensures within { IfSome result (λ at. at < length text.now) }
@@ -38,7 +38,7 @@ fn pair_of(text: &[u8]) -> Option<(u16, u64)>
     Some((origin, count))
 }
 
-// What stands before the first comma, and what stands behind it.
+// The text before the first comma, and the text after it. None if there is no comma.
 fn first_part(text: &[u8]) -> Option<(&[u8], &[u8])>
     ensures parts { MatchOption result (slice_split is_comma text.now ≡ text.now ∷ [])
         (λ parts. slice_split is_comma text.now ≡ parts.0.now ∷ slice_split is_comma parts.1.now) }
@@ -50,7 +50,7 @@ fn first_part(text: &[u8]) -> Option<(&[u8], &[u8])>
     Some((part, rest))
 }
 
-// Pairs with a comma between each two; none where one of them is no pair.
+// The pairs of a text, separated by commas. None if one of them is not a pair.
 fn pairs_among(alloc: Global, text: &[u8]) -> Result<Option<Vec<(u16, u64)>>, AllocError>
     ensures { IfOk result (λ pairs. option_map (λ list. list.items) pairs
         ≡ pairs_among (slice_split is_comma text.now)) }
@@ -71,7 +71,7 @@ fn pairs_among(alloc: Global, text: &[u8]) -> Result<Option<Vec<(u16, u64)>>, Al
     Ok(Some(pairs))
 }
 
-// The pairs that a text tells, with no pair where it is `-`.
+// The pairs of a text; no pairs for `-`. None if one of them is not a pair.
 #[tactic(auto, unfolding(crate::specs::Events::pairs_in))]
 fn pairs_of(alloc: Global, text: &[u8]) -> Result<Option<Vec<(u16, u64)>>, AllocError>
     ensures { IfOk result (λ pairs. option_map (λ list. list.items) pairs ≡ pairs_in text.now) }
@@ -82,7 +82,7 @@ fn pairs_of(alloc: Global, text: &[u8]) -> Result<Option<Vec<(u16, u64)>>, Alloc
     pairs_among(alloc, text)
 }
 
-// The version vector of pairs; none where they make none.
+// The version vector of pairs, or none if the pairs do not make a vector.
 #[tactic(auto, unfolding(crate::specs::Events::vector_of_pairs))]
 fn vector_of_pairs(alloc: Global, pairs: &[(u16, u64)]) -> Result<Option<Vector>, AllocError>
     ensures { IfOk result (λ vector. option_map count_in vector
@@ -95,8 +95,8 @@ fn vector_of_pairs(alloc: Global, pairs: &[(u16, u64)]) -> Result<Option<Vector>
     }
 }
 
-/// The version vector that a text tells: `-`, or pairs of an origin and its count, with a comma between each two, whose
-/// origins are sites and ascend. None where it tells none.
+/// The version vector that a text writes: `-`, or pairs of an origin and its count, separated by commas. The origins
+/// are sites and ascend. None if the text is not a vector.
 #[tactic(auto, unfolding(crate::specs::Events::vector_in))]
 pub fn vector_of(alloc: Global, text: &[u8]) -> Result<Option<Vector>, AllocError>
     ensures { IfOk result (λ vector. option_map count_in vector ≡ option_map counts_of (vector_in text.now)) }
