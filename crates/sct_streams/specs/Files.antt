@@ -1,11 +1,11 @@
--- What files give. Read by an auditor.
+-- The bytes of files. Read by an auditor.
 use Rattle.std.specs.Prelude.{ℕ, ◌≡◌, List, [], ◌∷◌, Option, IfSome}
 
--- the bytes are those that the file of this path gives, if these are known
+-- the bytes are those of the file at this path, if these are known
 abbrev pub IsGiven : (List ℕ → Option (List ℕ)) → List ℕ → List ℕ → Type 0
 IsGiven gives path bytes = IfSome (gives path) (λ given. bytes ≡ given)
 
--- each input is what the file of a path gives, for as many paths and in their order
+-- each input has the bytes of the file at its path; there are as many inputs as paths, in the same order
 abbrev pub AreGiven : (List ℕ → Option (List ℕ)) → List (List ℕ) → List (List ℕ) → Type 0
 AreGiven gives [] [] = Unit {0}
 AreGiven gives (path ∷ paths) (bytes ∷ inputs) = IsGiven gives path bytes × AreGiven gives paths inputs

@@ -1,10 +1,10 @@
-//! A count of the calls of one stream that have failed.
+//! A count of the failed calls of one stream.
 ghost use Rattle.std.specs.Prelude.{◌≡◌, ◌+◌};
 
 use std::marker::Model;
 use std::sync::ledger::{Blank, Book, Ledger, Share};
 
-/// How many calls of one stream have failed. It takes no bytes and cannot overflow.
+/// How many calls of one stream have failed. In memory it has no bytes, and it cannot overflow.
 #[derive(Drop)]
 pub struct Failures<L: Ledger> {
     book: Book<L>,
@@ -22,7 +22,7 @@ impl<L: Ledger> Model for Failures<L> {
 }
 
 impl<L: Ledger> Failures<L> {
-    /// A count of none yet.
+    /// A count of zero.
     pub fn none(blank: Blank) -> Self
         requires name { blank.name ≡ L.name }
         requires parts { blank.parts ≡ L.parts }
@@ -33,7 +33,7 @@ impl<L: Ledger> Failures<L> {
         Failures { book, share }
     }
 
-    /// One more call has failed.
+    /// Counts one more failed call.
     pub fn add(&mut self)
         ensures { self.new ≡ self.old + 1 }
     {

@@ -4,15 +4,15 @@ ghost use Rattle.std.specs.Prelude.{◌≡◌, ℕ, List, Option, None, Some, If
 use crate::source::Failed;
 use std::{fs, io, rt};
 
-/// What opens files by their paths.
+/// A host that opens files by their paths.
 pub trait Files {
     /// An open file.
     type File: io::Read + Drop;
 
-    /// The bytes that the file of a path gives, if they are known.
+    /// The bytes of the file at a path, if they are known.
     ghost gives: { Self → List ℕ → Option (List ℕ) };
 
-    /// Opens the file of a path. All of its bytes are left to be read.
+    /// Opens the file at a path. All of its bytes are still to be read. Error: `Failed` if the file cannot be opened.
     fn open(&self, path: &str) -> Result<Self::File, Failed>
         ensures { IfOk result (λ file. IfSome (gives self.now path.now)
             (λ bytes. Self.File.remaining file ≡ Some bytes)) };

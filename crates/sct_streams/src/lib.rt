@@ -1,8 +1,8 @@
-//! Streams of bytes that count the calls which failed, over the readers and writers of std.
+//! Streams of bytes that count their failed calls, over the readers and writers of std.
 //!
-//! A [`Source`] is read from and a [`Sink`] written to. [`Reading`] and [`Writing`] make them of any reader and writer of std, and
-//! pass on what std knows of their bytes: what is left to read, and what was written. [`Failures`] is the count. [`read_all`]
-//! reads a whole input within a limit, and [`write_all`] writes a whole text.
+//! Bytes are read from a [`Source`] and written to a [`Sink`]. [`Reading`] and [`Writing`] make these of any reader and
+//! writer of std. They keep what std knows of the bytes: those left to read, and those written. [`Failures`] is the
+//! count. [`read_all`] reads a whole input within a limit, and [`write_all`] writes a whole text.
 #![tactic(auto)]
 
 mod failures;

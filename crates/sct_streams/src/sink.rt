@@ -1,4 +1,4 @@
-//! What the program writes to.
+//! Streams that the program writes to.
 ghost use Rattle.std.specs.Prelude.{◌≡◌, ◌+◌, ◌<◌, ◌≤◌, ◌≢◌, [], ℕ, List, Option, None, length, take, IfOk, IfSome, OnOk, OnErr};
 ghost use Rattle.sct_streams.specs.Stream.{AppendsIfTold};
 
@@ -7,15 +7,16 @@ use crate::source::Failed;
 use std::io;
 use std::sync::ledger::{Blank, Ledger};
 
-/// What bytes are written to.
+/// A stream that bytes are written to.
 pub trait Sink {
-    /// The bytes that were written, where they are known.
+    /// The bytes that were written, if they are known.
     ghost held: { Self → Option (List ℕ) };
 
     /// How many writes have failed.
     ghost failures: { Self → ℕ };
 
-    /// Writes some bytes of the front of the piece. A write that takes none of a piece with bytes has failed.
+    /// Writes some bytes from the front of the piece, and returns their number. It fails if it takes no byte of a piece
+    /// that has bytes. A failed write takes no byte, and is counted.
     fn write(&mut self, piece: &[u8]) -> Result<usize, Failed>
         ensures fits { IfOk result (λ n. n ≤ length piece.now) }
         ensures some { IfOk result (λ n. 0 < length piece.now → 0 < n) }
@@ -25,7 +26,7 @@ pub trait Sink {
         ensures untaken { OnErr result (AppendsIfTold (held self.old) (held self.new) []) };
 }
 
-/// One of std's writers, with a count of the writes that failed. An interrupted write is one of them.
+/// A writer of std, with a count of its failed writes. An interrupted write counts as a failed one.
 #[derive(Drop)]
 pub struct Writing<W: io::Write + Drop, L: Ledger> {
     writer: W,
@@ -33,7 +34,7 @@ pub struct Writing<W: io::Write + Drop, L: Ledger> {
 }
 
 impl<W: io::Write + Drop, L: Ledger> Writing<W, L> {
-    /// The writer, of which no write has failed yet.
+    /// The writer, with no failed write.
     pub fn new(writer: W, blank: Blank) -> Self
         requires name { blank.name ≡ L.name }
         requires parts { blank.parts ≡ L.parts }

@@ -1,4 +1,4 @@
-//! What the program reads from.
+//! Streams that the program reads from.
 ghost use Rattle.std.specs.Prelude.{◌≡◌, ◌+◌, ◌≤◌, ℕ, List, Option, None, length, IfOk, IfSome, OnOk, OnErr};
 ghost use Rattle.sct_streams.specs.Stream.{Gives, HasTakenIfTold};
 
@@ -10,15 +10,16 @@ use std::sync::ledger::{Blank, Ledger};
 #[derive(Clone, Copy, Debug, PartialEq, Eq)]
 pub struct Failed;
 
-/// What bytes are read from.
+/// A stream that bytes are read from.
 pub trait Source {
-    /// The bytes that reads will give from here on, where they are known.
+    /// The bytes that further reads will give, if they are known.
     ghost left: { Self → Option (List ℕ) };
 
     /// How many reads have failed.
     ghost failures: { Self → ℕ };
 
-    /// Reads some bytes into the front of the piece. None at a piece that has room is the end. A failed read took none.
+    /// Reads some bytes into the front of the piece, and returns their number. 0 for a piece that has room is the end.
+    /// A failed read takes no byte, and is counted.
     fn read(&mut self, piece: &mut [u8]) -> Result<usize, Failed>
         ensures fits { IfOk result (λ n. n ≤ length piece.new) }
         ensures given { IfOk result (λ n. IfSome (left self.old)
@@ -28,7 +29,7 @@ pub trait Source {
         ensures untaken { OnErr result (HasTakenIfTold (left self.old) (left self.new) 0) };
 }
 
-/// One of std's readers, with a count of the reads that failed. An interrupted read is one of them.
+/// A reader of std, with a count of its failed reads. An interrupted read counts as a failed one.
 #[derive(Drop)]
 pub struct Reading<R: io::Read + Drop, L: Ledger> {
     reader: R,
@@ -36,7 +37,7 @@ pub struct Reading<R: io::Read + Drop, L: Ledger> {
 }
 
 impl<R: io::Read + Drop, L: Ledger> Reading<R, L> {
-    /// The reader, of which no read has failed yet.
+    /// The reader, with no failed read.
     pub fn new(reader: R, blank: Blank) -> Self
         requires name { blank.name ≡ L.name }
         requires parts { blank.parts ≡ L.parts }

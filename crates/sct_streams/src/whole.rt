@@ -1,4 +1,4 @@
-//! Whole inputs from a source, and whole texts to a sink.
+//! Reads whole inputs from a source, and writes whole texts to a sink.
 ghost use Rattle.std.specs.Prelude.{◌≡◌, ◌+◌, ◌≤◌, ◌<◌, [], Some, length, vec_len, IsOk, IfOk, IfErr, IfSome, OnOk, OnErr};
 ghost use Rattle.sct_streams.specs.Stream.{AppendsIfTold, AppendsPrefixIfTold, Gives, HasTakenIfTold};
 ghost use Rattle.sct_streams.specs.Whole.{failed_reads, EndsReading};
@@ -11,11 +11,11 @@ use std::alloc::{AllocError, Global};
 /// Why an input was not read whole.
 #[derive(Clone, Copy, Debug, PartialEq, Eq)]
 pub enum ReadFault {
-    /// It has a byte past the limit.
+    /// The input has a byte past the limit.
     TooLong,
     /// A read failed.
     Failed,
-    /// Memory is wanting.
+    /// Out of memory.
     Memory,
 }
 
@@ -29,7 +29,7 @@ impl From<AllocError> for ReadFault {
 
 const PIECE: usize = 65_536;
 
-// Reads into the first bytes of the piece, of which no more than `most` are used.
+// Reads at most `most` bytes into the front of the piece.
 fn read_most<R: Source>(source: &mut R, piece: &mut [u8], most: usize) -> Result<usize, Failed>
     requires { most ≤ length piece.old }
     ensures fits { IfOk result (λ n. n ≤ most) }
@@ -42,7 +42,9 @@ fn read_most<R: Source>(source: &mut R, piece: &mut [u8], most: usize) -> Result
     source.read(&mut piece[..most])
 }
 
-/// Reads to the end, or to the first byte past a limit, which counts bytes.
+/// Reads all bytes up to the end. `limit` is the greatest number of bytes.
+/// Errors: `TooLong` if there are more bytes, after one byte past the limit was read; `Failed` if a read fails;
+/// `Memory`. The bytes read so far are then lost.
 pub fn read_all<R: Source>(alloc: Global, source: &mut R, limit: u64) -> Result<Vec<u8>, ReadFault>
     ensures all { IfOk result (λ v. IfSome (R.left source.old)
         (λ bytes. (bytes ≡ v.items) × (R.left source.new ≡ Some []))) }
@@ -68,7 +70,8 @@ pub fn read_all<R: Source>(alloc: Global, source: &mut R, limit: u64) -> Result<
     Err(ReadFault::TooLong)
 }
 
-/// Writes all of the bytes, or as many as are taken before a write fails. Of no bytes there is no write.
+/// Writes all of the bytes. Error: `Failed` if a write fails; a prefix of the bytes was
+/// then written. An empty text makes no call.
 #[tactic(auto, using(crate::proofs::Fronts::one_write_more))]
 pub fn write_all<K: Sink>(sink: &mut K, bytes: &[u8]) -> Result<(), Failed>
     ensures all { OnOk result (AppendsIfTold (K.held sink.old) (K.held sink.new) bytes.now) }
