@@ -1,4 +1,4 @@
--- What the words of a command line ask for, by clap's own definitions. Read by an auditor.
+-- The orders that the words of a command line give, by clap's own definitions. Read by an auditor.
 use Rattle.std.specs.Prelude.{◌≡◌, ◌≢◌, ◌↔◌, true, List, [], ◌∷◌, Option, Some, None, option_and_then, IsTrue, Result, Ok, Err, codes}
 use Rattle.clap.specs.Words.{App, Rule, Text, new_app, new_rule, subcommand_of, with_rule, with_subcommand, fault_of, IsAmong}
 use Rattle.clap.specs.declared.builder.action.ArgAction.TheVariants.{Append}
@@ -13,17 +13,17 @@ use Rattle.sct_engine.specs.declared.request.Request.{Request}
 use Rattle.sct_engine.specs.declared.request.Request.TheVariants.{Help, Mistake}
 use Rattle.sct_engine.specs.Request.{is_mistake, job, order_named, order_of, report, sites, Order}
 
--- a command that wants one of its subcommands
+-- a command that requires one of its subcommands
 abbrev pub wanting_one : App → App
 wanting_one app = record app { top = record app.top { subcommand_required = true } }
 
--- the commands that tell of each transfer and of each message, one of which is wanted
+-- the program with the commands `status` and `archive`, one of which is required
 abbrev pub listing_commands : App
 listing_commands =
     with_subcommand (with_subcommand (wanting_one (new_app (codes "sct_sites"))) (new_app (codes "status")).top)
     (new_app (codes "archive")).top
 
--- a word that has to stand in its place
+-- a word that is required in its place
 abbrev pub wanted_word : Text → Rule
 wanted_word name = record (new_rule name) { required = true }
 
@@ -39,53 +39,53 @@ report_command = with_rule (with_rule (with_rule (new_app (codes "report")) (wan
 abbrev pub run_command : App
 run_command = with_rule (new_app (codes "run")) (wanted_words (codes "FILE"))
 
--- with the commands that sum up and compare
+-- the program with the commands `totals` and `report` added
 abbrev pub comparing_commands : App
 comparing_commands = with_subcommand (with_subcommand listing_commands (new_app (codes "totals")).top) report_command.top
 
--- the program's command line as clap sees it: one command an order, and one of them is wanted
+-- the program's command line as clap sees it: one command for each order, and one of them is required
 abbrev pub command_line : App
 command_line = with_subcommand (with_subcommand comparing_commands (new_app (codes "replay")).top) run_command.top
 
--- what the command orders that clap finds in the words, the first of which is the program's name
+-- the order of the command that clap finds in the words, the first of which is the program's name
 abbrev pub order_asked : List Text → Option Order
 order_asked words = option_and_then (λ found. order_named found.0 found.1) (subcommand_of command_line words)
 
--- what clap counts as an error and not as a request for help
+-- clap counts this kind as an error, not as a request for help
 abbrev pub IsMistakeKind : ErrorKind → Type 0
 IsMistakeKind k = (k ≢ kind.DisplayHelp) × (k ≢ kind.DisplayVersion)
 
--- what is asked for is no order but what clap answers by an error of this kind
+-- the request is not an order but clap's answer by an error of this kind
 abbrev pub AnswersKind : Request → ErrorKind → Type 0
 AnswersKind (Help text) k = IsTrue (is_mistake (Help text)) ↔ IsMistakeKind k
 AnswersKind (Mistake text) k = IsTrue (is_mistake (Mistake text)) ↔ IsMistakeKind k
 AnswersKind _ k = ⊥
 
--- the words ask for it: for an order, that of the command found in them; for help or as a mistake, where clap has an error
--- of such a kind for the words
+-- the words ask for the request: an order is that of the command found in them; help or a mistake needs an error
+-- of such a kind that clap has for the words
 abbrev pub AsksFor : List Text → Request → Type 0
 AsksFor words (Help text) = (k : ErrorKind) × (IsAmong k (fault_of command_line words) × AnswersKind (Help text) k)
 AsksFor words (Mistake text) = (k : ErrorKind) × (IsAmong k (fault_of command_line words) × AnswersKind (Mistake text) k)
 AsksFor words request = order_asked words ≡ order_of request
 
--- the same, or why nothing is asked for: want of memory, or no order
+-- the words ask for the request; or there is no request: the call is out of memory, or there is no order
 abbrev pub AreAsking : List Text → Result Request ProgramFault → Type 0
 AreAsking words (Ok request) = AsksFor words request
 AreAsking words (Err fault.Memory) = Unit {0}
 AreAsking words (Err fault.Usage) = order_asked words ≡ None
 AreAsking words (Err _) = ⊥
 
--- clap has no error for the words, and this is what they order, if anything
+-- clap has no error for the words, and they give this order, if any
 pub record AskFor (words : List Text) (order : Option Order) : Type 0 where
   pub no_error : fault_of command_line words ≡ []
   pub found : order_asked words ≡ order
 
--- a report is ordered where the bank and the day are such
+-- a report is ordered if the bank and the day are valid
 abbrev pub report_from : Text → Text → Text → Option Order
 report_from bank day list =
     option_and_then (λ b. option_and_then (λ d. Some (report b d list)) (written_day day)) (written_bic bank)
 
--- each command asks for its order, whatever the program is called; and, behind `--`, whatever the words are
+-- each command asks for its order, whatever the program is called; and, after `--`, whatever the arguments are
 pub record CommandsAskForTheirOrders : Type 0 where
   pub status : (program : Text) → AskFor (program ∷ codes "status" ∷ []) (Some (job Status))
   pub archive : (program : Text) → AskFor (program ∷ codes "archive" ∷ []) (Some (job Archive))

@@ -1,4 +1,4 @@
--- How a run ends: its exit status, and what is told of its end. Read by an auditor.
+-- The end of a run: its exit status, and the text on standard error about it. Read by an auditor.
 use Rattle.std.specs.Prelude.{ℕ, List, [], ◌∷◌, ◌++◌, ◌==◌, if◌then◌else◌, codes, string_bytes, Result, Ok, Err}
 use Rattle.std.specs.Fmt.{decimal}
 use Rattle.std.specs.declared.io.ErrorKind.{ErrorKind}
@@ -9,8 +9,8 @@ use Rattle.sct_engine.specs.declared.ending.Ending.TheVariants as ending
 use Rattle.sct_engine.specs.declared.fault.ProgramFault.{ProgramFault}
 use Rattle.sct_engine.specs.declared.fault.ProgramFault.TheVariants as fault
 
--- the exit status: 0 where every line was taken or help was shown, 1 where some line was refused, 3 where memory was
--- wanting and 2 at any other fault, a mistake in the command line among them
+-- the exit status: 0 if every line was taken or help was shown, 1 if some line was refused, 3 for out of memory, and 2
+-- for any other fault, a mistake in the command line included
 abbrev pub exit_status_of : Result Ending ProgramFault → ℕ
 exit_status_of (Ok (ending.Done done)) = if done.refused == 0 then 0 else 1
 exit_status_of (Ok ending.Helped) = 0
@@ -18,29 +18,29 @@ exit_status_of (Ok (ending.Mistaken text)) = 2
 exit_status_of (Err fault.Memory) = 3
 exit_status_of (Err _) = 2
 
--- what may end a run before the command line is known
+-- the faults that may end a run before the command line is known
 abbrev pub EndsAsking : ProgramFault → Type 0
 EndsAsking fault.Usage = Unit {0}
 EndsAsking fault.Memory = Unit {0}
 EndsAsking _ = ⊥
 
--- the fault where the words of the command line could not be had
+-- the fault if the words of the command line could not be read
 abbrev pub words_fault : ErrorKind → ProgramFault
 words_fault OutOfMemory = fault.Memory
 words_fault _ = fault.Usage
 
--- what is told of a fault behind its number: of a bad list the row, and of a refusal at a site the number of its own fault
+-- what follows the number of a fault: the row of a bad list, or the number of the refusal at a site
 abbrev pub fault_arguments_of : ProgramFault → List ℕ
 fault_arguments_of (fault.BadList row) = codes " " ++ decimal row
 fault_arguments_of (fault.Refused number) = codes " " ++ decimal number
 fault_arguments_of _ = []
 
--- the line that tells a fault by its number
+-- the line that reports a fault by its number
 abbrev pub fault_line_of : ProgramFault → List ℕ
 fault_line_of fault = codes "fault " ++ decimal (program_fault_number fault) ++ fault_arguments_of fault ++ 10 ∷ []
 
--- what standard error tells of the end of a run, beside the refused lines: nothing of a job that was done and of help,
--- fault 64 and clap's text of a mistake in the command line, and any other fault by its number
+-- what standard error gets at the end of a run, besides the refused lines: nothing for a finished job and for help,
+-- fault 64 and clap's text for a mistake in the command line, and the number of any other fault
 abbrev pub ending_text_of : Result Ending ProgramFault → List ℕ
 ending_text_of (Ok (ending.Done done)) = []
 ending_text_of (Ok ending.Helped) = []

@@ -1,4 +1,4 @@
--- What the engine writes of an input, and how a text goes out. Read by an auditor.
+-- The texts that the engine writes for an input, and how a text is written to a stream. Read by an auditor.
 use Rattle.std.specs.Prelude.{ℕ, ◌≡◌, ◌+◌, ◌<◌, ◌≤◌, ◌⊎◌, List, [], length, Option, Some, None, IfSome, IsSome, Result, Ok, Err}
 use Rattle.std.specs.Option.{option_map}
 use Rattle.sct_engine.specs.declared.jobs.Job.{Job}
@@ -22,22 +22,22 @@ use Rattle.sct_script.specs.Scripts as script
 use Rattle.sct_script.specs.Scripts.{sites_told}
 use Rattle.sct_streams.specs.Stream.{AppendsIfTold, AppendsPrefixIfTold}
 
--- ---- what is asked
+-- ---- the text of a job
 
--- the text that answers what is asked of a set of messages: where each transfer stands, the archive text, the totals of each
--- bank, or the report on a list
+-- the text that answers a question about a set of messages: the status text, the archive text,
+-- the totals text, or the report on a list
 abbrev pub asked_text_of : Question → Contents → List ℕ
 asked_text_of question.Status contents = status_text_of contents
 asked_text_of question.Archive contents = archive_text_of contents
 asked_text_of question.Totals contents = totals_text_of contents
 asked_text_of (question.Report bank day list) contents = report_text_of (report_of contents bank.now day.now list)
 
--- the report on a list, where its text is one
+-- the report on a list, if its text is a valid list
 abbrev pub reported : Contents → List ℕ → List ℕ → Result (List ListedRow) ReconcileFault → List ℕ
 reported contents bank day (Ok rows) = report_text_of (report_of contents bank day rows)
 reported contents bank day (Err fault) = []
 
--- the text that a job makes of an input: what it asks of the set of the messages read, or the replay of a script
+-- the text of a job for an input: the answer about the set of the messages read, or the replay of a script
 abbrev pub job_text_of : Job → List ℕ → List ℕ
 job_text_of job.Status input = asked_text_of question.Status (set_read input)
 job_text_of job.Archive input = asked_text_of question.Archive (set_read input)
@@ -45,16 +45,16 @@ job_text_of job.Totals input = asked_text_of question.Totals (set_read input)
 job_text_of (job.Report bank day list) input = reported (set_read input) bank day (list_of list.items)
 job_text_of job.Replay input = replay_of input
 
--- the same, where the input is known
+-- the text of a job, if the input is known
 abbrev pub job_text_if_told : Job → Option (List ℕ) → Option (List ℕ)
 job_text_if_told job input = option_map (job_text_of job) input
 
--- the lines that tell the refused lines of a job's input: lines of messages, or of a script
+-- the lines that report the refused lines of a job's input, which are lines of messages or of a script
 abbrev pub told_of : Job → List ℕ → List ℕ
 told_of job.Replay input = script.told_text_of (script.refusals_told input)
 told_of _ input = told_text_of (refusals_told input)
 
--- the same, where the input is known
+-- the lines that report the refused lines, if the input is known
 abbrev pub told_text_if_told : Job → Option (List ℕ) → Option (List ℕ)
 told_text_if_told job input = option_map (told_of job) input
 
@@ -65,37 +65,37 @@ refused_of _ input = length (refusals_told input)
 
 -- ---- lists
 
--- the number of the first bad record of a list, where it has one
+-- the number of the first bad record of a list, if it has one
 abbrev pub bad_row : Result (List ListedRow) ReconcileFault → Option ℕ
 bad_row (Err (BadList row)) = Some row
 bad_row _ = None
 
--- the same of the list that a job compares with
+-- the number of the first bad record of the list that a job compares with
 abbrev pub bad_row_of : Job → Option ℕ
 bad_row_of (job.Report bank day list) = bad_row (list_of list.items)
 bad_row_of _ = None
 
--- A run tells the first bad record of its job's list where there is one, and only then; it may end before the list is read,
--- or for want of memory.
+-- A run reports the first bad record of its job's list only if there is one. If there is one, the run reports it, or
+-- ends before the list is read, or is out of memory.
 abbrev pub StandsOnList : {T : Type 0} → Option ℕ → Result T ProgramFault → Type 0
 StandsOnList row (Err (fault.BadList told)) = row ≡ Some told
 StandsOnList row (Err fault.Usage) = Unit {0}
 StandsOnList row (Err fault.Memory) = Unit {0}
 StandsOnList row _ = row ≡ None
 
--- the list that was read for a job: where it compares with one, its rows
+-- the rows of the list that was read for a job, if the job compares with a list
 abbrev pub IsListOf : Job → Option (List ListedRow) → Type 0
 IsListOf (job.Report bank day list) (Some rows) = list_of list.items ≡ Ok rows
 IsListOf (job.Report bank day list) None = ⊥
 IsListOf _ rows = Unit {0}
 
--- what may end a run while its list is read
+-- the faults that may end a run while its list is read
 abbrev pub EndsListing : ProgramFault → Type 0
 EndsListing (fault.BadList row) = Unit {0}
 EndsListing fault.Memory = Unit {0}
 EndsListing _ = ⊥
 
--- ---- inputs that a job does not take: a replay takes nothing but a script
+-- ---- inputs that a job does not take: a replay takes only a script
 
 abbrev pub IsInputOf : Job → List ℕ → Type 0
 IsInputOf job.Replay input = IsSome (sites_told input)
@@ -105,30 +105,30 @@ abbrev pub IsNoInputOf : Job → List ℕ → Type 0
 IsNoInputOf job.Replay input = sites_told input ≡ None
 IsNoInputOf _ input = ⊥
 
--- the bytes of an input, which was read whole and lies within the limit, are none that the job takes
+-- the bytes of an input, which was read whole and is within the limit, are not taken by the job
 pub record IsRefusedInput (work : Job) (limit : ℕ) (left left_now : Option (List ℕ)) : Type 0 where
   pub bytes : List ℕ
   pub within : length bytes ≤ limit
   pub no_input : IsNoInputOf work bytes
   pub read : IfSome left (λ input. (input ≡ bytes) × (left_now ≡ Some []))
 
--- a limit that no run may have: it is 1 to 1,073,741,824 bytes
+-- a limit that a run cannot have: a limit is 1 to 1,073,741,824 bytes
 abbrev pub IsBadLimit : ℕ → Type 0
 IsBadLimit limit = (limit ≡ 0) ⊎ (1073741824 < limit)
 
--- ---- how a text goes out
+-- ---- how a text is written to a stream
 
--- no write failed, and what is held is what was held before followed by the whole text, where these are known
+-- no write failed, and the bytes held are those held before followed by the whole text, if these are known
 pub record IsWritten (failed failed_now : ℕ) (held held_now : Option (List ℕ)) (text : Option (List ℕ)) : Type 0 where
   pub none_failed : failed_now ≡ failed
   pub whole : IfSome text (λ bytes. AppendsIfTold held held_now bytes)
 
--- one write failed, and what is held is what was held before followed by a prefix of the text, where these are known
+-- one write failed, and the bytes held are those held before followed by a prefix of the text, if these are known
 pub record IsCutOff (failed failed_now : ℕ) (held held_now : Option (List ℕ)) (text : Option (List ℕ)) : Type 0 where
   pub one_failed : failed_now ≡ failed + 1
   pub prefix : IfSome text (λ bytes. AppendsPrefixIfTold held held_now bytes)
 
--- the text went out whole, or one write failed and a prefix of it did
+-- the whole text was written, or one write failed and a prefix of it was written
 abbrev pub IsWrittenOrCutOff : ℕ → ℕ → Option (List ℕ) → Option (List ℕ) → Option (List ℕ) → Type 0
 IsWrittenOrCutOff failed failed_now held held_now text =
     IsWritten failed failed_now held held_now text ⊎ IsCutOff failed failed_now held held_now text

@@ -1,4 +1,4 @@
--- The faults that end a run: their numbers, and what each says of failed calls. Read by an auditor.
+-- The faults that end a run: their numbers, and how many calls of a stream failed at each. Read by an auditor.
 use Rattle.std.specs.Prelude.{ℕ}
 use Rattle.sct_engine.specs.declared.fault.ProgramFault.{ProgramFault}
 use Rattle.sct_engine.specs.declared.fault.ProgramFault.TheVariants.{BadList, TooLong, Held, Read, Write, Usage, Memory, Refused, NoWorker}
@@ -29,12 +29,12 @@ abbrev pub failed_writes : ProgramFault → ℕ
 failed_writes Write = 1
 failed_writes _ = 0
 
--- what ends the program where a list is not read, or no report is made of it
+-- the fault of the program if a list is not read, or no report is made of it
 abbrev pub fault_of_list : ReconcileFault → ProgramFault
 fault_of_list (list.BadList row) = BadList row
 fault_of_list list.Memory = Memory
 
--- what ends the program where the inputs of a run have no answer
+-- the fault of the program if the inputs of a run have no answer
 abbrev pub fault_of_run : RunFault → ProgramFault
 fault_of_run run.Usage = Usage
 fault_of_run run.Held = Held

@@ -1,4 +1,4 @@
--- What the command line asks for. Read by an auditor.
+-- The requests of the command line. Read by an auditor.
 use Rattle.std.specs.Prelude.{ℕ, ◌≡◌, List, map, length, Option, Some, None, Bool, true, false, ◌&&◌, nat_lt, not, if◌then◌else◌, codes, option_and_then, option_map, Result, Ok, Err}
 use Rattle.sct_element.specs.Bank.{written_bic}
 use Rattle.sct_element.specs.Date.{written_day}
@@ -21,18 +21,18 @@ job_named word =
     else if is_text word (codes "replay") then Some Replay
     else None
 
--- What a command orders: a job on standard input; to compare it with a bank's list for a day, which lies in the file of a
--- path; or to bring the sites to one answer that are filled from the files of some paths.
+-- The order of a command: a job on standard input; to compare standard input with a bank's list for a day, in the file
+-- at a path; or to settle the sites that are filled from the files at some paths.
 pub data Order : Type 0 where
   job : Job → Order
   report : Text → Text → Text → Order
   sites : List Text → Order
 
--- what is ordered with a bank, a day and a list
+-- the order with a bank, a day and a list
 abbrev pub report_with : Reconciliation → Order
 report_with reconciliation = report reconciliation.bank reconciliation.day reconciliation.list.now
 
--- what a request orders, where it is none for help and no mistake
+-- the order of a request, if it is neither help nor a mistake
 abbrev pub order_of : Request → Option Order
 order_of (Run work) = Some (job work)
 order_of (Reconcile reconciliation) = Some (report_with reconciliation)
@@ -40,7 +40,8 @@ order_of (Settle files) = Some (sites (map (λ path. path.now) files.items))
 order_of (Help text) = None
 order_of (Mistake text) = None
 
--- of the values of `report` the bank and the day, where these are one, in their written form, and the path of the list
+-- the order of `report` from the values of its arguments: the bank and the day in their written form, if
+-- these are valid, and the path of the list
 abbrev pub report_ordered : List Row → Option Order
 report_ordered given =
     option_and_then (λ bank. option_and_then (λ day. option_map (λ list. report bank day list)
@@ -48,26 +49,26 @@ report_ordered given =
     (option_and_then written_day (first_of (codes "DAY") given)))
     (option_and_then written_bic (first_of (codes "BANK") given))
 
--- so many files can be run: 1 to 16
+-- this number of files can be run: 1 to 16
 abbrev pub are_sites : ℕ → Bool
 are_sites count = nat_lt 0 count && not (nat_lt 16 count)
 
--- files that can be run
+-- the order of `run` with these files, if they can be run
 abbrev pub sites_from : List Text → Option Order
 sites_from files = if are_sites (length files) then Some (sites files) else None
 
--- the files that `run` is given, where they can be run
+-- the order of `run` from the values of its arguments
 abbrev pub sites_ordered : List Row → Option Order
 sites_ordered given = option_and_then sites_from (all_of (codes "FILE") given)
 
--- what the command of a name orders with the values of its arguments
+-- the order of the command with this name, from the values of its arguments
 abbrev pub order_named : Text → List Row → Option Order
 order_named name given =
     if is_text name (codes "report") then report_ordered given
     else if is_text name (codes "run") then sites_ordered given
     else option_map (λ work. job work) (job_named name)
 
--- the request is what is ordered; where nothing is, or memory is wanting, there is none
+-- the request is the order; if there is no order, or the call is out of memory, there is no request
 abbrev pub IsOrdered : Option Order → Result Request ProgramFault → Type 0
 IsOrdered (Some order) (Ok request) = order_of request ≡ Some order
 IsOrdered None (Ok request) = ⊥
@@ -75,12 +76,12 @@ IsOrdered order (Err fault.Memory) = Unit {0}
 IsOrdered order (Err fault.Usage) = order ≡ None
 IsOrdered order (Err _) = ⊥
 
--- a mistake, and neither an order nor help
+-- the request is a mistake
 abbrev pub is_mistake : Request → Bool
 is_mistake (Mistake text) = true
 is_mistake _ = false
 
--- what is asked for in place of an order: help, or nothing that the program does
+-- the request is not an order: it is help or a mistake
 abbrev pub AsksForNoOrder : Request → Type 0
 AsksForNoOrder (Help text) = Unit {0}
 AsksForNoOrder (Mistake text) = Unit {0}

@@ -1,4 +1,4 @@
--- One run of the program: what it asks, answers and tells. Read by an auditor.
+-- One run of the program: its request, its answer and its report. Read by an auditor.
 use Rattle.std.specs.Prelude.{ℕ, ◌≡◌, ◌≢◌, ◌+◌, ◌≤◌, ◌⊎◌, false, List, length, map, Option, Some, Result, Ok, Err, IfOk, IfErr, OnOk, Vec, String, string_bytes}
 use Rattle.std.specs.declared.alloc.Global.{Global}
 use Rattle.sct_engine.specs.declared.ending.Ending.{Ending}
@@ -15,8 +15,8 @@ use Rattle.sct_engine.specs.declared.task.Task.TheVariants as task
 use Rattle.sct_run.specs.Runs.{are_sites}
 use Rattle.sct_streams.specs.Stream.{HasTakenIfTold}
 
--- the three streams at one moment: the bytes that standard input has left and that the other two hold, where these are
--- known, and how many reads and writes of each have failed
+-- the three streams at one moment: the bytes that standard input has left and the bytes that the other two hold, if
+-- these are known, and how many reads and writes of each have failed
 pub record Streams : Type 0 where
   pub left : Option (List ℕ)
   pub reads_failed : ℕ
@@ -35,7 +35,7 @@ streams left reads_failed out out_failed err err_failed = record {
   err_failed = err_failed;
 }
 
--- the words of a command line as texts, or why they could not be had
+-- the words of a command line as texts, or the fault by which they could not be read
 abbrev pub words_told : Result (Vec (String Global) Global) ProgramFault → Result (List (List ℕ)) ProgramFault
 words_told (Ok words) = Ok (map string_bytes words.items)
 words_told (Err fault) = Err fault
@@ -61,15 +61,14 @@ IsPrinted before after text = IsWritten before.out_failed after.out_failed befor
 abbrev pub IsPrintedInPart : Streams → Streams → Option (List ℕ) → Type 0
 IsPrintedInPart before after text = IsCutOff before.out_failed after.out_failed before.out after.out text
 
--- what was asked for cannot be done: standard input was read whole, and is none that the job takes; or the inputs are none
--- that can be run
+-- the task cannot be done: standard input was read whole and the job does not take it, or the inputs cannot be run
 abbrev pub CannotBeDone : Task → Option (List ℕ) → Option (List ℕ) → Type 0
 CannotBeDone (task.Work job) left left_now = IsRefusedInput job 1073741824 left left_now
 CannotBeDone (task.Settle inputs) left left_now = are_sites (length inputs.items) ≡ false
 CannotBeDone _ left left_now = ⊥
 
--- how a task is answered, from the streams before to the streams after: the text on standard output, the refused lines on
--- standard error, and when each fault comes, where an input has at most 1,073,741,824 bytes
+-- how a task is answered, from the streams before to the streams after: the text on standard output, the refused lines
+-- on standard error, and the cases of each fault. An input has at most 1,073,741,824 bytes.
 pub record IsAnswered (task : Task) (before after : Streams) (ended : Result Ending ProgramFault) : Type 0 where
   pub ending : IfOk ended (IsEndingOf task before.left)
   pub printed : OnOk ended (IsPrinted before after (out_text_of task before.left))
@@ -88,24 +87,24 @@ pub record IsAnswered (task : Task) (before after : Streams) (ended : Result End
       × IsPrintedInPart before after (out_text_of task before.left))
   pub unwritten : IfErr ended (λ e. e ≢ fault.Write → IsUnwritten before after)
 
--- what was asked for, with the bytes of its files; a command line that could not be had or that asks for nothing ends the
--- run at once
+-- the task of a request with the bytes of its files; a command line that could not be read, or
+-- that asks for nothing, ends the run at once
 abbrev pub IsPreparedIfAsked : (List ℕ → Option (List ℕ)) → Result Request ProgramFault → Result Task ProgramFault → Type 0
 IsPreparedIfAsked gives (Ok request) prepared = IsPrepared gives request prepared
 IsPreparedIfAsked gives (Err fault) prepared = prepared ≡ Err fault
 
--- how that is answered; files that could not be read end the run at once
+-- the answer to that task; files that could not be read end the run at once
 abbrev pub IsAnsweredIfPrepared : Result Task ProgramFault → Streams → Streams → Result Ending ProgramFault → Type 0
 IsAnsweredIfPrepared (Ok task) before after ended = IsAnswered task before after ended
 IsAnsweredIfPrepared (Err fault) before after ended = (ended ≡ Err fault) × (after ≡ before)
 
--- what the words of a command line, where they could be had, ask for
+-- the request of the words of a command line, if these could be read
 abbrev pub IsAskedBy : Result (List (List ℕ)) ProgramFault → Result Request ProgramFault → Type 0
 IsAskedBy (Err fault) asked = asked ≡ Err fault
 IsAskedBy (Ok words) asked = AreAsking words asked
 
--- One run: it asks what the words ask for, reads the files that are named there, which give these bytes, answers that, prints its
--- end on standard error, and gives the exit status of its end
+-- One run. It reads the request of the words, reads the files that the request names, which have these bytes, answers
+-- the request, reports its end on standard error, and returns the exit status of its end.
 pub record IsRun (gives : List ℕ → Option (List ℕ)) (words : Result (List (List ℕ)) ProgramFault) (before after : Streams) (status : ℕ) : Type 0 where
   pub asked : Result Request ProgramFault
   pub prepared : Result Task ProgramFault

@@ -1,4 +1,4 @@
--- Which faults may end the reading and the writing of a stream. Read by an auditor.
+-- The faults that may end the reading and the writing of a stream. Read by an auditor.
 use Rattle.std.specs.Prelude.{ℕ, ◌<◌, List, length, Option, IfSome}
 use Rattle.std.specs.List.{Contains}
 use Rattle.sct_engine.specs.declared.fault.ProgramFault.{ProgramFault}
@@ -6,8 +6,8 @@ use Rattle.sct_engine.specs.declared.fault.ProgramFault.TheVariants.{TooLong, Re
 use Rattle.sct_streams.specs.Whole as whole
 use Rattle.sct_streams.specs.declared.whole.ReadFault.TheVariants as reading
 
--- what a fault says that ended the reading of at most so many of the bytes that were left: past the limit exactly one
--- byte more than the limit was taken, and before a read that failed at most the limit
+-- The meaning of a fault that ended the reading of at most `limit` bytes. Past the limit, exactly one byte more than
+-- the limit was taken. Before a failed read, at most `limit` bytes were taken.
 abbrev pub EndsReading : ProgramFault → ℕ → Option (List ℕ) → Option (List ℕ) → Type 0
 EndsReading TooLong limit before after = whole.EndsReading reading.TooLong limit before after
 EndsReading Read limit before after = whole.EndsReading reading.Failed limit before after
@@ -19,8 +19,8 @@ abbrev pub EndsWriting : ProgramFault → Type 0
 EndsWriting Write = Unit {0}
 EndsWriting _ = ⊥
 
--- what may end the reading of a file that gives these bytes, if they are known: it cannot be opened or a read fails, it has more
--- than 1,073,741,824 bytes, or memory is out
+-- the faults that may end the reading of a file with these bytes, if they are known: it cannot be opened or a read
+-- fails, it has more than 1,073,741,824 bytes, or it is out of memory
 abbrev pub EndsFile : Option (List ℕ) → ProgramFault → Type 0
 EndsFile bytes Read = Unit {0}
 EndsFile bytes TooLong = IfSome bytes (λ known. 1073741824 < length known)

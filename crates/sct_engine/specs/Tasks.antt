@@ -1,4 +1,5 @@
--- What is to be done once the files are read that the command line names, and what a run then writes. Read by an auditor.
+-- The task of a run after the files that the command line names are read, and the texts that
+-- the run then writes. Read by an auditor.
 use Rattle.std.specs.Prelude.{ℕ, ◌≡◌, List, [], map, Option, Some, None, IfSome, Result, Ok, Err, string_bytes}
 use Rattle.sct_receipts.specs.Faults.{IsRefusalNumber}
 use Rattle.sct_run.specs.Runs.{set_of_all}
@@ -21,13 +22,13 @@ use Rattle.sct_streams.specs.Files.{AreGiven, IsGiven}
 
 -- ---- the files
 
--- the job compares with the list in the file of the path, for the bank and the day
+-- the job compares with the list in the file at the path, for the bank and the day
 abbrev pub IsReportWith : (List ℕ → Option (List ℕ)) → Reconciliation → Job → Type 0
 IsReportWith gives with (Report bank day list) = (bank ≡ with.bank) × (day ≡ with.day) × IsGiven gives with.list.now list.items
 IsReportWith gives with _ = ⊥
 
--- What a request is with the bytes of its files: of `report` the list is what its file gives, and of `run` the inputs are what
--- the files give, in the order of the paths.
+-- The task of a request with the bytes of its files. The list of `report` has the bytes of its file. The inputs of
+-- `run` have the bytes of the files, in the order of the paths.
 abbrev pub IsTaskOf : (List ℕ → Option (List ℕ)) → Request → Task → Type 0
 IsTaskOf gives (request.Run job) (Work work) = work ≡ job
 IsTaskOf gives (request.Reconcile with) (Work work) = IsReportWith gives with work
@@ -42,30 +43,30 @@ EndsFilesOf gives (request.Reconcile with) fault = EndsFile (gives with.list.now
 EndsFilesOf gives (request.Settle files) fault = EndsFiles gives (map (λ path. path.now) files.items) fault
 EndsFilesOf gives _ fault = ⊥
 
--- what a request is with the bytes of its files, or why these could not be had
+-- the task of a request with the bytes of its files, or the fault by which these could not be read
 abbrev pub IsPrepared : (List ℕ → Option (List ℕ)) → Request → Result Task ProgramFault → Type 0
 IsPrepared gives request (Ok task) = IsTaskOf gives request task
 IsPrepared gives request (Err fault) = EndsFilesOf gives request fault
 
--- ---- what is written
+-- ---- the texts that are written
 
--- what standard output gets: the text of the job, where standard input is known; the status text of the union of the sets
--- that are read from the inputs; or the help
+-- the text on standard output: the text of the job, if standard input is known; the status text of the union of the
+-- sets that are read from the inputs; or the help
 abbrev pub out_text_of : Task → Option (List ℕ) → Option (List ℕ)
 out_text_of (Work job) input = job_text_if_told job input
 out_text_of (Settle inputs) input = Some (status_text_of (set_of_all (bytes_of inputs.items)))
 out_text_of (Help text) input = Some (string_bytes text)
 out_text_of (Mistake text) input = Some []
 
--- what standard error gets before the run's end is told: the lines that tell the refused lines, with the files' numbers
--- where there are files
+-- the text on standard error before the end of the run: the lines that report the refused lines, with
+-- the numbers of the files if there are files
 abbrev pub refusals_text_of : Task → Option (List ℕ) → Option (List ℕ)
 refusals_text_of (Work job) input = told_text_if_told job input
 refusals_text_of (Settle inputs) input = Some (told_from 1 (bytes_of inputs.items))
 refusals_text_of (Help text) input = Some []
 refusals_text_of (Mistake text) input = Some []
 
--- how a task ends that meets no fault: with the number of the refused lines, where the input is known
+-- the end of a task without a fault: the number of the refused lines, if the input is known
 abbrev pub IsEndingOf : Task → Option (List ℕ) → Ending → Type 0
 IsEndingOf (Work job) input (Done done) = IfSome input (λ bytes. done.refused ≡ refused_of job bytes)
 IsEndingOf (Settle inputs) input (Done done) = done.refused ≡ refused_in (bytes_of inputs.items)
@@ -75,7 +76,7 @@ IsEndingOf _ _ _ = ⊥
 
 -- ---- lists and inputs
 
--- the first bad record of the list that a task compares with, where it has one
+-- the first bad record of the list that a task compares with, if it has one
 abbrev pub bad_row_in : Task → Option ℕ
 bad_row_in (Work job) = bad_row_of job
 bad_row_in _ = None
@@ -85,8 +86,8 @@ abbrev pub LeavesInput : Task → Type 0
 LeavesInput (Work job) = ⊥
 LeavesInput _ = Unit {0}
 
--- what may end the settling of inputs; no gate holds a worker back (61), and where a call was refused, the number is one
--- that a refusal has
+-- the faults that may end the settling of inputs. No gate holds a worker (61). A refused
+-- call has the number of a refusal.
 abbrev pub EndsSettling : ProgramFault → Type 0
 EndsSettling fault.Write = Unit {0}
 EndsSettling fault.Usage = Unit {0}

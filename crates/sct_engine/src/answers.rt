@@ -1,5 +1,5 @@
-//! What is answered of the messages of an input: where each transfer stands, the archive text, the totals of each bank, or
-//! the report on a list.
+//! The answer of a job about the messages of an input: the status text, the archive text,
+//! the totals text, or the report on a list.
 ghost use Rattle.std.specs.Prelude.{◌≡◌, length, string_bytes, IfErr, IfOk};
 ghost use Rattle.sct_lines.specs.Lines.{refusals_told, set_read, told_text_of};
 ghost use Rattle.sct_message.specs.Sets.{messages_in};
@@ -23,7 +23,7 @@ use std::alloc::Global;
 use std::sync::Arc;
 use std::thread::Threads;
 
-// The view of the messages, made in as many threads as there are processors.
+// The view of the messages, built in as many threads as there are processors.
 fn view_of<T: Threads + Sync>(
     rt: &T,
     alloc: Global,
@@ -71,8 +71,8 @@ fn report_text_of<T: Threads + Sync>(
     Ok(report.write()?)
 }
 
-// The status text of the set of some messages, which may stand in any order and more than once, in pieces. Only out of
-// memory is a fault.
+// The status text of the set of the messages, in pieces. The messages may be in any order
+// and may repeat. Error: `Memory` (65).
 fn status_pieces<T: Threads + Sync>(
     rt: &T,
     alloc: Global,
@@ -89,7 +89,7 @@ fn status_pieces<T: Threads + Sync>(
     pieces
 }
 
-// The totals text of the same set. Only want of memory is a fault.
+// The totals text of the set of the messages, which may be in any order and may repeat. Error: `Memory` (65).
 fn totals_text<T: Threads + Sync>(
     rt: &T,
     alloc: Global,
@@ -106,7 +106,7 @@ fn totals_text<T: Threads + Sync>(
     text
 }
 
-// The report of the same set on a bank's list for a settlement day. Only want of memory is a fault.
+// The report on a bank's list for a settlement day, over the set of the messages. Error: `Memory` (65).
 fn report_text<T: Threads + Sync>(
     rt: &T,
     alloc: Global,
@@ -126,7 +126,7 @@ fn report_text<T: Threads + Sync>(
     text
 }
 
-/// What is asked of messages.
+/// A question about messages.
 #[derive(Drop)]
 pub enum Question<'a> {
     /// The status of each transfer and of its recalls, and the findings on the contradicted ones.
@@ -135,7 +135,7 @@ pub enum Question<'a> {
     Archive,
     /// What each bank sent and received.
     Totals,
-    /// Where a bank's list for a settlement day differs from them.
+    /// The comparison of the messages with a bank's list for a settlement day.
     Report {
         bank: &'a Bic,
         day: &'a Day,
@@ -143,7 +143,7 @@ pub enum Question<'a> {
     },
 }
 
-/// What an input is answered: a text in pieces, the lines that tell its refused lines, and how many these are.
+/// The answer to an input: a text in pieces, the text of the refused lines, and their number.
 #[derive(Drop)]
 pub struct Answer {
     pub pieces: Vec<Vec<u8>>,
@@ -151,7 +151,7 @@ pub struct Answer {
     pub refused: u64,
 }
 
-/// A text as one piece. Only want of memory is a fault.
+/// A text as one piece. Error: `Memory` (65).
 pub fn one_piece(alloc: Global, text: Vec<u8>) -> Result<Vec<Vec<u8>>, ProgramFault>
     ensures text { IfOk result (λ pieces. joined pieces.items ≡ text.items) }
     ensures memory { IfErr result (λ e. e ≡ fault.Memory) }
@@ -161,7 +161,7 @@ pub fn one_piece(alloc: Global, text: Vec<u8>) -> Result<Vec<Vec<u8>>, ProgramFa
     Ok(pieces)
 }
 
-// The text that answers what is asked of some messages, in pieces.
+// The text that answers a question about the messages, in pieces.
 fn asked_pieces<T: Threads + Sync>(
     rt: &T,
     alloc: Global,
@@ -184,8 +184,10 @@ fn asked_pieces<T: Threads + Sync>(
     one_piece(alloc, text)
 }
 
-/// What is asked of the messages of an input, whose bytes are read in as many threads as there are processors, and dropped
-/// before the text is made. What the text was made of is then let go. Only out of memory is a fault.
+/// The answer to a question about the messages of an input. The bytes are read in as many
+/// threads as there are processors, and dropped before the text is made. `release` says what
+/// becomes of the messages and the view afterwards.
+/// Error: `Memory` (65).
 pub fn answer_of_messages<T: Threads + Sync>(
     rt: &T,
     alloc: Global,

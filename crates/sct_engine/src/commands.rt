@@ -1,4 +1,4 @@
-//! The command line as clap sees it.
+//! The command line, as clap sees it.
 ghost use Rattle.std.specs.Prelude.{◌≡◌, IfOk, false};
 ghost use Rattle.clap.specs.Words.{app_of};
 ghost use Rattle.clap.specs.declared.builder.command.Command.TheViews.{out-Command};
@@ -7,7 +7,7 @@ ghost use Rattle.sct_engine.specs.CommandLine.{command_line, comparing_commands,
 use clap::{Arg, ArgAction, Command};
 use std::alloc::{AllocError, Global};
 
-// The commands that tell of each transfer and of each message.
+// The program with the commands `status` and `archive`.
 fn listing_commands<'a>(alloc: Global) -> Result<Command<'a>, AllocError>
     ensures { IfOk result (λ c. app_of c ≡ listing_commands) }
 {
@@ -24,7 +24,7 @@ fn listing_commands<'a>(alloc: Global) -> Result<Command<'a>, AllocError>
         .subcommand(archive)
 }
 
-// `report BANK DAY LIST`.
+// The command `report BANK DAY LIST`.
 fn report_command<'a>(alloc: Global) -> Result<Command<'a>, AllocError>
     ensures app { IfOk result (λ c. app_of c ≡ report_command) }
     ensures own { IfOk result (λ c. (out-Command c).has_globals ≡ false) }
@@ -39,7 +39,7 @@ fn report_command<'a>(alloc: Global) -> Result<Command<'a>, AllocError>
         .arg(list)
 }
 
-// `run FILE..`.
+// The command `run FILE..`.
 fn run_command<'a>(alloc: Global) -> Result<Command<'a>, AllocError>
     ensures app { IfOk result (λ c. app_of c ≡ run_command) }
     ensures own { IfOk result (λ c. (out-Command c).has_globals ≡ false) }
@@ -54,7 +54,7 @@ fn run_command<'a>(alloc: Global) -> Result<Command<'a>, AllocError>
         .arg(file)
 }
 
-// The same, and those that sum up and compare.
+// The program with the commands `status`, `archive`, `totals` and `report`.
 fn comparing_commands<'a>(alloc: Global) -> Result<Command<'a>, AllocError>
     ensures { IfOk result (λ c. app_of c ≡ comparing_commands) }
 {

@@ -1,4 +1,4 @@
-//! How a run ends: what standard error tells of its end, and the exit status.
+//! The end of a run: the text on standard error, and the exit status.
 ghost use Rattle.std.specs.Prelude.{◌≡◌, ◌++◌, Some, IfErr, OnErr, OnOk};
 ghost use Rattle.sct_engine.specs.Ending.{ending_text_of, exit_status_of, fault_line_of};
 ghost use Rattle.sct_engine.specs.Engine.{IsCutOff, IsWritten, IsWrittenOrCutOff};
@@ -11,7 +11,7 @@ use arrayvec::ArrayString;
 use itoa::Buffer;
 use sct_streams::Sink;
 
-/// How a run ended that met no fault of its own.
+/// The end of a run without a fault of its own.
 #[derive(Debug, Drop)]
 pub enum Ending {
     /// The job was done.
@@ -22,7 +22,7 @@ pub enum Ending {
     Mistaken(String),
 }
 
-// The line that tells a fault, as `fault 62`. It takes no memory, since it tells of the want of memory too.
+// The line that reports a fault, as `fault 62`. It does not allocate, because it reports out of memory too.
 fn fault_line(fault: &ProgramFault) -> ArrayString<64>
     ensures { result.bytes ≡ fault_line_of fault.now }
 {
@@ -45,7 +45,7 @@ fn fault_line(fault: &ProgramFault) -> ArrayString<64>
     line
 }
 
-// Writes the line of a fault and the text behind it.
+// Writes the line of a fault and the text after it.
 fn tell_fault<E: Sink>(fault: &ProgramFault, text: &str, err: &mut E) -> Result<(), ProgramFault>
     ensures whole { OnOk result (IsWritten
         (E.failures err.old) (E.failures err.new) (E.held err.old) (E.held err.new)
@@ -59,7 +59,7 @@ fn tell_fault<E: Sink>(fault: &ProgramFault, text: &str, err: &mut E) -> Result<
     write_all(err, text.as_bytes())
 }
 
-// Writes what standard error tells of the end of a run, beside the refused lines.
+// Writes what standard error gets at the end of a run, after the refused lines.
 fn tell<E: Sink>(ended: &Result<Ending, ProgramFault>, err: &mut E) -> Result<(), ProgramFault>
     ensures whole { OnOk result (IsWritten
         (E.failures err.old) (E.failures err.new) (E.held err.old) (E.held err.new)
@@ -76,7 +76,7 @@ fn tell<E: Sink>(ended: &Result<Ending, ProgramFault>, err: &mut E) -> Result<()
     }
 }
 
-// 0 where all was taken, 1 where some line was refused, 2 at a fault, 3 where it is memory.
+// The exit status: 0 if all lines were taken, 1 if some line was refused, 3 for out of memory, 2 for any other fault.
 fn exit_status(ended: &Result<Ending, ProgramFault>) -> u8
     ensures { result ≡ exit_status_of ended.now }
 {
@@ -88,9 +88,10 @@ fn exit_status(ended: &Result<Ending, ProgramFault>) -> u8
     }
 }
 
-/// Tells on standard error how a run ended, and answers the exit status. What is told of a fault is its number, as
-/// `fault 62`, behind it of a bad list the row and of a refusal at a site the number of that, and of a mistake in the command
-/// line `fault 64` with clap's text behind it. A writer that fails there changes no status.
+/// Reports on standard error how a run ended, and returns the exit status.
+/// A fault is reported by its number, as `fault 62`. The row follows for a bad list, and the number of the refusal for
+/// a refusal at a site. A mistake in the command line is `fault 64`, followed by the text of clap.
+/// If standard error fails here, the status stays the same.
 pub fn conclude<E: Sink>(ended: &Result<Ending, ProgramFault>, err: &mut E) -> u8
     ensures status { result ≡ exit_status_of ended.now }
     ensures told { IsWrittenOrCutOff (E.failures err.old) (E.failures err.new) (E.held err.old) (E.held err.new)

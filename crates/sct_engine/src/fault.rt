@@ -10,27 +10,27 @@ use sct_set::SetFault;
 use std::alloc::{AllocError, AllocFailed};
 use thiserror::Error;
 
-/// What ends a run of the program.
+/// The fault that ends a run of the program.
 #[derive(Clone, Copy, Debug, PartialEq, Eq, Error)]
 #[error("fault {}", self.number())]
 pub enum ProgramFault {
-    /// A record of the list is no row of a list: the first such, counted from 1 with the header row.
+    /// 48: the number of the first bad record of the list, counted from 1 with the header.
     BadList(u64),
-    /// The input has a byte past the limit.
+    /// 60: the input has a byte past the limit.
     TooLong,
-    /// The work at a site was held back.
+    /// 61: a gate held the work at a site.
     Held,
-    /// A read failed.
+    /// 62: a read failed, or a file could not be opened.
     Read,
-    /// A write failed, or took no byte.
+    /// 63: a write failed, or took no byte.
     Write,
-    /// The command line or the limit is not one that the program takes.
+    /// 64: the program does not take the command line, the limit or the script.
     Usage,
-    /// Memory is wanting.
+    /// 65: out of memory.
     Memory,
-    /// A call at a site was refused, with the number of its own fault.
+    /// 66: a call at a site was refused, with the number of its own fault.
     Refused(u8),
-    /// There is no thread for the work at a site.
+    /// 67: a thread for the work at a site could not be started.
     NoWorker,
 }
 

@@ -1,4 +1,4 @@
-//! Files that the command line names, each read whole.
+//! Files that the command line names. Each is read whole.
 ghost use Rattle.std.specs.Prelude.{◌≡◌, ◌≤◌, map, vec_len, IfErr, IfOk, IfSome};
 ghost use Rattle.sct_engine.specs.Stream.{EndsFile, EndsFiles};
 ghost use Rattle.sct_streams.specs.Files.{AreGiven, IsGiven};
@@ -12,7 +12,7 @@ use std::io;
 use std::marker::Brand;
 use std::sync::ledger::{Blank, Ledger};
 
-// Reads what a reader has left.
+// Reads all bytes that a reader has left.
 #[tactic(auto, using(crate::proofs::FileLemmas::reading_ends))]
 fn read_left<R: io::Read + Drop, L: Ledger>(
     alloc: Global,
@@ -30,8 +30,8 @@ fn read_left<R: io::Read + Drop, L: Ledger>(
     read_all(alloc, &mut source, MOST_BYTES)
 }
 
-/// Reads the file of a path. If it cannot be opened or a read fails, the fault is 62 Read. If it has more than 1 GiB, the fault is
-/// 60 TooLong, and one byte past the limit was read. Out of memory is 65 Memory.
+/// Reads the file at a path. Errors: `Read` (62) if it cannot be opened or a read fails; `TooLong` (60) if it has more
+/// than 1 GiB, after one byte past the limit was read; `Memory` (65).
 #[tactic(auto, using(crate::proofs::FileLemmas::file_ends))]
 pub fn read_file<R: Files>(alloc: Global, files: &R, path: &str) -> Result<Vec<u8>, ProgramFault>
     ensures given { IfOk result (λ v. IsGiven (R.gives files.now) path.now v.items) }
@@ -44,7 +44,8 @@ pub fn read_file<R: Files>(alloc: Global, files: &R, path: &str) -> Result<Vec<u
     read_left::<R::File, Brand>(alloc, file, Blank::new(1))
 }
 
-/// Reads the files of some paths in their order. The first that cannot be read ends this.
+/// Reads the files at the paths in their order. The first file that cannot be read ends the
+/// reading, with the errors of [`read_file`].
 pub fn read_files<R: Files>(
     alloc: Global,
     files: &R,

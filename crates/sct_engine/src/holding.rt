@@ -15,13 +15,14 @@ use std::alloc::Global;
 use std::sync::Arc;
 use std::thread::Threads;
 
-// The archive text is an input that gives the archive back: no line of it is refused, and the set read from it is the same.
+// A law: the archive text is an input that gives the archive back. None of its lines is refused,
+// and the set read from it is the archive.
 fn the_archive_text_gives_the_set_back()
     ensures { ArchiveGivesBack }
 {}
 
-/// Each message once, written on a line of its own, by identity and then by text. The text is in pieces, which are made in as
-/// many threads as there are processors. Only out of memory is a fault.
+/// The archive text in pieces: each message once, written on a line of its own, sorted by identity and then by text.
+/// The pieces are written in as many threads as there are processors. Error: `Memory` (65).
 pub fn archive_pieces<T: Threads + Sync>(
     rt: &T,
     alloc: Global,

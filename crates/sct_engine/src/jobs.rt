@@ -1,4 +1,4 @@
-//! One run of a job: an input is read whole, and then its refused lines are told and its text is written.
+//! One run of a job: an input is read whole, and then its refused lines are reported and its text is written.
 ghost use Rattle.std.specs.Prelude.{
   ◌≡◌,
   ◌≢◌,
@@ -50,7 +50,7 @@ use sct_streams::{Sink, Source};
 use std::alloc::Global;
 use std::thread::Threads;
 
-/// What is asked of an input.
+/// The job of a command that reads standard input.
 #[derive(Drop)]
 pub enum Job {
     /// The status of each transfer and of its recalls, and the findings on the contradicted ones.
@@ -59,20 +59,20 @@ pub enum Job {
     Archive,
     /// What each bank sent and received.
     Totals,
-    /// Where a bank's list for a settlement day, by the bytes of its text, differs from the messages.
+    /// The comparison of the messages with a bank's list for a settlement day. The list is the bytes of its text.
     Report { bank: Bic, day: Day, list: Vec<u8> },
-    /// How the events of a script end, and what each of its sites then holds.
+    /// The outcomes of the events of a script, and then the answers of each site.
     Replay,
 }
 
-/// A run that ended well.
+/// A run that ended without a fault.
 #[derive(Clone, Copy, Debug, PartialEq, Eq)]
 pub struct Done {
     /// How many lines were refused.
     pub refused: u64,
 }
 
-// The list that a job compares with. One that is none is 48 BadList.
+// The list that a job compares with, if it compares with one. Errors: `BadList` (48), `Memory` (65).
 fn list_for(alloc: Global, job: &Job) -> Result<Option<List>, ProgramFault>
     ensures read { IfOk result (IsListOf job.now) }
     ensures list { StandsOnList (bad_row_of job.now) result }
@@ -84,7 +84,8 @@ fn list_for(alloc: Global, job: &Job) -> Result<Option<List>, ProgramFault>
     }
 }
 
-// What the job makes of an input, with the list that it compares with. An input that it does not take is 64 Usage.
+// The answer of a job to an input, with the list that it compares with. Errors: `Usage` (64) if the
+// job does not take the input; `Memory` (65).
 fn answer<T: Threads + Sync>(
     rt: &T,
     alloc: Global,
@@ -119,10 +120,20 @@ fn answer<T: Threads + Sync>(
     }
 }
 
-/// Reads the job's list, if it has one, and then the whole input. Then it writes the lines that tell its refused lines to `err` and
-/// the job's text to `out`. An input that the job does not take is 64 Usage, after it was read. With `Release::AtOnce` all memory
-/// that the job took is given back. With `Release::AtExit` the messages, the view, the list or the events stay until the
-/// process ends, for each job alike.
+/// Runs a job: reads its list, if it has one, then the whole input. It then writes the refused lines to `err` and the
+/// job's text to `out`. `limit` is the greatest number of bytes of the input, 1 to 1,073,741,824.
+///
+/// Errors, with nothing written unless the error is `Write`:
+/// - `Usage` (64): the limit is outside its range, and nothing was read; or `job` is
+///   `Replay` and the input is not a script;
+/// - `BadList` (48): the list has a bad record, and the input was not read;
+/// - `TooLong` (60): the input has more bytes than the limit;
+/// - `Read` (62): a read failed;
+/// - `Write` (63): a write failed, and a prefix of the texts was written;
+/// - `Memory` (65).
+///
+/// With `Release::AtOnce` all memory of the job is given back. With `Release::AtExit` the messages, the view, the list
+/// or the events stay until the process ends.
 pub fn engine<T: Threads + Sync, R: Source, O: Sink, E: Sink>(
     rt: &T,
     alloc: Global,
@@ -145,7 +156,7 @@ pub fn engine<T: Threads + Sync, R: Source, O: Sink, E: Sink>(
     ensures refused { IfOk result (λ done. IfSome (R.left reader.old)
         (λ input. done.refused ≡ refused_of job.now input)) }
 
-    // When each fault comes.
+    // The cases of each fault.
     ensures limit { IsBadLimit limit → result ≡ Err fault.Usage }
     ensures usage { result ≡ Err fault.Usage
         → IsBadLimit limit ⊎ IsRefusedInput job.now limit (R.left reader.old) (R.left reader.new) }
@@ -169,7 +180,7 @@ pub fn engine<T: Threads + Sync, R: Source, O: Sink, E: Sink>(
     ensures whole { result ≡ Err fault.Write → IfSome (R.left reader.old)
         (λ input. (length input ≤ limit) × (R.left reader.new ≡ Some [])) }
 
-    // What the others leave.
+    // The streams after the other faults.
     ensures unread { IsBadLimit limit → reader.new ≡ reader.old }
     ensures unlisted { (row : ℕ) → result ≡ Err (fault.BadList row) → reader.new ≡ reader.old }
     ensures unwritten { IfErr result (λ e. e ≢ fault.Write → (out.new ≡ out.old) × (err.new ≡ err.old)) }

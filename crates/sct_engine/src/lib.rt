@@ -1,8 +1,8 @@
 //! The program over streams of any kind: from the words of its command line to its exit status.
 //!
-//! [`engine`] does one job on one input. [`run`] does what the words of a command line ask for, on that input or on files, and
-//! tells how it ended; [`run_over_std`] is the same over std's readers and writers, and [`read_words`] has the words. [`Release`] says
-//! when a job's memory is given back.
+//! [`engine`] runs one job on one input. [`run`] does what the words of a command line ask for, on that input or on
+//! files, and reports how it ended. [`run_over_std`] does the same over the readers and writers of std, and
+//! [`read_words`] reads the words. [`Release`] says when the memory of a job is given back.
 #![tactic(auto)]
 
 mod answers;

@@ -18,7 +18,7 @@ use std::sync::Wait;
 use std::sync::ledger::{Blank, Ledger};
 use std::thread::Threads;
 
-// Does a job on an input of at most 1 GiB.
+// Runs a job on an input of at most 1 GiB.
 fn work<T: Threads + Sync, R: Source, O: Sink, E: Sink>(
     rt: &T,
     alloc: Global,
@@ -41,7 +41,7 @@ fn work<T: Threads + Sync, R: Source, O: Sink, E: Sink>(
     }
 }
 
-// Answers a task. A mistake is not told here: that belongs to the end of the run.
+// Performs a task. A mistake in the command line is reported later, at the end of the run.
 fn perform<T: Threads + Wait + Sync, R: Source, O: Sink, E: Sink>(
     rt: &T,
     alloc: Global,
@@ -72,7 +72,7 @@ fn perform<T: Threads + Wait + Sync, R: Source, O: Sink, E: Sink>(
     }
 }
 
-// What the words, where they could be had, ask for.
+// The request of the words, or the fault by which they could not be read.
 fn ask<'a>(
     alloc: Global,
     words: &'a Result<Vec<String>, ProgramFault>,
@@ -85,7 +85,7 @@ fn ask<'a>(
     }
 }
 
-// What was asked for, if anything was, with the bytes of its files.
+// The task of a request with the bytes of its files, or the fault by which there is no request.
 fn make_ready<F: Files>(
     alloc: Global,
     files: &F,
@@ -99,7 +99,7 @@ fn make_ready<F: Files>(
     }
 }
 
-// Answers what is ready, if anything is.
+// Performs a task, or passes on the fault by which there is none.
 fn perform_ready<T: Threads + Wait + Sync, R: Source, O: Sink, E: Sink>(
     rt: &T,
     alloc: Global,
@@ -122,9 +122,10 @@ fn perform_ready<T: Threads + Wait + Sync, R: Source, O: Sink, E: Sink>(
     }
 }
 
-/// Runs the program: reads the words of the command line and the files that they name, answers what they ask for, prints the
-/// end of the run on `err`, and returns the exit status. It is 0 if all lines were taken or help was shown, 1 if some line was
-/// refused, 3 if memory is out (65), and 2 at any other fault. `release` says when a job's memory is given back.
+/// Runs the program: reads the words of the command line and the files that they name, performs what they ask for,
+/// reports the end of the run on `err`, and returns the exit status.
+/// The status is 0 if all lines were taken or help was shown, 1 if some line was refused, 3 for out of memory (65), and
+/// 2 for any other fault. `release` says when the memory of a job is given back.
 pub fn run<T: Threads + Wait + Sync, F: Files, R: Source, O: Sink, E: Sink>(
     rt: &T,
     alloc: Global,
@@ -148,7 +149,8 @@ pub fn run<T: Threads + Wait + Sync, F: Files, R: Source, O: Sink, E: Sink>(
     conclude(&ended, err)
 }
 
-/// Runs the program over readers and writers of std, each with a ledger of its own for its failures.
+/// Runs the program over the streams of std, as [`run`] does. The failures of each stream are
+/// counted in its own ledger, `A`, `B` and `C`.
 pub fn run_over_std<
     T: Threads + Wait + Sync,
     F: Files,

@@ -1,4 +1,4 @@
-//! What is answered of a script.
+//! The answer to a script.
 ghost use Rattle.std.specs.Prelude.{◌≡◌, ◌≢◌, None, Some, true, length, string_bytes, IfErr, IfOk, IsSome, OnOk};
 ghost use Rattle.sct_script.specs.Replays.{replay_of, replay_text};
 ghost use Rattle.sct_script.specs.Scripts.{happenings_told, refusals_told, sites_told, told_text_of};
@@ -13,7 +13,7 @@ use crate::release::Release;
 use sct_script::{Script, ScriptFault, read_script, replay};
 use std::alloc::Global;
 
-// The script that an input is. Where it is none, 64 Usage.
+// The script of an input. Errors: `Usage` (64) if the input is not a script; `Memory` (65).
 fn script_of(alloc: Global, input: &[u8]) -> Result<Script, ProgramFault>
     ensures sites { IfOk result (λ script. sites_told input.now ≡ Some script.sites) }
     ensures size { IfOk result (λ script. is_size script.sites ≡ true) }
@@ -42,8 +42,9 @@ fn replay_text(alloc: Global, script: &Script) -> Result<Vec<u8>, ProgramFault>
     }
 }
 
-/// What an input is answered that is a script: how its events end, what each site then holds, and the lines that are refused.
-/// The events are then let go. One that is no script is 64 Usage. Else only out of memory is a fault.
+/// The answer to an input that is a script: the outcomes of its events, the answers of each site, and the refused
+/// lines. `release` says what becomes of the events afterwards.
+/// Errors: `Usage` (64) if the input is not a script; `Memory` (65).
 pub fn answer_of_script(
     alloc: Global,
     release: Release,

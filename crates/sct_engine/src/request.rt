@@ -1,4 +1,4 @@
-//! The command line: its words, and what they ask for.
+//! The command line: its words, and the request that they make.
 ghost use Rattle.std.specs.Prelude.{◌≡◌, ◌≢◌, ◌↔◌, codes, map, Err, IfErr, IfOk, OnOk, IsTrue, option_and_then, option_map, string_bytes};
 ghost use Rattle.sct_engine.specs.declared.fault.ProgramFault.TheVariants as fault;
 ghost use Rattle.sct_engine.specs.Ending.{EndsAsking, words_fault};
@@ -19,7 +19,7 @@ use std::alloc::Global;
 use std::env::Args;
 use std::io;
 
-/// What `report` is asked with.
+/// The arguments of `report`.
 #[derive(Drop)]
 pub struct Reconciliation<'a> {
     /// The bank whose list it is.
@@ -30,22 +30,22 @@ pub struct Reconciliation<'a> {
     pub list: &'a str,
 }
 
-/// What a command line asks for.
+/// The request of a command line.
 #[derive(Drop)]
 pub enum Request<'a> {
-    /// To do the job on standard input.
+    /// Run the job on standard input.
     Run(Job),
-    /// To compare standard input with a bank's list for a settlement day.
+    /// Compare standard input with a bank's list for a settlement day.
     Reconcile(Reconciliation<'a>),
-    /// To bring sites to one answer, each filled from a file of its own, and from 1 to 16 in number.
+    /// Settle sites, each filled from a file of its own. There are 1 to 16 paths.
     Settle(Vec<&'a str>),
-    /// To be shown this help.
+    /// Show this help.
     Help(String),
-    /// Nothing that the program does: clap's text says why.
+    /// A mistake in the command line: the text of clap says why.
     Mistake(String),
 }
 
-// Why the words of the command line could not be had.
+// The fault if the words of the command line could not be read.
 fn fault_of(error: &io::Error) -> ProgramFault
     ensures { result ≡ words_fault (error_kind error.now) }
 {
@@ -55,8 +55,8 @@ fn fault_of(error: &io::Error) -> ProgramFault
     }
 }
 
-/// The words of a command line, as the environment answers them. Without them (where one is no UTF-8, say), the command
-/// line is one that the program does not take: 64 Usage. Want of memory is 65 Memory.
+/// The words of a command line, as the environment gives them. Errors: `Usage` (64) if the environment does not give
+/// them, for example if a word is not UTF-8; `Memory` (65).
 pub fn read_words(alloc: Global, words: io::Result<Args>) -> Result<Vec<String>, ProgramFault>
     ensures memory { OnOk words (IfErr result (λ e. e ≡ fault.Memory)) }
     ensures unread { IfErr words (λ e. result ≡ Err (words_fault (error_kind e))) }
@@ -67,7 +67,7 @@ pub fn read_words(alloc: Global, words: io::Result<Args>) -> Result<Vec<String>,
     }
 }
 
-// What clap answers in place of matches: a request for help, or a mistake.
+// The request if clap reports an error in place of matches: help, or a mistake.
 fn answer_of<'a>(alloc: Global, error: &Error) -> Result<Request<'a>, ProgramFault>
     ensures no_order { IfOk result AsksForNoOrder }
     ensures mistake { IfOk result (λ r. IsTrue (is_mistake r)
@@ -89,7 +89,7 @@ fn answer_of<'a>(alloc: Global, error: &Error) -> Result<Request<'a>, ProgramFau
 
 const MOST_FILES: usize = 16;
 
-// The job that a command's name asks for.
+// The job of a command's name.
 fn job_named(name: &str) -> Option<Job>
     ensures { result ≡ job_named name.now }
 {
@@ -102,7 +102,7 @@ fn job_named(name: &str) -> Option<Job>
     }
 }
 
-// What `report` asks for. There is nothing to ask where the bank or the day is none.
+// The request of `report`, or none if the bank or the day is not valid.
 #[tactic(auto, using(crate::proofs::Values::value_given))]
 fn report_of<'a>(given: &ArgMatches<'a>) -> Option<Reconciliation<'a>>
     ensures { option_map report_with result ≡ report_ordered (rows_of (found_of given.now)) }
@@ -113,14 +113,14 @@ fn report_of<'a>(given: &ArgMatches<'a>) -> Option<Reconciliation<'a>>
     Some(Reconciliation { bank, day, list })
 }
 
-// So many files can be run.
+// Whether this number of files can be run.
 fn are_sites(count: usize) -> bool
     ensures { result ≡ are_sites count }
 {
     count > 0 && count <= MOST_FILES
 }
 
-// What `run` asks for of these files. More of them than there are sites is nothing to ask.
+// The request of `run` with these files. Error: `Usage` (64) if there are more than 16.
 fn sites_of<'a>(alloc: Global, files: &[&'a str]) -> Result<Request<'a>, ProgramFault>
     ensures { IsOrdered (sites_from (map (λ path. path.now) files.now)) result }
 {
@@ -130,7 +130,7 @@ fn sites_of<'a>(alloc: Global, files: &[&'a str]) -> Result<Request<'a>, Program
     Ok(Request::Settle(files.to_vec(alloc)?))
 }
 
-// The files that `run` is given.
+// The files in the arguments of `run`.
 #[tactic(auto, using(crate::proofs::Values::values_given))]
 fn files_of<'b, 'a>(given: &'b ArgMatches<'a>) -> Option<&'b [&'a str]>
     ensures { option_map (λ files. map (λ path. path.now) files.now) result
@@ -139,7 +139,7 @@ fn files_of<'b, 'a>(given: &'b ArgMatches<'a>) -> Option<&'b [&'a str]>
     given.get_strs("FILE")
 }
 
-// What a command asks for, with the values of its arguments.
+// The request of a command with its arguments.
 fn asked_with<'a>(
     alloc: Global,
     name: &str,
@@ -163,7 +163,7 @@ fn asked_with<'a>(
     }
 }
 
-// What clap found asks for.
+// The request of the matches that clap found.
 fn asked_by<'a>(alloc: Global, matches: &ArgMatches<'a>) -> Result<Request<'a>, ProgramFault>
     ensures { IsOrdered
         (option_and_then (λ found. order_named found.0 found.1) (subcommand_rows_of matches.now)) result }
@@ -174,12 +174,13 @@ fn asked_by<'a>(alloc: Global, matches: &ArgMatches<'a>) -> Result<Request<'a>, 
     }
 }
 
-// Each of the commands, after any name of the program, asks for its order.
+// A law: each of the commands, after any name of the program, asks for its order.
 fn commands_ask_for_their_orders()
     ensures { CommandsAskForTheirOrders }
 {}
 
-/// Reads the words of a command line, the first of which is the program's name.
+/// Reads the words of a command line, the first of which is the program's name. Errors: `Usage` (64) if the words ask
+/// for nothing that the program does, and clap has no text about it; `Memory` (65).
 pub fn read_request<'a>(alloc: Global, words: &'a [String]) -> Result<Request<'a>, ProgramFault>
     ensures asked { AreAsking (map string_bytes words.now) result }
     ensures faults { IfErr result EndsAsking }

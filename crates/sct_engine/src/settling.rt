@@ -1,4 +1,4 @@
-//! Several inputs brought to one answer: each fills a site of its own, and the sites are settled.
+//! Several inputs with one answer: each fills a site of its own, and the sites are settled.
 ghost use Rattle.std.specs.Prelude.{◌≡◌, ◌≢◌, ◌⊎◌, Err, Some, false, length, IfErr, IfOk, OnOk};
 ghost use Rattle.sct_run.specs.Runs.{are_sites, set_of_all};
 ghost use Rattle.sct_engine.specs.declared.fault.ProgramFault.TheVariants as fault;
@@ -17,10 +17,12 @@ use std::alloc::Global;
 use std::sync::Wait;
 use std::thread::Threads;
 
-/// Writes the lines that tell the refused lines of the inputs to `err`, each with its input's number, and then to `out` the
-/// status text of all that is read from any of them, each at a site of its own. No gate holds the workers of the sites. 64
-/// Usage where the inputs are not 1 to 16; 65 Memory, 66 Refused where a call at a site is refused, and 67 NoWorker where
-/// there is no thread for a worker.
+/// Fills a site from each input, settles the sites, and writes the answer: the refused lines of the inputs to
+/// `err`, each with its input's number, and then to `out` the status text of all messages that are read from the
+/// inputs. No gate holds the workers of the sites.
+/// Errors: `Usage` (64) if there are not 1 to 16 inputs; `Memory` (65); `Refused` (66) if a call at a site is
+/// refused; `NoWorker` (67) if a thread for a worker cannot be started; `Write` (63), with a prefix of the texts
+/// written. After any other error nothing is written.
 #[tactic(auto, using(crate::proofs::RunFaults::ends_settling))]
 pub fn settle_inputs<T: Threads + Wait + Sync, O: Sink, E: Sink>(
     rt: &T,

@@ -1,4 +1,4 @@
-//! What is to be done, once the files that the command line names are read.
+//! The task of a run, after the files that the command line names are read.
 ghost use Rattle.std.specs.Prelude.{◌≡◌};
 ghost use Rattle.sct_engine.specs.Tasks.{IsPrepared};
 
@@ -12,18 +12,18 @@ use std::alloc::Global;
 /// A request, with the bytes of the files that it names.
 #[derive(Drop)]
 pub enum Task {
-    /// To do the job on standard input.
+    /// Run the job on standard input.
     Work(Job),
-    /// To bring sites to one answer, each filled from one of the inputs.
+    /// Settle sites, each filled from one of the inputs.
     Settle(Vec<Vec<u8>>),
-    /// To show this help.
+    /// Show this help.
     Help(String),
-    /// Nothing that the program does: clap's text says why.
+    /// A mistake in the command line: the text of clap says why.
     Mistake(String),
 }
 
-/// Reads the files that a request names, each by its own path. A file that cannot be read ends the program before anything else
-/// is read: 62 Read, 60 TooLong or 65 Memory.
+/// Reads the files that a request names, each at its own path. A file that cannot be read ends the program before
+/// standard input is read: `Read` (62), `TooLong` (60) or `Memory` (65).
 pub fn prepare<R: Files>(
     alloc: Global,
     files: &R,

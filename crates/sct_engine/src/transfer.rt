@@ -1,4 +1,4 @@
-//! Whole inputs and whole texts, where what fails is a fault that ends the run.
+//! Reads whole inputs and writes whole texts. A failure is a fault that ends the run.
 ghost use Rattle.std.specs.Prelude.{◌≡◌, ◌+◌, ◌≤◌, [], Some, vec_len, IsOk, IfOk, IfErr, IfSome, OnOk, OnErr};
 ghost use Rattle.sct_set.specs.Pieces.{joined};
 ghost use Rattle.sct_engine.specs.Fault.{failed_reads, failed_writes};
@@ -9,10 +9,11 @@ use crate::fault::ProgramFault;
 use sct_streams::{Failed, ReadFault, Sink, Source};
 use std::alloc::Global;
 
-/// The most bytes that one input may have.
+/// The greatest number of bytes of one input: 1 GiB.
 pub const MOST_BYTES: u64 = 1_073_741_824;
 
-/// Reads to the end, or to the first byte past the limit: 60 TooLong, 62 Read, 65 Memory.
+/// Reads all bytes up to the end. Errors: `TooLong` (60) if there are more than `limit` bytes, after one byte past the
+/// limit was read; `Read` (62); `Memory` (65).
 pub fn read_all<R: Source>(
     alloc: Global,
     source: &mut R,
@@ -33,7 +34,7 @@ pub fn read_all<R: Source>(
     }
 }
 
-/// Writes all of the bytes, or as many as are taken before a write fails: 63 Write.
+/// Writes all of the bytes. Error: `Write` (63) if a write fails; a prefix of the bytes was then written.
 pub fn write_all<K: Sink>(sink: &mut K, bytes: &[u8]) -> Result<(), ProgramFault>
     ensures all { OnOk result (AppendsIfTold (K.held sink.old) (K.held sink.new) bytes.now) }
     ensures prefix { OnErr result (AppendsPrefixIfTold (K.held sink.old) (K.held sink.new) bytes.now) }
@@ -48,7 +49,8 @@ pub fn write_all<K: Sink>(sink: &mut K, bytes: &[u8]) -> Result<(), ProgramFault
     }
 }
 
-/// Writes all of the bytes of some pieces, one piece after another, or as many as are taken before a write fails.
+/// Writes all of the bytes of the pieces, one piece after another. Error: `Write` (63) if a write
+/// fails; a prefix of the bytes was then written.
 pub fn write_pieces<K: Sink>(sink: &mut K, pieces: &[Vec<u8>]) -> Result<(), ProgramFault>
     ensures all { OnOk result (AppendsIfTold (K.held sink.old) (K.held sink.new) (joined pieces.now)) }
     ensures prefix { OnErr result (AppendsPrefixIfTold

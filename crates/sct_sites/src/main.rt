@@ -1,5 +1,5 @@
-//! The program: answers on the messages of standard input, or of files, as the command line asks. The process ends after one
-//! run, so it leaves its memory to its end.
+//! The program: answers on the messages of standard input, or of files, as the command line asks. The process ends
+//! after one run, so its memory is given back only when it ends.
 #![tactic(auto)]
 
 use sct_engine::{Release, read_words, run_over_std};
