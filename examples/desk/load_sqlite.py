@@ -17,6 +17,7 @@ CREATE TABLE recall (bank TEXT, transfer_id TEXT, recall_id TEXT, status TEXT, d
     PRIMARY KEY (bank, transfer_id, recall_id));
 CREATE TABLE refused (fault TEXT, place TEXT, text TEXT);
 CREATE INDEX message_on ON message (bank, transfer_id);
+CREATE INDEX message_by ON message (sender, kind, message_id);
 """
 
 

@@ -42,3 +42,14 @@ WHERE transfer.bank = :bank OR EXISTS (
     SELECT 1 FROM message
     WHERE message.bank = transfer.bank AND message.transfer_id = transfer.transfer_id AND message.beneficiary_bank = :bank)
 ORDER BY transfer.bank, transfer.transfer_id;
+
+-- keep: the archive without the transfers that are done; not done is what is open or contradicted, or has a message since a day
+WITH RECURSIVE kept (bank, transfer_id) AS (
+    SELECT bank, transfer_id FROM transfer WHERE status NOT IN ('ACCEPTED', 'REJECTED', 'RETURNED')
+    UNION SELECT bank, transfer_id FROM recall WHERE status NOT IN ('RETURNED', 'REFUSED')
+    UNION SELECT bank, transfer_id FROM message WHERE coalesce(date(created), :since) >= :since
+    UNION SELECT other.bank, other.transfer_id  -- a recall of several transfers stays whole
+    FROM kept JOIN message USING (bank, transfer_id) JOIN message AS other USING (sender, kind, message_id))
+SELECT DISTINCT text
+FROM message JOIN kept USING (bank, transfer_id)
+ORDER BY sender, kind, message_id, text;
