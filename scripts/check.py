@@ -17,6 +17,7 @@ CHECKS = {
     "run_examples": "runs the program on the examples",
     "document_examples": "runs the program on the examples of docs/MODEL.md and docs/FORMATS.md",
     "readme": "runs the commands of the README",
+    "desk": "runs the desk's tools and the commands of the operator's pages, and looks up their numbers",
     "too_long": "runs the program on inputs that are too long, and on folders",
     "growing_times": "times the program on a transfer, a script and a run of four times the size",
     "refuse_memory": "runs the program in too little memory",
