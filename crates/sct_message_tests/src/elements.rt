@@ -4,7 +4,7 @@ use sct_element::*;
 use std::alloc::{AllocError, Global};
 use std::test::Fail;
 
-/// The number of the fault that a text was refused with, and 0 where it was read.
+/// The number of the fault that a text was refused with, and 0 if it was read.
 fn number_of<T: Drop>(read: Result<T, ElementFault>) -> u8 {
     match read {
         Ok(_) => 0,
@@ -12,7 +12,7 @@ fn number_of<T: Drop>(read: Result<T, ElementFault>) -> u8 {
     }
 }
 
-/// The same character so many times.
+/// The same character `count` times.
 fn repeated(alloc: Global, character: char, count: usize) -> Result<String, AllocError> {
     let mut text = String::new(alloc);
     for _ in 0..count {

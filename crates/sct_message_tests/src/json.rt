@@ -23,7 +23,7 @@ fn changed(alloc: Global, text: &str, old: &str, new: &str) -> Result<String, Al
     Ok(out)
 }
 
-/// So many of one text after another.
+/// One text `count` times, one after another.
 fn repeated(alloc: Global, text: &str, count: usize) -> Result<String, AllocError> {
     let mut out = String::new(alloc);
     for _ in 0..count {
@@ -32,7 +32,7 @@ fn repeated(alloc: Global, text: &str, count: usize) -> Result<String, AllocErro
     Ok(out)
 }
 
-/// How a fault of an element of a list is told: its number and its fields.
+/// The text of a fault of an element of a list: its number and its fields.
 fn element_told_of(alloc: Global, fault: &KeyFault) -> Result<String, AllocError> {
     let number = fault.number();
     match fault {
@@ -49,7 +49,7 @@ fn element_told_of(alloc: Global, fault: &KeyFault) -> Result<String, AllocError
     }
 }
 
-/// How a fault is told: its number and its fields.
+/// The text of a fault: its number and its fields.
 fn told_of(alloc: Global, fault: &JsonFault) -> Result<String, AllocError> {
     let number = fault.number();
     match fault {
@@ -73,7 +73,7 @@ fn told_of(alloc: Global, fault: &JsonFault) -> Result<String, AllocError> {
     }
 }
 
-/// How the reading of bytes is told: `read`, or the fault.
+/// The text of the reading of bytes: `read`, or the fault.
 fn told(alloc: Global, bytes: &[u8]) -> Result<String, AllocError> {
     match read_message(alloc, bytes) {
         Ok(_) => String::from_str(alloc, "read"),
@@ -81,7 +81,7 @@ fn told(alloc: Global, bytes: &[u8]) -> Result<String, AllocError> {
     }
 }
 
-/// What is written for the message of a text.
+/// The written form of the message of a text.
 fn rewritten(alloc: Global, text: &str) -> Result<Vec<u8>, JsonFault> {
     let message = read_message(alloc, text.as_bytes())?;
     write_message(alloc, &message)
@@ -102,7 +102,7 @@ fn assert_written(rt: &impl Abort, alloc: Global, text: &str, form: &str) -> Res
     Ok(())
 }
 
-/// Each row of a table is told as it says, where it is put into a text.
+/// Each row of a table, put into a text, has the result that it names.
 fn assert_faults(rt: &impl Abort, alloc: Global, text: &str, rows: &[Row]) -> Result<(), Fail> {
     for (old, new, fault) in rows {
         let text = changed(alloc, text, old, new)?;
@@ -207,7 +207,7 @@ fn tells_a_list_in_another_kind_as_an_extra_key(rt: HostRuntime) -> Result<(), F
     Ok(())
 }
 
-/// A recall message whose list has so many of one element, and then a last one.
+/// A recall message whose list has one element `count` times, and then a last one.
 fn listed(alloc: Global, element: &str, count: usize, last: &str) -> Result<String, AllocError> {
     let mut out = String::from_str(alloc, BEFORE_ELEMENTS)?;
     for _ in 0..count {
@@ -241,7 +241,7 @@ fn tells_nesting_in_a_list(rt: HostRuntime) -> Result<(), Fail> {
     Ok(())
 }
 
-/// The written form of a recall message of so many transactions, each of another recall.
+/// The written form of a recall message of `count` transactions, each of another recall.
 fn numbered(alloc: Global, count: usize) -> Result<String, AllocError> {
     let mut out = String::from_str(alloc, BEFORE_ELEMENTS)?;
     for number in 1..=count {
@@ -276,7 +276,7 @@ fn tells_the_least_of_many_extra_keys_of_an_element(rt: HostRuntime) -> Result<(
     assert_told(&rt, alloc, text.as_str(), "56 1 37 X0")
 }
 
-/// That a message is filed under the transfer T1 of one bank, and under this recall of it.
+/// Asserts that a message is filed under the transfer T1 of one bank, and under this recall of it.
 fn assert_filed(rt: &impl Abort, message: &Message, recall: Option<&str>) {
     assert_eq!(rt; message.transfer_count(), 1);
     let transfer = message.transfer(0);
@@ -297,5 +297,5 @@ fn files_a_message_of_each_kind(rt: HostRuntime) -> Result<(), Fail> {
     Ok(())
 }
 
-/// How deep arrays nest, and what is told of them.
+/// How deep arrays nest, and the result.
 static NESTED: [(usize, &str); 2] = [(127, "32"), (128, "31")];

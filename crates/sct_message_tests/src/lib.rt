@@ -1,4 +1,5 @@
-//! Tests of elements, reasons, messages, their JSON form and lines: what no clause says is that memory is there.
+//! Tests of elements, reasons, messages, their JSON form and lines. They show what no clause says:
+//! that the calls succeed if there is memory.
 #![tactic(auto)]
 
 #[cfg(test)]

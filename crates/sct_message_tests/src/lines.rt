@@ -22,7 +22,7 @@ fn tells_blank_lines(rt: HostRuntime) {
     assert!(rt; !is_blank_line(b" .") && !is_blank_line(b"\n") && !is_blank_line(b"\x0b"));
 }
 
-// What is told of a line: `read`, or why it is refused.
+// The result of a line: `read`, or why it is refused.
 fn told_of(alloc: Global, line: &[u8]) -> Result<String, AllocError> {
     let mut text = String::new(alloc);
     match read_line(alloc, line)? {
@@ -61,7 +61,7 @@ fn written(alloc: Global, messages: &[Arc<Message>]) -> Option<Vec<u8>> {
     Some(text)
 }
 
-// What was read is what the row says.
+// Whether the intake is what the row says.
 fn fits(alloc: Global, intake: &Intake, row: &Input) -> bool {
     let Some(messages) = written(alloc, &intake.messages) else {
         return false;
@@ -85,7 +85,7 @@ fn reads_lines(rt: HostRuntime) {
     }
 }
 
-// So many bytes of one kind, and then a text.
+// A byte `count` times, followed by a text.
 fn behind(alloc: Global, byte: u8, count: usize, text: &[u8]) -> Result<Vec<u8>, AllocError> {
     let mut bytes = Vec::new(alloc);
     for _ in 0..count {
@@ -95,7 +95,7 @@ fn behind(alloc: Global, byte: u8, count: usize, text: &[u8]) -> Result<Vec<u8>,
     Ok(bytes)
 }
 
-// A text, and then so many spaces.
+// A text, followed by `count` spaces.
 fn before_spaces(alloc: Global, text: &[u8], count: usize) -> Result<Vec<u8>, AllocError> {
     let mut bytes = Vec::new(alloc);
     bytes.extend_from_slice(text)?;
@@ -105,7 +105,7 @@ fn before_spaces(alloc: Global, text: &[u8], count: usize) -> Result<Vec<u8>, Al
     Ok(bytes)
 }
 
-// What is read of a text by so many halvings is what the row says.
+// Whether reading a text by this number of halvings gives what the row says.
 fn reads_by_halves_as(
     rt: &(impl Threads + Sync),
     alloc: Global,
@@ -119,8 +119,8 @@ fn reads_by_halves_as(
     }
 }
 
-// Spaces before the first line and behind the last one change nothing but where the middle is, which comes to stand at each
-// byte of the input.
+// Spaces before the first line and after the last one change only the place of the middle, which
+// is thereby at each byte of the input once.
 #[test]
 fn reads_two_parts_as_the_whole(rt: HostRuntime) -> Result<(), AllocError> {
     for count in 0..=PARTS.input.len() {
@@ -139,7 +139,7 @@ fn reads_many_parts_as_the_whole(rt: HostRuntime) {
     }
 }
 
-// What is told of an input of so many line feeds and then `foo`.
+// The refused lines of an input of a number of line feeds followed by `foo`.
 fn told_behind(
     rt: &(impl Threads + Sync),
     alloc: Global,

@@ -1,5 +1,5 @@
-//! Messages made of the elements of worked examples. The rules of each kind are tried on JSON texts,
-//! in sct_json.
+//! Messages made of the elements of worked examples. The rules of each kind are tested on
+//! JSON texts, in the tests of JSON.
 
 mod lists;
 mod order;
@@ -163,7 +163,7 @@ fn assert_identity(rt: &impl Abort, identity: &Identity) {
     assert_eq!(rt; identity.msg_id.text(), "S1");
 }
 
-/// That a message is about one transfer.
+/// Asserts that a message is about one transfer.
 fn assert_transfer(rt: &impl Abort, message: &Message) {
     assert_eq!(rt; message.transfer_count(), 1);
     let transfer = message.transfer(0);
@@ -175,7 +175,7 @@ fn assert_transfer(rt: &impl Abort, message: &Message) {
     assert!(rt; message.transfer(1).is_none());
 }
 
-/// That a message is filed by these keys, the last one the identification of its recall.
+/// Asserts that a message is filed by these keys, the last one the identification of its recall.
 fn assert_filed(rt: &impl Abort, message: &Message, recall: Option<&str>) {
     assert_identity(rt, &message.identity().copy());
     assert_transfer(rt, message);
@@ -194,7 +194,7 @@ fn files_status_requests(rt: HostRuntime) -> Result<(), Fail> {
     Ok(())
 }
 
-/// That a request has these elements, the last one the recall that it asks about.
+/// Asserts that a request has these elements, the last one the recall that it asks about.
 fn assert_request(rt: &impl Abort, request: &StatusRequest, recall: Option<&str>) {
     assert_eq!(rt; request.head.message_id.text(), "S1");
     assert_eq!(rt; request.original.message_id.text(), "M1");

@@ -43,7 +43,7 @@ fn is_unlisted(reason: &Reason) -> bool {
     matches!(reason, Reason::Unlisted(_))
 }
 
-/// Whether the reasons of a row are usual in its use, and no others are.
+/// Asserts that the reasons of a row are usual in its use, and that no others are.
 fn assert_row(rt: &impl Abort, purpose: Use, row: &[&str]) {
     for code in &LISTED {
         let is_in_row = row.iter().any(|usual| usual == code);

@@ -1,6 +1,6 @@
-//! What is told of an object that is no form of a message, and of some that are.
+//! The results of reading objects: some are not a form of a message, and some are.
 
-/// Texts that are refused before their elements are looked at, and what is told.
+/// Texts that are refused before their elements are looked at, and the results.
 pub static NO_MESSAGES: [(&str, &str); 16] = [
     (r#"{"MsgNmId":"#, "31"),
     ("", "31"),
@@ -20,7 +20,7 @@ pub static NO_MESSAGES: [(&str, &str); 16] = [
     (r#"{"MsgNmId":"pacs.002"}"#, "34 MsgId"),
 ];
 
-/// A part of an object, what stands there instead, and what is told.
+/// A part of an object, the text in its place, and the result.
 pub type Row = (&'static str, &'static str, &'static str);
 
 /// Of a credit transfer.
@@ -78,7 +78,7 @@ pub static CREDIT_TRANSFER_FAULTS: [Row; 39] = [
     (r#""MsgId""#, r#""Ustrd":{},"MsgId""#, "35 Ustrd"),
     (r#""MsgId""#, r#""Ustrd":"","MsgId""#, "36 Ustrd 6"),
     (r#""TxId":"T1""#, r#""TxId":true"#, "35 TxId"),
-    // An earlier key's element stands before a later key that is missing, and the other way round.
+    // The fault of an earlier key is reported before a later key that is missing, and the other way round.
     (
         r#""EndToEndId":"E1","TxId":"T1""#,
         r#""EndToEndId":"E//1""#,
@@ -94,7 +94,7 @@ pub static CREDIT_TRANSFER_FAULTS: [Row; 39] = [
         r#""EndToEndId":1"#,
         "35 EndToEndId",
     ),
-    // Of two equal keys the last counts.
+    // The last of two equal keys counts.
     (r#""MsgId":"M1""#, r#""MsgId":7,"MsgId":"M1""#, "read"),
     (r#""MsgId":"M1""#, r#""MsgId":"M1","MsgId":7"#, "35 MsgId"),
     // The first extra key is the first by its bytes in UTF-8.

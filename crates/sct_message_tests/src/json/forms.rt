@@ -20,7 +20,7 @@ const STATUS_REPORT_WRITTEN: &str =
 const STATUS_REPORT_WHOLE: &str =
     r#"{"CreDtTm":"2024-05-02T10:00:02Z","DbtrAgt":"BANKDEFFXXX","InstdAgt":"BANKDEFFXXX","InstgAgt":"BANQFRPPXXX","MsgId":"C1","MsgNmId":"pacs.002","OrgnlEndToEndId":"E1","OrgnlMsgId":"M1","OrgnlMsgNmId":"pacs.008.001.08","OrgnlTxId":"T1","Rsn":"AC04","TxSts":"RJCT"}"#;
 
-/// A question after the status of a transfer without any optional key.
+/// A request for the status of a transfer without any optional key.
 pub const STATUS_REQUEST: &str =
     r#"{"MsgNmId":"pacs.028","MsgId":"Q1","CreDtTm":"2024-05-02T10:00:30Z","InstgAgt":"BANKDEFF","OrgnlMsgId":"M1","OrgnlMsgNmId":"pacs.008","OrgnlTxId":"T1","DbtrAgt":"BANKDEFF"}"#;
 
@@ -82,7 +82,7 @@ pub static FORMS: [(&str, &str); 18] = [
     (RESOLUTION_WHOLE, RESOLUTION_WHOLE),
 ];
 
-/// What may stand for a part of the credit transfer, and what its written form has for that.
+/// A text in place of a part of the credit transfer, and the change of the written form.
 pub static PARTS: [(&str, &str, &str, &str); 7] = [
     ("0.01", "007.5", "0.01", "7.50"),
     (

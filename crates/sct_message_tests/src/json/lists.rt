@@ -1,13 +1,13 @@
-//! Recall messages with a list of transactions: objects, their written forms, and what is told of their faults.
+//! Recall messages with a list of transactions: objects, their written forms, and the results of their faults.
 
 use super::faults::Row;
 use super::forms::{CREDIT_TRANSFER, PAYMENT_RETURN, RESOLUTION, STATUS_REPORT, STATUS_REQUEST};
 
-/// A recall of two transactions, whose keys stand in no order.
+/// A recall of two transactions, whose keys are in no order.
 pub const TWO: &str =
     r#"{"TxInf":[{"CxlId":"R2","OrgnlMsgId":"M2","OrgnlMsgNmId":"pacs.008","OrgnlTxId":"T2","OrgnlIntrBkSttlmAmt":"49","Ccy":"EUR","Rsn":"DUPL","DbtrAgt":"BANKDEFF"},{"DbtrAgt":"BANKDEFF","CxlId":"R1","OrgnlMsgId":"M1","OrgnlMsgNmId":"pacs.008.001.08","OrgnlEndToEndId":"E1","OrgnlTxId":"T1","OrgnlIntrBkSttlmAmt":"100.5","OrgnlIntrBkSttlmDt":"2024-05-02","Ccy":"EUR","Rsn":"FRAD"}],"MsgNmId":"camt.056","MsgId":"K1","CreDtTm":"2024-05-03T09:00:00Z","InstgAgt":"BANKDEFF"}"#;
 
-/// Its written form: the keys by their bytes, the transactions as they stand.
+/// Its written form: the keys by their bytes, the transactions in their order.
 pub const TWO_WRITTEN: &str =
     r#"{"CreDtTm":"2024-05-03T09:00:00Z","InstgAgt":"BANKDEFFXXX","MsgId":"K1","MsgNmId":"camt.056","TxInf":[{"Ccy":"EUR","CxlId":"R2","DbtrAgt":"BANKDEFFXXX","OrgnlIntrBkSttlmAmt":"49.00","OrgnlMsgId":"M2","OrgnlMsgNmId":"pacs.008","OrgnlTxId":"T2","Rsn":"DUPL"},{"Ccy":"EUR","CxlId":"R1","DbtrAgt":"BANKDEFFXXX","OrgnlEndToEndId":"E1","OrgnlIntrBkSttlmAmt":"100.50","OrgnlIntrBkSttlmDt":"2024-05-02","OrgnlMsgId":"M1","OrgnlMsgNmId":"pacs.008.001.08","OrgnlTxId":"T1","Rsn":"FRAD"}]}"#;
 
@@ -26,9 +26,9 @@ pub static LIST_FORMS: [(&str, &str); 4] = [
     (ONE_WRITTEN, ONE_WRITTEN),
 ];
 
-/// What is told where a part of the recall of two transactions is something else.
+/// The results if a part of the recall of two transactions is something else.
 pub static LIST_FAULTS: [Row; 31] = [
-    // 34 to 36 of the head stand before the list, whatever stands there.
+    // 34 to 36 of the head come before the list, whatever is in the list.
     (r#""MsgId":"K1","#, "", "34 MsgId"),
     (r#""MsgId":"K1""#, r#""MsgId":null"#, "35 MsgId"),
     (
@@ -36,7 +36,7 @@ pub static LIST_FAULTS: [Row; 31] = [
         r#""InstgAgt":"BANK""#,
         "36 InstgAgt 1",
     ),
-    // 34 to 36 of an element are told with its place.
+    // 34 to 36 of an element are reported with its place.
     (r#""CxlId":"R1","#, r#""Foo":1,"#, "56 2 34 CxlId"),
     (r#""CxlId":"R2","#, "", "56 1 34 CxlId"),
     (r#""CxlId":"R1""#, r#""CxlId":null"#, "56 2 35 CxlId"),
@@ -57,7 +57,7 @@ pub static LIST_FAULTS: [Row; 31] = [
         "56 2 36 OrgnlIntrBkSttlmDt 5",
     ),
     (r#""Rsn":"DUPL","#, "", "56 1 34 Rsn"),
-    // The first key in the order of the table, and only then the first extra key of the element.
+    // The first key in the order of the table comes before the first extra key of the element.
     (
         r#""CxlId":"R2","OrgnlMsgId":"M2","#,
         r#""OrgnlMsgId":7,"Foo":1,"#,
@@ -83,7 +83,7 @@ pub static LIST_FAULTS: [Row; 31] = [
         r#""CxlId":"R1","OrgnlCxlId":"R1","#,
         "56 2 37 OrgnlCxlId",
     ),
-    // An element's extra key stands before the key of a later element, and before one beside the list.
+    // An extra key of an element comes before a key of a later element, and before an extra key outside the list.
     (
         r#""Rsn":"DUPL","DbtrAgt":"BANKDEFF"},{"DbtrAgt":"BANKDEFF","CxlId":"R1","#,
         r#""Rsn":"DUPL","DbtrAgt":"BANKDEFF","Foo":1},{"DbtrAgt":"BANKDEFF","#,
@@ -94,10 +94,10 @@ pub static LIST_FAULTS: [Row; 31] = [
         r#""CxlId":7}],"Foo":1,"#,
         "56 2 35 CxlId",
     ),
-    // A key of a transaction beside the list is extra.
+    // A key of a transaction outside the list is extra.
     (r#"],"MsgNmId""#, r#"],"Ccy":"EUR","MsgNmId""#, "37 Ccy"),
     (r#"],"MsgNmId""#, r#"],"CxlId":"R1","MsgNmId""#, "37 CxlId"),
-    // An element that is no object stands before each fault of an element.
+    // An element that is not an object comes before each fault of an element.
     (r#"{"TxInf":["#, r#"{"TxInf":["x","#, "46 1"),
     (r#"{"TxInf":["#, r#"{"TxInf":[[[]],"#, "46 1"),
     (r#""Rsn":"FRAD"}]"#, r#""Rsn":"FRAD"},null,7]"#, "46 3"),
@@ -124,7 +124,7 @@ pub static LIST_FAULTS: [Row; 31] = [
         "38 22",
     ),
     (r#""CxlId":"R1""#, r#""CxlId":"R2""#, "read"),
-    // Of two equal keys the last counts.
+    // The last of two equal keys counts.
     (r#""CxlId":"R1""#, r#""CxlId":7,"CxlId":"R1""#, "read"),
     (r#"],"MsgNmId""#, r#"],"TxInf":7,"MsgNmId""#, "46 0"),
 ];
@@ -133,7 +133,7 @@ pub static LIST_FAULTS: [Row; 31] = [
 pub const EMPTY_LIST: &str =
     r#"{"MsgNmId":"camt.056","MsgId":"K1","CreDtTm":"2024-05-03T09:00:00Z","InstgAgt":"BANKDEFF","TxInf":[]}"#;
 
-/// What may stand in the place of that list, and what is told.
+/// Texts in place of that list, and the results.
 pub static NO_LISTS: [(&str, &str); 9] = [
     ("[]", "46 0"),
     ("null", "46 0"),
@@ -155,7 +155,7 @@ pub static NO_RECALLS: [&str; 5] = [
     RESOLUTION,
 ];
 
-/// Elements that are repeated so often in a list, a last one, and what is told.
+/// An element, how often it is repeated in a list, a last element, and the result.
 pub static COUNTED: [(&str, usize, &str, &str); 8] = [
     ("{}", 99, "{}", "56 1 34 CxlId"),
     ("{}", 100, "{}", "46 0"),
@@ -167,14 +167,14 @@ pub static COUNTED: [(&str, usize, &str, &str); 8] = [
     ("[[]]", 100_000, "7", "46 0"),
 ];
 
-/// How deep arrays nest in a list, and what is told of them.
+/// How deep arrays nest in a list, and the result.
 pub static NESTED_IN_LISTS: [(usize, &str); 2] = [(125, "46 1"), (126, "31")];
 
-/// What stands before the elements of a list in a written form.
+/// The text before the elements of a list in a written form.
 pub const BEFORE_ELEMENTS: &str =
     r#"{"CreDtTm":"2024-05-03T09:00:00Z","InstgAgt":"BANKDEFFXXX","MsgId":"K1","MsgNmId":"camt.056","TxInf":["#;
 
-/// A transaction before the number of its recall, and behind it.
+/// A transaction before and after the number of its recall.
 pub const BEFORE_NUMBER: &str = r#"{"Ccy":"EUR","CxlId":"R"#;
 
 pub const BEHIND_NUMBER: &str =

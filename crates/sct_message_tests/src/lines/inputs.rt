@@ -1,4 +1,4 @@
-//! Texts with their first lines, lines with why they are refused, and inputs with what is read of them.
+//! Texts with their first lines, lines with why they are refused, and inputs with the result of reading them.
 
 type Parts = Option<(&'static [u8], &'static [u8])>;
 
@@ -89,7 +89,7 @@ pub static INPUTS: [Input; 5] = [
         told: "line 3: 31\nline 5: 32\n",
         refused: 2,
     },
-    // a message with a carriage return behind it, and no last line feed
+    // a message followed by a carriage return, and no last line feed
     Input {
         input: b"{\"MsgNmId\":\"pacs.002\",\"MsgId\":\"C1\",\"CreDtTm\":\"2024-05-02T10:00:02Z\",\"InstgAgt\":\"BANQFRPP\",\"OrgnlMsgId\":\"M1\",\"OrgnlMsgNmId\":\"pacs.008\",\"OrgnlTxId\":\"T1\",\"TxSts\":\"ACCP\",\"DbtrAgt\":\"BANKDEFF\"}\r\n{}",
         messages: b"{\"CreDtTm\":\"2024-05-02T10:00:02Z\",\"DbtrAgt\":\"BANKDEFFXXX\",\"InstgAgt\":\"BANQFRPPXXX\",\"MsgId\":\"C1\",\"MsgNmId\":\"pacs.002\",\"OrgnlMsgId\":\"M1\",\"OrgnlMsgNmId\":\"pacs.008\",\"OrgnlTxId\":\"T1\",\"TxSts\":\"ACCP\"}\n",

@@ -38,7 +38,7 @@ fn assert_transfer(rt: &impl Abort, transfer: &TransferKey, wanted: &Keys) {
     assert_eq!(rt; transfer.tx.text(), wanted.1);
 }
 
-/// That a transaction of a message has these keys.
+/// Asserts that a transaction of a message has these keys.
 fn assert_keys(rt: &impl Abort, message: &Message, place: usize, wanted: &Keys) {
     match (message.transfer(place), message.recall(place)) {
         (Some(transfer), Some(recall)) => {
@@ -50,7 +50,7 @@ fn assert_keys(rt: &impl Abort, message: &Message, place: usize, wanted: &Keys) 
     }
 }
 
-/// That a message has the keys of these transactions, and of no other.
+/// Asserts that a message has the keys of these transactions, and no others.
 fn assert_listed(rt: &impl Abort, message: &Message, wanted: &[Keys]) {
     assert_eq!(rt; message.transfer_count(), wanted.len());
     for (place, wanted) in wanted.iter().enumerate() {
@@ -79,17 +79,17 @@ const DOLLARS: TxTexts = TxTexts {
     ..TX
 };
 
-/// Of a return, and not of a transfer.
+/// About a return, not about a transfer.
 const RETURN: TxTexts = TxTexts {
     original: "pacs.004",
     cxl: "R00",
     ..TX
 };
 
-/// How many transactions of the recalls R1, R2 and so on of one transfer stand in a list, those behind them, and the
-/// first rule that the list breaks.
+/// How many transactions of the recalls R1, R2 and so on of one transfer are in a list, the transactions after them,
+/// and the first rule that the list breaks.
 static RULES: [(usize, &[TxTexts], u8); 36] = [
-    // so many
+    // the number of transactions
     (0, &[], 23),
     (1, &[], 0),
     (2, &[], 0),

@@ -7,7 +7,7 @@ use sct_message::*;
 use std::process::Abort;
 use std::test::Fail;
 
-/// Whether messages that ascend compare with one of them, which stands at this place, as their places do.
+/// Asserts that the message at this place compares with each of the ascending messages as their places do.
 fn assert_place(rt: &impl Abort, ascending: &[Message], place: usize, message: &Message) {
     for (at, other) in ascending.iter().enumerate() {
         assert_eq!(rt; message.order(other), place.cmp(&at), "at {place} and {at}");
@@ -22,8 +22,8 @@ fn assert_ascending(rt: &impl Abort, messages: &[Message]) {
     }
 }
 
-/// By sender, kind and message identification, then by the elements in the order of the key table,
-/// an absent one first.
+/// Ordered by sender, kind and message identification, then by the elements in the order
+/// of the key table, an absent one first.
 static ASCENDING: [RequestTexts; 9] = [
     RequestTexts {
         sender: "AANKDEFF",
@@ -76,7 +76,8 @@ const SECOND: TxTexts = TxTexts {
     ..TX
 };
 
-/// Recall messages of one identity: by the head, then transaction by transaction, a list before each that it begins.
+/// Recall messages of one identity, ordered by the head and then transaction by transaction. A
+/// list that begins another comes before it.
 static LISTS: [ListTexts; 10] = [
     LIST,
     // two transactions, whose order counts
@@ -84,7 +85,7 @@ static LISTS: [ListTexts; 10] = [
         txs: &[TX, TxTexts { cxl: "R2", ..TX }],
         ..LIST
     },
-    // three, of which the list above is the beginning
+    // three; the list above is their beginning
     ListTexts {
         txs: &[TX, TxTexts { cxl: "R2", ..TX }, SECOND],
         ..LIST
@@ -162,7 +163,7 @@ fn identity(sender: &str, kind: Kind, msg_id: &str) -> Result<Identity, ElementF
     })
 }
 
-/// Whether a key compares with keys that ascend, among which it stands at this place, as their places do.
+/// Asserts that the key at this place compares with each of the ascending keys as their places do.
 fn assert_key_place<K: Ord>(rt: &impl Abort, ascending: &[K], place: usize, key: &K) {
     for (at, other) in ascending.iter().enumerate() {
         assert_eq!(rt; key.cmp(other), place.cmp(&at), "at {place} and {at}");

@@ -63,7 +63,7 @@ fn original(texts: &TxTexts) -> Result<Original, ElementFault> {
     })
 }
 
-/// A transaction of these texts, but for the identification of its recall.
+/// A transaction of these texts, except for the identification of its recall.
 fn read_tx(cxl: &str, texts: &TxTexts) -> Result<RecallTx, ElementFault> {
     Ok(RecallTx {
         cancellation_id: Id35::read(cxl)?,
@@ -83,7 +83,7 @@ fn push_txs(txs: &mut Vec<RecallTx>, rows: &[TxTexts]) -> Result<(), Fail> {
     Ok(())
 }
 
-/// So many transactions, each of another recall of one transfer: R1, R2 and so on.
+/// `count` transactions, each of another recall of one transfer: R1, R2 and so on.
 fn push_numbered(txs: &mut Vec<RecallTx>, alloc: Global, count: usize) -> Result<(), Fail> {
     for number in 1..=count {
         let cxl = format!(in alloc; "R{number}")?;
@@ -92,14 +92,14 @@ fn push_numbered(txs: &mut Vec<RecallTx>, alloc: Global, count: usize) -> Result
     Ok(())
 }
 
-/// The number of the first rule that the elements break, and 0 where they break none.
+/// The number of the first rule that the elements break, and 0 if they break none.
 fn broken(head: Head, txs: Vec<RecallTx>) -> u8 {
     Message::of(Draft::CancellationRequest(CancellationRequest { head, txs }))
         .err()
         .map_or(0, RuleFault::number)
 }
 
-/// The number of the first rule that a message breaks which has, before its own transactions, so many of other recalls.
+/// The number of the first rule that a message breaks. Before its own transactions it has `count` of other recalls.
 pub(crate) fn broken_behind(alloc: Global, count: usize, texts: &ListTexts) -> Result<u8, Fail> {
     let mut txs = Vec::new(alloc);
     push_numbered(&mut txs, alloc, count)?;

@@ -65,7 +65,7 @@ fn read_request(texts: &RequestTexts) -> Result<StatusRequest, ElementFault> {
     })
 }
 
-/// The number of the first rule that the elements break, and 0 where they break none.
+/// The number of the first rule that the elements break, and 0 if they break none.
 pub(crate) fn broken(texts: &RequestTexts) -> Result<u8, ElementFault> {
     let request = read_request(texts)?;
     Ok(
