@@ -23,13 +23,13 @@ static SPELLED: [Row; 3] = [
 
 static SPELLED_ANSWERS: [Added; 3] = [Added::Fresh, Added::Repeat, Added::Repeat];
 
-// What is written for all three.
+// The written text of all three.
 static WRITTEN: &str =
     r#"{"Ccy":"EUR","Cdtr":"Bo Maes","CdtrAcct":"BE68539007547034","CdtrAgt":"BANQFRPPXXX","ChrgBr":"SLEV","CreDtTm":"2024-05-02T10:00:00Z","Dbtr":"Anna Weber","DbtrAcct":"DE89370400440532013000","DbtrAgt":"BANKDEFFXXX","EndToEndId":"E1","InstgAgt":"BANKDEFFXXX","IntrBkSttlmAmt":"0.01","IntrBkSttlmDt":"2024-05-02","LclInstrm":"INST","MsgId":"M1","MsgNmId":"pacs.008","SvcLvl":"SEPA","TxId":"T1"}
 "#;
 
-// Two confirmations of one identity, and another: what is written goes by identity and then by text, whatever the
-// order of the elements.
+// Two confirmations of one identity, and another message. They are written by identity and then by
+// text, whatever the order of the elements.
 static CONFIRMED: [Row; 3] = [
     Row::Text(
         r#"{"MsgNmId":"pacs.002","MsgId":"C1","CreDtTm":"2024-05-02T10:00:02Z","InstgAgt":"BANQFRPP","OrgnlMsgId":"M1","OrgnlMsgNmId":"pacs.008","OrgnlTxId":"T1","TxSts":"ACCP","DbtrAgt":"BANKDEFF"}"#,
@@ -48,7 +48,7 @@ static CONFIRMED_WRITTEN: &str =
 {"CreDtTm":"2024-05-02T10:00:02Z","DbtrAgt":"BANKDEFFXXX","InstgAgt":"BANQFRPPXXX","MsgId":"C1","MsgNmId":"pacs.002","OrgnlMsgId":"M1","OrgnlMsgNmId":"pacs.008","OrgnlTxId":"T1","TxSts":"ACCP"}
 "#;
 
-// Messages one after another, and what the archive answers to each.
+// Messages, which are added one after another, and the answers of the archive.
 static COMING: [Row; 9] = [
     Row::CreditTransfer("M1", "T1", "100.00"),
     Row::StatusReport("C1", "T1"),
@@ -73,7 +73,7 @@ static COMING_ANSWERS: [Added; 9] = [
     Added::Against,
 ];
 
-// Three sites: the second holds what the first does and a message more, the third contradicts that one.
+// Three sites. The second holds the message of the first and one more; the third contradicts that one.
 static FIRST: [Row; 1] = [Row::CreditTransfer("M1", "T1", "1.00")];
 
 static SECOND: [Row; 2] = [
@@ -110,14 +110,14 @@ fn expect_contradicted(rt: &impl Abort, archive: &Archive) {
     assert_eq!(rt; found[0].msg_id.text(), "C1");
 }
 
-// Merges an archive of the messages of some rows, and compares how many were new.
+// Merges an archive of the messages of the rows, and compares how many were new.
 fn merge_rows(rt: &impl Abort, alloc: Global, archive: &mut Archive, rows: &[Row], wanted: u64) {
     let other = archive_of(alloc, rows).expect(rt, "another archive");
     let new = archive.merge(&other).expect(rt, "memory");
     assert_eq!(rt; new, wanted);
 }
 
-// The archive text of two sites that are merged.
+// The archive text of two sites after a merge.
 fn text_of_both(
     rt: &impl Abort,
     alloc: Global,
@@ -158,7 +158,7 @@ fn writes_by_identity_and_then_by_text(rt: HostRuntime) {
     expect_text(&rt, &archive, CONFIRMED_WRITTEN);
 }
 
-// The pieces of the archive text of the messages of some rows, one after another.
+// The pieces of the archive text of the messages of the rows, one after another.
 fn text_in_pieces_of(rt: &(impl Threads + Sync), alloc: Global, rows: &[Row]) -> Option<Vec<u8>> {
     let messages = messages_of(alloc, rows)?;
     let pieces = Ordered::of(rt, alloc, &messages)
@@ -198,7 +198,7 @@ fn merges_in_another_order_write_the_same(rt: HostRuntime) {
     assert_eq!(rt; text.as_slice(), same.as_slice());
 }
 
-// The archive of the first site, merged with what the second and the third hold together.
+// The archive of the first site, merged with all messages of the second and the third.
 fn first_with_the_others(rt: &impl Abort, alloc: Global) -> Archive {
     let mut archive = archive_of(alloc, &FIRST).expect(rt, "an archive");
     let mut others = archive_of(alloc, &SECOND).expect(rt, "another archive");

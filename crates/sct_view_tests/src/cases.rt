@@ -11,7 +11,7 @@ use std::process::Abort;
 use std::sync::Arc;
 use std::test::Fail;
 
-/// The word of a finding, and its recall or its message where it has one.
+/// The word of a finding, and its recall or its message if it has one.
 fn words(finding: &Finding) -> (&'static str, &str) {
     match finding {
         Finding::Identity(identity) => ("Identity", identity.msg_id.text()),
@@ -53,7 +53,7 @@ fn recall_word(status: &RecallStatus) -> &'static str {
     }
 }
 
-/// What a status tells beside its word: cents, or the code of a reason.
+/// The argument of a status: cents, or the code of a reason.
 fn argument(status: &Status) -> (u64, &str) {
     match status {
         Status::Rejected(reason) => (0, reason.text()),
@@ -70,7 +70,7 @@ fn recall_argument(status: &RecallStatus) -> (u64, &str) {
     }
 }
 
-/// Whether these are the findings.
+/// Asserts that these are the findings.
 fn assert_findings(rt: &impl Abort, found: &[Finding], wanted: &[(&str, &str)]) {
     assert_eq!(rt; found.len(), wanted.len());
     for (finding, wanted) in found.iter().zip(wanted) {
@@ -78,7 +78,7 @@ fn assert_findings(rt: &impl Abort, found: &[Finding], wanted: &[(&str, &str)]) 
     }
 }
 
-/// Whether these messages and asides on a transfer give these findings, and so a contradicted transfer and recall.
+/// Asserts that these messages and asides on a transfer have these findings, and so a contradicted transfer and recall.
 fn assert_found(rt: &impl Abort, alloc: Global, tx: &str, case: &Contradicted) -> Result<(), Fail> {
     let transfer = transfer(tx)?;
     let clean = messages(alloc, tx, case.rows)?;
@@ -102,7 +102,7 @@ fn assert_found(rt: &impl Abort, alloc: Global, tx: &str, case: &Contradicted) -
     )
 }
 
-/// Whether the recall of a transfer stands so by these messages.
+/// Asserts that the recall of a transfer has this status by these messages.
 fn assert_recall(
     rt: &impl Abort,
     alloc: Global,
@@ -116,7 +116,7 @@ fn assert_recall(
     Ok(())
 }
 
-/// The identifications of some recalls.
+/// The identifications of the recalls.
 fn cxls_of(
     alloc: Global,
     recalls: &[(&'static str, &'static str, u64, &'static str)],
@@ -128,7 +128,8 @@ fn cxls_of(
     Ok(cxls)
 }
 
-/// Whether the recalls of a transfer stand so by its status and these messages, if they are asked for together.
+/// Asserts that the recalls of a transfer have these statuses by its status and these
+/// messages, if they are asked for together.
 fn assert_recalls(
     rt: &impl Abort,
     alloc: Global,
@@ -150,7 +151,7 @@ fn assert_recalls(
     Ok(())
 }
 
-/// Whether a transfer and its recalls stand so by these messages.
+/// Asserts that a transfer and its recalls have these statuses by these messages.
 fn assert_standing(rt: &impl Abort, alloc: Global, tx: &str, case: &Standing) -> Result<(), Fail> {
     let transfer = transfer(tx)?;
     let clean = messages(alloc, tx, case.rows)?;
@@ -164,14 +165,14 @@ fn assert_standing(rt: &impl Abort, alloc: Global, tx: &str, case: &Standing) ->
     Ok(())
 }
 
-/// What contradicts itself on a transfer: its messages, its asides, and the findings.
+/// A contradicted transfer: its messages, its asides, and its findings.
 struct Contradicted {
     rows: &'static [Row],
     asides: &'static [&'static str],
     found: &'static [(&'static str, &'static str)],
 }
 
-/// Where a transfer and its recalls stand: its messages, the status, and each recall with its status. A status is its
+/// A transfer and its recalls: its messages, its status, and each recall with its status. A status is its
 /// word, its cents and the code of its reason.
 struct Standing {
     rows: &'static [Row],
@@ -331,7 +332,7 @@ static CONTRADICTED: [Contradicted; 15] = [
             ("TwoReturns", ""),
         ],
     },
-    // all that two instructions allow
+    // all findings that two instructions allow
     Contradicted {
         rows: &[
             Row::Instructed("M1", "100.00"),
@@ -359,7 +360,7 @@ static CONTRADICTED: [Contradicted; 15] = [
             ("ReturnOfRejected", ""),
         ],
     },
-    // all that one instruction allows
+    // all findings that one instruction allows
     Contradicted {
         rows: &[
             Row::Instructed("M1", "100.00"),
@@ -520,9 +521,9 @@ const TWICE: Row = Row::RecalledAll(
     ],
 );
 
-/// What contradicts itself on this transfer, where recall messages have two transactions.
+/// Contradicted transfers whose recall messages have two transactions.
 static CONTRADICTED_BY_LISTS: [(&str, Contradicted); 6] = [
-    // the amount differs in the transaction on this transfer, not in that on the other one
+    // the amount differs in the transaction on this transfer, not in the one on the other transfer
     (
         "T2",
         Contradicted {
@@ -584,7 +585,7 @@ static CONTRADICTED_BY_LISTS: [(&str, Contradicted); 6] = [
             found: &[("RecallsDiffer", "R2")],
         },
     ),
-    // differing recalls, beside those of another transfer that differ too
+    // differing recalls, and those of another transfer differ too
     (
         "T1",
         Contradicted {
@@ -620,9 +621,9 @@ static CONTRADICTED_BY_LISTS: [(&str, Contradicted); 6] = [
     ),
 ];
 
-/// Where this transfer and its recalls stand, where recall messages have two transactions.
+/// Statuses of transfers and recalls whose recall messages have two transactions.
 static STANDING_BY_LISTS: [(&str, Standing); 8] = [
-    // one recall of each of two transfers: that of the other one is none of this
+    // one recall of each of two transfers; the recall of the other transfer is not one of this
     (
         "T1",
         Standing {
@@ -704,7 +705,7 @@ static STANDING_BY_LISTS: [(&str, Standing); 8] = [
             ],
         },
     ),
-    // two recalls of one transfer, of which one is chased, and both answered
+    // two recalls of one transfer, one of them chased, and both answered
     (
         "T1",
         Standing {

@@ -1,4 +1,5 @@
-//! Tests of archives, cases, views and reports: what no clause says is that memory is there.
+//! Tests of archives, cases, views and reports. They show what no clause says: that the
+//! calls succeed if there is memory.
 #![tactic(auto)]
 
 #[cfg(test)]

@@ -13,11 +13,11 @@ use std::thread::Threads;
 
 // ---- lists
 
-/// The text of a list, and how many rows it has or the number of its first bad record.
+/// The text of a list, and its number of rows or the number of its first bad record.
 struct Read(&'static [u8], Result<usize, u64>);
 
 static LISTS: [Read; 14] = [
-    // the header alone, with and without its line feed, quoted, and behind a byte order mark
+    // the header alone, with and without its line feed, quoted, and after a byte order mark
     Read(b"DbtrAgt,TxId,Amt,Sts", Ok(0)),
     Read(b"\"DbtrAgt\",TxId,\"Amt\",Sts\r\n", Ok(0)),
     Read(b"\xEF\xBB\xBFDbtrAgt,TxId,Amt,Sts\n", Ok(0)),
@@ -41,18 +41,18 @@ static LISTS: [Read; 14] = [
         Err(3),
     ),
     Read(b"DbtrAgt,TxId,Amt,Sts\nBANKDEFF,T1,10\n", Err(2)),
-    // bytes that are no UTF-8, and characters that no identification has
+    // bytes that are not UTF-8, and characters that no identification has
     Read(b"DbtrAgt,TxId,Amt,Sts\nBANKDEFF,\xFF,10,ACCEPTED\n", Err(2)),
     Read(
         b"DbtrAgt,TxId,Amt,Sts\nBANKDEFF,\xC3\xA9,10,ACCEPTED\n",
         Err(2),
     ),
-    // a word that is none of the five, and one in small letters
+    // a word that is not one of the five, and one in small letters
     Read(b"DbtrAgt,TxId,Amt,Sts\nBANKDEFF,T1,10,DONE\n", Err(2)),
     Read(b"DbtrAgt,TxId,Amt,Sts\nBANKDEFF,T1,0,ACCEPTED\n", Err(2)),
 ];
 
-// How many rows, or which record is bad.
+// The number of rows, or the number of the bad record.
 fn told(read: Result<List, ReconcileFault>) -> Result<usize, u64> {
     match read {
         Ok(list) => Ok(list.rows().len()),
@@ -84,7 +84,7 @@ struct Scene {
     report: &'static str,
 }
 
-// Seven transfers of the day, and one of another.
+// Seven transfers of the day, and one of another day.
 static WORKED: Scene = Scene {
     said: &[
         Said::Instructed("M1", "T1", "10.00"),
@@ -106,7 +106,7 @@ static WORKED: Scene = Scene {
     report: "DbtrAgt,TxId,Result,ListAmt,ListSts,Amt,Sts\nBANKDEFFXXX,T1,MATCHED,10.00,ACCEPTED,10.00,ACCEPTED\nBANKDEFFXXX,T2,AMOUNT_DIFFERS,20.01,ACCEPTED,20.00,ACCEPTED\nBANKDEFFXXX,T3,ONLY_IN_LIST,5.00,ACCEPTED,,UNKNOWN\nBANKDEFFXXX,T4,ONLY_IN_ARCHIVE,,,40.00,ACCEPTED\nBANKDEFFXXX,T5,CONTRADICTED,50.00,ACCEPTED,50.00,CONTRADICTED\nBANKDEFFXXX,T6,LISTED_TWICE,,,60.00,ACCEPTED\nBANKDEFFXXX,T8,STATUS_DIFFERS,80.00,ACCEPTED,80.00,PENDING\n",
 };
 
-// Whether a view and a list give this report.
+// Asserts that a view and a list have this report.
 fn assert_report<R: Abort + Threads + Sync>(
     rt: &R,
     alloc: Global,
@@ -134,7 +134,7 @@ fn tells_the_worked_report(rt: HostRuntime) -> Result<(), Fail> {
     assert_scene(&rt, rt.alloc(), &WORKED)
 }
 
-// Each case beside the next one: where both hold the first is told.
+// Each case with the next one: if both hold, the first is reported.
 static NEIGHBOURS: [Scene; 7] = [
     // listed twice and contradicted, and listed twice under both writings of the bank
     Scene {
@@ -178,7 +178,7 @@ static NEIGHBOURS: [Scene; 7] = [
         list: "DbtrAgt,TxId,Amt,Sts\nBANKDEFF,T3,10,REJECTED\nBANKDEFF,T2,10.01,REJECTED\n",
         report: "DbtrAgt,TxId,Result,ListAmt,ListSts,Amt,Sts\nBANKDEFFXXX,T1,ONLY_IN_ARCHIVE,,,10.00,PENDING\nBANKDEFFXXX,T2,AMOUNT_DIFFERS,10.01,REJECTED,10.00,PENDING\nBANKDEFFXXX,T3,STATUS_DIFFERS,10.00,REJECTED,10.00,PENDING\n",
     },
-    // each of the five words; the amount is that of the instruction, whatever came back
+    // each of the five words; the amount is that of the instruction, whatever was returned
     Scene {
         said: &[
             Said::Instructed("M1", "T1", "10.00"),
@@ -196,7 +196,7 @@ static NEIGHBOURS: [Scene; 7] = [
         list: "DbtrAgt,TxId,Amt,Sts\nBANKDEFF,T1,10,ACCEPTED\nBANKDEFF,T2,10,REJECTED\nBANKDEFF,T3,10,RETURNED\nBANKDEFF,T4,10,PENDING\nBANKDEFF,T5,10,INVESTIGATED\n",
         report: "DbtrAgt,TxId,Result,ListAmt,ListSts,Amt,Sts\nBANKDEFFXXX,T1,MATCHED,10.00,ACCEPTED,10.00,ACCEPTED\nBANKDEFFXXX,T2,MATCHED,10.00,REJECTED,10.00,REJECTED\nBANKDEFFXXX,T3,MATCHED,10.00,RETURNED,10.00,RETURNED\nBANKDEFFXXX,T4,MATCHED,10.00,PENDING,10.00,PENDING\nBANKDEFFXXX,T5,MATCHED,10.00,INVESTIGATED,10.00,INVESTIGATED\n",
     },
-    // the beneficiary bank's transfers; of another day where they are listed alone; rows of other banks
+    // transfers of the beneficiary bank; transfers of another day only if they are listed; rows of other banks
     Scene {
         said: &[
             Said::Instructed("M1", "T1", "10.00"),

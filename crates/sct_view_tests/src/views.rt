@@ -1,4 +1,4 @@
-//! Batches that come to a view of no message, and all that it answers afterwards, with ample memory.
+//! Batches that are applied to a view of no message, and all answers of the view afterwards, with ample memory.
 
 mod scenes;
 
@@ -11,10 +11,10 @@ use std::alloc::Global;
 use std::process::Abort;
 use std::test::Fail;
 
-/// A transfer and a recall of it, and where both stand.
+/// A transfer and a recall of it, and the statuses of both.
 type Standing = (&'static str, &'static str, &'static str, &'static str);
 
-// Messages of all six kinds, with which seven transfers stand in as many ways.
+// Messages of all six kinds, by which seven transfers have seven statuses.
 static FIRST: [&str; 17] = [
     r#"{"MsgNmId":"pacs.002","CreDtTm":"2024-05-02T10:00:02Z","InstgAgt":"BANQFRPP","OrgnlMsgId":"M1","OrgnlMsgNmId":"pacs.008","TxSts":"RJCT","DbtrAgt":"BANKDEFF","MsgId":"C7","OrgnlTxId":"T6","Rsn":"AC04"}"#,
     r#"{"MsgNmId":"pacs.002","CreDtTm":"2024-05-02T10:00:02Z","InstgAgt":"BANQFRPP","OrgnlMsgId":"M1","OrgnlMsgNmId":"pacs.008","TxSts":"ACCP","DbtrAgt":"BANKDEFF","MsgId":"C6","OrgnlTxId":"T6"}"#,
@@ -35,7 +35,7 @@ static FIRST: [&str; 17] = [
     r#"{"MsgNmId":"pacs.002","CreDtTm":"2024-05-02T10:00:02Z","InstgAgt":"BANQFRPP","OrgnlMsgId":"M1","OrgnlMsgNmId":"pacs.008","TxSts":"ACCP","DbtrAgt":"BANKDEFF","MsgId":"C8","OrgnlTxId":"T8"}"#,
 ];
 
-// One of them again, and a late message under the identity of the last of them.
+// One of these messages again, and a late message under the identity of the last one.
 static LATER: [&str; 2] = [
     r#"{"MsgNmId":"pacs.002","CreDtTm":"2024-05-02T10:00:02Z","InstgAgt":"BANQFRPP","OrgnlMsgId":"M1","OrgnlMsgNmId":"pacs.008","TxSts":"ACCP","DbtrAgt":"BANKDEFF","MsgId":"C1","OrgnlTxId":"T1"}"#,
     r#"{"MsgNmId":"pacs.002","CreDtTm":"2024-05-02T10:00:02Z","InstgAgt":"BANQFRPP","OrgnlMsgId":"M1","OrgnlMsgNmId":"pacs.008","TxSts":"RJCT","DbtrAgt":"BANKDEFF","MsgId":"C8","OrgnlTxId":"T8","Rsn":"AC04"}"#,
@@ -47,12 +47,12 @@ const STATUS: &str =
 const TOTALS: &str =
     "BANKDEFFXXX|1|100.00|99.00|1|2|1|2|0|0.00|0.00\nBANQFRPPXXX|0|0.00|0.00|0|0|0|0|1|100.00|99.00\n";
 
-// A line for each transfer, with the message that instructs it and its recalls; for each bank that has totals, with its
-// transfers; and for each finding.
+// A line for each transfer, with the message that instructs it and its recalls; for each bank that has totals,
+// with its transfers; and for each finding.
 const LISTED: &str =
     " BANKDEFFXXX T1 M1 R1\n BANKDEFFXXX T2 M2\n BANKDEFFXXX T3 R9\n BANKDEFFXXX T4 M4\n BANKDEFFXXX T5 M5 R4 R5\n BANKDEFFXXX T6 M6\n BANKDEFFXXX T8\n BANKDEFFXXX T1 T2 T3 T4 T5 T6 T8\n BANQFRPPXXX T1 T2 T4 T5 T6\n T6 BothConfirmed\n T8 C8\n";
 
-// Transfers and recalls that messages name, and two that none names.
+// Transfers and recalls that messages name, and two that no message names.
 static STANDING: [Standing; 7] = [
     ("T2", "R1", "INVESTIGATED", "UNKNOWN"),
     ("T3", "R9", "MISSING", "UNASKED"),
@@ -63,7 +63,7 @@ static STANDING: [Standing; 7] = [
     ("T7", "R1", "UNKNOWN", "UNKNOWN"),
 ];
 
-// What the originator bank of all transfers sent.
+// The totals of the originator bank of all transfers.
 const SENT: Totals = Totals {
     sent: 1,
     sent_cents: 10000,
@@ -77,7 +77,7 @@ const SENT: Totals = Totals {
     returned_out: 0,
 };
 
-// The word of a status of the scenes that has no amount and no reason behind it.
+// The word of a status of the scenes, which has neither an amount nor a reason.
 fn word(status: &Status) -> &'static str {
     match status {
         Status::Unknown => "UNKNOWN",
@@ -101,7 +101,7 @@ fn recall_word(status: &RecallStatus) -> &'static str {
     }
 }
 
-// A batch of messages brings so many fresh ones, and touches so many transfers.
+// Asserts that a batch of messages has this many fresh ones, and touches this many transfers.
 fn assert_applied(
     rt: &impl Abort,
     alloc: Global,
@@ -124,7 +124,7 @@ fn assert_totals_text(rt: &impl Abort, view: &View, wanted: &str) -> Result<(), 
     Ok(())
 }
 
-// Adds a word, behind a space.
+// Appends a word, after a space.
 fn push_word(text: &mut Vec<u8>, word: &str) -> Result<(), Fail> {
     text.push(b' ')?;
     text.extend_from_slice(word.as_bytes())?;
@@ -186,7 +186,7 @@ fn push_findings(text: &mut Vec<u8>, view: &View) -> Result<(), Fail> {
     Ok(())
 }
 
-// What the view lists.
+// The lists of the view.
 fn listed(alloc: Global, view: &View) -> Result<Vec<u8>, Fail> {
     let mut text = Vec::new(alloc);
     push_transfers(&mut text, view)?;
@@ -214,7 +214,7 @@ fn assert_standing(rt: &impl Abort, view: &View, rows: &[Standing]) -> Result<()
     Ok(())
 }
 
-// What one bank sent, and nothing of a bank that no message names.
+// Asserts the totals of one bank, and those of a bank that no message names.
 fn assert_sums(rt: &impl Abort, view: &View) -> Result<(), Fail> {
     assert!(rt; view.totals(&Bic::read("BANKDEFF")?) == SENT);
     assert!(rt; view.totals(&Bic::read("BANKBEBB")?) == Totals::nothing());
@@ -249,12 +249,12 @@ static ACCEPTED: [&str; 4] = [
     r#"{"MsgNmId":"pacs.002","MsgId":"C2","CreDtTm":"2024-05-02T10:00:02Z","InstgAgt":"BANQFRPP","OrgnlMsgId":"M1","OrgnlMsgNmId":"pacs.008","OrgnlTxId":"T2","TxSts":"ACCP","DbtrAgt":"BANKDEFF"}"#,
 ];
 
-// A recall of both, of which one tells another amount.
+// A recall of both transfers; it names another amount for one of them.
 static RECALLED: [&str; 1] = [
     r#"{"MsgNmId":"camt.056","MsgId":"K1","CreDtTm":"2024-05-03T09:00:00Z","InstgAgt":"BANKDEFF","TxInf":[{"CxlId":"R1","OrgnlMsgId":"M1","OrgnlMsgNmId":"pacs.008","OrgnlTxId":"T1","OrgnlIntrBkSttlmAmt":"100.00","Ccy":"EUR","Rsn":"FRAD","DbtrAgt":"BANKDEFF"},{"CxlId":"R2","OrgnlMsgId":"M1","OrgnlMsgNmId":"pacs.008","OrgnlTxId":"T2","OrgnlIntrBkSttlmAmt":"49.00","Ccy":"EUR","Rsn":"DUPL","DbtrAgt":"BANKDEFF"}]}"#,
 ];
 
-// Under its identity the recall of a third transfer.
+// A recall of a third transfer under the same identity.
 static RECALLED_AGAIN: [&str; 1] = [
     r#"{"MsgNmId":"camt.056","MsgId":"K1","CreDtTm":"2024-05-03T09:00:00Z","InstgAgt":"BANKDEFF","CxlId":"R3","OrgnlMsgId":"M1","OrgnlMsgNmId":"pacs.008","OrgnlTxId":"T3","OrgnlIntrBkSttlmAmt":"1.00","Ccy":"EUR","Rsn":"FRAD","DbtrAgt":"BANKDEFF"}"#,
 ];
@@ -276,7 +276,7 @@ const RECALLED_LISTED: &str =
 const RECALLED_AGAIN_LISTED: &str =
     " BANKDEFFXXX T1 M1 R1\n BANKDEFFXXX T2 M2 R2\n BANKDEFFXXX T3 R3\n BANKDEFFXXX T1 T2 T3\n T1 K1\n T2 K1\n T3 K1\n";
 
-// Each recall under its own transfer, and the one of the other transfer nowhere else.
+// Each recall is under its own transfer, and not under the other one.
 static RECALLED_STANDING: [Standing; 3] = [
     ("T1", "R1", "ACCEPTED", "OPEN"),
     ("T1", "R2", "ACCEPTED", "UNKNOWN"),
@@ -290,7 +290,7 @@ static RECALLED_AGAIN_STANDING: [Standing; 4] = [
     ("T4", "R3", "UNKNOWN", "UNKNOWN"),
 ];
 
-// A recall touches both transfers that it names.
+// Asserts that a recall touches both transfers that it names.
 fn assert_recalled(rt: &impl Abort, alloc: Global, view: &mut View) -> Result<(), Fail> {
     assert_applied(rt, alloc, view, &RECALLED, (1, 2))?;
     assert_status_text(rt, view, RECALLED_STATUS)?;
@@ -299,7 +299,7 @@ fn assert_recalled(rt: &impl Abort, alloc: Global, view: &mut View) -> Result<()
     assert_standing(rt, view, &RECALLED_STANDING)
 }
 
-// A recall under its identity contradicts it, and touches these two and its own transfer.
+// Asserts that a recall under its identity contradicts it, and touches these two transfers and its own.
 fn assert_recalled_again(rt: &impl Abort, alloc: Global, view: &mut View) -> Result<(), Fail> {
     assert_applied(rt, alloc, view, &RECALLED_AGAIN, (1, 3))?;
     assert_status_text(rt, view, RECALLED_AGAIN_STATUS)?;
@@ -320,7 +320,7 @@ fn answers_on_a_recall_of_two_transfers(rt: HostRuntime) -> Result<(), Fail> {
     assert_recalls(&rt, rt.alloc(), &mut view)
 }
 
-// A confirmation of the second transfer under the identity of the first one's, and then of a third transfer.
+// A confirmation of the second transfer under the identity of the first one's, and then one of a third transfer.
 static CONFIRMED_AGAIN: [&str; 1] = [
     r#"{"MsgNmId":"pacs.002","MsgId":"C1","CreDtTm":"2024-05-02T10:00:02Z","InstgAgt":"BANQFRPP","OrgnlMsgId":"M1","OrgnlMsgNmId":"pacs.008","OrgnlTxId":"T2","TxSts":"ACCP","DbtrAgt":"BANKDEFF"}"#,
 ];
@@ -343,7 +343,7 @@ const CONFIRMED_A_THIRD_TIME_TOTALS: &str = "BANKDEFFXXX|0|0.00|0.00|0|0|0|3|0|0
 const CONFIRMED_AGAIN_LISTED: &str =
     " BANKDEFFXXX T1 M1\n BANKDEFFXXX T2 M2\n BANKDEFFXXX T1 T2\n T1 C1\n T2 C1\n";
 
-// The bank has the same transfers all the same.
+// The bank still has the same transfers.
 const TRANSFERS_OF_THE_OTHER: &str = " BANQFRPPXXX T1 T2\n";
 
 fn assert_transfers_of(

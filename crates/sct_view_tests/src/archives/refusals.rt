@@ -1,6 +1,6 @@
-//! Growths that are refused. `scripts/gate/refuse_growths.py` has the toolchain refuse one allocation of each test,
-//! always the one of the same number; the tests differ in how many allocations they make first, so that each
-//! meets another refusal.
+//! Growths that are refused. `scripts/gate/refuse_growths.py` has the toolchain refuse one allocation
+//! of each test, always the one of the same number. The tests differ in how many allocations they
+//! make first, so each meets another refusal.
 
 use super::scenes::{Row, messages_of};
 use sct_message::Message;
@@ -9,7 +9,7 @@ use std::alloc::Global;
 use std::process::Abort;
 use std::sync::Arc;
 
-// The second message is against the first.
+// The second message contradicts the first.
 static LIST: [Row; 6] = [
     Row::StatusReport("C1", "T1"),
     Row::StatusReport("C1", "T2"),
@@ -24,7 +24,7 @@ fn allocate_once(alloc: Global) -> bool {
     Arc::new(alloc, 0u8).is_ok()
 }
 
-// Makes some allocations, and tells whether there was room for each.
+// Makes some allocations, and returns whether there was memory for each.
 fn allocate(alloc: Global, times: usize) -> bool {
     (0..times).all(|_| allocate_once(alloc))
 }
@@ -35,7 +35,7 @@ fn add_first(archive: &mut Archive, list: &[Arc<Message>]) -> Option<()> {
     Some(())
 }
 
-// Whether the archive holds the first message of the list, and nothing else.
+// Whether the archive holds the first message of the list and nothing else.
 fn is_unchanged(archive: &Archive, list: &[Arc<Message>]) -> bool {
     archive.len() == 1
         && list
@@ -44,8 +44,8 @@ fn is_unchanged(archive: &Archive, list: &[Arc<Message>]) -> bool {
             .eq([true, false, false, false, false, false])
 }
 
-// After some allocations, adds a list to an archive that holds its first message. Where a growth is refused nothing
-// has changed, the list can be added again, and the test ends there.
+// After some allocations, adds a list to an archive that holds its first message. If a growth is refused, nothing has
+// changed, the list can be added again, and the test ends there.
 fn add_list(rt: &impl Abort, alloc: Global, before: usize) {
     let _room = allocate(alloc, before)
         .then_some(())

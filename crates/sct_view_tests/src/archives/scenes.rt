@@ -1,4 +1,4 @@
-//! Messages and archives to try calls on.
+//! Messages and archives for tests.
 
 use sct_json::read_message;
 use sct_message::Message;
@@ -6,7 +6,7 @@ use sct_set::*;
 use std::alloc::Global;
 use std::sync::Arc;
 
-/// A message, by what its text varies in.
+/// A message, by the parts of its text that vary.
 #[derive(Clone, Copy)]
 pub(crate) enum Row {
     /// A credit transfer of Anna Weber's: its identification, its transfer and its amount.
@@ -17,13 +17,13 @@ pub(crate) enum Row {
     Text(&'static str),
 }
 
-// Pushes the message of a text. There is none only where memory is wanting.
+// Appends the message of a text. None only if it is out of memory.
 fn push_message(alloc: Global, messages: &mut Vec<Arc<Message>>, text: &str) -> Option<()> {
     let message = read_message(alloc, text.as_bytes()).ok()?;
     messages.push(Arc::new(alloc, message).ok()?).ok()
 }
 
-// Pushes the message of a row.
+// Appends the message of a row.
 fn push_row(alloc: Global, messages: &mut Vec<Arc<Message>>, row: Row) -> Option<()> {
     let text = match row {
         Row::Text(text) => return push_message(alloc, messages, text),
@@ -37,7 +37,7 @@ fn push_row(alloc: Global, messages: &mut Vec<Arc<Message>>, row: Row) -> Option
     push_message(alloc, messages, &text.ok()?)
 }
 
-/// The messages of some rows.
+/// The messages of the rows.
 pub(crate) fn messages_of(alloc: Global, rows: &[Row]) -> Option<Vec<Arc<Message>>> {
     let mut messages = Vec::new(alloc);
     for row in rows {
@@ -46,7 +46,7 @@ pub(crate) fn messages_of(alloc: Global, rows: &[Row]) -> Option<Vec<Arc<Message
     Some(messages)
 }
 
-/// An archive of the messages of some rows.
+/// An archive of the messages of the rows.
 pub(crate) fn archive_of(alloc: Global, rows: &[Row]) -> Option<Archive> {
     let messages = messages_of(alloc, rows)?;
     let mut archive = Archive::new(alloc);
@@ -54,8 +54,8 @@ pub(crate) fn archive_of(alloc: Global, rows: &[Row]) -> Option<Archive> {
     Some(archive)
 }
 
-/// What is answered to each message that is added. There is nothing where one was held already and is no repeat, or
-/// the other way round.
+/// The answer to each message that is added. None if the archive held a message that it does not
+/// answer as a repeat, or the other way round.
 pub(crate) fn answers_to(
     alloc: Global,
     archive: &mut Archive,

@@ -13,7 +13,7 @@ use std::test::Fail;
 /// A transaction of a recall message: its transfer, the identification of the recall, the original amount, and a reason.
 pub(crate) type Tx = (&'static str, &'static str, &'static str, &'static str);
 
-/// A message, by its identification and what else the examples vary.
+/// A message, by its identification and the other parts that vary.
 pub(crate) enum Row {
     /// A credit transfer of an amount.
     Instructed(&'static str, &'static str),
@@ -29,7 +29,7 @@ pub(crate) enum Row {
     Recalled(&'static str, &'static str, &'static str, &'static str),
     /// A recall of several transactions.
     RecalledAll(&'static str, &'static [Tx]),
-    /// A return, with an identification of its own: the recall, the original amount, and what comes back.
+    /// A return, with an identification of its own: the recall, the original amount, and the returned amount.
     Returned(&'static str, &'static str, &'static str, &'static str, &'static str),
     /// A refusal: the recall, and a reason.
     Refused(&'static str, &'static str, &'static str),
@@ -253,7 +253,7 @@ pub(crate) fn transfer(tx: &str) -> Result<TransferKey, ElementFault> {
     })
 }
 
-/// The messages of some rows, on one transfer.
+/// The messages of the rows, on one transfer.
 pub(crate) fn messages(alloc: Global, tx: &str, rows: &[Row]) -> Result<Vec<Arc<Message>>, Fail> {
     let mut made = Vec::new(alloc);
     for row in rows {

@@ -1,4 +1,4 @@
-//! Messages and views to try lists on.
+//! Messages and views for tests of lists.
 
 use sct_json::read_message;
 use sct_message::Message;
@@ -7,7 +7,7 @@ use std::alloc::{AllocError, Global};
 use std::sync::Arc;
 use std::test::Fail;
 
-/// A message on a transfer of Anna Weber's bank, by its identification, its transfer and what else the scenes vary.
+/// A message on a transfer of Anna Weber's bank, by its identification, its transfer and the other parts that vary.
 #[derive(Clone, Copy)]
 pub(crate) enum Said {
     /// A credit transfer of 2 May: its amount.
@@ -20,7 +20,7 @@ pub(crate) enum Said {
     Rejected(&'static str, &'static str, &'static str),
     /// A request for the status of the transfer.
     Investigated(&'static str, &'static str),
-    /// A return: the original amount, and what comes back.
+    /// A return: the original amount, and the returned amount.
     Returned(&'static str, &'static str, &'static str, &'static str),
 }
 
@@ -77,14 +77,14 @@ fn text_of(alloc: Global, said: Said) -> Result<String, AllocError> {
     }
 }
 
-// Pushes the message of a text.
+// Appends the message of a text.
 fn push_message(alloc: Global, messages: &mut Vec<Arc<Message>>, text: &str) -> Result<(), Fail> {
     let message = read_message(alloc, text.as_bytes())?;
     messages.push(Arc::new(alloc, message)?)?;
     Ok(())
 }
 
-/// A view of some messages.
+/// A view of the messages.
 pub(crate) fn view_of(alloc: Global, said: &[Said]) -> Result<View, Fail> {
     let mut messages = Vec::new(alloc);
     for one in said {

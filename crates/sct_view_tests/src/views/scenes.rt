@@ -1,4 +1,4 @@
-//! Messages and views to try calls on.
+//! Messages and views for tests.
 
 use sct_element::{Bic, Id35};
 use sct_json::read_message;
@@ -8,14 +8,14 @@ use std::alloc::Global;
 use std::sync::Arc;
 use std::test::Fail;
 
-// Pushes the message of a text.
+// Appends the message of a text.
 fn push_message(alloc: Global, messages: &mut Vec<Arc<Message>>, text: &str) -> Result<(), Fail> {
     let message = read_message(alloc, text.as_bytes())?;
     messages.push(Arc::new(alloc, message)?)?;
     Ok(())
 }
 
-// The messages of some texts.
+// The messages of the texts.
 fn messages_of(alloc: Global, texts: &[&str]) -> Result<Vec<Arc<Message>>, Fail> {
     let mut messages = Vec::new(alloc);
     for text in texts {
@@ -24,7 +24,7 @@ fn messages_of(alloc: Global, texts: &[&str]) -> Result<Vec<Arc<Message>>, Fail>
     Ok(messages)
 }
 
-/// What the messages of some texts bring to a view, in one batch.
+/// Applies the messages of the texts to a view in one batch.
 pub(crate) fn apply_texts(alloc: Global, view: &mut View, texts: &[&str]) -> Result<Applied, Fail> {
     Ok(view.apply(&messages_of(alloc, texts)?)?)
 }
