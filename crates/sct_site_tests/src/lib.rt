@@ -1,4 +1,5 @@
-//! Tests of deltas, histories, sites, worlds and scripts: what no clause says is that memory is there.
+//! Tests of deltas, histories, sites, worlds and scripts. They show what no clause says:
+//! that the calls succeed if there is memory.
 #![tactic(auto)]
 
 #[cfg(test)]

@@ -7,7 +7,7 @@ use sct_script::*;
 use std::alloc::Global;
 use worked::{ANSWER, SCRIPT};
 
-// The lines of a script are told as the row says.
+// Whether the refused lines of a script are reported as the row says.
 fn is_refused(alloc: Global, row: &Refused) -> bool {
     let Ok(script) = read_script(alloc, row.script) else {
         return false;
@@ -22,7 +22,7 @@ fn tells_refused_lines(rt: HostRuntime) {
     }
 }
 
-// The script has the sites and the events of the row, and no refused line.
+// Whether the script has the sites and the events of the row, and no refused line.
 fn is_taken(alloc: Global, row: &Taken) -> bool {
     let Ok(script) = read_script(alloc, row.script) else {
         return false;
@@ -44,7 +44,7 @@ fn reads_no_script_without_a_number_of_sites(rt: HostRuntime) {
     }
 }
 
-// What the script is answered begins with this.
+// Whether the answer to the script begins with this.
 fn is_answered(alloc: Global, script: &[u8], begins: &[u8]) -> bool {
     let Ok(script) = read_script(alloc, script) else {
         return false;

@@ -46,7 +46,7 @@ static LARGEST: [Row; 1] = [Row(1, 18446744073709551615, "C9")];
 // One message that two sites took.
 static TAKEN_TWICE: [Row; 2] = [Row(1, 1, "C1"), Row(2, 1, "C1")];
 
-// What comes to site 2 by and by: from site 1, its own, from site 1 again.
+// The entries that come to site 2 in turn: from site 1, its own, from site 1 again.
 static OWN: [Row; 1] = [Row(2, 1, "C5")];
 
 static OWN_ANSWERS: [Took; 1] = [Took::Taken { n: 1 }];
@@ -60,7 +60,7 @@ static BY_AND_BY: [Row; 4] = [
 
 static ABOVE: [Row; 3] = [Row(1, 2, "C2"), Row(1, 3, "C3"), Row(2, 1, "C5")];
 
-// Numbers and groups that are none.
+// Numbers and groups that are not valid.
 static NO_SITES: [(u16, u16); 5] = [(0, 3), (4, 3), (1, 0), (1, 1025), (1025, 1025)];
 
 // The number and the group of a new site, and how many entries it has of its own.
@@ -91,7 +91,7 @@ fn takes_a_message_once(rt: HostRuntime) {
     assert_eq!(rt; site.archive().len(), 1);
 }
 
-// What a new site answers to each message.
+// The answers of a new site to the messages.
 fn taken_by_a_new_site(alloc: Global, texts: &[&str]) -> Option<Vec<Took>> {
     let mut site = SiteCore::open(alloc, 1, 3).ok()?;
     let mut answers = Vec::new(alloc);
@@ -192,7 +192,7 @@ fn cuts_what_came_from_others(rt: HostRuntime) {
     assert_eq!(rt; site.vector().get(1), 3);
 }
 
-// What the last site of the largest group took, as another site's whole cut writes it.
+// The message that the last site of the largest group took, in the text of a delta that another site cuts.
 fn handed_on(alloc: Global) -> Option<Vec<u8>> {
     let message = read_message(alloc, INSTRUCTION.as_bytes()).ok()?;
     let message = Arc::new(alloc, message).ok()?;

@@ -10,7 +10,7 @@ use sct_delta::DeltaFault;
 use sct_world::*;
 use std::process::Abort;
 
-// Deltas come to site 2 in the wrong order and again, to site 3 in the right one, and one that was never cut.
+// Deltas come to site 2 out of order and again, and to site 3 in order. One of the deltas was never cut.
 static NIGHT: [Line; 14] = [
     Line::Transfer(1),
     Line::Cut(1, 0),
@@ -55,7 +55,7 @@ static NIGHT_OUTCOMES: [Outcome; 14] = [
     Outcome::Refused(WorldFault::BadSite),
 ];
 
-// The archive of each of three sites, as text, is that of the first, and is not empty.
+// Asserts that the archive text of each of three sites is that of the first, and is not empty.
 fn expect_alike(rt: &impl Abort, world: &World) {
     let first = world
         .archive(1)
@@ -73,7 +73,7 @@ fn expect_alike(rt: &impl Abort, world: &World) {
     }
 }
 
-// What each of three sites answers of the transfer and its confirmation.
+// The archive text of each of three sites: the transfer and its confirmation.
 static NIGHT_ARCHIVE: &str = concat!(
     r#"{"Ccy":"EUR","Cdtr":"Bo Maes","CdtrAcct":"BE68539007547034","CdtrAgt":"BANQFRPPXXX","ChrgBr":"SLEV","CreDtTm":"2024-05-02T10:00:00Z","Dbtr":"Anna Weber","DbtrAcct":"DE89370400440532013000","DbtrAgt":"BANKDEFFXXX","EndToEndId":"E1","InstgAgt":"BANKDEFFXXX","IntrBkSttlmAmt":"1.00","IntrBkSttlmDt":"2024-05-02","LclInstrm":"INST","MsgId":"M1","MsgNmId":"pacs.008","SvcLvl":"SEPA","TxId":"T1"}"#,
     "\n",
@@ -92,7 +92,7 @@ fn expect_night(rt: &impl Abort, answers: &Answers) {
     assert_eq!(rt; answers.totals.as_slice(), NIGHT_TOTALS.as_bytes());
 }
 
-// How the event ends in the world.
+// Asserts the outcome of the event in the world.
 fn expect_outcome(rt: &impl Abort, world: &mut World, event: &Event, wanted: &Outcome) {
     match (world.step(event), wanted) {
         (Ok(step), Outcome::Done(done)) => assert_eq!(rt; step, *done),
@@ -137,7 +137,7 @@ fn a_night_at_three_sites_in_one_run(rt: HostRuntime) {
     expect_alike(&rt, &ran.world);
 }
 
-// A site answers what is right after the night.
+// Asserts the answers of a site after the night.
 fn expect_answers(rt: &impl Abort, world: &World, site: u16) {
     let answers = world.answers(site).expect(rt, "answers");
     expect_night(rt, &answers);

@@ -1,4 +1,4 @@
-//! What logs hold, cut, take and refuse.
+//! What logs hold, cut, join and refuse.
 
 use super::scenes::{Row, cuts, entries_of, joined, logs_of, refusal};
 use sct_delta::*;
@@ -25,7 +25,7 @@ const OF_THREE_ABOVE: &[Row] = &[Row(1, 2, "C2"), Row(3, 1, "C6"), Row(3, 2, "C7
 
 const NONE: &[Row] = &[];
 
-// Whether a group of so many sites is refused as having no such site. A group of 1 to 1024 is not.
+// Whether a group of this size is refused as having no such site. A group of 1 to 1024 is not.
 fn is_no_group(alloc: Global, size: u16) -> bool {
     match Logs::new(alloc, size) {
         Ok(_) => false,
@@ -40,7 +40,7 @@ fn a_group_has_1_to_1024_sites(rt: HostRuntime) {
     assert!(rt; Logs::new(rt.alloc(), 1024).is_ok());
 }
 
-// By which number room is refused for a site, or 0.
+// The number by which room is refused for a site, or 0.
 fn refusal_of_room(logs: &mut Logs, site: u16) -> u8 {
     match logs.room(site) {
         Ok(()) => 0,
@@ -60,7 +60,7 @@ fn room_is_for_sites_of_the_group(rt: HostRuntime) {
     assert!(rt; (logs.vector().get(1), logs.vector().get(3)) == (2, 0));
 }
 
-// The number that a message of an origin gets, or why it is refused.
+// The number that a message of an origin gets, or why the message is refused.
 fn pushed(alloc: Global, logs: &mut Logs, origin: u16) -> Option<Result<u64, DeltaFault>> {
     let entry = entries_of(alloc, SECOND)?.pop()?;
     Some(logs.push(origin, entry.message))
@@ -93,7 +93,7 @@ fn holds_entries_by_their_numbers(rt: HostRuntime) {
     assert!(rt; logs.vector().get(1) == 2);
 }
 
-// What logs hold, up to where a vector counts, and what is cut for it.
+// The entries of logs, the counts of a vector, and the entries cut above it.
 struct Cut {
     held: &'static [Row],
     above: &'static [(u16, u64)],
@@ -143,7 +143,7 @@ fn cuts_what_a_vector_lacks(rt: HostRuntime) {
     }
 }
 
-// How many of two entries come with them, again, and with one entry more.
+// How many entries are new in a delta of two, in the same delta again, and in a delta with one more entry.
 fn come_one_after_another(alloc: Global, logs: &mut Logs) -> Option<(u64, u64, u64)> {
     let first = joined(alloc, logs, 2, TWO)?;
     let again = joined(alloc, logs, 2, TWO)?;
@@ -157,7 +157,7 @@ fn takes_what_it_does_not_hold(rt: HostRuntime) {
     assert!(rt; cuts(rt.alloc(), &logs, &[], THREE));
 }
 
-// What the logs of a site hold, a delta that is handed to it, and why it is refused.
+// The entries of a site's logs, a delta that is handed to it, and why the delta is refused.
 struct Refused {
     held: &'static [Row],
     own: u16,

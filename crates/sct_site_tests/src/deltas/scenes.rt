@@ -1,4 +1,4 @@
-//! Messages, entries, deltas and logs to try calls on. What is not there is left out only where memory is wanting.
+//! Messages, entries, deltas and logs for tests. A result is none only if it is out of memory.
 
 use sct_delta::*;
 use sct_json::read_message;
@@ -9,7 +9,7 @@ use std::sync::Arc;
 #[derive(Clone, Copy)]
 pub(crate) struct Row(pub u16, pub u64, pub &'static str);
 
-/// Pushes an entry with the message of a text.
+/// Appends an entry with the message of a text.
 pub(crate) fn push_entry(
     alloc: Global,
     entries: &mut Vec<Entry>,
@@ -29,7 +29,7 @@ fn confirmation(alloc: Global, id: &str) -> Option<String> {
     ).ok()
 }
 
-/// The entries of some rows.
+/// The entries of the rows.
 pub(crate) fn entries_of(alloc: Global, rows: &[Row]) -> Option<Vec<Entry>> {
     let mut entries = Vec::new(alloc);
     for row in rows {
@@ -39,12 +39,12 @@ pub(crate) fn entries_of(alloc: Global, rows: &[Row]) -> Option<Vec<Entry>> {
     Some(entries)
 }
 
-// A delta of the entries of some rows.
+// A delta of the entries of the rows.
 fn delta_of(alloc: Global, rows: &[Row]) -> Option<Delta> {
     Delta::of(entries_of(alloc, rows)?).ok()
 }
 
-/// Logs of a group of three that hold the entries of some rows. There are none where a number is not the next one.
+/// Logs of a group of three that hold the entries of the rows. None also if a number is not the next one.
 pub(crate) fn logs_of(alloc: Global, rows: &[Row]) -> Option<Logs> {
     let mut logs = Logs::new(alloc, 3).ok()?;
     for entry in entries_of(alloc, rows)? {
@@ -71,13 +71,13 @@ fn are_entries(entries: &[Entry], rows: &[Row]) -> bool {
     true
 }
 
-// What is cut for a vector of these pairs.
+// The delta that is cut above a vector of these pairs.
 fn cut_above(alloc: Global, logs: &Logs, pairs: &[(u16, u64)]) -> Option<Delta> {
     let vector = Vector::of(alloc, pairs).ok()?;
     logs.cut(&vector).ok()
 }
 
-/// Whether the entries of these rows are cut for a vector of these pairs.
+/// Whether a cut above a vector of these pairs has the entries of these rows.
 pub(crate) fn cuts(alloc: Global, logs: &Logs, pairs: &[(u16, u64)], rows: &[Row]) -> bool {
     match cut_above(alloc, logs, pairs) {
         Some(delta) => are_entries(delta.entries(), rows),
@@ -85,14 +85,14 @@ pub(crate) fn cuts(alloc: Global, logs: &Logs, pairs: &[(u16, u64)], rows: &[Row
     }
 }
 
-/// Joins a delta of some rows, and tells how many of its entries were not held.
+/// Joins a delta of the rows, and returns how many of its entries were not held.
 pub(crate) fn joined(alloc: Global, logs: &mut Logs, own: u16, rows: &[Row]) -> Option<u64> {
     let delta = delta_of(alloc, rows)?;
     logs.reserve(&delta).ok()?;
     logs.join(own, delta).ok()
 }
 
-/// Why a delta of some rows is refused, where it is looked at and where it is joined. Else there is nothing.
+/// Why a delta of the rows is refused, by `fits` and by `join`. None if it is not refused, or if the two differ.
 pub(crate) fn refusal(
     alloc: Global,
     logs: &mut Logs,

@@ -1,4 +1,4 @@
-//! What makes a delta, and what makes a version vector.
+//! The shapes of deltas and of version vectors.
 
 use super::forms::INSTRUCTION;
 use super::scenes::push_entry;
@@ -45,7 +45,7 @@ fn entries_at(alloc: Global, places: &[(u16, u64)]) -> Option<Vec<Entry>> {
     Some(entries)
 }
 
-// How a fault is told: its number and its place.
+// The number and the place of a fault.
 fn told(refusal: &DeltaFault) -> (u8, u64) {
     match refusal {
         DeltaFault::BadDelta(place) => (refusal.number(), *place),
@@ -68,7 +68,7 @@ fn refused_pairs(alloc: Global, pairs: &[(u16, u64)]) -> (u8, u64) {
     }
 }
 
-// What the vector of some pairs counts of the origins 1, 2, 3, 64 and 65.
+// The counts of the origins 1, 2, 3, 64 and 65 in the vector of the pairs.
 fn counts_of(alloc: Global, pairs: &[(u16, u64)]) -> Option<(u64, u64, u64, u64, u64)> {
     let vector = Vector::of(alloc, pairs).ok()?;
     Some((

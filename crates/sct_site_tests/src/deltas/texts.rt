@@ -8,7 +8,7 @@ use sct_json::write_message;
 use std::alloc::Global;
 use std::process::Abort;
 
-// The delta of some entries.
+// The delta of the entries.
 fn delta_of(alloc: Global, rows: &[(u16, u64, &str)]) -> Option<Delta> {
     let mut entries = Vec::new(alloc);
     for (origin, n, text) in rows {
@@ -56,13 +56,13 @@ fn joined(alloc: Global, front: &str, middle: &str, back: &str) -> Option<String
     format!(in alloc; "{front}{middle}{back}").ok()
 }
 
-// Whether this is written for a delta.
+// Whether this text is written for a delta.
 fn writes(alloc: Global, delta: &Delta, wanted: &str) -> Option<bool> {
     let text = write_delta(alloc, delta).ok()?;
     Some(text.as_slice() == wanted.as_bytes())
 }
 
-// Whether an entry stands at this place, and has this message.
+// Whether an entry has this place and this message.
 fn is_entry(alloc: Global, entry: &Entry, row: &(u16, u64, &str)) -> Option<bool> {
     let text = write_message(alloc, &entry.message).ok()?;
     Some(entry.origin == row.0 && entry.n == row.1 && text.as_slice() == row.2.as_bytes())
@@ -80,13 +80,13 @@ fn are_entries(alloc: Global, entries: &[Entry], rows: &[(u16, u64, &str)]) -> O
     Some(true)
 }
 
-// Whether a text is read as a delta of these entries. It may be no delta.
+// Whether a text is read as a delta of these entries. None if it is not read as a delta.
 fn reads(alloc: Global, text: &[u8], rows: &[(u16, u64, &str)]) -> Option<bool> {
     let delta = read_delta(alloc, text).ok()?;
     are_entries(alloc, delta.entries(), rows)
 }
 
-// How a reading is refused: the fault's number, and its line.
+// The number of the fault that refuses a text, and its line.
 fn refused(alloc: Global, text: &[u8]) -> (u8, u64) {
     match read_delta(alloc, text) {
         Ok(_) => (0, 0),
@@ -151,7 +151,7 @@ fn reads_both_forms_of_one_entry_alike(rt: HostRuntime) {
     assert!(rt; reads(alloc, group.as_bytes(), &rows) == Some(true));
 }
 
-// JSON's own white space comes around a message: another space before it, a carriage return behind it.
+// White space of JSON may be around a message: another space before it, a carriage return after it.
 #[test]
 fn reads_any_text_of_a_message(rt: HostRuntime) {
     let alloc = rt.alloc();
@@ -212,7 +212,7 @@ fn reports_the_wrong_line_of_two_entries(rt: HostRuntime) {
     }
 }
 
-// Each proper prefix of a text breaks off in its last line.
+// Asserts that each proper prefix of a text is wrong in its last line.
 fn expect_no_front(rt: &impl Abort, alloc: Global, bytes: &[u8]) {
     let mut line = 1u64;
     for end in 0..bytes.len() {

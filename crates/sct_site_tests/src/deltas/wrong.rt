@@ -1,4 +1,4 @@
-//! Texts that are a form of no delta, each with its first wrong line. Those of form 1, and then those of form 2.
+//! Texts that are not a form of any delta, each with its first wrong line: those of form 1, and then those of form 2.
 
 /// Texts without a message.
 pub static TEXTS: [(&str, u64); 32] = [
@@ -36,7 +36,7 @@ pub static TEXTS: [(&str, u64); 32] = [
     ("delta 1\nend 0\n\n", 3),
 ];
 
-/// Texts with one message: what stands before it and behind it.
+/// Texts with one message: the text before it and the text after it.
 pub static ENTRIES: [(&str, &str, u64); 25] = [
     ("delta 1\nentry 65 1 ", "\nend 1\n", 2),
     ("delta 1\nentry 0 1 ", "\nend 1\n", 2),
@@ -117,7 +117,7 @@ pub static GROUP_TEXTS: [(&str, u64); 36] = [
     ("delta 2\nend 0\n\n", 3),
 ];
 
-/// Texts of form 2 with one message: what is before it and behind it.
+/// Texts of form 2 with one message: the text before it and the text after it.
 pub static GROUPS: [(&str, &str, u64); 41] = [
     ("delta 2\norigin 1025 1 1\n", "\nend 1\n", 2),
     ("delta 2\norigin 0 1 1\n", "\nend 1\n", 2),
@@ -162,7 +162,7 @@ pub static GROUPS: [(&str, &str, u64); 41] = [
     ("delta 2\norigin 1 1 1\n", "\nend 1\nend 1\n", 5),
 ];
 
-/// Texts of form 2 with two messages: what is before the first, between them, and behind the second.
+/// Texts of form 2 with two messages: the text before the first, between them, and after the second.
 pub static GROUP_PAIRS: [(&str, &str, &str, u64); 13] = [
     (
         "delta 2\norigin 1 1 1\n",

@@ -1,6 +1,6 @@
-//! Scripts with their refused lines, with their events, with how these end, and inputs that are no script.
+//! Scripts with their refused lines, scripts with their events and outcomes, and inputs that are not scripts.
 
-/// A script of refused lines alone, the lines that tell them, and how many these are.
+/// A script of refused lines alone, the lines that report them, and their number.
 pub struct Refused {
     pub script: &'static [u8],
     pub told: &'static [u8],
@@ -8,13 +8,13 @@ pub struct Refused {
 }
 
 pub static REFUSED: [Refused; 6] = [
-    // a take with nothing behind the site, and with an empty text behind it
+    // a take with nothing after the site, and one with an empty text after it
     Refused {
         script: b"sites 3\ntake 1\ntake 1 \n",
         told: b"line 2: 64\nline 3: 31\n",
         refused: 2,
     },
-    // numbers with a zero in front, with a sign, too large for a site, none
+    // numbers with a zero in front, with a sign, too large for a site, and a text that is not a number
     Refused {
         script: b"sites 3\ntake 01 {}\ncut +1 -\nhand 1 65536\nhand 18446744073709551616 1\nhand x 1\n",
         told: b"line 2: 64\nline 3: 64\nline 4: 64\nline 5: 64\nline 6: 64\n",
@@ -46,7 +46,7 @@ pub static REFUSED: [Refused; 6] = [
     },
 ];
 
-/// A script without refused lines, how many sites it has, and how many events.
+/// A script without refused lines, its number of sites, and its number of events.
 pub struct Taken {
     pub script: &'static [u8],
     pub sites: u16,
@@ -65,13 +65,13 @@ pub static TAKEN: [Taken; 4] = [
         sites: 1024,
         events: 0,
     },
-    // a take, a cut of nothing and above a vector, and a hand
+    // a take, a cut above the empty vector and above another, and a hand
     Taken {
         script: b"sites 2\ntake 1 {\"MsgNmId\":\"pacs.008\",\"MsgId\":\"M1\",\"CreDtTm\":\"2024-05-02T10:00:00Z\",\"InstgAgt\":\"BANKDEFF\",\"IntrBkSttlmDt\":\"2024-05-02\",\"SvcLvl\":\"SEPA\",\"LclInstrm\":\"INST\",\"EndToEndId\":\"E1\",\"TxId\":\"T1\",\"IntrBkSttlmAmt\":\"1.00\",\"Ccy\":\"EUR\",\"ChrgBr\":\"SLEV\",\"Dbtr\":\"Anna Weber\",\"DbtrAcct\":\"DE89370400440532013000\",\"DbtrAgt\":\"BANKDEFF\",\"CdtrAgt\":\"BANQFRPP\",\"Cdtr\":\"Bo Maes\",\"CdtrAcct\":\"BE68539007547034\"}\ncut 1 -\ncut 2 1:0,2:18446744073709551615,1024:7\nhand 1 2",
         sites: 2,
         events: 4,
     },
-    // white space of JSON before a message, sites and deltas that are not there
+    // white space of JSON before a message, and sites and deltas that do not exist
     Taken {
         script: b"sites 2\ntake 1  {\"MsgNmId\":\"pacs.008\",\"MsgId\":\"M1\",\"CreDtTm\":\"2024-05-02T10:00:00Z\",\"InstgAgt\":\"BANKDEFF\",\"IntrBkSttlmDt\":\"2024-05-02\",\"SvcLvl\":\"SEPA\",\"LclInstrm\":\"INST\",\"EndToEndId\":\"E1\",\"TxId\":\"T1\",\"IntrBkSttlmAmt\":\"1.00\",\"Ccy\":\"EUR\",\"ChrgBr\":\"SLEV\",\"Dbtr\":\"Anna Weber\",\"DbtrAcct\":\"DE89370400440532013000\",\"DbtrAgt\":\"BANKDEFF\",\"CdtrAgt\":\"BANQFRPP\",\"Cdtr\":\"Bo Maes\",\"CdtrAcct\":\"BE68539007547034\"}\r\ntake 0 {\"MsgNmId\":\"pacs.008\",\"MsgId\":\"M1\",\"CreDtTm\":\"2024-05-02T10:00:00Z\",\"InstgAgt\":\"BANKDEFF\",\"IntrBkSttlmDt\":\"2024-05-02\",\"SvcLvl\":\"SEPA\",\"LclInstrm\":\"INST\",\"EndToEndId\":\"E1\",\"TxId\":\"T1\",\"IntrBkSttlmAmt\":\"1.00\",\"Ccy\":\"EUR\",\"ChrgBr\":\"SLEV\",\"Dbtr\":\"Anna Weber\",\"DbtrAcct\":\"DE89370400440532013000\",\"DbtrAgt\":\"BANKDEFF\",\"CdtrAgt\":\"BANQFRPP\",\"Cdtr\":\"Bo Maes\",\"CdtrAcct\":\"BE68539007547034\"}\ntake 65535 {\"MsgNmId\":\"pacs.008\",\"MsgId\":\"M1\",\"CreDtTm\":\"2024-05-02T10:00:00Z\",\"InstgAgt\":\"BANKDEFF\",\"IntrBkSttlmDt\":\"2024-05-02\",\"SvcLvl\":\"SEPA\",\"LclInstrm\":\"INST\",\"EndToEndId\":\"E1\",\"TxId\":\"T1\",\"IntrBkSttlmAmt\":\"1.00\",\"Ccy\":\"EUR\",\"ChrgBr\":\"SLEV\",\"Dbtr\":\"Anna Weber\",\"DbtrAcct\":\"DE89370400440532013000\",\"DbtrAgt\":\"BANKDEFF\",\"CdtrAgt\":\"BANQFRPP\",\"Cdtr\":\"Bo Maes\",\"CdtrAcct\":\"BE68539007547034\"}\ncut 3 -\nhand 0 1\nhand 18446744073709551615 1\n",
         sites: 2,
@@ -79,7 +79,7 @@ pub static TAKEN: [Taken; 4] = [
     },
 ];
 
-/// A script, and how its events end.
+/// A script, and the outcomes of its events.
 pub struct Ended {
     pub script: &'static [u8],
     pub outcomes: &'static [u8],
@@ -91,24 +91,25 @@ pub static ENDED: [Ended; 4] = [
         script: b"sites 1024\ntake 1024 {\"MsgNmId\":\"pacs.008\",\"MsgId\":\"M1\",\"CreDtTm\":\"2024-05-02T10:00:00Z\",\"InstgAgt\":\"BANKDEFF\",\"IntrBkSttlmDt\":\"2024-05-02\",\"SvcLvl\":\"SEPA\",\"LclInstrm\":\"INST\",\"EndToEndId\":\"E1\",\"TxId\":\"T1\",\"IntrBkSttlmAmt\":\"1.00\",\"Ccy\":\"EUR\",\"ChrgBr\":\"SLEV\",\"Dbtr\":\"Anna Weber\",\"DbtrAcct\":\"DE89370400440532013000\",\"DbtrAgt\":\"BANKDEFF\",\"CdtrAgt\":\"BANQFRPP\",\"Cdtr\":\"Bo Maes\",\"CdtrAcct\":\"BE68539007547034\"}\ncut 1024 -\nhand 1 700\n",
         outcomes: b"E|1|TAKEN|1\nE|2|CUT|1|1\nE|3|ACCEPTED|1\n",
     },
-    // a message held already, from whatever origin
+    // a message that is held already, from any origin
     Ended {
         script: b"sites 2\ntake 1 {\"MsgNmId\":\"pacs.008\",\"MsgId\":\"M1\",\"CreDtTm\":\"2024-05-02T10:00:00Z\",\"InstgAgt\":\"BANKDEFF\",\"IntrBkSttlmDt\":\"2024-05-02\",\"SvcLvl\":\"SEPA\",\"LclInstrm\":\"INST\",\"EndToEndId\":\"E1\",\"TxId\":\"T1\",\"IntrBkSttlmAmt\":\"1.00\",\"Ccy\":\"EUR\",\"ChrgBr\":\"SLEV\",\"Dbtr\":\"Anna Weber\",\"DbtrAcct\":\"DE89370400440532013000\",\"DbtrAgt\":\"BANKDEFF\",\"CdtrAgt\":\"BANQFRPP\",\"Cdtr\":\"Bo Maes\",\"CdtrAcct\":\"BE68539007547034\"}\ntake 1 {\"MsgNmId\":\"pacs.008\",\"MsgId\":\"M1\",\"CreDtTm\":\"2024-05-02T10:00:00Z\",\"InstgAgt\":\"BANKDEFF\",\"IntrBkSttlmDt\":\"2024-05-02\",\"SvcLvl\":\"SEPA\",\"LclInstrm\":\"INST\",\"EndToEndId\":\"E1\",\"TxId\":\"T1\",\"IntrBkSttlmAmt\":\"1.00\",\"Ccy\":\"EUR\",\"ChrgBr\":\"SLEV\",\"Dbtr\":\"Anna Weber\",\"DbtrAcct\":\"DE89370400440532013000\",\"DbtrAgt\":\"BANKDEFF\",\"CdtrAgt\":\"BANQFRPP\",\"Cdtr\":\"Bo Maes\",\"CdtrAcct\":\"BE68539007547034\"}\ncut 1 -\nhand 1 2\ntake 2 {\"MsgNmId\":\"pacs.008\",\"MsgId\":\"M1\",\"CreDtTm\":\"2024-05-02T10:00:00Z\",\"InstgAgt\":\"BANKDEFF\",\"IntrBkSttlmDt\":\"2024-05-02\",\"SvcLvl\":\"SEPA\",\"LclInstrm\":\"INST\",\"EndToEndId\":\"E1\",\"TxId\":\"T1\",\"IntrBkSttlmAmt\":\"1.00\",\"Ccy\":\"EUR\",\"ChrgBr\":\"SLEV\",\"Dbtr\":\"Anna Weber\",\"DbtrAcct\":\"DE89370400440532013000\",\"DbtrAgt\":\"BANKDEFF\",\"CdtrAgt\":\"BANQFRPP\",\"Cdtr\":\"Bo Maes\",\"CdtrAcct\":\"BE68539007547034\"}\ntake 2 {\"MsgNmId\":\"pacs.002\",\"MsgId\":\"C1\",\"CreDtTm\":\"2024-05-02T10:00:02Z\",\"InstgAgt\":\"BANQFRPP\",\"OrgnlMsgId\":\"M1\",\"OrgnlMsgNmId\":\"pacs.008\",\"OrgnlTxId\":\"T1\",\"TxSts\":\"ACCP\",\"DbtrAgt\":\"BANKDEFF\"}\ncut 2 1:1\n",
         outcomes: b"E|1|TAKEN|1\nE|2|REPEAT\nE|3|CUT|1|1\nE|4|ACCEPTED|1\nE|5|REPEAT\nE|6|TAKEN|1\nE|7|CUT|2|1\n",
     },
-    // no such site before no such delta; events are numbered without the refused lines
+    // a site that does not exist is reported before a delta that does not exist; events
+    // are numbered without the refused lines
     Ended {
         script: b"sites 2\nhold\nhand 1 3\n\nhand 1 0\nhold\ntake 3 {\"MsgNmId\":\"pacs.008\",\"MsgId\":\"M1\",\"CreDtTm\":\"2024-05-02T10:00:00Z\",\"InstgAgt\":\"BANKDEFF\",\"IntrBkSttlmDt\":\"2024-05-02\",\"SvcLvl\":\"SEPA\",\"LclInstrm\":\"INST\",\"EndToEndId\":\"E1\",\"TxId\":\"T1\",\"IntrBkSttlmAmt\":\"1.00\",\"Ccy\":\"EUR\",\"ChrgBr\":\"SLEV\",\"Dbtr\":\"Anna Weber\",\"DbtrAcct\":\"DE89370400440532013000\",\"DbtrAgt\":\"BANKDEFF\",\"CdtrAgt\":\"BANQFRPP\",\"Cdtr\":\"Bo Maes\",\"CdtrAcct\":\"BE68539007547034\"}\ncut 0 -\nhand 1 2\nhand 0 2\n",
         outcomes: b"E|1|REFUSED|44\nE|2|REFUSED|44\nE|3|REFUSED|44\nE|4|REFUSED|44\nE|5|REFUSED|47\nE|6|REFUSED|47\n",
     },
-    // a gap: its origin, how many are held, and where the delta begins
+    // a gap: its origin, how many entries are held, and where the delta begins
     Ended {
         script: b"sites 2\ntake 1 {\"MsgNmId\":\"pacs.008\",\"MsgId\":\"M1\",\"CreDtTm\":\"2024-05-02T10:00:00Z\",\"InstgAgt\":\"BANKDEFF\",\"IntrBkSttlmDt\":\"2024-05-02\",\"SvcLvl\":\"SEPA\",\"LclInstrm\":\"INST\",\"EndToEndId\":\"E1\",\"TxId\":\"T1\",\"IntrBkSttlmAmt\":\"1.00\",\"Ccy\":\"EUR\",\"ChrgBr\":\"SLEV\",\"Dbtr\":\"Anna Weber\",\"DbtrAcct\":\"DE89370400440532013000\",\"DbtrAgt\":\"BANKDEFF\",\"CdtrAgt\":\"BANQFRPP\",\"Cdtr\":\"Bo Maes\",\"CdtrAcct\":\"BE68539007547034\"}\ntake 1 {\"MsgNmId\":\"pacs.002\",\"MsgId\":\"C1\",\"CreDtTm\":\"2024-05-02T10:00:02Z\",\"InstgAgt\":\"BANQFRPP\",\"OrgnlMsgId\":\"M1\",\"OrgnlMsgNmId\":\"pacs.008\",\"OrgnlTxId\":\"T1\",\"TxSts\":\"ACCP\",\"DbtrAgt\":\"BANKDEFF\"}\ncut 1 1:1\nhand 1 2\ncut 1 -\nhand 2 2\nhand 1 2\n",
         outcomes: b"E|1|TAKEN|1\nE|2|TAKEN|2\nE|3|CUT|1|1\nE|4|REFUSED|41|1|0|2\nE|5|CUT|2|2\nE|6|ACCEPTED|2\nE|7|ACCEPTED|0\n",
     },
 ];
 
-/// Inputs that are no script.
+/// Inputs that are not scripts.
 pub static NO_SCRIPTS: [&[u8]; 12] = [
     b"",
     b"\n\n",

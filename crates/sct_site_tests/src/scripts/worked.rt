@@ -1,4 +1,4 @@
-//! A script in which deltas come in the wrong order, again and late, and what it is answered.
+//! A script in which deltas come out of order, again and late, and the answer to it.
 
 pub static SCRIPT: &[u8] =
     b"sites 3\ntake 1 {\"MsgNmId\":\"pacs.008\",\"MsgId\":\"M1\",\"CreDtTm\":\"2024-05-02T10:00:00Z\",\"InstgAgt\":\"BANKDEFF\",\"IntrBkSttlmDt\":\"2024-05-02\",\"SvcLvl\":\"SEPA\",\"LclInstrm\":\"INST\",\"EndToEndId\":\"E1\",\"TxId\":\"T1\",\"IntrBkSttlmAmt\":\"1.00\",\"Ccy\":\"EUR\",\"ChrgBr\":\"SLEV\",\"Dbtr\":\"Anna Weber\",\"DbtrAcct\":\"DE89370400440532013000\",\"DbtrAgt\":\"BANKDEFF\",\"CdtrAgt\":\"BANQFRPP\",\"Cdtr\":\"Bo Maes\",\"CdtrAcct\":\"BE68539007547034\"}\ncut 1 -\ntake 1 {\"MsgNmId\":\"pacs.002\",\"MsgId\":\"C1\",\"CreDtTm\":\"2024-05-02T10:00:02Z\",\"InstgAgt\":\"BANQFRPP\",\"OrgnlMsgId\":\"M1\",\"OrgnlMsgNmId\":\"pacs.008\",\"OrgnlTxId\":\"T1\",\"TxSts\":\"ACCP\",\"DbtrAgt\":\"BANKDEFF\"}\ncut 1 1:1\nhand 2 2\nhand 1 2\nhand 2 2\nhand 1 2\nhand 1 3\nhand 2 3\nhand 9 3\n";

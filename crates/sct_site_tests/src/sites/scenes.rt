@@ -1,4 +1,4 @@
-//! Messages, deltas and sites to try calls on.
+//! Messages, deltas and sites for tests.
 
 use sct_delta::{Delta, DeltaFault, Entry, Vector};
 use sct_json::read_message;
@@ -12,7 +12,7 @@ use std::sync::Arc;
 #[derive(Clone, Copy)]
 pub(crate) struct Row(pub u16, pub u64, pub &'static str);
 
-// Pushes the entry of a row. It is left out only where memory is wanting.
+// Appends the entry of a row. None only if it is out of memory.
 fn push_entry(alloc: Global, entries: &mut Vec<Entry>, row: Row) -> Option<()> {
     let id = row.2;
     let text = format!(in alloc;
@@ -35,12 +35,12 @@ fn entries_of(alloc: Global, rows: &[Row]) -> Option<Vec<Entry>> {
     Some(entries)
 }
 
-/// A delta of the entries of some rows.
+/// A delta of the entries of the rows.
 pub(crate) fn delta_of(alloc: Global, rows: &[Row]) -> Option<Delta> {
     Delta::of(entries_of(alloc, rows)?).ok()
 }
 
-// The site takes the messages of the entries. It fails only where memory is wanting.
+// Makes the site take the messages of the entries. None only if it is out of memory.
 fn take_each(site: &mut SiteCore, entries: Vec<Entry>) -> Option<()> {
     for entry in entries {
         site.take(entry.message).ok()?;
@@ -48,7 +48,7 @@ fn take_each(site: &mut SiteCore, entries: Vec<Entry>) -> Option<()> {
     Some(())
 }
 
-/// A site of a group of three that took the messages of some rows.
+/// A site of a group of three that took the messages of the rows.
 pub(crate) fn site_of(alloc: Global, number: u16, rows: &[Row]) -> Option<SiteCore> {
     let entries = entries_of(alloc, rows)?;
     let mut site = SiteCore::open(alloc, number, 3).ok()?;
@@ -56,7 +56,7 @@ pub(crate) fn site_of(alloc: Global, number: u16, rows: &[Row]) -> Option<SiteCo
     Some(site)
 }
 
-/// What the site answers to the message of each row.
+/// Asserts the answers of the site to the messages of the rows.
 pub(crate) fn expect_taken(
     rt: &impl Abort,
     alloc: Global,
@@ -73,7 +73,7 @@ pub(crate) fn expect_taken(
     }
 }
 
-/// The site accepts a delta of some rows, of which so many entries are new.
+/// Asserts that the site accepts a delta of the rows, with this many new entries.
 pub(crate) fn expect_accepted(
     rt: &impl Abort,
     alloc: Global,
@@ -86,7 +86,7 @@ pub(crate) fn expect_accepted(
     assert_eq!(rt; accepted.fresh, fresh);
 }
 
-/// The site has the number of each entry of a delta of some rows, or it does not.
+/// Asserts that the site has the number of each entry of a delta of the rows, or that it does not.
 pub(crate) fn expect_numbers(
     rt: &impl Abort,
     alloc: Global,
@@ -98,7 +98,7 @@ pub(crate) fn expect_numbers(
     assert_eq!(rt; site.has_numbers(&delta), held);
 }
 
-/// The site refuses a delta of some rows.
+/// Asserts that the site refuses a delta of the rows.
 pub(crate) fn expect_refused(
     rt: &impl Abort,
     alloc: Global,
@@ -124,7 +124,7 @@ fn expect_entries(rt: &impl Abort, entries: &[Entry], wanted: &[Row]) {
     }
 }
 
-/// Compares the arrivals of the site, and what is cut of them for a vector of these pairs.
+/// Compares the arrivals of the site, and the entries cut above a vector of these pairs.
 pub(crate) fn expect_held(
     rt: &impl Abort,
     alloc: Global,

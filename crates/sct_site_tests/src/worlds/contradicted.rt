@@ -44,7 +44,7 @@ fn expect_identity(rt: &impl Abort, found: &Identity, wanted: &Named) {
     assert_eq!(rt; found.msg_id.text(), wanted.2);
 }
 
-// The identities are the wanted ones, in their order.
+// Asserts that the identities are the expected ones, in their order.
 fn expect_identities(rt: &impl Abort, found: &[Identity], wanted: &[Named]) {
     assert_eq!(rt; found.len(), wanted.len());
     for (identity, named) in found.iter().zip(wanted) {
@@ -52,7 +52,7 @@ fn expect_identities(rt: &impl Abort, found: &[Identity], wanted: &[Named]) {
     }
 }
 
-// The site of three answers the status text and the identities after the events.
+// Asserts the status text and the identities of a site of three after the events.
 fn expect_after(
     rt: &impl Abort,
     alloc: Global,

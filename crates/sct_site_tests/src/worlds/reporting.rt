@@ -1,4 +1,4 @@
-//! Sites report on a bank's list, with ample memory.
+//! Reports of sites on a bank's list, with ample memory.
 
 use super::scenes::{Line, events_of};
 use sct_element::{Bic, Day};
@@ -10,7 +10,7 @@ use std::thread::Threads;
 
 const ACCEPTED: &str = r#""TxSts":"ACCP""#;
 
-// Site 1 takes what is said of seven transfers of 2 May and of one of the next day; then site 2 is handed all of it.
+// Site 1 takes the messages on seven transfers of 2 May and on one of the next day; then site 2 is handed all of them.
 static DAY: [Line; 15] = [
     Line::Instructed(1, "M1", "T1", "10.00", "2024-05-02"),
     Line::Reported(1, "C1", "T1", ACCEPTED),
@@ -35,11 +35,11 @@ static LIST: &str =
 static REPORT: &str =
     "DbtrAgt,TxId,Result,ListAmt,ListSts,Amt,Sts\nBANKDEFFXXX,T1,MATCHED,10.00,ACCEPTED,10.00,ACCEPTED\nBANKDEFFXXX,T2,AMOUNT_DIFFERS,20.01,ACCEPTED,20.00,ACCEPTED\nBANKDEFFXXX,T3,ONLY_IN_LIST,5.00,ACCEPTED,,UNKNOWN\nBANKDEFFXXX,T4,ONLY_IN_ARCHIVE,,,40.00,ACCEPTED\nBANKDEFFXXX,T5,CONTRADICTED,50.00,ACCEPTED,50.00,CONTRADICTED\nBANKDEFFXXX,T6,LISTED_TWICE,,,60.00,ACCEPTED\nBANKDEFFXXX,T8,STATUS_DIFFERS,80.00,ACCEPTED,80.00,PENDING\n";
 
-// The report of a site that holds nothing: what is on the list, and no more.
+// The report of a site that holds nothing: only the listed transfers.
 static NOTHING_HELD: &str =
     "DbtrAgt,TxId,Result,ListAmt,ListSts,Amt,Sts\nBANKDEFFXXX,T1,ONLY_IN_LIST,10.00,ACCEPTED,,UNKNOWN\nBANKDEFFXXX,T2,ONLY_IN_LIST,20.01,ACCEPTED,,UNKNOWN\nBANKDEFFXXX,T3,ONLY_IN_LIST,5.00,ACCEPTED,,UNKNOWN\nBANKDEFFXXX,T5,ONLY_IN_LIST,50.00,ACCEPTED,,UNKNOWN\nBANKDEFFXXX,T6,LISTED_TWICE,,,,UNKNOWN\nBANKDEFFXXX,T8,ONLY_IN_LIST,80.00,ACCEPTED,,UNKNOWN\n";
 
-// What a list is compared for.
+// The bank, the day and the list of a report.
 #[derive(Drop)]
 struct Asked {
     bank: Bic,
@@ -79,12 +79,12 @@ fn expect_report<R: Abort + Threads + Sync>(
     assert_eq!(rt; text.as_slice(), wanted.as_bytes());
 }
 
-// There is no report of a site that the world has not.
+// Asserts that there is no report of a site that the world does not have.
 fn expect_no_report<R: Abort + Threads + Sync>(rt: &R, world: &World, site: u16, asked: &Asked) {
     assert_eq!(rt; text_at(rt, world, site, asked).err(), Some(44));
 }
 
-// What the sites of a world of three report after the day.
+// Asserts the reports of the sites of a world of three after the day.
 fn expect_reports<R: Abort + Threads + Sync>(rt: &R, world: &World, asked: &Asked) {
     expect_report(rt, world, 1, asked, REPORT);
     expect_report(rt, world, 2, asked, REPORT);

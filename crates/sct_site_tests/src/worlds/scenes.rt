@@ -1,4 +1,4 @@
-//! Events to try worlds on.
+//! Events for tests of worlds.
 
 use sct_delta::{Delta, DeltaFault, Entry, Vector};
 use sct_json::read_message;
@@ -9,14 +9,14 @@ use std::alloc::{AllocError, Global};
 use std::process::Abort;
 use std::sync::Arc;
 
-/// An event, by what it varies in.
+/// An event, by the parts that vary.
 #[derive(Clone, Copy)]
 pub(crate) enum Line {
     /// The site takes the credit transfer T1.
     Transfer(u16),
     /// The site takes the confirmation of T1.
     Confirmation(u16),
-    /// The site cuts above so many entries of site 1, and above none of the others.
+    /// The site cuts above this many entries of site 1, and above none of the others.
     Cut(u16, u64),
     /// The delta comes to the site.
     Hand(u64, u16),
@@ -32,7 +32,7 @@ static TRANSFER: &str =
 static CONFIRMATION: &str =
     r#"{"MsgNmId":"pacs.002","MsgId":"C1","CreDtTm":"2024-05-02T10:00:02Z","InstgAgt":"BANQFRPP","OrgnlMsgId":"M1","OrgnlMsgNmId":"pacs.008","OrgnlTxId":"T1","TxSts":"ACCP","DbtrAgt":"BANKDEFF"}"#;
 
-// The message of a text. There is none only where memory is wanting.
+// The message of a text. None only if it is out of memory.
 fn message_of(alloc: Global, text: &str) -> Option<Arc<Message>> {
     let message = read_message(alloc, text.as_bytes()).ok()?;
     Arc::new(alloc, message).ok()
@@ -80,7 +80,7 @@ fn event_of(alloc: Global, line: Line) -> Option<Event> {
     }
 }
 
-/// The events of some lines.
+/// The events of the lines.
 pub(crate) fn events_of(alloc: Global, lines: &[Line]) -> Option<Vec<Event>> {
     let mut events = Vec::new(alloc);
     for line in lines {
@@ -89,8 +89,8 @@ pub(crate) fn events_of(alloc: Global, lines: &[Line]) -> Option<Vec<Event>> {
     Some(events)
 }
 
-/// A site: its number, its group, the identifications of the confirmations that it took, and the one that it accepted as
-/// the first entry of site 1, where there is one.
+/// A site: its number, its group, the identifications of the confirmations that it took, and the one that it accepted
+/// as the first entry of site 1, if there is one.
 #[derive(Clone, Copy)]
 pub(crate) struct Life(
     pub u16,
@@ -99,7 +99,7 @@ pub(crate) struct Life(
     pub Option<&'static str>,
 );
 
-// A confirmation of that identification.
+// A confirmation with this identification.
 fn confirmation_of(alloc: Global, id: &str) -> Option<Arc<Message>> {
     let text = status_report(alloc, id, "T1", r#""TxSts":"ACCP""#).ok()?;
     message_of(alloc, &text)
@@ -117,7 +117,7 @@ fn delta_of(alloc: Global, id: &str) -> Option<Delta> {
     Delta::of(entries).ok()
 }
 
-// The site takes the confirmations of these identifications.
+// Makes the site take the confirmations of these identifications.
 fn take_all(alloc: Global, site: &mut SiteCore, ids: &[&str]) -> Option<()> {
     for id in ids {
         site.take(confirmation_of(alloc, id)?).ok()?;
@@ -125,7 +125,7 @@ fn take_all(alloc: Global, site: &mut SiteCore, ids: &[&str]) -> Option<()> {
     Some(())
 }
 
-// The site accepts the confirmation as the first entry of site 1, where there is one.
+// Makes the site accept the confirmation as the first entry of site 1, if there is one.
 fn accept_first(alloc: Global, site: &mut SiteCore, id: Option<&str>) -> Option<()> {
     if let Some(id) = id {
         site.accept(&delta_of(alloc, id)?).ok()?;
@@ -140,7 +140,7 @@ fn site_of(alloc: Global, life: Life) -> Option<SiteCore> {
     Some(site)
 }
 
-// The sites of some lives. There are none only where memory is wanting.
+// The sites of the lives. None only if it is out of memory.
 fn sites_of(alloc: Global, lives: &[Life]) -> Option<Vec<SiteCore>> {
     let mut sites = Vec::new(alloc);
     for life in lives {
@@ -149,7 +149,7 @@ fn sites_of(alloc: Global, lives: &[Life]) -> Option<Vec<SiteCore>> {
     Some(sites)
 }
 
-// The site holds so many entries of the sites 1, 2 and 3, and its archive has the text.
+// Asserts that the site holds this many entries of the sites 1, 2 and 3, and that its archive has this text.
 fn expect_site(rt: &impl Abort, site: &SiteCore, counts: &[u64; 3], text: &[u8]) {
     let vector = site.vector();
     assert_eq!(rt; vector.get(1), counts[0]);
@@ -159,7 +159,8 @@ fn expect_site(rt: &impl Abort, site: &SiteCore, counts: &[u64; 3], text: &[u8])
     assert_eq!(rt; own.as_slice(), text);
 }
 
-// Each site holds so many entries of the sites 1, 2 and 3, and all archives have the text of the first.
+// Asserts that each site holds this many entries of the sites 1, 2 and 3, and that all
+// archives have the text of the first.
 fn expect_alike(rt: &impl Abort, sites: &[SiteCore], counts: &[u64; 3]) {
     let first = sites.first().expect(rt, "a site");
     let text = first.archive().text().expect(rt, "a text");
@@ -168,7 +169,7 @@ fn expect_alike(rt: &impl Abort, sites: &[SiteCore], counts: &[u64; 3]) {
     }
 }
 
-/// The sites are settled, and settled again, and each holds so many entries of the sites 1, 2 and 3.
+/// Settles the sites, and settles them again. Asserts that each holds this many entries of the sites 1, 2 and 3.
 pub(crate) fn expect_settled(rt: &impl Abort, alloc: Global, lives: &[Life], counts: &[u64; 3]) {
     let mut sites = sites_of(alloc, lives).expect(rt, "sites");
     settle(alloc, &mut sites).expect(rt, "memory");
@@ -177,7 +178,7 @@ pub(crate) fn expect_settled(rt: &impl Abort, alloc: Global, lives: &[Life], cou
     expect_alike(rt, &sites, counts);
 }
 
-/// Settling the sites is refused, and each has so many arrivals afterwards.
+/// Asserts that the sites cannot be settled, and that each has this many arrivals afterwards.
 pub(crate) fn expect_unsettled(
     rt: &impl Abort,
     alloc: Global,

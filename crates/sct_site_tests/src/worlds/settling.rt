@@ -1,4 +1,4 @@
-//! Sites that filled up apart are settled, or are not, with ample memory.
+//! Sites that were filled apart and are settled, or cannot be settled, with ample memory.
 
 use super::scenes::{Life, expect_settled, expect_unsettled};
 use sct_delta::DeltaFault;
@@ -7,14 +7,14 @@ use sct_world::settle;
 // Two sites that took a confirmation each.
 static TWO: [Life; 2] = [Life(1, 2, &["C1"], None), Life(2, 2, &["C2"], None)];
 
-// Three sites: the second has the first's first entry, the third took a message that the first took, too.
+// Three sites. The second has the first entry of the first; the third took a message that the first took too.
 static THREE: [Life; 3] = [
     Life(1, 3, &["C1", "C2"], None),
     Life(2, 3, &["C3"], Some("C1")),
     Life(3, 3, &["C2", "C4", "C5"], None),
 ];
 
-// The same, the last one first.
+// The same sites, the last one first.
 static THREE_TURNED: [Life; 3] = [
     Life(3, 3, &["C2", "C4", "C5"], None),
     Life(2, 3, &["C3"], Some("C1")),
@@ -25,7 +25,8 @@ static SAME_NUMBER: [Life; 2] = [Life(1, 2, &["C1"], None), Life(1, 2, &["C2"], 
 
 static OTHER_GROUP: [Life; 2] = [Life(1, 2, &["C1"], None), Life(2, 3, &["C2"], None)];
 
-// What the second holds of the first is another message than the first has, or one that the first does not have.
+// The second site holds an entry of the first with another message than the first has, or
+// one that the first does not have.
 static FORK: [Life; 2] = [Life(1, 2, &["C1"], None), Life(2, 2, &[], Some("C9"))];
 
 static AHEAD: [Life; 2] = [Life(1, 2, &[], None), Life(2, 2, &[], Some("C9"))];
