@@ -1,4 +1,4 @@
-//! Desks that are tried.
+//! Trials of desks.
 
 mod asking;
 mod calls;
@@ -16,7 +16,7 @@ use std::thread::Threads;
 use std::time::Clock;
 use times::try_times;
 
-// Makes so many allocations, one after the other.
+// Makes this number of allocations, one after another.
 fn allocate(alloc: Global, times: u64) -> Result<()> {
     for _ in 0..times {
         let _room = Arc::new(alloc, 0u8)?;
@@ -24,7 +24,7 @@ fn allocate(alloc: Global, times: u64) -> Result<()> {
     Ok(())
 }
 
-/// Tries what a word and the number behind it say of desks.
+/// Does what a word and the number after it say of desks.
 pub fn try_desks<R: Threads + Wait + Clock + Sync, B: BufRead + Drop, W: Write>(
     rt: &R,
     alloc: Global,

@@ -1,4 +1,4 @@
-//! Sites of a group that are settled, line by line.
+//! Sites of a group that are settled, described line by line.
 
 use anyhow::{Result, bail};
 use sct_delta::{Delta, DeltaFault, Entry, Vector, number_before_space, write_delta};
@@ -17,7 +17,7 @@ fn begun_in(text: &[u8]) -> Option<(u16, u16)> {
     Some((number, group))
 }
 
-// The delta of the one entry that an origin, a number and a JSON text tell.
+// The delta of the one entry that an origin, a number and a JSON text describe.
 fn delta_in(alloc: Global, text: &[u8]) -> Result<Delta> {
     let Some((origin, text)) = site_before_space(text) else {
         bail!("no origin of an entry");
@@ -31,7 +31,7 @@ fn delta_in(alloc: Global, text: &[u8]) -> Result<Delta> {
     Ok(Delta::of(entries)?)
 }
 
-// Adds the number of a site, and what it holds: by its logs, and by its archive.
+// Appends the number of a site and what it holds, by its logs and by its archive.
 fn push_held(alloc: Global, text: &mut Vec<u8>, site: &SiteCore) -> Result<()> {
     let head = format!(in alloc; "C|{}\n", site.number())?;
     let whole = site.cut(&Vector::of(alloc, &[])?)?;
@@ -41,7 +41,7 @@ fn push_held(alloc: Global, text: &mut Vec<u8>, site: &SiteCore) -> Result<()> {
     Ok(())
 }
 
-/// Sites that are told line by line, the last of which takes messages and entries.
+/// Sites described line by line. The last one takes messages and entries.
 #[derive(Drop)]
 struct GroupTrial {
     alloc: Global,
@@ -58,7 +58,7 @@ impl GroupTrial {
         Ok(())
     }
 
-    // Has the last site take a message.
+    // Makes the last site take a message.
     fn take(&mut self, json: &[u8]) -> Result<()> {
         let message = Arc::new(self.alloc, read_message(self.alloc, json)?)?;
         let Some(site) = self.sites.last_mut() else {
@@ -68,7 +68,7 @@ impl GroupTrial {
         Ok(())
     }
 
-    // Has the last site accept an entry.
+    // Makes the last site accept an entry.
     fn hold(&mut self, text: &[u8]) -> Result<()> {
         let delta = delta_in(self.alloc, text)?;
         let Some(site) = self.sites.last_mut() else {
@@ -78,7 +78,7 @@ impl GroupTrial {
         Ok(())
     }
 
-    // Settles the sites, and tells how it ended.
+    // Settles the sites, and returns how it ended.
     fn settle(&mut self) -> Result<String> {
         let mut text = String::new(self.alloc);
         match settle(self.alloc, &mut self.sites) {
@@ -93,7 +93,7 @@ impl GroupTrial {
         Ok(text)
     }
 
-    // Settles the sites, tells how it ended and what each then holds, and begins with no site.
+    // Settles the sites, returns how it ended and what each site then holds, and starts again without sites.
     fn end(&mut self) -> Result<Vec<u8>> {
         let mut told = self.settle()?.into_bytes();
         for site in &self.sites {
@@ -103,7 +103,7 @@ impl GroupTrial {
         Ok(told)
     }
 
-    // Does what a line says that does not settle.
+    // Does what a line says, unless it is `settle`.
     fn tell(&mut self, line: &[u8]) -> Result<()> {
         if let Some(text) = behind(line, b"site ") {
             return self.open(text);
@@ -117,7 +117,7 @@ impl GroupTrial {
         bail!("no line of a group")
     }
 
-    // Does what a line says, and answers what is to be printed of it.
+    // Does what a line says, and returns the text to be printed.
     fn answer(&mut self, line: &[u8]) -> Result<Vec<u8>> {
         if line == b"settle".as_slice() {
             return self.end();
@@ -127,7 +127,7 @@ impl GroupTrial {
     }
 }
 
-/// Prints what is answered of each line on a group.
+/// Prints the answer to each line on a group.
 pub fn try_groups<B: BufRead + Drop, W: Write>(
     alloc: Global,
     reader: B,

@@ -1,35 +1,40 @@
-//! A test program: it does what standard input says at views, worlds, groups of sites and desks, and prints what is answered. Its
-//! first word says at which.
+//! A test program. It does what standard input says at views, worlds, groups of sites and desks, and prints
+//! the answers. Its first word says at which.
 //!
-//! `views`: lines. A message, in its JSON form, goes into the batch. An empty line applies the batch to the view, and prints
-//! how many of its messages were fresh and how many transfers it touched. `try` does the same, but where memory is wanting
-//! for the batch it prints the number of the fault, and the batch stays. `tell` prints the status text and the totals text of
-//! the view. `new` begins with a view of no message and an empty batch, and prints `new`. `form <JSON text>` reads a message, and
-//! prints its written form; else `unread` and the number of the fault, or `unwritten` and it.
+//! `views`: lines. A message, in its JSON form, goes into the batch. An empty line applies the batch to the view,
+//! and prints how many of its messages were fresh and how many transfers it touched. `try` does the same; but if
+//! it is out of memory for the batch it prints the number of the fault, and the batch stays. `tell` prints the
+//! status text and the totals text of the view. `new` starts with a view of no message and an empty batch, and
+//! prints `new`. `form <JSON text>` reads a message, and prints its written form, or else `unread` and the number
+//! of the fault, or `unwritten` and that number.
 //!
-//! `worlds`: scripts, which a record separator (the byte 30) parts. Of each it prints the lines that tell the refused ones,
-//! or `fault 64` where it is no script, and then its replay, with a line of a record separator behind each of the two.
+//! `worlds`: scripts, separated by a record separator (the byte 30). For each script it prints the lines that
+//! report the refused ones, or `fault 64` if the input is not a script, and then its replay. A line of a
+//! record separator follows each of the two.
 //!
-//! `groups`: lines. `site <number> <group>` begins a site. `take <JSON text>` has the last site take a message, and
-//! `hold <origin> <number> <JSON text>` has it accept that one entry. `settle` settles the sites, prints how it ended and
-//! what each site holds then, as a delta text and as an archive text, and begins with no site.
+//! `groups`: lines. `site <number> <group>` begins a site. `take <JSON text>` makes the last site take a message, and
+//! `hold <origin> <number> <JSON text>` makes it accept that one entry. `settle` settles the sites, prints how it ended
+//! and what each site then holds, as a delta text and as an archive text, and starts again without sites.
 //!
-//! `calls N`: lines, which are done at one desk of site 1, alone in its group, after N allocations. `group N`: the same in a
-//! group of N sites. A JSON text is read as the message, and `read` is printed. `take` takes the message, and prints `taken` and
-//! its number or `repeat`, and the receipt's from, count and carried; `accept N` hands it over as entry N of site 2, and prints
-//! `accepted` and how many were fresh or `refused` and the number of the fault, and the receipt; `cut` cuts all, and prints each
-//! entry as its origin and number, and the receipt; `publish` publishes, and prints the receipt. `learn` has the query learn the
-//! last receipt, and prints `learned`; `other` has it learn the receipt of a new desk of site 2 that takes the message, which it
-//! prints. `ask` prints where the transfer T1 of BANKDEFF stands, `findings` how many findings there are on it, `recall ID` where
-//! its recall ID stands, `totals` how many transfers BANKDEFF sent and how many cents, each with the number of arrivals on which
-//! the answer stands. `open GROUP PLACES` opens another desk, and prints `opened` and how many queries it has. An empty line does
-//! nothing. At the end the desk is closed with all receipts, and `closed` is printed with the number of arrivals. Where a desk
-//! refuses, the number of the fault is printed in place of an answer, and the position that it tells.
+//! `calls N`: lines, which are done at one desk of site 1, alone in its group, after N allocations. `group N`: the
+//! same in a group of N sites. A JSON text is read as the message, and `read` is printed. `take` takes the message,
+//! and prints `taken` and its number or `repeat`, and the receipt's from, count and carried. `accept N` hands it
+//! over as entry N of site 2, and prints `accepted` and how many were fresh, or `refused` and the number of the
+//! fault, and the receipt. `cut` cuts all, and prints each entry as its origin and number, and the receipt.
+//! `publish` publishes, and prints the receipt. `learn` makes the query learn the last receipt, and prints
+//! `learned`. `other` makes it learn the receipt of a new desk of site 2 that takes the message, and prints that
+//! receipt. `ask` prints the status of the transfer T1 of BANKDEFF, `findings` the number of its findings,
+//! `recall ID` the status of its recall ID, and `totals` how many transfers BANKDEFF sent and how many cents. Each
+//! of these ends with the number of arrivals that the answer is based on. `open GROUP PLACES` opens another desk,
+//! and prints `opened` and how many queries it has. An empty line does nothing. At the end the desk is closed with
+//! all receipts, and `closed` is printed with the number of arrivals. If a desk refuses, the number of the fault is
+//! printed in place of an answer, and the position of the fault.
 //!
-//! `times N`: one thread takes N credit transfers, each of a transfer of its own, while another asks for the last of them until
-//! it is known. The nanoseconds of each take are printed, of each of these answers, and of as many more once nothing is taken.
+//! `times N`: one thread takes N credit transfers, each of a transfer of its own, while another thread asks for the
+//! last of them until it is known. It prints the nanoseconds of each take, of each of these answers, and of the
+//! same number of answers after the last take.
 //!
-//! What it cannot read ends the program.
+//! A line that the program cannot read ends it.
 #![tactic(auto)]
 
 mod desks;
@@ -49,7 +54,7 @@ use std::time::Clock;
 use views::try_views;
 use worlds::try_worlds;
 
-// Tries what the words say.
+// Does what the words say.
 fn try_words<R: Threads + Wait + Clock + Sync, B: BufRead + Drop, W: Write>(
     rt: &R,
     alloc: Global,

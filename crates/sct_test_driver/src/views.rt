@@ -1,4 +1,4 @@
-//! A view that is tried, line by line.
+//! Trials of a view, line by line.
 
 use anyhow::Result;
 use sct_json::{JsonFault, read_message, write_message};
@@ -8,7 +8,7 @@ use std::alloc::Global;
 use std::io::{BufRead, Write};
 use std::sync::Arc;
 
-/// A view, and the messages of the batch that is being read.
+/// A view, and the messages of the batch read so far.
 #[derive(Drop)]
 struct ViewTrial {
     alloc: Global,
@@ -17,7 +17,7 @@ struct ViewTrial {
 }
 
 impl ViewTrial {
-    // A view of no message, and no batch begun.
+    // A view of no message, with an empty batch.
     fn new(alloc: Global) -> ViewTrial {
         ViewTrial {
             alloc,
@@ -26,25 +26,25 @@ impl ViewTrial {
         }
     }
 
-    // Begins anew.
+    // Starts again.
     fn begin(&mut self) -> Result<Vec<u8>> {
         *self = ViewTrial::new(self.alloc);
         Ok(format!(in self.alloc; "new\n")?.into_bytes())
     }
 
-    // Begins a batch, and tells what the one before brought.
+    // Starts a batch, and returns what the batch before changed.
     fn next(&mut self, applied: &Applied) -> Result<Vec<u8>> {
         self.batch = Vec::new(self.alloc);
         Ok(format!(in self.alloc; "{} {}\n", applied.fresh, applied.touched)?.into_bytes())
     }
 
-    // Applies the batch, and tells what it brought.
+    // Applies the batch, and returns what it changed.
     fn apply(&mut self) -> Result<Vec<u8>> {
         let applied = self.view.apply(&self.batch)?;
         self.next(&applied)
     }
 
-    // Applies the batch, and tells what it brought, or the number of the fault where memory is wanting for it.
+    // Applies the batch, and returns what it changed, or the number of the fault if it is out of memory.
     fn attempt(&mut self) -> Result<Vec<u8>> {
         match self.view.apply(&self.batch) {
             Ok(applied) => self.next(&applied),
@@ -52,26 +52,26 @@ impl ViewTrial {
         }
     }
 
-    // Tells both texts of the view.
+    // Returns both texts of the view.
     fn tell(&self) -> Result<Vec<u8>> {
         let mut told = self.view.status_text()?;
         told.extend_from_slice(&self.view.totals_text()?)?;
         Ok(told)
     }
 
-    // Puts a message behind those of the batch.
+    // Appends a message to the batch.
     fn push(&mut self, line: &str) -> Result<Vec<u8>> {
         let message = read_message(self.alloc, line.as_bytes())?;
         self.batch.push(Arc::new(self.alloc, message)?)?;
         Ok(Vec::new(self.alloc))
     }
 
-    // Tells the number of a fault, and at which call it came.
+    // Returns the number of a fault, and the call that met it.
     fn fault(&self, call: &str, fault: &JsonFault) -> Result<Vec<u8>> {
         Ok(format!(in self.alloc; "{call} {}\n", fault.number())?.into_bytes())
     }
 
-    // Reads a message and writes it, and tells its written form, or the fault that came in its place.
+    // Reads a message and writes it, and returns its written form, or the fault.
     fn form(&self, text: &str) -> Result<Vec<u8>> {
         let message = match read_message(self.alloc, text.as_bytes()) {
             Ok(message) => message,
@@ -86,7 +86,7 @@ impl ViewTrial {
         }
     }
 
-    // Does what a line says, and answers what is to be printed of it.
+    // Does what a line says, and returns the text to be printed.
     fn answer(&mut self, line: &str) -> Result<Vec<u8>> {
         match line {
             "" => self.apply(),
@@ -101,7 +101,7 @@ impl ViewTrial {
     }
 }
 
-/// Prints what is answered of each line on a view.
+/// Prints the answer to each line on a view.
 pub fn try_views<B: BufRead + Drop, W: Write>(alloc: Global, reader: B, out: &mut W) -> Result<()> {
     let mut trial = ViewTrial::new(alloc);
     for line in reader.lines(alloc) {

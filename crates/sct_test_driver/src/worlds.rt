@@ -1,11 +1,11 @@
-//! Inputs that are tried as scripts.
+//! Trials of inputs as scripts.
 
 use anyhow::Result;
 use sct_script::{ScriptFault, read_script, replay};
 use std::alloc::Global;
 use std::io::{BufRead, Write};
 
-// What is told, and the replay, with a line of a record separator behind each.
+// The refused lines and the replay, with a line of a record separator after each.
 fn parted(alloc: Global, told: &[u8], replay: &[u8]) -> Result<Vec<u8>> {
     let mut text = Vec::new(alloc);
     text.extend_from_slice(told)?;
@@ -15,7 +15,7 @@ fn parted(alloc: Global, told: &[u8], replay: &[u8]) -> Result<Vec<u8>> {
     Ok(text)
 }
 
-// What an input is answered: the lines that tell the refused ones, or `fault 64` where it is no script, and its replay.
+// The answer to an input: the lines that report the refused ones, or `fault 64` if it is not a script, and its replay.
 fn answer(alloc: Global, input: &[u8]) -> Result<Vec<u8>> {
     match read_script(alloc, input) {
         Ok(script) => {
@@ -27,7 +27,7 @@ fn answer(alloc: Global, input: &[u8]) -> Result<Vec<u8>> {
     }
 }
 
-/// Prints what is answered of each script.
+/// Prints the answer to each script.
 pub fn try_worlds<B: BufRead + Drop, W: Write>(
     alloc: Global,
     reader: B,

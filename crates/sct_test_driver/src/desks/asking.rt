@@ -1,4 +1,4 @@
-//! What the query of a desk answers, in a line each. It stays of its site.
+//! The answers of a desk's query, one line each. The query stays that of its site.
 
 ghost use Rattle.std.specs.Prelude.{◌≡◌};
 
@@ -17,7 +17,7 @@ fn first_transfer() -> Result<TransferKey> {
     })
 }
 
-/// Where the transfer T1 of BANKDEFF stands.
+/// The status of the transfer T1 of BANKDEFF.
 pub fn status_text(alloc: Global, query: &mut Query) -> Result<String>
     ensures { (query.new.site ≡ query.old.site) × (query.new.book ≡ query.old.book) }
 {
@@ -27,7 +27,7 @@ pub fn status_text(alloc: Global, query: &mut Query) -> Result<String>
     }
 }
 
-/// How many findings there are on it.
+/// The number of findings on the transfer T1 of BANKDEFF.
 pub fn findings_text(alloc: Global, query: &mut Query) -> Result<String>
     ensures { (query.new.site ≡ query.old.site) × (query.new.book ≡ query.old.book) }
 {
@@ -37,7 +37,7 @@ pub fn findings_text(alloc: Global, query: &mut Query) -> Result<String>
     }
 }
 
-/// Where its recall of this identification stands.
+/// The status of the recall of the transfer T1 with this identification.
 pub fn recall_text(alloc: Global, query: &mut Query, cxl: &str) -> Result<String>
     ensures { (query.new.site ≡ query.old.site) × (query.new.book ≡ query.old.book) }
 {

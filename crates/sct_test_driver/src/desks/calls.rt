@@ -29,7 +29,7 @@ fn delta_of(alloc: Global, n: u64, message: Arc<Message>) -> Result<Delta> {
     Ok(Delta::of(entries)?)
 }
 
-// Opens a desk of the group and with the places that the two numbers tell.
+// Opens a desk with the group and the places that the two numbers give.
 fn open_text<W: Wait>(rt: &W, alloc: Global, numbers: &str) -> Result<String> {
     let Some((group, places)) = numbers.split_once(' ') else {
         bail!("a group, and how many places");
@@ -45,7 +45,7 @@ fn last_of<J: Site>(receipts: &[Receipt]) -> Option<&Receipt>
     receipts.last()
 }
 
-/// A desk and its query, the receipts of its calls, and the message that is taken next.
+/// A desk and its query, the receipts of its calls, and the message to be taken next.
 #[derive(Drop)]
 struct DeskTrial<J: Site, H: Wait + Drop> {
     alloc: Global,
@@ -80,7 +80,7 @@ impl<J: Site, H: Wait + Drop> DeskTrial<J, H> {
         Ok(text)
     }
 
-    // Has the query learn the last receipt.
+    // Makes the query learn the last receipt.
     fn learn(&mut self) -> Result<String> {
         let Some(receipt) = last_of::<J>(&self.receipts) else {
             bail!("no receipt yet");
@@ -89,7 +89,7 @@ impl<J: Site, H: Wait + Drop> DeskTrial<J, H> {
         Ok(format!(in self.alloc; "learned\n")?)
     }
 
-    // Has the query learn the receipt of another site's desk that takes the message.
+    // Makes the query learn the receipt of another site's desk that takes the message.
     fn learn_other<W: Wait>(&mut self, rt: &W) -> Result<String> {
         let Some(message) = &self.message else {
             bail!("no message yet");
@@ -98,7 +98,7 @@ impl<J: Site, H: Wait + Drop> DeskTrial<J, H> {
         learn_other(rt, self.alloc, message, &mut self.query)
     }
 
-    // Publishes what is pending.
+    // Publishes the pending arrivals.
     fn publish<W: Wait>(&mut self, rt: &W) -> Result<String> {
         let receipt = match self.desk.publish(rt, self.alloc) {
             Ok(receipt) => receipt,
@@ -124,7 +124,7 @@ impl<J: Site, H: Wait + Drop> DeskTrial<J, H> {
         Ok(text)
     }
 
-    // Cuts all that the site holds.
+    // Cuts all entries of the site.
     fn cut<W: Wait>(&mut self, rt: &W) -> Result<String> {
         let vector = Vector::of(self.alloc, &[])?;
         let (delta, receipt) = match self.desk.cut(rt, self.alloc, &vector) {
@@ -177,7 +177,7 @@ impl<J: Site, H: Wait + Drop> DeskTrial<J, H> {
     }
 }
 
-// A desk of site 1, on which nothing has happened yet.
+// A desk of site 1 without events.
 fn open<'a, J: Site, R: Wait>(
     rt: &'a R,
     alloc: Global,
@@ -205,7 +205,7 @@ fn open<'a, J: Site, R: Wait>(
     })
 }
 
-// Does what the lines say at a new desk, closes it, and prints what is answered.
+// Does what the lines say at a new desk, closes it, and prints the answers.
 fn try_lines<J: Site, R: Wait, B: BufRead + Drop, W: Write>(
     rt: &R,
     alloc: Global,
@@ -228,7 +228,7 @@ fn try_lines<J: Site, R: Wait, B: BufRead + Drop, W: Write>(
     Ok(())
 }
 
-/// Does what the lines say at a new desk of a group, closes it, and prints what is answered.
+/// Does what the lines say at a new desk of a group, closes it, and prints the answers.
 pub fn try_calls<R: Wait, B: BufRead + Drop, W: Write>(
     rt: &R,
     alloc: Global,

@@ -10,7 +10,7 @@ use std::alloc::Global;
 use std::marker::Brand;
 use std::sync::Wait;
 
-// What opening a desk of site 1 answers.
+// The answer of opening a desk of site 1.
 fn opened<J: Site, R: Wait>(
     rt: &R,
     alloc: Global,
@@ -29,7 +29,7 @@ fn opened<J: Site, R: Wait>(
     }
 }
 
-/// How many queries a desk of site 1 of this group has that is opened with so many places.
+/// How many queries a desk of site 1 of this group has after it is opened with this number of places.
 pub fn opened_text<R: Wait>(rt: &R, alloc: Global, group: u16, places: usize) -> Result<String> {
     let (history, track) = History::open();
     opened::<Brand, R>(rt, alloc, history, track, group, places)

@@ -1,4 +1,4 @@
-//! A desk of another site than the one that is tried.
+//! A desk of a site other than the one under trial.
 
 ghost use Rattle.std.specs.Prelude.{◌≡◌, []};
 
@@ -11,7 +11,7 @@ use std::alloc::Global;
 use std::marker::Brand;
 use std::sync::{Arc, Wait};
 
-// Takes a message at a desk of site 2, has the query of site 1 learn the receipt, and answers what was told of it.
+// Takes a message at a desk of site 2, makes the query of site 1 learn the receipt, and returns the receipt's text.
 fn learn_from<K: Site, R: Wait>(
     rt: &R,
     alloc: Global,
@@ -38,7 +38,8 @@ fn learn_from<K: Site, R: Wait>(
     }
 }
 
-/// Takes a message at a new desk of site 2, has the query of site 1 learn the receipt, and answers what was told of it.
+/// Takes a message at a new desk of site 2, makes the query of site 1 learn the receipt,
+/// and returns the receipt's text.
 pub fn learn_other<R: Wait>(
     rt: &R,
     alloc: Global,

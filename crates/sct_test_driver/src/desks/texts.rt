@@ -1,4 +1,4 @@
-//! What is printed of a desk's answers.
+//! The texts that are printed of a desk's answers.
 
 use anyhow::Result;
 use sct_delta::{Delta, DeltaFault};
@@ -6,7 +6,8 @@ use sct_desk::{DeskFault, Receipt};
 use sct_site::{Accepted, Took};
 use std::alloc::Global;
 
-/// What a receipt tells: from which position on how many arrivals were published, and how many of them came by earlier calls.
+/// The numbers of a receipt: the first position that it published, how many arrivals it published, and
+/// how many of these came by earlier calls.
 pub fn receipt_text(alloc: Global, receipt: &Receipt) -> Result<String> {
     Ok(format!(in alloc;
         "{} {} {}\n",
@@ -16,7 +17,7 @@ pub fn receipt_text(alloc: Global, receipt: &Receipt) -> Result<String> {
     )?)
 }
 
-/// Whether a message was taken, and what its receipt tells.
+/// Whether a message was taken, and the numbers of the receipt.
 pub fn taken_text(alloc: Global, took: &Took, receipt: &Receipt) -> Result<String> {
     let mut text = match took {
         Took::Taken { n } => format!(in alloc; "taken {n} ")?,
@@ -26,7 +27,7 @@ pub fn taken_text(alloc: Global, took: &Took, receipt: &Receipt) -> Result<Strin
     Ok(text)
 }
 
-/// How many messages of a delta were fresh, or the number of the fault for which it was refused, and what its receipt tells.
+/// How many messages of a delta were fresh, or the number of the fault that refused it, and the numbers of the receipt.
 pub fn accepted_text(
     alloc: Global,
     answer: &Result<Accepted, DeltaFault>,
@@ -40,7 +41,7 @@ pub fn accepted_text(
     Ok(text)
 }
 
-/// The origin and the number of each entry of a delta, and what its receipt tells.
+/// The origin and the number of each entry of a delta, and the numbers of the receipt.
 pub fn cut_text(alloc: Global, delta: &Delta, receipt: &Receipt) -> Result<String> {
     let mut text = String::from_str(alloc, "cut ")?;
     for entry in delta.entries() {
@@ -50,7 +51,7 @@ pub fn cut_text(alloc: Global, delta: &Delta, receipt: &Receipt) -> Result<Strin
     Ok(text)
 }
 
-/// The number of a fault, and the position that it tells.
+/// The number of a fault, and its position.
 pub fn fault_text(alloc: Global, fault: &DeskFault) -> Result<String> {
     let number = fault.number();
     match fault {

@@ -1,4 +1,4 @@
-//! How long takes and answers last at a desk that two threads share.
+//! The durations of takes and answers at a desk that two threads share.
 
 ghost use Rattle.std.specs.Prelude.{◌≡◌, []};
 
@@ -17,7 +17,7 @@ use std::thread;
 use std::thread::Threads;
 use std::time::{Clock, Duration, Instant};
 
-/// An asker asks at most so often.
+/// An asker asks at most this often.
 const MOST_ANSWERS: u64 = 20_000_000;
 
 // The credit transfer of this number, if there is memory.
@@ -37,7 +37,7 @@ fn transfer(alloc: Global, number: u64) -> Result<TransferKey> {
     })
 }
 
-// Takes the credit transfers up to a number, and answers how long each take lasted.
+// Takes the credit transfers up to a number, and returns how long each take lasted.
 fn take_all<J: Site, H: Wait + Drop, R: Wait + Clock>(
     rt: &R,
     alloc: Global,
@@ -54,7 +54,7 @@ fn take_all<J: Site, H: Wait + Drop, R: Wait + Clock>(
     Some(times)
 }
 
-// Asks where a transfer stands. Answers whether it is known, and how long it lasted.
+// Asks for the status of a transfer. Returns whether it is known, and how long the answer took.
 fn ask<R: Clock>(
     rt: &R,
     alloc: Global,
@@ -67,7 +67,7 @@ fn ask<R: Clock>(
     Some((answer.value != Status::Unknown, time))
 }
 
-// Asks until the transfer is known, and answers how long each answer lasted.
+// Asks until the transfer is known, and returns how long each answer took.
 fn ask_on<R: Clock>(
     rt: &R,
     alloc: Global,
@@ -86,7 +86,7 @@ fn ask_on<R: Clock>(
     None
 }
 
-// Asks so often, and answers how long each answer lasted.
+// Asks this number of times, and returns how long each answer took.
 fn ask_again<R: Clock>(
     rt: &R,
     alloc: Global,
@@ -102,7 +102,7 @@ fn ask_again<R: Clock>(
     Some(times)
 }
 
-// Prints times, each behind a word.
+// Prints times, each after a word.
 fn print_times<W: Write>(alloc: Global, out: &mut W, word: &str, times: &[Duration]) -> Result<()> {
     for time in times {
         let line = format!(in alloc; "{word} {}\n", time.as_nanos())?;
@@ -111,7 +111,7 @@ fn print_times<W: Write>(alloc: Global, out: &mut W, word: &str, times: &[Durati
     Ok(())
 }
 
-// Takes so many credit transfers at a new desk while another thread asks, and prints how long each call lasted.
+// Takes `count` credit transfers at a new desk while another thread asks, and prints how long each call lasted.
 fn time_desk<J: Site + Send + Sync, R: Threads + Wait + Clock + Sync, W: Write>(
     rt: &R,
     alloc: Global,
@@ -150,7 +150,7 @@ fn time_desk<J: Site + Send + Sync, R: Threads + Wait + Clock + Sync, W: Write>(
     print_times(alloc, out, "quiet", &quiet)
 }
 
-/// Takes so many credit transfers at a new desk while another thread asks, and prints how long each call lasted.
+/// Takes a number of credit transfers at a new desk while another thread asks, and prints how long each call lasted.
 pub fn try_times<R: Threads + Wait + Clock + Sync, W: Write>(
     rt: &R,
     alloc: Global,
