@@ -1,4 +1,4 @@
-//! Desks with ample memory: what one answers, a refused closing, and three threads at one.
+//! Desks with ample memory: the answers of one, a refused close, and three threads at one.
 
 ghost use Rattle.std.specs.Prelude.{◌≡◌, [], IfSome};
 ghost use Rattle.sct_desk.specs.Passes.{IsOf};
@@ -19,7 +19,7 @@ use std::marker::Brand;
 use std::process::Abort;
 use std::sync::Wait;
 
-// Whether the transfer is pending, on one arrival.
+// Whether the transfer is pending, by one arrival.
 fn is_pending(alloc: Global, query: &mut Query, transfer: &TransferKey) -> bool {
     match query.status(alloc, transfer) {
         Ok(answer) => answer.value == Status::Pending && answer.front == 1,
@@ -27,7 +27,7 @@ fn is_pending(alloc: Global, query: &mut Query, transfer: &TransferKey) -> bool 
     }
 }
 
-// Whether no answer is given, as the desk was closed.
+// Whether a query is refused because the desk was closed.
 fn is_refused(alloc: Global, query: &mut Query, transfer: &TransferKey) -> bool {
     match query.status(alloc, transfer) {
         Ok(_) => false,
@@ -45,8 +45,8 @@ fn with<J: Site>(mut receipts: Vec<Receipt>, more: Receipt) -> Option<Vec<Receip
     Some(receipts)
 }
 
-// How many arrivals and messages the site of a desk has that was not closed, as its first position was not told, and then was
-// closed with the receipt that tells it.
+// How many arrivals and messages the site of a desk has. The desk was not closed because its first position was not
+// covered; then it was closed with the receipt that covers it.
 fn closed_at_last<J: Site, H: Wait + Drop>(
     refusal: NotClosed<J, H>,
     first: Receipt,
@@ -68,7 +68,7 @@ fn closed_at_last<J: Site, H: Wait + Drop>(
     }
 }
 
-// A desk from its opening to its closing.
+// Tests a desk from opening to closing.
 fn expect_life<J: Site, R: Wait + Abort>(rt: &R, alloc: Global, history: History, track: Track)
     requires history { history ≡ J.book }
     requires track { (track.book ≡ J.book) × (track.log ≡ []) }

@@ -39,7 +39,7 @@ impl io::Read for LineFeeds {
     }
 }
 
-/// Takes one byte at a time, as many as there is room for.
+/// Takes one byte at a time, as long as there is room.
 #[derive(Drop)]
 pub struct Taking {
     pub held: Vec<u8>,

@@ -1,11 +1,11 @@
-//! Gates that hold workers until others have come so far, which workers that run one after the other never do.
+//! Gates that hold workers until others have reached some point. Workers that run one after another never get there.
 
 use sct_workers::*;
 use std::sync::Wait;
 use std::sync::atomic::{AtomicU64, Ordering};
 use std::thread;
 
-/// A gate looks at most so often, and gives way between two looks.
+/// A gate looks at most this often, and gives way between two looks.
 const LOOKS: u64 = 20_000_000;
 
 // Waits until all of the bits are set.
@@ -19,7 +19,7 @@ fn wait_for(seen: &AtomicU64, all: u64) -> Result<(), Held> {
     Err(Held)
 }
 
-/// Holds the second message of site 1 until its query was answered and site 2 has accepted a delta.
+/// Holds the second message of site 1 until its query is answered and site 2 has accepted a delta.
 #[derive(Drop)]
 pub(crate) struct InStep {
     seen: AtomicU64,
@@ -111,7 +111,7 @@ impl Gate for HeldAnswers {
     }
 }
 
-/// Lets none pass.
+/// Lets no worker pass.
 pub(crate) struct Shut;
 
 impl Gate for Shut {

@@ -1,4 +1,5 @@
-//! Tests of desks, receipts, workers, runs, streams and the program's engine: what no clause says is that memory is there.
+//! Tests of desks, receipts, workers, runs, streams and the program's engine. They show what no clause says:
+//! that the calls succeed if there is memory.
 #![tactic(auto)]
 
 #[cfg(test)]

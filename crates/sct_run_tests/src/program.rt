@@ -1,4 +1,5 @@
-//! Whole runs over known words and bytes: what no clause says is that memory is there, and how clap's texts read.
+//! Whole runs over known words and bytes. They show what no clause says: that they succeed if there
+//! is memory, and how the texts of clap read.
 mod commands;
 mod files;
 mod hostile;
@@ -23,7 +24,7 @@ fn words(alloc: Global, words: &[&str]) -> Result<Vec<String>, AllocError> {
     Ok(texts)
 }
 
-// A run writes what the command says, and ends so.
+// Whether a run writes what the command says, and ends with its status.
 fn does(rt: &(impl Threads + Wait + Files + Sync), alloc: Global, command: &Command) -> bool {
     let asked = words(alloc, command.words).map_err(ProgramFault::from);
     let ran = run_program(rt, alloc, &HostFiles::new(rt), asked, command.input);
@@ -52,7 +53,7 @@ fn does_what_the_words_ask(rt: HostRuntime) {
     expect_commands(&rt, rt.alloc(), &WORDS);
 }
 
-// The status of a run whose words could not be had, if it told this alone.
+// The status of a run whose words could not be read, if it reports only this.
 fn status_unasked(
     rt: &(impl Threads + Wait + Files + Sync),
     alloc: Global,
@@ -63,7 +64,7 @@ fn status_unasked(
     (ran.out.is_empty() && ran.err.as_slice() == err).then_some(ran.status)
 }
 
-// A fault that ends a run, the line that tells it, and the exit status.
+// A fault that ends a run, the line that reports it, and the exit status.
 struct Unasked {
     fault: ProgramFault,
     err: &'static [u8],
@@ -123,7 +124,7 @@ fn tells_each_fault_by_its_number(rt: HostRuntime) {
     }
 }
 
-// A limit, an input, and how a run over it ends.
+// A limit, an input, and how a run with them ends.
 struct Limited {
     limit: u64,
     input: &'static [u8],

@@ -25,7 +25,7 @@ fn confirmation(alloc: Global) -> Option<Arc<Message>> {
     Arc::new(alloc, message).ok()
 }
 
-// The desk takes the message so.
+// Asserts the answer of the desk to the message.
 fn expect_taken<J: Site, H: Wait + Drop, W: Wait + Abort>(
     rt: &W,
     alloc: Global,
@@ -46,7 +46,7 @@ fn expect_taken<J: Site, H: Wait + Drop, W: Wait + Abort>(
     receipt
 }
 
-// The desk of a site that took the message, closed with this receipt alone.
+// The desk of a site that took the message, closed with only this receipt.
 fn closed_with<J: Site, H: Wait + Drop>(
     alloc: Global,
     desk: Desk<J, H>,
@@ -62,7 +62,8 @@ fn closed_with<J: Site, H: Wait + Drop>(
     closed(desk, &messages, kept)
 }
 
-// The desk takes the message twice and is closed with one of the receipts: that of the message, or that of its repetition.
+// The desk takes the message twice and is closed with one of the receipts: that of the
+// first take, or that of the second.
 fn close<J: Site, W: Wait + Abort>(
     rt: &W,
     alloc: Global,

@@ -1,4 +1,4 @@
-//! Runs over known inputs: what no clause says is that memory is there.
+//! Runs over known inputs. They show what no clause says: that they succeed if there is memory.
 mod inputs;
 
 use crate::gates::{HeldAccepts, InStep, Meeting, Shut};
@@ -18,7 +18,7 @@ fn owned(alloc: Global, inputs: &[&[u8]]) -> Result<Vec<Vec<u8>>, AllocError> {
     Ok(texts)
 }
 
-// A run of the inputs under the gate answers what the row says.
+// Whether a run of the inputs under the gate has the answer of the row.
 fn fits<G: Gate + Sync, R: Threads + Wait + Sync>(
     rt: &R,
     alloc: Global,
@@ -54,7 +54,7 @@ fn a_run_that_meets(rt: HostRuntime) {
     assert!(rt; fits(&rt, rt.alloc(), &Meeting::new(), &ROWS[1]));
 }
 
-// What becomes of the row's inputs under the gate.
+// The fault of a run of the row's inputs under the gate, if it has one.
 fn fault_under<G: Gate + Sync, R: Threads + Wait + Sync>(
     rt: &R,
     alloc: Global,
@@ -83,7 +83,7 @@ fn held_comes_before_what_a_run_lacks(rt: HostRuntime) -> Result<(), AllocError>
     Ok(())
 }
 
-// What becomes of so many empty inputs.
+// The fault of a run of `count` empty inputs, if it has one.
 fn fault_of<R: Threads + Wait + Sync>(
     rt: &R,
     alloc: Global,

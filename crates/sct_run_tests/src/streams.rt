@@ -1,4 +1,4 @@
-//! Whole reads and writes over streams that are slow, and fail behind a known byte.
+//! Whole reads and writes over streams that are slow, and that fail after a known byte.
 
 ghost use Rattle.std.specs.Prelude.{◌≡◌};
 
@@ -8,7 +8,7 @@ use std::alloc::Global;
 use std::marker::Brand;
 use std::sync::ledger::{Blank, Ledger};
 
-// The bytes that a read fails after or not, and what comes of them under a limit: what is read, and how many are left.
+// Bytes, whether a read fails after them, a limit, the result of reading, and how many bytes are left.
 struct Limited {
     bytes: &'static [u8],
     fails: bool,
@@ -76,7 +76,7 @@ static LIMITED: [Limited; 8] = [
     },
 ];
 
-// What is read of these bytes.
+// The result of reading these bytes.
 fn read_over<L: Ledger>(
     alloc: Global,
     giving: &mut Giving,
@@ -91,7 +91,7 @@ fn read_over<L: Ledger>(
     read_all(alloc, &mut source, limit)
 }
 
-// A row's bytes are read as it says.
+// Whether a row's bytes are read as it says.
 fn are_read(alloc: Global, row: &Limited) -> bool {
     let mut giving = Giving {
         left: row.bytes,
@@ -112,7 +112,7 @@ fn reads_up_to_a_limit(rt: HostRuntime) {
     }
 }
 
-// How a text is written.
+// The result of writing a text.
 fn write_over<L: Ledger>(taking: &mut Taking, text: &[u8], blank: Blank) -> Result<(), Failed>
     requires name { blank.name ≡ L.name }
     requires parts { blank.parts ≡ L.parts }
@@ -122,7 +122,7 @@ fn write_over<L: Ledger>(taking: &mut Taking, text: &[u8], blank: Blank) -> Resu
     write_all(&mut sink, text)
 }
 
-// Of a text so much is written where there is room for so many bytes: all of it, or what comes before a write that fails.
+// Whether a text is written as far as there is room: all of it, or a prefix of it before a write fails.
 fn is_written(alloc: Global, text: &[u8], room: usize, told: Result<(), Failed>) -> bool {
     let mut taking = Taking {
         held: Vec::new(alloc),

@@ -1,4 +1,4 @@
-//! Sites on threads, with ample memory: what each comes to, under gates that hold and gates that let pass.
+//! Sites on threads, with ample memory: the result of each, under gates that hold and gates that let pass.
 
 mod faults;
 mod inputs;
@@ -53,20 +53,21 @@ fn status_of(alloc: Global, archive: &Archive) -> Option<Vec<u8>> {
     view.status_text().ok()
 }
 
-// Whether a site comes to what the row says. There is nothing only where memory is wanting.
+// Whether a site has the result of the row. None only if it is out of memory.
 fn is_filled(alloc: Global, core: &SiteCore, row: &Row) -> Option<bool> {
     let status = status_of(alloc, core.archive())?;
     Some(core.arrivals().len() == row.arrivals && status.as_slice() == row.status)
 }
 
-// Whether there is a site for each input, and the refused lines are told, as the row says.
+// Whether there is a site for each input, and the refused lines are reported as the row says.
 fn are_told(sites: &Sites, row: &Row) -> bool {
     sites.cores.len() == row.inputs.len()
         && sites.told.as_str() == row.told
         && sites.refused == row.refused
 }
 
-// Under the gate each site comes to what the row says: all that the channels carried was accepted, too.
+// Asserts that under the gate each site has the result of the row, and that all deltas in
+// the channels were accepted too.
 fn expect_row<G: Gate + Sync, R: Threads + Wait + Abort + Sync>(
     rt: &R,
     alloc: Global,
@@ -103,21 +104,21 @@ fn shut_gate(rt: HostRuntime) {
     assert_eq!(rt; held.err(), Some(WorkFault::Held));
 }
 
-// The receipt of what the held worker accepted is lost, so that the desk could not be closed: 66 with 54.
+// The receipt of a delta that the held worker accepted is lost, so the desk could not be closed: 66 with 54.
 #[test]
 fn held_comes_before_a_lost_receipt(rt: HostRuntime) {
     let held = filled(&rt, rt.alloc(), &HeldAccepts, TWO_SITES.inputs);
     assert_eq!(rt; held.err(), Some(WorkFault::Held));
 }
 
-// The query worker's receipts show no arrival that no other shows, so that the desk could be closed without them.
+// The query worker's receipts show no arrival that no other receipt shows, so the desk could be closed without them.
 #[test]
 fn a_held_query_ends_a_site(rt: HostRuntime) {
     let held = filled(&rt, rt.alloc(), &HeldAnswers, ONE_SITE.inputs);
     assert_eq!(rt; held.err(), Some(WorkFault::Held));
 }
 
-// What is reported of sites that failed so.
+// The fault that is reported of sites with these faults.
 fn reported_of(alloc: Global, faults: &[SiteFault]) -> Result<Option<SiteFault>, AllocError> {
     let mut answers = Vec::new(alloc);
     for fault in faults {

@@ -28,7 +28,7 @@ static CONFIRMATION: &[u8] =
 static OTHER_INSTRUCTION: &[u8] =
     br#"{"MsgNmId":"pacs.008","MsgId":"M2","CreDtTm":"2024-05-02T10:00:00Z","InstgAgt":"BANKDEFF","IntrBkSttlmDt":"2024-05-02","SvcLvl":"SEPA","LclInstrm":"INST","EndToEndId":"E1","TxId":"T2","IntrBkSttlmAmt":"2.00","Ccy":"EUR","ChrgBr":"SLEV","Dbtr":"Anna Weber","DbtrAcct":"DE89370400440532013000","DbtrAgt":"BANKDEFF","CdtrAgt":"BANQFRPP","Cdtr":"Bo Maes","CdtrAcct":"BE68539007547034"}"#;
 
-// A message, if there is memory for it.
+// A message, or none if it is out of memory.
 fn message_of(alloc: Global, json: &[u8]) -> Option<Arc<Message>> {
     Arc::new(alloc, read_message(alloc, json).ok()?).ok()
 }
@@ -47,12 +47,12 @@ fn delta_of(alloc: Global, n: u64, json: &[u8]) -> Option<Delta> {
     Delta::of(entries).ok()
 }
 
-// The first position that a receipt names, how many there are, and how many of them came by earlier calls.
+// The first position of a receipt, how many arrivals it published, and how many of them came by earlier calls.
 fn positions(receipt: &Receipt) -> (u64, u64, u64) {
     (receipt.from(), receipt.count(), receipt.carried())
 }
 
-// The receipt of taking the instruction, if it becomes entry 1 and the receipt names position 1 alone.
+// The receipt of taking the instruction, if the instruction becomes entry 1 and the receipt covers only position 1.
 fn take_first<J: Site, H: Wait + Drop, W: Wait>(
     rt: &W,
     alloc: Global,
@@ -67,7 +67,7 @@ fn take_first<J: Site, H: Wait + Drop, W: Wait>(
     Some(receipt)
 }
 
-// The receipt of handing over a message of site 2, if it is fresh and the receipt names this position alone.
+// The receipt of handing over a message of site 2, if the message is fresh and the receipt covers only this position.
 fn accept_at<J: Site, H: Wait + Drop, W: Wait>(
     rt: &W,
     alloc: Global,
@@ -92,7 +92,7 @@ fn has_both(delta: &Delta) -> bool {
     }
 }
 
-// The receipt of cutting all, if the two entries are cut and the receipt names no position.
+// The receipt of cutting all, if the two entries are cut and the receipt covers no position.
 fn cut_both<J: Site, H: Wait + Drop, W: Wait>(
     rt: &W,
     alloc: Global,
@@ -108,7 +108,7 @@ fn cut_both<J: Site, H: Wait + Drop, W: Wait>(
     Some(receipt)
 }
 
-// Whether the transfer is accepted and has no finding, on two arrivals.
+// Whether the transfer is accepted and has no finding, by two arrivals.
 fn is_accepted(alloc: Global, query: &mut Query, transfer: &TransferKey) -> bool {
     let Ok(status) = query.status(alloc, transfer) else {
         return false;
@@ -130,7 +130,7 @@ fn recall_of(transfer: TransferKey) -> Option<RecallKey> {
     })
 }
 
-// Whether the recall is unknown, on two arrivals.
+// Whether the recall is unknown, by two arrivals.
 fn is_unknown(query: &mut Query, recall: &RecallKey) -> bool {
     match query.recall(recall) {
         Ok(answer) => answer.value == RecallStatus::Unknown && answer.front == 2,
@@ -138,13 +138,13 @@ fn is_unknown(query: &mut Query, recall: &RecallKey) -> bool {
     }
 }
 
-// How many transfers the bank sent, how many cents, and on how many arrivals this stands.
+// How many transfers the bank sent, how many cents, and how many arrivals the answer is based on.
 fn sent(query: &mut Query) -> Option<(u64, u128, u64)> {
     let answer = query.totals(&Bic::read("BANKDEFF").ok()?).ok()?;
     Some((answer.value.sent, answer.value.sent_cents, answer.front))
 }
 
-// Whether the query answers what stands on the take and the delta, which it learned.
+// Whether the answers of the query are based on the take and the delta, which it learned.
 fn answers(alloc: Global, query: &mut Query) -> Option<bool> {
     let transfer = first_transfer()?;
     let is_accepted = is_accepted(alloc, query, &transfer);

@@ -1,4 +1,4 @@
-//! Messages and desks to try calls on.
+//! Messages and desks for tests.
 
 ghost use Rattle.std.specs.List.{All};
 ghost use Rattle.std.specs.Prelude.{◌≡◌, ◌≤◌, [], IfErr, IfSome};
@@ -24,7 +24,7 @@ pub(crate) fn first_transfer() -> Option<TransferKey> {
     })
 }
 
-// The credit transfer of this number, of 100 cents. There is none only where memory is wanting.
+// The credit transfer of this number, of 100 cents. None only if it is out of memory.
 fn credit_transfer(alloc: Global, at: u64) -> Option<Arc<Message>> {
     let text = format!(in alloc;
         r#"{{"MsgNmId":"pacs.008","MsgId":"M{at}","CreDtTm":"2024-05-02T10:00:00Z","InstgAgt":"BANKDEFF","IntrBkSttlmDt":"2024-05-02","SvcLvl":"SEPA","LclInstrm":"INST","EndToEndId":"E1","TxId":"T{at}","IntrBkSttlmAmt":"1.00","Ccy":"EUR","ChrgBr":"SLEV","Dbtr":"Anna Weber","DbtrAcct":"DE89370400440532013000","DbtrAgt":"BANKDEFF","CdtrAgt":"BANQFRPP","Cdtr":"Bo Maes","CdtrAcct":"BE68539007547034"}}"#
@@ -33,7 +33,7 @@ fn credit_transfer(alloc: Global, at: u64) -> Option<Arc<Message>> {
     Arc::new(alloc, message).ok()
 }
 
-/// The receipt of taking the credit transfer of this number. There is none only where memory is wanting.
+/// The receipt of taking the credit transfer of this number. None only if it is out of memory.
 pub(crate) fn receipt_of<J: Site, H: Wait + Drop, W: Wait>(
     rt: &W,
     alloc: Global,
@@ -47,7 +47,7 @@ pub(crate) fn receipt_of<J: Site, H: Wait + Drop, W: Wait>(
     Some(receipt)
 }
 
-/// The receipts of taking so many credit transfers, from this number on every other one.
+/// The receipts of taking `count` credit transfers, every other one from this number on.
 pub(crate) fn take_some<J: Site, H: Wait + Drop, W: Wait>(
     rt: &W,
     alloc: Global,
@@ -72,7 +72,7 @@ pub(crate) fn sizes_of(core: &SiteCore) -> (usize, usize) {
     (core.arrivals().len(), core.archive().len())
 }
 
-/// How many arrivals and messages the site of a desk has that is closed. A desk that is not closed comes back.
+/// How many arrivals and messages the site of a desk has after it is closed. A desk that is not closed is returned.
 pub(crate) fn sizes_closed<J: Site, H: Wait + Drop>(
     desk: Desk<J, H>,
     receipts: Vec<Receipt>,

@@ -17,10 +17,10 @@ use std::sync::Wait;
 use std::thread;
 use std::thread::Threads;
 
-/// A taker takes so many messages, every other one.
+/// A taker takes this many messages, every other one.
 const TAKEN: u64 = 50;
 
-// All receipts of the two.
+// All receipts of both.
 fn joined<J: Site>(one: Option<Vec<Receipt>>, other: Option<Vec<Receipt>>) -> Option<Vec<Receipt>>
     requires one { IfSome one (λ kept. AreOurs J.book J.number kept.items) }
     requires other { IfSome other (λ kept. AreOurs J.book J.number kept.items) }
@@ -51,8 +51,8 @@ fn two_takers<J: Site + Send + Sync, H: Wait + Drop + Send + Sync, R: Threads + 
     joined::<J>(odd, even)
 }
 
-// On how many arrivals an answer stands, and whether the transfer is pending and no more unknown. There is nothing where it
-// stands otherwise.
+// How many arrivals an answer is based on, and whether the transfer is pending (else it is
+// unknown). None if it has another status.
 fn seen(query: &mut Query, alloc: Global, transfer: &TransferKey) -> Option<(u64, bool)> {
     let answer = query.status(alloc, transfer).ok()?;
     match answer.value {
@@ -62,7 +62,8 @@ fn seen(query: &mut Query, alloc: Global, transfer: &TransferKey) -> Option<(u64
     }
 }
 
-// Asks for the transfer until it is pending, and tells whether no answer stood on less than the one before.
+// Asks for the transfer until it is pending. Returns whether no answer was based on fewer
+// arrivals than the answer before.
 fn look(mut query: Query, alloc: Global, transfer: &TransferKey) -> bool {
     let mut last = 0;
     for _ in 0..20_000_000 {
@@ -81,7 +82,7 @@ fn look(mut query: Query, alloc: Global, transfer: &TransferKey) -> bool {
     false
 }
 
-// The query looks on while two threads take messages.
+// The query asks while two threads take messages.
 fn three_threads<J: Site + Send + Sync, H: Wait + Drop + Send + Sync, R: Threads + Wait + Sync>(
     rt: &R,
     alloc: Global,
@@ -100,7 +101,7 @@ fn three_threads<J: Site + Send + Sync, H: Wait + Drop + Send + Sync, R: Threads
     )
 }
 
-// The site has 100 arrivals, and all its 100 transfers are pending.
+// Asserts that the site has 100 arrivals, and that all its 100 transfers are pending.
 fn expect_pending(rt: &impl Abort, alloc: Global, core: &SiteCore) {
     assert!(rt; sizes_of(core) == (100, 100));
     let text = status_of(alloc, core).expect(rt, "a status text");

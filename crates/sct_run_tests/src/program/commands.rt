@@ -1,5 +1,5 @@
-//! Command lines with an input each, what the program writes then, and its exit status. The texts of clap are written by hand,
-//! as clap lays them out.
+//! Command lines with an input each, the texts that the program then writes, and its exit status. The texts of clap
+//! are written by hand, as clap lays them out.
 
 pub struct Command {
     pub words: &'static [&'static str],
@@ -13,7 +13,7 @@ pub struct Command {
 pub const BOTH: &[u8] =
     b"{\"MsgNmId\":\"pacs.008\",\"MsgId\":\"M1\",\"CreDtTm\":\"2024-05-02T10:00:00Z\",\"InstgAgt\":\"BANKDEFF\",\"IntrBkSttlmDt\":\"2024-05-02\",\"SvcLvl\":\"SEPA\",\"LclInstrm\":\"INST\",\"EndToEndId\":\"E1\",\"TxId\":\"T1\",\"IntrBkSttlmAmt\":\"0.01\",\"Ccy\":\"EUR\",\"ChrgBr\":\"SLEV\",\"Dbtr\":\"Anna Weber\",\"DbtrAcct\":\"DE89370400440532013000\",\"DbtrAgt\":\"BANKDEFF\",\"CdtrAgt\":\"BANQFRPP\",\"Cdtr\":\"Bo Maes\",\"CdtrAcct\":\"BE68539007547034\"}\n{\"MsgNmId\":\"pacs.002\",\"MsgId\":\"C1\",\"CreDtTm\":\"2024-05-02T10:00:02Z\",\"InstgAgt\":\"BANQFRPP\",\"OrgnlMsgId\":\"M1\",\"OrgnlMsgNmId\":\"pacs.008\",\"OrgnlTxId\":\"T1\",\"TxSts\":\"ACCP\",\"DbtrAgt\":\"BANKDEFF\"}\n";
 
-// Each job that reads standard input alone, beside refused lines too.
+// Each job that only reads standard input, also with refused lines.
 pub static JOBS: [Command; 7] = [
     // each command
     Command {
@@ -45,7 +45,7 @@ pub static JOBS: [Command; 7] = [
         out: b"",
         err: b"line 1: 31\n",
     },
-    // a script with a refused line, one whose events are all refused, and an input that is none
+    // a script with a refused line, a script whose events are all refused, and an input that is not a script
     Command {
         words: &["sct_sites", "replay"],
         input: b"sites 1\nhold 1 1\n\ncut 1 -\nhand 1 1\n",
@@ -69,7 +69,7 @@ pub static JOBS: [Command; 7] = [
     },
 ];
 
-// Words that ask for no job, and for help.
+// Words that ask for no job, or for help.
 pub static WORDS: [Command; 6] = [
     // no command
     Command {
@@ -79,7 +79,7 @@ pub static WORDS: [Command; 6] = [
         out: b"",
         err: b"fault 64\nerror: 'sct_sites' requires a subcommand but one was not provided\n  [subcommands: status, archive, totals, report, replay, run, help]\n\nUsage: sct_sites <COMMAND>\n\nFor more information, try '--help'.\n",
     },
-    // an unknown one
+    // an unknown command
     Command {
         words: &["sct_sites", "frob"],
         input: BOTH,
@@ -87,7 +87,7 @@ pub static WORDS: [Command; 6] = [
         out: b"",
         err: b"fault 64\nerror: unrecognized subcommand 'frob'\n\nUsage: sct_sites <COMMAND>\n\nFor more information, try '--help'.\n",
     },
-    // another unknown one
+    // another unknown command
     Command {
         words: &["sct_sites", "deliver"],
         input: BOTH,

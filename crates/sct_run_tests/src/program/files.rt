@@ -1,4 +1,4 @@
-//! Runs over files in memory, whose bytes are known: each path gives its own.
+//! Runs over files in memory with known bytes: each path has a file of its own.
 ghost use Rattle.std.specs.Prelude.{Some, codes, if◌then◌else◌};
 ghost use Rattle.sct_element.specs.Text.{is_text};
 
@@ -31,7 +31,7 @@ impl Files for TwoFiles {
     }
 }
 
-// What a run over the two files must write, and its exit status.
+// The texts that a run over the two files must write, and its exit status.
 struct Wanted {
     words: &'static [&'static str],
     status: u8,
@@ -65,7 +65,7 @@ static WANTED: [Wanted; 3] = [
     },
 ];
 
-// A run over the files writes what is wanted, and ends so.
+// Whether a run over the files writes the expected texts, and ends with the expected status.
 fn does(rt: &(impl Threads + Wait + Sync), alloc: Global, wanted: &Wanted) -> bool {
     let asked = words(alloc, wanted.words).map_err(ProgramFault::from);
     let ran = run_program(rt, alloc, &FILES, asked, BOTH);

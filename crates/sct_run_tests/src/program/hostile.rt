@@ -14,7 +14,7 @@ struct Ended {
     err: Vec<u8>,
 }
 
-// How much room the two outputs have.
+// How many bytes the two outputs can take.
 #[derive(Clone, Copy)]
 struct Rooms {
     out: usize,
@@ -26,7 +26,7 @@ const AMPLE: Rooms = Rooms {
     err: 1_000_000,
 };
 
-// How `status` ends over a reader and over outputs with so much room, on at most so many bytes.
+// How `status` ends over a reader and over outputs with this room, with this limit of bytes.
 fn run_over(
     rt: &(impl Threads + Sync),
     alloc: Global,
@@ -50,7 +50,7 @@ fn run_over(
     }
 }
 
-// A run ended so, and wrote this.
+// Whether a run ended with this answer, and wrote these texts.
 fn ended_so(ended: &Ended, answer: Result<Done, ProgramFault>, out: &[u8], err: &[u8]) -> bool {
     ended.answer == answer && ended.out.as_slice() == out && ended.err.as_slice() == err
 }
@@ -93,7 +93,7 @@ fn a_read_that_fails_leaves_nothing_written(rt: HostRuntime) {
     }
 }
 
-// How `status` ends on this input, over outputs with so much room.
+// How `status` ends on this input, over outputs with this room.
 fn run_on(rt: &(impl Threads + Sync), alloc: Global, left: &'static [u8], rooms: Rooms) -> Ended {
     let giving = Giving { left, fails: false };
     run_over(rt, alloc, MOST_BYTES, giving, rooms)
@@ -112,7 +112,7 @@ fn a_full_output_gets_a_prefix(rt: HostRuntime) {
     assert!(rt; ended_so(&whole, Ok(Done { refused: 0 }), text, b""));
 }
 
-// A line that is no object, and then an instruction.
+// A line that is not an object, followed by an instruction.
 static REFUSED: &[u8] =
     b"[]\n{\"MsgNmId\":\"pacs.008\",\"MsgId\":\"M1\",\"CreDtTm\":\"2024-05-02T10:00:00Z\",\"InstgAgt\":\"BANKDEFF\",\"IntrBkSttlmDt\":\"2024-05-02\",\"SvcLvl\":\"SEPA\",\"LclInstrm\":\"INST\",\"EndToEndId\":\"E1\",\"TxId\":\"T1\",\"IntrBkSttlmAmt\":\"0.01\",\"Ccy\":\"EUR\",\"ChrgBr\":\"SLEV\",\"Dbtr\":\"Anna Weber\",\"DbtrAcct\":\"DE89370400440532013000\",\"DbtrAgt\":\"BANKDEFF\",\"CdtrAgt\":\"BANQFRPP\",\"Cdtr\":\"Bo Maes\",\"CdtrAcct\":\"BE68539007547034\"}\n";
 

@@ -10,7 +10,7 @@ use std::sync::Wait;
 use std::sync::ledger::{Blank, Ledger};
 use std::thread::Threads;
 
-// With which status a run ended, and what it wrote.
+// The status with which a run ended, and the texts that it wrote.
 #[derive(Drop)]
 pub struct Ran {
     pub status: u8,
@@ -80,7 +80,7 @@ fn answer_over<
     )
 }
 
-// How `status` ends over these streams, on at most so many bytes.
+// How `status` ends over these streams, with this limit of bytes.
 pub(super) fn status_over<R: io::Read + Drop, O: io::Write + Drop, E: io::Write + Drop>(
     rt: &(impl Threads + Sync),
     alloc: Global,
@@ -93,7 +93,7 @@ pub(super) fn status_over<R: io::Read + Drop, O: io::Write + Drop, E: io::Write 
     answer_over::<R, O, E, Brand, Brand, Brand>(rt, alloc, limit, (reader, out, err), blanks)
 }
 
-// How `status` ends on an input of at most so many bytes.
+// How `status` ends on an input, with this limit of bytes.
 pub(super) fn answer_within(
     rt: &(impl Threads + Sync),
     alloc: Global,

@@ -1,4 +1,4 @@
-//! Inputs with what they come to: the status text, the lines that tell the refused lines, and how many these are.
+//! Inputs with their answers: the status text, the lines that report the refused lines, and their number.
 
 pub struct Row {
     pub inputs: &'static [&'static [u8]],
@@ -25,7 +25,7 @@ pub static ROWS: [Row; 7] = [
         told: "",
         refused: 0,
     },
-    // the same, the other site first
+    // the same inputs in the other order
     Row {
         inputs: &[
             b"{\"MsgNmId\":\"pacs.008\",\"MsgId\":\"M2\",\"CreDtTm\":\"2024-05-02T10:00:00Z\",\"InstgAgt\":\"BANKDEFF\",\"IntrBkSttlmDt\":\"2024-05-02\",\"SvcLvl\":\"SEPA\",\"LclInstrm\":\"INST\",\"EndToEndId\":\"E1\",\"TxId\":\"T2\",\"IntrBkSttlmAmt\":\"2.00\",\"Ccy\":\"EUR\",\"ChrgBr\":\"SLEV\",\"Dbtr\":\"Anna Weber\",\"DbtrAcct\":\"DE89370400440532013000\",\"DbtrAgt\":\"BANKDEFF\",\"CdtrAgt\":\"BANQFRPP\",\"Cdtr\":\"Bo Maes\",\"CdtrAcct\":\"BE68539007547034\"}\n",
@@ -45,7 +45,7 @@ pub static ROWS: [Row; 7] = [
         told: "file 2 line 1: 32\n",
         refused: 1,
     },
-    // three files: what confirms at the third came as an instruction at the first, and the second has refused lines alone
+    // three files: the third confirms an instruction of another file, and the second has refused lines alone
     Row {
         inputs: &[
             b"{\"MsgNmId\":\"pacs.008\",\"MsgId\":\"M1\",\"CreDtTm\":\"2024-05-02T10:00:00Z\",\"InstgAgt\":\"BANKDEFF\",\"IntrBkSttlmDt\":\"2024-05-02\",\"SvcLvl\":\"SEPA\",\"LclInstrm\":\"INST\",\"EndToEndId\":\"E1\",\"TxId\":\"T1\",\"IntrBkSttlmAmt\":\"1.00\",\"Ccy\":\"EUR\",\"ChrgBr\":\"SLEV\",\"Dbtr\":\"Anna Weber\",\"DbtrAcct\":\"DE89370400440532013000\",\"DbtrAgt\":\"BANKDEFF\",\"CdtrAgt\":\"BANQFRPP\",\"Cdtr\":\"Bo Maes\",\"CdtrAcct\":\"BE68539007547034\"}",

@@ -13,7 +13,7 @@ pub(crate) static FAILED: [Failed; 7] = [
         sites: &[],
         reported: None,
     },
-    // a worker was held, and another met 66
+    // a worker was held, and a call of another was refused with 66
     Failed {
         sites: &[
             SiteFault::Working(WorkFault::Refused { number: 42 }),
@@ -38,7 +38,7 @@ pub(crate) static FAILED: [Failed; 7] = [
         ],
         reported: Some(SiteFault::Working(WorkFault::NoWorker)),
     },
-    // of several refusals the least number, wherever it is
+    // the least number of several refusals, wherever it is
     Failed {
         sites: &[
             SiteFault::Working(WorkFault::Refused { number: 44 }),

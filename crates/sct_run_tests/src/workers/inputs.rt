@@ -1,5 +1,5 @@
-//! Inputs with what their sites come to when all of the exchange has come through: the number of arrivals and the status
-//! text of each site, the lines that tell the refused lines, and how many these are.
+//! Inputs with the results of their sites after the whole exchange: the number of arrivals and the status text of each
+//! site, the lines that report the refused lines, and their number.
 
 pub(crate) struct Row {
     pub(crate) inputs: &'static [&'static [u8]],
