@@ -23,8 +23,8 @@ fn is_contradicted(found: &[Finding]) -> bool
 }
 
 /// The findings of a transfer, in their stated order.
-/// `clean` are the uncontradicted messages on the transfer. `asides` are the contradicted identities of which a message
-/// is on it, ascending. Error: `Memory` (39).
+/// `clean` are the uncontradicted messages on the transfer. `asides` are the contradicted identities that a message on
+/// it has, ascending. Error: `Memory` (39).
 /// Cost: each transaction of the messages is looked at, and the recalls of the transfer are sorted.
 pub fn findings(
     alloc: Global,

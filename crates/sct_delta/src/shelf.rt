@@ -48,6 +48,7 @@ impl Shelf {
     ghost use Rattle.sct_delta.specs.Shelves.{log_on, places_at, above_in, HasNoEmptyLog};
     ghost use Rattle.sct_delta.specs.Vectors.{count_in};
 
+    /// An empty shelf, which grows with this allocator.
     pub fn new(alloc: Global) -> Shelf
         ensures { (origin : ℕ) → log_on result origin ≡ [] }
     {
@@ -57,6 +58,7 @@ impl Shelf {
         }
     }
 
+    /// The allocator with which the shelf grows.
     pub fn allocator(&self) -> Global {
         self.alloc
     }

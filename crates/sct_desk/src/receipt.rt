@@ -5,9 +5,9 @@ ghost use Rattle.std.specs.Prelude.{◌≡◌};
 use sct_history::Track;
 use std::marker::Model;
 
-/// A desk's receipt of a call. It says which of the site's arrivals the call published: `count` of them, from position
-/// `from` on, the first `carried` of which came by earlier calls. Positions count from 1. If nothing was pending,
-/// `count` is 0 and `from` is one past the last published position.
+/// A desk's receipt of a call. It says that the call published `count` of the site's arrivals, from position `from` on,
+/// and that the first `carried` of these came by earlier calls. Positions count from 1. If nothing was pending, `count`
+/// is 0 and `from` is one past the last published position.
 /// A receipt cannot be copied. The answers of a query that learned it include all that it shows.
 #[derive(Drop)]
 pub struct Receipt {

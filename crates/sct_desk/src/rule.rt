@@ -62,6 +62,8 @@ impl Join<Glimpse> for Notes {
     ghost spent = { nothing_known };
 }
 
+/// The writer of a published view.
 pub type ShownWriter = Writer<Shown, Batch, Glimpse, Published>;
 
+/// A reader of a published view.
 pub type ShownReader = Reader<Shown, Glimpse, Published>;

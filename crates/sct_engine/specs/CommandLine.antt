@@ -17,7 +17,7 @@ use Rattle.sct_engine.specs.Request.{is_mistake, job, order_named, order_of, rep
 abbrev pub wanting_one : App → App
 wanting_one app = record app { top = record app.top { subcommand_required = true } }
 
--- the program with the commands `status` and `archive`, one of which is required
+-- the program with the commands `status` and `archive`; one of its commands is required
 abbrev pub listing_commands : App
 listing_commands =
     with_subcommand (with_subcommand (wanting_one (new_app (codes "sct_sites"))) (new_app (codes "status")).top)
@@ -47,7 +47,7 @@ comparing_commands = with_subcommand (with_subcommand listing_commands (new_app 
 abbrev pub command_line : App
 command_line = with_subcommand (with_subcommand comparing_commands (new_app (codes "replay")).top) run_command.top
 
--- the order of the command that clap finds in the words, the first of which is the program's name
+-- the order of the command that clap finds in the words; the first word is the program's name
 abbrev pub order_asked : List Text → Option Order
 order_asked words = option_and_then (λ found. order_named found.0 found.1) (subcommand_of command_line words)
 

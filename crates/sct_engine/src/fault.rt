@@ -35,6 +35,7 @@ pub enum ProgramFault {
 }
 
 impl ProgramFault {
+    /// The fault's number: 48, or 60 to 67.
     pub fn number(&self) -> u8
         ensures { result ≡ program_fault_number self.now }
     {

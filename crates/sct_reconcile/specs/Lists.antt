@@ -70,7 +70,7 @@ row_before None number others = Err (BadList number)
 row_before (Some row) number (Ok rows) = Ok (row ∷ rows)
 row_before (Some row) number (Err fault) = Err fault
 
--- the rows of these records, the first of which has that number; or the first record that is not a row
+-- the rows of these records, or the first record that is not a row; the first record has that number
 unfoldable pub rows_below : ℕ → List (List (List ℕ)) → Result (List ListedRow) ReconcileFault
 rows_below number [] = Ok []
 rows_below number (fields ∷ more) = row_before (row_of fields) number (rows_below (number + 1) more)

@@ -148,7 +148,7 @@ fn rows_after_first(alloc: Global, records: &[ByteRecord]) -> Result<Vec<ListedR
     Ok(rows)
 }
 
-// The rows of all records, the first of which must be the header.
+// The rows of all records. The first record must be the header.
 fn rows_in(alloc: Global, records: &[ByteRecord]) -> Result<Vec<ListedRow>, ReconcileFault>
     ensures { GivesRows result (list_in (map fields_of records.now)) }
 {

@@ -1,5 +1,5 @@
--- A run of several inputs, each of which fills a site of its own: the messages that are read of all of them, and the
--- faults of the run. The text of their refused lines is defined with the workers that read them. Read by an auditor.
+-- A run of several inputs. Each input fills a site of its own. Here are the messages that are read from all inputs, and
+-- the faults of the run. The text of the refused lines is defined with the workers that read them. Read by an auditor.
 use Rattle.std.specs.FinSet as set
 use Rattle.std.specs.Prelude.{ℕ, ◌≡◌, ◌↔◌, ◌⊎◌, ◌&&◌, not, Bool, List, [], ◌∷◌, nat_lt, string_bytes}
 use Rattle.std.specs.List.{Contains}

@@ -57,6 +57,7 @@ impl Archive {
     ghost use Rattle.sct_set.specs.Archive.{added_of, archive_text_of, AreReadAgain};
     ghost use Rattle.sct_set.specs.Contradictions.{contradicted_identities, is_disputed, undisputed_of};
 
+    /// An empty archive, which grows with this allocator.
     pub fn new(alloc: Global) -> Self
         ensures { result ≡ set.empty }
     {
@@ -144,7 +145,8 @@ impl Archive {
         Ok(push_all(&mut self.table, other.table.messages())?)
     }
 
-    /// The identities of which different messages are held, ascending, each once. Error: `Memory` (39).
+    /// The contradicted identities, ascending, each once. Different messages held have
+    /// such an identity. Error: `Memory` (39).
     /// It looks at each message held and sorts the identities.
     pub fn contradictions(&self) -> Result<Vec<Identity>, SetFault>
         ensures { IfOk result (λ identities. identities.items ≡ contradicted_identities self.now) }

@@ -1,4 +1,4 @@
-//! The identities of which an archive holds different messages.
+//! The contradicted identities of an archive.
 
 ghost use Rattle.std.specs.Prelude.{◌≡◌, IfOk, map, filter};
 ghost use Rattle.sct_message.specs.Keys.{identity_of};
@@ -31,7 +31,7 @@ fn disputed_identities(table: &Table) -> Result<Vec<Identity>, AllocError>
     Ok(found)
 }
 
-/// The identities of which a table has different messages, ascending, each once.
+/// The contradicted identities of a table, ascending, each once. Different messages of the table have such an identity.
 pub fn contradictions(table: &Table) -> Result<Vec<Identity>, AllocError>
     ensures { IfOk result (λ identities. identities.items ≡ contradicted_identities (contents_of table.now)) }
 {

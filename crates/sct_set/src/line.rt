@@ -38,6 +38,7 @@ impl Model for Line {
 }
 
 impl Line {
+    /// The line of a message, which it shares. Error: `Memory` (39).
     pub fn of(alloc: Global, message: &Arc<Message>) -> Result<Line, SetFault>
         ensures { IfOk result (λ line. line ≡ arc_value message.now) }
     {
@@ -52,6 +53,7 @@ impl Line {
         })
     }
 
+    /// The written text of the message, without a line feed.
     pub fn text(&self) -> &[u8]
         ensures written { result.now ≡ written_text self.now }
         ensures again { IsReadAgain self.now }

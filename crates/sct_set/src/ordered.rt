@@ -56,7 +56,7 @@ impl Ordered {
     ghost use Rattle.sct_set.specs.Archive.{archive_text_of, AreReadAgain};
 
     /// The set of the messages, which may be in any order and may repeat.
-    /// Its order is built beside the set, in as many threads as there are processors. Error: `Memory` (39).
+    /// Its order is computed at the same time, in as many threads as there are processors. Error: `Memory` (39).
     pub fn of<R: Threads + Sync>(
         rt: &R,
         alloc: Global,

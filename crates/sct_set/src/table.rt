@@ -39,6 +39,7 @@ impl Model for Table {
 }
 
 impl Table {
+    /// An empty table, which grows with this allocator.
     pub fn new(alloc: Global) -> Self
         ensures { result ≡ [] }
     {
@@ -50,16 +51,19 @@ impl Table {
         }
     }
 
+    /// The allocator with which the table grows.
     pub fn allocator(&self) -> Global {
         self.alloc
     }
 
+    /// How many messages the table has.
     pub fn len(&self) -> usize
         ensures { result ≡ length self.now }
     {
         self.messages.len()
     }
 
+    /// The messages, in the order of their arrival.
     pub fn messages(&self) -> &[Arc<Message>]
         ensures { drafts_in result.now ≡ self.now }
     {

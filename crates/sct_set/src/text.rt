@@ -122,7 +122,7 @@ fn push_messages(
     Ok(())
 }
 
-// Room in bytes for the lines of these identities, most of which are shorter. A text that grows would be copied.
+// Room in bytes for the lines of these identities. Most lines are shorter. A text that grows would be copied.
 fn room_for(identities: &[Identity]) -> usize {
     identities.len().saturating_mul(BYTES_OF_A_LINE)
 }

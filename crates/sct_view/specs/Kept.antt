@@ -15,7 +15,7 @@ use Rattle.sct_view.specs.Totals.{nothing, share, totals_over, totals_of, cents_
 use Rattle.sct_view.specs.declared.case.Case.{Case}
 use Rattle.sct_view.specs.declared.totals.Totals.{Totals}
 
--- What is kept of a transfer: its clean messages and the contradicted ones, both in order, and where it stands.
+-- The data of a case: the clean messages on the transfer and the contradicted ones, both in order, and its status.
 pub record Kept : Type 0 where
   pub clean : List Draft
   pub contradicted : List Draft
@@ -28,7 +28,7 @@ no_messages = record { clean = []; contradicted = []; stands = Unknown }
 abbrev pub contradicted_on : MessageSet → TransferKey → List Draft
 contradicted_on held transfer = filter (is_on transfer) (contradicted_messages held)
 
--- what is to be kept of a transfer of the set
+-- the case of a transfer of the set
 unfoldable pub case_of : MessageSet → TransferKey → Kept
 case_of held transfer = record {
   clean = messages_on held transfer;

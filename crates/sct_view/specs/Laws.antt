@@ -21,7 +21,8 @@ pub record EqualSetsHaveEqualTexts : Type 0 where
 abbrev pub over_all_banks : (Totals → ℕ) → MessageSet → ℕ
 over_all_banks number held = sum_by (λ bank. number (totals_of held bank)) (banks_of held)
 
--- Money is conserved: over all banks, what is sent is received, in count and in cents, and what comes back goes back.
+-- Money is conserved. Over all banks, the count and the cents of what is sent and of what is received are equal, and so
+-- are the cents returned to originator banks and those returned by beneficiary banks.
 pub record MoneyIsConserved : Type 0 where
   pub count : (held : MessageSet)
       → over_all_banks (λ t. t.sent) held ≡ over_all_banks (λ t. t.received) held
@@ -34,15 +35,15 @@ pub record MoneyIsConserved : Type 0 where
 abbrev pub counted_in : Totals → ℕ
 counted_in t = t.sent + t.rejected + t.waiting + t.missing + t.contradicted
 
--- Each transfer of an originator bank is counted, in one of the five counts: they add up to its transfers, and each
--- transfer adds 1 to one of them.
+-- Each transfer of an originator bank is counted in exactly one of the five counts: they add up to its transfers,
+-- and each transfer adds 1 to one of them.
 pub record EachTransferIsCountedOnce : Type 0 where
   pub all : (held : MessageSet) (bank : List ℕ)
       → counted_in (totals_of held bank) ≡ length (filter (is_originator bank) (keys_of held))
   pub each : (held : MessageSet) (transfer : TransferKey) → Contains (keys_of held) transfer
       → counted_in (share_of held transfer.debtor_agent transfer) ≡ 1
 
--- the banks told are those whose totals are not all zero
+-- the banks that are listed are those whose totals are not all zero
 abbrev pub BanksHaveTotals : Type 0
 BanksHaveTotals = (held : MessageSet) (bank : List ℕ)
     → Contains (banks_of held) bank ↔ (totals_of held bank ≢ nothing)

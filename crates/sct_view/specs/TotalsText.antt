@@ -5,7 +5,7 @@ use Rattle.sct_message.specs.Sets.{MessageSet}
 use Rattle.sct_view.specs.Totals.{totals_of, banks_of}
 use Rattle.sct_view.specs.declared.totals.Totals.{Totals}
 
--- a bar and a field behind it
+-- a field after a bar
 abbrev pub field : List ℕ → List ℕ
 field text = codes "|" ++ text
 

@@ -17,7 +17,7 @@ pub struct Totals {
     pub rejected: u64,
     /// Transfers that have it as the originator bank, were instructed and wait for a confirmation, investigated or not.
     pub waiting: u64,
-    /// Transfers that have it as the originator bank and of which messages are held, but no instruction.
+    /// Transfers that have it as the originator bank and have messages but no instruction.
     pub missing: u64,
     /// Transfers that have it as the originator bank and whose messages contradict each other.
     pub contradicted: u64,

@@ -12,7 +12,7 @@ const THREE: &[Row] = &[Row(1, 1, "C1"), Row(1, 2, "C2"), Row(1, 3, "C3")];
 // The second of the two.
 const SECOND: &[Row] = &[Row(1, 2, "C2")];
 
-// Entries of three origins, of which a site holds some.
+// Entries of three origins. A site holds some of them.
 const OF_THREE: &[Row] = &[
     Row(1, 1, "C1"),
     Row(1, 2, "C2"),
