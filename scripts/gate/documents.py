@@ -3,14 +3,15 @@
 - A name in backquotes is declared in a crate, or is a word of crates.txt, of a script or of an example, or OUTSIDE has it. A name that the
   page says to be of a crate, as in "`settle` of sct_world", is declared in that crate. Each name of OUTSIDE is on a
   page.
-- A file in backquotes exists, by its whole path or by the end of it. So does one in a command.
+- A file in backquotes exists, by its whole path or by the end of it. So does one in a command. The names that follow a source or a file of
+  definitions at once are declared there.
 - A link leads to a file, and to a heading of it.
 - A row of a table of promises names files, functions that one of them has, clauses that these functions have, and edits of their crates.
   *only* wants a single clause, and *law* an empty body. `PartialEq` and the like are traits, whose members are clauses.
 - A row of a table of edits names an edit of the crates that the section's heading has, and every edit of these crates has a row.
 - A section of the architecture whose heading has crates, and which names sources, names every source of these crates.
-- Text that follows a line ending in "`FILE:LINE`:" is what that file has from that line on.
-- The page for auditors names each crate of the kit that crates.txt has.
+- The page for auditors names functions with their clauses and definitions that are in the files of their rows, and each crate of the kit that
+  crates.txt has. Code that follows "`FILE:LINE`:" is what that file has from that line on.
 - Edits that were taken away from a crate are not among its edits.
 
 The last line is 'N passed, M failed', and the exit status is 0 if none has failed.
@@ -74,7 +75,7 @@ def rows(lines, first, columns):
     """The rows of the tables that have these columns, with their line numbers, each as its cells."""
     within = False
     for number, line in enumerate(lines, first):
-        cells = [cell.strip() for cell in line.strip()[1:-1].split("|")] if line.startswith("|") else []
+        cells = [cell.strip() for cell in re.split(r"(?<!\\)\|", line.strip()[1:-1])] if line.startswith("|") else []
         if cells == columns:
             within = True
         elif not cells:
@@ -139,6 +140,19 @@ def anchors(page):
     """What the headings of a page are called in links."""
     headings = re.findall(r"^#+ (.*)$", page.read_text(), re.MULTILINE)
     return {re.sub(r"[^\w\- ]", "", heading.lower()).replace(" ", "-") for heading in headings}
+
+
+def path_of(file):
+    """The path of a source or a file of definitions that is named from the top or from crates/ on."""
+    return crates.TOP / file if file.startswith("crates/") else crates.CRATES / file
+
+
+def check_declared(report, page, text):
+    """Every name that follows its file."""
+    for number, line in prose(text):
+        for file, following in re.findall(r"`([\w/]+/(?:src|specs)/[\w/]+\.(?:rt|antt))`((?:,? `\w+`)+)", line):
+            for name in ticked(following) if path_of(file).is_file() else []:
+                report.check(page, number, name in sources.declared(path_of(file)), f"{file} declares no {name}")
 
 
 def check_links(report, page, text):
@@ -245,6 +259,22 @@ def check_sources(report, page, text):
 
 # ---- the page for auditors
 
+def check_carried(report, page, text):
+    """The tables of what carries the commands, and of the definitions: functions with their clauses, and definitions, by file."""
+    for number, cells in rows(text.splitlines(), 1, ["Command", "Function and clause", "File", "What is printed"]):
+        functions = [one for file in ticked(cells[2]) for one in sources.functions(file.split("/")[1]) if f"crates/{one.file}" == file]
+        names = ticked(cells[1])
+        ones = [one for one in functions if one.name in names]
+        report.check(page, number, bool(ones), f"no file of the row has {names[0]}")
+        for name in names:
+            known = any(name == one.name or name in one.clauses for one in ones) or name.startswith("Is")
+            report.check(page, number, known or name in sources.names(), f"no function of the row has the clause {name}")
+    for number, (names, _, files) in rows(text.splitlines(), 1, ["Definition", "Says", "File"]):
+        there = set().union(*(sources.declared(path_of(file)) for file in ticked(files) if path_of(file).is_file()))
+        for name in ticked(names):
+            report.check(page, number, name in there, f"no file of the row declares {name}")
+
+
 def check_quotes(report, page, text):
     """Code that a page shows with its file and line."""
     for match in re.finditer(r"`([\w./-]+):(\d+)`:\n\n((?:    .*\n)+)", text):
@@ -265,14 +295,14 @@ def check_kit(report, page, text):
 
 
 BY_PAGE = {"PROMISES.md": [check_promises], "PROOF_REVIEW.md": [check_edits, check_taken_away], "ARCHITECTURE.md": [check_sources],
-           "PROVED.md": [check_quotes, check_kit]}
+           "PROVED.md": [check_carried, check_quotes, check_kit]}
 
 
 def main():
     report = Report()
     for page in PAGES:
         text = page.read_text()
-        for check in [check_names, check_files, check_links, *BY_PAGE.get(page.name, [])]:
+        for check in [check_names, check_files, check_declared, check_links, *BY_PAGE.get(page.name, [])]:
             check(report, page, text)
     check_outside(report)
     for fault in report.faults:

@@ -70,6 +70,7 @@ def functions_of(path, file):
         yield Function(None, kind, trait, file, names, False)
 
 
+@functools.lru_cache(maxsize=None)
 def names():
     """The names of the crates."""
     return sorted(path.name for path in crates.CRATES.iterdir() if (path / "src").is_dir())
@@ -102,17 +103,21 @@ def edits(crate):
 
 
 @functools.lru_cache(maxsize=None)
+def declared(path):
+    """What a source or a file of definitions gives a name to, and the words of the texts of a source."""
+    if path.suffix == ".antt":
+        return set(OF_DEFINITIONS.findall(path.read_text()))
+    return set(re.findall(r"\w+", " ".join(map(" ".join, OF_SOURCE.findall(path.read_text())))))
+
+
+@functools.lru_cache(maxsize=None)
 def defined(crate):
-    """What has a name in a crate: its files and edits, what its sources and definitions declare, and the words of its texts."""
+    """What has a name in a crate: its files and edits, and what these declare."""
     found = {crate, *edits(crate)}
-    for path in files(crate).values():
+    paths = [path for folder in ("specs", "proofs") for path in (crates.CRATES / crate / folder).rglob("*.antt")]
+    for path in [*files(crate).values(), *paths]:
         found.add(path.stem)
-        for groups in OF_SOURCE.findall(path.read_text()):
-            found.update(re.findall(r"\w+", " ".join(groups)))
-    for folder in ("specs", "proofs"):
-        for path in (crates.CRATES / crate / folder).rglob("*.antt"):
-            found.add(path.stem)
-            found.update(OF_DEFINITIONS.findall(path.read_text()))
+        found |= declared(path)
     return found
 
 
