@@ -16,7 +16,7 @@
 
 The last line is 'N passed, M failed', and the exit status is 0 if none has failed.
 """
-import functools, pathlib, re, sys
+import functools, os, pathlib, re, sys
 sys.path.insert(0, str(pathlib.Path(__file__).resolve().parents[1]))  # scripts/
 import crates
 from gate import sources, verdict
@@ -118,8 +118,8 @@ def all_files():
     """Every file of the repository that a page may name, with a slash before it."""
     tops = [crates.TOP / name for name in ("docs", "scripts", "examples")]
     tops += [crates.CRATES / crate / part for crate in sources.names() for part in ("src", "specs", "proofs", "must-fail")]
-    found = [path for top in tops for path in top.rglob("*") if path.suffix]
-    return "\n".join("/" + path.relative_to(crates.TOP).as_posix() for path in [*crates.TOP.glob("*.*"), *found]) + "\n"
+    found = [os.path.join(folder, name) for top in tops for folder, _, names in os.walk(top) for name in names]
+    return "\n".join("/" + os.path.relpath(path, crates.TOP) for path in [*crates.TOP.glob("*.*"), *found]) + "\n"
 
 
 def is_file(name):
