@@ -15,7 +15,7 @@ CHECKS = {
     "refuse_growths": "refuses each growth of an archive, of a view, and of a take at a desk",
     "refuse_forms": "refuses each growth of a message of each form that is read and written",
     "run_examples": "runs the program on the examples",
-    "document_examples": "runs the program on the examples of docs/MODEL.md and docs/FORMATS.md",
+    "document_examples": "runs the program on the examples of docs/MODEL.md and docs/FORMATS.md, and looks up the code of docs/DESKS.md",
     "readme": "runs the commands of the README",
     "desk": "runs the desk's tools and the commands of the operator's pages, and looks up their numbers",
     "too_long": "runs the program on inputs that are too long, and on folders",
