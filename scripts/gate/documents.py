@@ -5,7 +5,7 @@
   page.
 - A file in backquotes exists, by its whole path or by the end of it. So does one in a command. The names that follow a source or a file of
   definitions at once are declared there.
-- A link leads to a file, and to a heading of it.
+- A link leads to a file, and to a heading of it. README.md has a link to every page of docs/ and examples/.
 - A row of a table of promises names files, functions that one of them has, clauses that these functions have, and edits of their crates.
   *only* wants a single clause, and *law* an empty body. `PartialEq` and the like are traits, whose members are clauses.
 - A row of a table of edits names an edit of the crates that the section's heading has, and every edit of these crates has a row.
@@ -166,6 +166,14 @@ def check_links(report, page, text):
                 report.check(page, number, not anchor or not to.is_file() or anchor in anchors(to), f"there is no heading {target}")
 
 
+def check_pages(report, page, text):
+    """Whether the page links to every page of docs/."""
+    for other in PAGES:
+        if other.parent != crates.TOP:
+            name = other.relative_to(crates.TOP).as_posix()
+            report.check(page, 1, f"]({name})" in text, f"the page has no link to {name}")
+
+
 # ---- tables
 
 def found(name, functions):
@@ -294,15 +302,20 @@ def check_kit(report, page, text):
         report.check(page, 1, f"`{crate}`" in text, f"the page does not name the crate {crate} of the kit")
 
 
-BY_PAGE = {"PROMISES.md": [check_promises], "PROOF_REVIEW.md": [check_edits, check_taken_away], "ARCHITECTURE.md": [check_sources],
-           "PROVED.md": [check_carried, check_quotes, check_kit]}
+BY_PAGE = {
+    "README.md": [check_pages],
+    "docs/PROMISES.md": [check_promises],
+    "docs/PROOF_REVIEW.md": [check_edits, check_taken_away],
+    "docs/ARCHITECTURE.md": [check_sources],
+    "docs/PROVED.md": [check_carried, check_quotes, check_kit],
+}
 
 
 def main():
     report = Report()
     for page in PAGES:
         text = page.read_text()
-        for check in [check_names, check_files, check_declared, check_links, *BY_PAGE.get(page.name, [])]:
+        for check in [check_names, check_files, check_declared, check_links, *BY_PAGE.get(page.relative_to(crates.TOP).as_posix(), [])]:
             check(report, page, text)
     check_outside(report)
     for fault in report.faults:
