@@ -7,7 +7,7 @@ use sct_message::Identity;
 /// A recall is named by its identification.
 #[derive(Debug, Drop, PartialEq, Eq)]
 pub enum Finding {
-    /// Two different messages have this identity, and one of them is on the transfer.
+    /// Two different messages have this identity, and at least one of them is on the transfer.
     Identity(Identity),
     /// Two messages instruct the transfer.
     TwoInstructions,

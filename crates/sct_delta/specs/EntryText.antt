@@ -28,8 +28,8 @@ TellEntries (line ∷ lines) (entry ∷ entries) = TellsEntry line entry × Tell
 abbrev pub entries_head : List ℕ
 entries_head = codes "delta 1"
 
--- A text is the form 1 of a delta if its lines are the head line, one line for each entry in their order, and the end
--- line with the number of entries, each ended by a line feed. Form 1 has only the sites 1 to 64.
+-- A text is the form 1 of a delta if its lines are these: the head line, one line for each entry in their order, and
+-- the end line with the number of entries. A line feed ends each line. Form 1 has only the sites 1 to 64.
 pub record IsEntryText (bytes : List ℕ) (entries : List Placed) : Type 0 where
   pub lines : List (List ℕ)
   pub text : lines_of bytes ≡ lines_as (entries_head ∷ lines ++ end_line (length entries) ∷ [])

@@ -34,8 +34,8 @@ TellMessages [] (message ∷ messages) = ⊥
 TellMessages (text ∷ texts) [] = ⊥
 TellMessages (text ∷ texts) (message ∷ messages) = (message_in text ≡ Ok message) × TellMessages texts messages
 
--- A group may begin after the groups up to an origin if its origin is a later site, it has at least one message, its
--- first number is at least 1, and its last number is at most 18446744073709551615.
+-- When a group may begin after the groups up to an origin: its origin is a later site, and it has at least one message.
+-- Its first number is at least 1, and its last number is at most 18446744073709551615.
 abbrev pub may_begin : ℕ → ℕ → ℕ → ℕ → Bool
 may_begin before origin first count =
     nat_lt before origin && (is_site origin && (nat_le 1 first && (nat_le 1 count && nat_le (first + count) (2 ^ 64))))
@@ -51,8 +51,8 @@ AreGroups before (group ∷ groups) =
 abbrev pub groups_head : List ℕ
 groups_head = codes "delta 2"
 
--- A text is the form 2 of a delta if its lines are the head line, the lines of each group, and the end line with the
--- number of all entries, each ended by a line feed. The origins of the groups ascend.
+-- A text is the form 2 of a delta if its lines are these: the head line, the lines of each group, and the end line with
+-- the number of all entries. A line feed ends each line. The origins of the groups ascend.
 pub record IsGroupText (bytes : List ℕ) (entries : List Placed) : Type 0 where
   pub groups : List Group
   pub text : lines_of bytes ≡ lines_as (groups_head ∷ flat_map group_lines groups ++ end_line (length entries) ∷ [])

@@ -103,7 +103,7 @@ abbrev pub IsAskedBy : Result (List (List ℕ)) ProgramFault → Result Request 
 IsAskedBy (Err fault) asked = asked ≡ Err fault
 IsAskedBy (Ok words) asked = AreAsking words asked
 
--- One run. It reads the request of the words, reads the files that the request names, which have these bytes, answers
+-- One run. It reads the request of the words and the files that the request names, which have these bytes. It answers
 -- the request, reports its end on standard error, and returns the exit status of its end.
 pub record IsRun (gives : List ℕ → Option (List ℕ)) (words : Result (List (List ℕ)) ProgramFault) (before after : Streams) (status : ℕ) : Type 0 where
   pub asked : Result Request ProgramFault

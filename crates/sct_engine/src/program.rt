@@ -122,10 +122,10 @@ fn perform_ready<T: Threads + Wait + Sync, R: Source, O: Sink, E: Sink>(
     }
 }
 
-/// Runs the program: reads the words of the command line and the files that they name, performs what they ask for,
-/// reports the end of the run on `err`, and returns the exit status.
-/// The status is 0 if all lines were taken or help was shown, 1 if some line was refused, 3 for out of memory (65), and
-/// 2 for any other fault. `release` says when the memory of a job is given back.
+/// Runs the program: reads the words of the command line and the files that they name, and performs what they ask for.
+/// It reports the end of the run on `err`, and returns the exit status.
+/// The status is 0 if all lines were taken or help was shown, and 1 if some line was refused. It is 3 for out of memory
+/// (65), and 2 for any other fault. `release` says when the memory of a job is given back.
 pub fn run<T: Threads + Wait + Sync, F: Files, R: Source, O: Sink, E: Sink>(
     rt: &T,
     alloc: Global,

@@ -24,7 +24,7 @@ pub enum RecallClass {
     Bank,
     /// The originator asked: CUST, AC03, AM09.
     Originator,
-    /// The reason does not say: any other reason.
+    /// Neither of the two, by this table: any other reason.
     Unlisted,
 }
 

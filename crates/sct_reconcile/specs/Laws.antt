@@ -28,7 +28,7 @@ pub record IsListOf (records : List (List (List ℕ))) (rows : List ListedRow) :
   pub header_is : is_header header ≡ true
   pub rows_are : map row_of below ≡ map Some rows
 
--- The records are a header, below it one for each of the rows, and then one that is not a row and has
+-- The records are a header, below it one for each of the rows, and then one that is not a row. That one has
 -- this number, counted from 1 with the header.
 pub record IsBadBelow (records : List (List (List ℕ))) (number : ℕ) : Type 0 where
   pub header : List (List ℕ)

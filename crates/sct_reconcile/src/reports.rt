@@ -79,7 +79,7 @@ fn rows_on<R: Threads + Sync>(
 /// names, and for each transfer of the bank whose instruction has no other settlement day.
 /// The rows are found in as many threads as there are processors. If a thread cannot be started, another
 /// thread does its work. Error: `Memory` (49).
-/// It looks at every transfer of the view once.
+/// It looks at every transfer of the view.
 #[tactic(auto, unfolding(crate::specs::Reports::report_of))]
 pub fn reconcile<R: Threads + Sync>(
     rt: &R,

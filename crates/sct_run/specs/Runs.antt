@@ -25,7 +25,7 @@ abbrev pub set_of_all : List (List ℕ) → Contents
 set_of_all [] = set.empty
 set_of_all (input ∷ inputs) = set.union (set_read input) (set_of_all inputs)
 
--- a run is held (61) only if there is a point at which its gate may hold a worker, and a call is
+-- a run is held (61) only if there is a point at which its gate may hold a worker; a call is
 -- refused (66) with the number of a refusal
 abbrev pub RunEndsWhere : (Point → Type 0) → RunFault → Type 0
 RunEndsWhere may fault.Held = (point : Point) × may point

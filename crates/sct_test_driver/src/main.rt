@@ -16,17 +16,24 @@
 //! `hold <origin> <number> <JSON text>` makes it accept that one entry. `settle` settles the sites, prints how it ended
 //! and what each site then holds, as a delta text and as an archive text, and starts again without sites.
 //!
-//! `calls N`: lines, which are done at one desk of site 1, alone in its group, after N allocations. `group N`: the
-//! same in a group of N sites. A JSON text is read as the message, and `read` is printed. `take` takes the message,
-//! and prints `taken` and its number or `repeat`, and the receipt's from, count and carried. `accept N` hands it
-//! over as entry N of site 2, and prints `accepted` and how many were fresh, or `refused` and the number of the
-//! fault, and the receipt. `cut` cuts all, and prints each entry as its origin and number, and the receipt.
-//! `publish` publishes, and prints the receipt. `learn` makes the query learn the last receipt, and prints
-//! `learned`. `other` makes it learn the receipt of a new desk of site 2 that takes the message, and prints that
-//! receipt. `ask` prints the status of the transfer T1 of BANKDEFF, `findings` the number of its findings,
-//! `recall ID` the status of its recall ID, and `totals` how many transfers BANKDEFF sent and how many cents. Each
-//! of these ends with the number of arrivals that the answer is based on. `open GROUP PLACES` opens another desk,
-//! and prints `opened` and how many queries it has. An empty line does nothing. At the end the desk is closed with
+//! `calls N`: lines, which are done at one desk of site 1, alone in its group, after N allocations. `group N`: the same
+//! in a group of N sites. An empty line does nothing. The other lines:
+//! - a JSON text is read as the message, and `read` is printed;
+//! - `take` takes the message, and prints `taken` and its number, or `repeat`, and the
+//!   receipt: its from, count and carried;
+//! - `accept N` hands the message over as entry N of site 2, and prints `accepted` and how many were fresh, or
+//!   `refused` and the number of the fault, and the receipt;
+//! - `cut` cuts all, and prints each entry as its origin and number, and the receipt;
+//! - `publish` publishes, and prints the receipt;
+//! - `learn` makes the query learn the last receipt, and prints `learned`;
+//! - `other` makes the query learn the receipt of a new desk of site 2 that takes the message, and prints that receipt;
+//! - `ask` prints the status of the transfer T1 of BANKDEFF;
+//! - `findings` prints the number of findings on that transfer;
+//! - `recall ID` prints the status of the recall ID of that transfer;
+//! - `totals` prints how many transfers BANKDEFF sent, and how many cents;
+//! - `open GROUP PLACES` opens another desk, and prints `opened` and how many queries it has.
+//!
+//! The answers of the query end with the number of arrivals that they are based on. At the end the desk is closed with
 //! all receipts, and `closed` is printed with the number of arrivals. If a desk refuses, the number of the fault is
 //! printed in place of an answer, and the position of the fault.
 //!

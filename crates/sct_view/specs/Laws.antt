@@ -21,8 +21,8 @@ pub record EqualSetsHaveEqualTexts : Type 0 where
 abbrev pub over_all_banks : (Totals → ℕ) → MessageSet → ℕ
 over_all_banks number held = sum_by (λ bank. number (totals_of held bank)) (banks_of held)
 
--- Money is conserved. Over all banks, the count and the cents of what is sent and of what is received are equal, and so
--- are the cents returned to originator banks and those returned by beneficiary banks.
+-- Money is conserved. Over all banks, as many transfers and cents are sent as are received. As many cents are returned
+-- to originator banks as beneficiary banks return.
 pub record MoneyIsConserved : Type 0 where
   pub count : (held : MessageSet)
       → over_all_banks (λ t. t.sent) held ≡ over_all_banks (λ t. t.received) held

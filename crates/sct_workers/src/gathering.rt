@@ -68,8 +68,8 @@ fn posts(alloc: Global, count: usize) -> Result<Vec<Post>, AllocError>
     Ok(posts)
 }
 
-/// The promise of a site's thread. The site was filled from the input, a worker was held only at a point at which the
-/// gate may hold it, and a call was refused only with the number of a refusal.
+/// The promise of a site's thread: the site was filled from the input. A worker was held only at a point at which the
+/// gate may hold it. A call was refused only with the number of a refusal.
 #[derive(Drop)]
 pub(crate) struct Fills<'a, G: Gate> {
     gate: &'a G,

@@ -31,8 +31,8 @@ pub(crate) struct Post {
     pub(crate) others: Vec<Sender<NewEntry>>,
 }
 
-/// The promise of a worker's thread. The receipts that it keeps add no own entry, it is held only at a point at which
-/// the gate may hold it, and a call is refused only with the number of a refusal.
+/// The promise of a worker's thread: the receipts that it keeps add no own entry. The worker is held only at a point at
+/// which the gate may hold it. A call is refused only with the number of a refusal.
 #[derive(Drop)]
 struct AddsNothing<'a, J: Site, G: Gate> {
     gate: &'a G,

@@ -129,8 +129,8 @@ fn text_of_entries(alloc: Global, entries: &[Entry]) -> Result<Vec<u8>, DeltaFau
 }
 
 /// Writes a delta as its one written text, of form 2. The text is a form of the delta and is read back as the delta.
-/// It has the head line, for each origin a line with the first number and the count of its messages, then the written
-/// form of each message on a line of its own, and the end line with the number of all entries.
+/// It begins with the head line. For each origin it has a line with the first number and the count of its messages, and
+/// then the written form of each message on a line of its own. The end line has the number of all entries.
 /// Error: `Memory` (40). The cost is two passes over the entries.
 pub fn write_delta(alloc: Global, delta: &Delta) -> Result<Vec<u8>, DeltaFault>
     ensures written { IfOk result (λ text. text.items ≡ written_delta delta.now) }
