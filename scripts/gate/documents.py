@@ -1,17 +1,16 @@
 """documents.py: compares the names that README.md, docs/*.md and examples/README.md write with the code, and fails if one is nowhere.
 
-- A name in backquotes is declared in a crate, or is a word of crates.txt, of a script or of an example, or OUTSIDE has it. A name that the
-  page says to be of a crate, as in "`settle` of sct_world", is declared in that crate. Each name of OUTSIDE is on a
-  page.
-- A file in backquotes exists, by its whole path or by the end of it. So does one in a command. The names that follow a source or a file of
-  definitions at once are declared there.
+- A name in backquotes is declared in a crate, or is a word of crates.txt, of a script or of an example, or OUTSIDE has it. A name
+  that the page says to be of a crate, as in "`settle` of sct_world", is declared in that crate. Each name of OUTSIDE is on a page.
+- A file in backquotes exists, by its whole path or by the end of it. So does one in a command. Names that directly follow a source
+  or a file of definitions are declared there.
 - A link leads to a file, and to a heading of it. README.md has a link to every page of docs/ and examples/.
-- A row of a table of promises names files, functions that one of them has, clauses that these functions have, and edits of their crates.
-  *only* wants a single clause, and *law* an empty body. `PartialEq` and the like are traits, whose members are clauses.
+- A row of a table of promises names files, functions that one of them has, clauses that these functions have, and edits of their
+  crates. *only* wants a single clause, and *law* an empty body. `PartialEq` and the like are traits, whose members are clauses.
 - A row of a table of edits names an edit of the crates that the section's heading has, and every edit of these crates has a row.
 - A section of the architecture whose heading has crates, and which names sources, names every source of these crates.
-- The page for auditors names functions with their clauses and definitions that are in the files of their rows, and each crate of the kit that
-  crates.txt has. Code that follows "`FILE:LINE`:" is what that file has from that line on.
+- The page for auditors names functions with their clauses and definitions that are in the files of their rows, and each crate of
+  the kit that crates.txt has. Code that follows "`FILE:LINE`:" is what that file has from that line on.
 - Edits that were taken away from a crate are not among its edits.
 
 The last line is 'N passed, M failed', and the exit status is 0 if none has failed.
@@ -181,7 +180,8 @@ def found(name, functions):
     owner, _, last = name.rpartition("::")
     if owner:
         return [one for one in functions if one.name == last and owner in (one.type, one.trait)]
-    return [one for one in functions if one.name == name] or [one for one in functions if one.name is None and name in (one.type, one.trait)]
+    members = [one for one in functions if one.name is None and name in (one.type, one.trait)]
+    return [one for one in functions if one.name == name] or members
 
 
 def check_promise(report, page, number, cells):
@@ -259,9 +259,9 @@ def check_sources(report, page, text):
             for crate, file in ((crate, file) for crate in its for file in sources.files(crate)):
                 is_listed = file == "lib.rt" or any(f"/{crate}/src/{file}".endswith(f"/{name}") for name in named)
                 report.check(page, first, is_listed, f"{heading} lacks {file} of {crate}")
-            others = {name for line in lines for name, crate in re.findall(r"`([\w/]+\.rt)` (?:\(|of |in )(sct_\w+)", line) if is_source(name, crate)}
+            others = re.findall(r"`([\w/]+\.rt)` (?:\(|of |in )(sct_\w+)", "\n".join(lines))
             for name in named:
-                is_there = any(is_source(name, crate) for crate in its) or name in others
+                is_there = any(is_source(name, crate) for crate in its) or any(is_source(*other) for other in others if other[0] == name)
                 report.check(page, first, is_there, f"{heading} has no {name}")
 
 
