@@ -57,9 +57,16 @@ def words_of(name):
 
 
 def prose(text):
-    """The lines of a page with their numbers, but for blocks of code."""
+    """The lines of a page with their numbers, but for blocks of code: between lines of three backquotes, or indented after an empty
+    line."""
     text = re.sub(r"^( *)```.*?^\1```", lambda block: "\n" * block.group().count("\n"), text, flags=re.MULTILINE | re.DOTALL)
-    return [(number, line) for number, line in enumerate(text.splitlines(), 1) if not re.match(r"    (?! *(?:[-|]|\d+\.) )", line)]
+    found, above = [], ""
+    for number, line in enumerate(text.splitlines(), 1):
+        if line.startswith("    ") and not above and not line.lstrip().startswith("- "):
+            continue
+        found.append((number, line))
+        above = line
+    return found
 
 
 def sections(text):
