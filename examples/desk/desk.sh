@@ -3,14 +3,16 @@
 #
 # Usage: desk.sh FOLDER FILE..
 #
-# The files are read one after the other, as one input: for example the archive of yesterday and the messages of today. The folder gets
+# The files are read one after the other, as one input: for example the archive of yesterday and the messages of today. The
+# folder gets
 #   day.status, day.archive, day.totals   what the three commands write
 #   day.refused                           the refused lines, by the line of all files together
 #   day.mend                              each refused line with its file, its line there and its text: FILE:LINE: FAULT: TEXT
 #   day.counts                            how many T, F and R lines have which status or finding
 #
-# The exit status is that of `sct_sites`. The folder is made if it is 0 or 1. After any other status there is no folder, and standard
-# error says why. A folder that exists is not touched: the exit status is then 2. The variable SCT_SITES may name the program.
+# The exit status is that of `sct_sites`. The folder is made if it is 0 or 1. After any other status there is no folder, and
+# standard error says why. A folder that exists is not touched: the exit status is then 2. The variable SCT_SITES may name the
+# program.
 set -u
 LC_ALL=C
 export LC_ALL
@@ -49,7 +51,8 @@ answered archive
 answered totals
 answered status
 
-# The first file that awk reads is the refused lines: `line N: FAULT`. Then NR, less their number, is the line of all files together.
+# The first file that awk reads has the refused lines: `line N: FAULT`. After it, NR less their number is the line of all files
+# together.
 awk '
     FNR == NR && FILENAME == refused { number = $2 + 0; fault[number] = substr($0, index($0, ": ") + 2); many = NR; next }
     NR - many in fault { print FILENAME ":" FNR ": " fault[NR - many] ": " $0 }

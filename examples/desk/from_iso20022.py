@@ -1,15 +1,18 @@
-"""from_iso20022.py: AN EXAMPLE of a converter from ISO 20022 XML to the JSON lines that sct_sites reads. Nothing is proved of it: it is
-outside the proofs, and a wrong converter makes wrong answers. Check it against the messages of your own hub before you use it.
+"""from_iso20022.py: AN EXAMPLE of a converter from ISO 20022 XML to the JSON lines that sct_sites reads. Nothing is proved of
+it: it is outside the proofs, and a wrong converter makes wrong answers. Check it against the messages of your own hub before
+you use it.
 
-It reads files of pacs.002, pacs.004, pacs.008, pacs.028, camt.029 and camt.056 messages, each with one Document, and writes the lines to
-standard output. It keeps the elements that docs/FORMATS.md names, and drops all others. Texts are kept as they are: sct_sites judges them.
+It reads files of pacs.002, pacs.004, pacs.008, pacs.028, camt.029 and camt.056 messages, each with one Document, and writes the
+lines to standard output. It keeps the elements that docs/FORMATS.md names, and drops all others. Texts are kept as they are:
+sct_sites judges them.
 
 - A camt.056 of several transactions becomes one line with TxInf.
-- A message of another kind with several transactions becomes a line for each. Lines that were cut out of one message need a MsgId each,
-  else they all contradict one another. They get the MsgId of the message, a point and the place of the transaction: M1.1, M1.2 and so on.
-  If such a text is longer than 35 characters, no line of the message is written.
-- OrgnlCxlId of a pacs.004, a camt.029, and a pacs.028 about a recall is in no XML message. It is the CxlId of the one recall of that
-  transfer, in the files or in the archive. If there is none, or more than one, the line is written without it, and sct_sites refuses it.
+- A message of another kind with several transactions becomes a line for each. Lines that were cut out of one message need a
+  MsgId each, else they all contradict one another. They get the MsgId of the message, a point and the place of the transaction:
+  M1.1, M1.2 and so on. If such a text is longer than 35 characters, no line of the message is written.
+- OrgnlCxlId of a pacs.004, a camt.029, and a pacs.028 about a recall is in no XML message. It is the CxlId of the one recall of
+  that transfer, in the files or in the archive. If there is none, or more than one, the line is written without it, and
+  sct_sites refuses it.
 - The number of transactions is compared with NbOfTxs. If they differ, no line of the message is written.
 
 Standard error gets a line for each message or key that is left out. The exit status is 0 if nothing was left out, else 1.
@@ -19,7 +22,7 @@ Usage: from_iso20022.py [--archive ARCHIVE] FILE..   (ARCHIVE: the archive of th
 import json, sys
 from xml.etree import ElementTree
 
-# of each kind: its element, its head, its transactions, their number, and where its transactions name the transfer
+# the elements of each kind: the message, and below it the head, each transaction, and the number of transactions if it has one
 KINDS = {
     "pacs.008": ("FIToFICstmrCdtTrf", "GrpHdr", "CdtTrfTxInf", "GrpHdr/NbOfTxs"),
     "pacs.002": ("FIToFIPmtStsRpt", "GrpHdr", "TxInfAndSts", None),
@@ -50,7 +53,7 @@ def bare(element):
 
 
 def found(places):
-    """The text at the first of some places that has one. A place is an element and a path below it; `@` is before an attribute."""
+    """The text at the first of some places that has one. A place is an element and a path below it. An attribute follows `@`."""
     for element, path in places:
         path, _, attribute = path.partition("@")
         part = element.find(path) if element is not None else None
@@ -122,7 +125,8 @@ class Message:
         at = lambda path: found([(transaction, path)])
         return kept([
             ("IntrBkSttlmDt", found([(transaction, "IntrBkSttlmDt"), (self.head, "IntrBkSttlmDt")])),
-            ("SvcLvl", found([(part, "SvcLvl/Cd") for part in info])), ("LclInstrm", found([(part, "LclInstrm/Cd") for part in info])),
+            ("SvcLvl", found([(part, "SvcLvl/Cd") for part in info])),
+            ("LclInstrm", found([(part, "LclInstrm/Cd") for part in info])),
             ("InstrId", at("PmtId/InstrId")), ("EndToEndId", at("PmtId/EndToEndId")), ("TxId", at("PmtId/TxId")),
             ("IntrBkSttlmAmt", at("IntrBkSttlmAmt")), ("Ccy", at("IntrBkSttlmAmt@Ccy")), ("ChrgBr", at("ChrgBr")),
             ("AccptncDtTm", at("AccptncDtTm")), ("Dbtr", at("Dbtr/Nm")), ("DbtrAcct", at("DbtrAcct/Id/IBAN")),
@@ -136,7 +140,8 @@ class Message:
 
     def recall(self, transaction):
         at = lambda path: found([(transaction, path)])
-        return kept([("CxlId", at("CxlId")), ("OrgnlIntrBkSttlmAmt", at("OrgnlIntrBkSttlmAmt")), ("Ccy", at("OrgnlIntrBkSttlmAmt@Ccy")),
+        return kept([("CxlId", at("CxlId")), ("OrgnlIntrBkSttlmAmt", at("OrgnlIntrBkSttlmAmt")),
+                     ("Ccy", at("OrgnlIntrBkSttlmAmt@Ccy")),
                      ("OrgnlIntrBkSttlmDt", at("OrgnlIntrBkSttlmDt")), ("Rsn", found(reason(transaction, "CxlRsnInf")))])
 
     def payback(self, transaction):

@@ -1,8 +1,8 @@
 """load_sqlite.py: an example of how a desk asks questions. It loads what desk.sh wrote about a day into a new SQLite database.
 
-Tables: message has a row for each transfer that a message of the archive names, so a recall of several transactions has several;
-transfer, finding and recall have the T, F and R lines of the status text; refused has the refused lines with their texts. Amounts are
-in cents. The SELECTs of queries.sql ask the database, by ask_sqlite.py or by the program sqlite3.
+Tables: message has a row for each transfer that a message of the archive names, so a recall of several transactions has
+several; transfer, finding and recall have the T, F and R lines of the status text; refused has the refused lines with their
+texts. Amounts are in cents. The SELECTs of queries.sql ask the database, by ask_sqlite.py or by the program sqlite3.
 
 Usage: load_sqlite.py FOLDER DATABASE   (FOLDER is what desk.sh made; DATABASE is a new file)
 """
@@ -38,8 +38,8 @@ def messages(archive):
                    get("IntrBkSttlmDt"), get("CdtrAgt"), text)
 
 
-def told(status, letter, many):
-    """The rows of the lines with a letter: so many fields, and the rest as one."""
+def rows_of(status, letter, many):
+    """The rows of the lines that begin with a letter. A row has that many fields, and the rest of the line as one more."""
     for line in status:
         first, *fields = line.split("|", many + 1)
         if first == letter:
@@ -58,8 +58,8 @@ def load(folder, database):
     lines = lambda name: (folder / name).read_bytes().decode(errors="replace").split("\n")[:-1]
     status = lines("day.status")
     tables = {
-        "message": messages(lines("day.archive")), "transfer": told(status, "T", 3), "finding": told(status, "F", 3),
-        "recall": told(status, "R", 4), "refused": refusals(lines("day.refused"), lines("day.mend"))}
+        "message": messages(lines("day.archive")), "transfer": rows_of(status, "T", 3), "finding": rows_of(status, "F", 3),
+        "recall": rows_of(status, "R", 4), "refused": refusals(lines("day.refused"), lines("day.mend"))}
     connection = sqlite3.connect(str(database))
     connection.executescript(TABLES)
     for table, rows in tables.items():

@@ -8,7 +8,8 @@ ORDER BY coalesce(strftime('%Y-%m-%d %H:%M:%f', created), created), kind, sender
 -- waiting: transfers that are PENDING or INVESTIGATED, and were instructed before a time; the oldest first
 SELECT message.created, transfer.bank, transfer.transfer_id, transfer.status, message.beneficiary_bank
 FROM transfer JOIN message USING (bank, transfer_id)
-WHERE transfer.status IN ('PENDING', 'INVESTIGATED') AND message.kind = 'pacs.008' AND datetime(message.created) < datetime(:before)
+WHERE transfer.status IN ('PENDING', 'INVESTIGATED') AND message.kind = 'pacs.008'
+    AND datetime(message.created) < datetime(:before)
 ORDER BY datetime(message.created), transfer.bank, transfer.transfer_id;
 
 -- open_recalls: recalls that are OPEN or CHASED, with their age in whole days on a day; the oldest first

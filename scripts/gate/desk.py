@@ -1,14 +1,14 @@
-"""desk.py: runs the desk's tools of examples/desk/ and the commands of the operator's pages, and fails if one writes something else than
-the files and the pages say.
+"""desk.py: runs the desk's tools of examples/desk/ and the commands of the operator's pages, and fails if one writes something
+else than the files and the pages say.
 
 - examples/desk/from_iso20022.py makes iso20022.jsonl of the XML messages of iso20022/, and nothing of wrong-count.xml.
-- examples/desk/desk.sh makes the folder day/ of bank-day.archive and iso20022.jsonl. It makes no folder after a status of 2 or 3, and
-  leaves a folder that is there as it is.
-- Each command of PAGES writes what the page shows. A block is indented by four columns, and a command begins with `$ `, its further
-  lines with `> `. What it writes to both outputs follows. A line `..` stands for any lines. The commands of a page run one after the
-  other in one copy of examples/.
-- Each line that a table of docs/CODES.md shows in its column Line or Example is a line of some file of examples/, or is `fault N` and N
-  ends a run by the code.
+- examples/desk/desk.sh makes the folder day/ of bank-day.archive and iso20022.jsonl. It makes no folder after a status of 2 or
+  3, and leaves a folder that is there as it is.
+- Each command of PAGES writes what the page shows. A block is indented by four columns, and a command begins with `$ `, its
+  further lines with `> `. What it writes to both outputs follows. A line `..` stands for any lines. The commands of a page run
+  one after the other in one copy of examples/.
+- Each line that a table of docs/CODES.md shows in its column Line or Example is a line of some file of examples/, or is `fault
+  N` and N ends a run by the code.
 - The numbers and names in the tables of docs/CODES.md are those of the code.
 - docs/sct_sites.1 is what scripts/generate/man_page.py makes of docs/CODES.md.
 
@@ -50,7 +50,7 @@ def shell(folder, command, **variables):
 
 
 def room(folder, program):
-    """A copy of examples/ in a folder, beside a folder bin/ with the program."""
+    """The path of a copy of examples/ in a folder, beside a folder bin/ with the program."""
     (folder / "bin").mkdir()
     (folder / "bin" / "sct_sites").symlink_to(program)
     shutil.copytree(EXAMPLES, folder / "examples")
@@ -58,6 +58,7 @@ def room(folder, program):
 
 
 def executable(path, text):
+    """The path of a new program."""
     path.write_text(text)
     path.chmod(0o755)
     return str(path)
@@ -70,7 +71,7 @@ def converted(folder):
     convert = "python3 desk/from_iso20022.py "
     text, status = shell(folder, convert + "--archive bank-day.archive desk/iso20022/*.xml > made.jsonl")
     yield reported("from_iso20022 ends well", (text, status) == ("", 0), text)
-    made, right = (folder / "made.jsonl").read_text(encoding="utf-8"), (folder / "desk" / "iso20022.jsonl").read_text(encoding="utf-8")
+    made, right = [path.read_text(encoding="utf-8") for path in (folder / "made.jsonl", folder / "desk" / "iso20022.jsonl")]
     yield reported("from_iso20022 makes the lines", made == right, made)
     text, status = shell(folder, convert + "desk/wrong-count.xml")
     right = "from_iso20022: desk/wrong-count.xml: NbOfTxs is 2, and it has 1 transactions\n"
@@ -78,7 +79,8 @@ def converted(folder):
 
 
 def files_in(folder):
-    return {path.name: path.read_bytes() for path in folder.iterdir()}
+    """The files below a folder, by their paths in it."""
+    return {path.relative_to(folder).as_posix(): path.read_bytes() for path in folder.rglob("*") if path.is_file()}
 
 
 def days(folder):
@@ -86,18 +88,21 @@ def days(folder):
     desk = "sh desk/desk.sh made bank-day.archive desk/iso20022.jsonl"
     text, status = shell(folder, desk)
     yield reported("desk.sh ends with the status of the program", (text, status) == ("", 1), text)
-    made = files_in(folder / "made")
+    before = files_in(folder / "made")
+    made = dict(before)
     for name, right in files_in(folder / "desk" / "day").items():
         yield reported(f"desk.sh makes {name}", made.pop(name, None) == right)
     yield reported("desk.sh makes no other file", not made, str(sorted(made)))
     text, status = shell(folder, desk)
-    yield reported("desk.sh leaves a folder as it is", status == 2 and files_in(folder / "made").keys() == files_in(folder / "desk" / "day").keys())
+    left = files_in(folder / "made")
+    yield reported("desk.sh leaves a folder as it is", status == 2 and left == before, text)
     shutil.rmtree(folder / "made")
     for status in (2, 3, 137):
         faulty = executable(folder / "faulty", FAULTY.format(60 + status, status))
         answer = shell(folder, desk, SCT_SITES=faulty)
         left = sorted(path.name for path in folder.iterdir() if path.name.startswith("made") and path.name != "made.jsonl")
-        yield reported(f"desk.sh keeps nothing after status {status}", answer == (f"fault {60 + status}\n", status) and not left, str(left))
+        right = answer == (f"fault {60 + status}\n", status) and not left
+        yield reported(f"desk.sh keeps nothing after status {status}", right, f"{answer}, {left}")
 
 
 # the pages
@@ -115,6 +120,7 @@ def blocks(text):
 
 
 def commands(block):
+    """The same of one block, which is its lines with their numbers."""
     at, command, right = None, [], []
     for number, line in block:
         if line.startswith("$ "):
@@ -129,6 +135,7 @@ def commands(block):
 
 
 def pattern(lines):
+    """A pattern of the texts that lines of a page show."""
     return "".join("(?:.*\n)*" if line == ".." else re.escape(line) + "\n" for line in lines)
 
 
@@ -142,6 +149,7 @@ def page_runs(name, folder):
 # the tables of codes
 
 def cells(line):
+    """The cells of a row. A `|` in a cell is written with a backslash."""
     return [cell.strip().replace("\\|", "|") for cell in re.split(r"(?<!\\)\|", line)[1:-1]]
 
 

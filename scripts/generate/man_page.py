@@ -1,7 +1,7 @@
 """man_page.py: makes the manual page docs/sct_sites.1 of docs/CODES.md, whose sections and tables it takes over in their order.
 
-A heading of two marks begins a section, one of three a part of it. A row of a table is an entry: its first cell or cells are what is
-printed, and the others follow with the names of their columns. Links are their words.
+A heading of two marks begins a section, one of three a part of it. A row of a table is an entry: its first cell or cells are
+what is printed, and the others follow with the names of their columns. Links are their words.
 
 Usage: man_page.py > docs/sct_sites.1
 """
@@ -27,8 +27,9 @@ sct_sites \\- answers on the SEPA Instant messages of a clearing hub
 .fi
 .SH DESCRIPTION
 .B sct_sites
-reads messages about SEPA Instant Credit Transfers, one JSON object a line, and answers on all of them together: the status of each
-transfer and of each recall, what contradicts itself, the totals of each bank, and how the list of a bank differs from the messages.
+reads messages about SEPA Instant Credit Transfers, one JSON object a line, and answers on all of them together:
+the status of each transfer and of each recall, what contradicts itself, the totals of each bank,
+and how the list of a bank differs from the messages.
 It keeps nothing between two runs.
 .SH WHAT YOU SEE
 """
@@ -89,7 +90,7 @@ def kind_of(line):
 
 
 def parts(text):
-    """The page as its headings, tables, blocks and paragraphs. An item of a list is a paragraph, which ends before the next one."""
+    """The page as its headings, tables, blocks and paragraphs. An item of a list is a paragraph."""
     before, lines = None, []
     for line in text.split("\n") + [""]:
         kind = kind_of(line)
