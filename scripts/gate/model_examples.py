@@ -1,7 +1,7 @@
 """model_examples.py: the worked examples of docs/MODEL.md, each with what the page says and what the program answers.
 
-The messages of an example are written in the words of the table at the head of the page. An example is a block of one of these
-forms, which its labels name:
+The messages of an example are written in the words of the table at the head of the page, whose values they have. An example is a block
+of one of these forms, which its labels name:
 
 - `held` and `gives` or `totals`: the status text or the totals text of the messages. They are also read in the opposite order, and
   each of them twice.
@@ -243,9 +243,19 @@ def of_message(program, row):
         yield stated, "; ".join(", ".join(key) for key in found) or "none"
 
 
+def of_notation(row):
+    """Each value that the table at the head of the page names, which is one of a message of the row."""
+    words, meaning = row.cells
+    values = set(re.findall(r'"([^"]*)"', "".join(lines_of(words))))
+    for stated in re.findall(r"\b(?:pacs|camt)\.\d{3}\b|\d+\.\d\d|\b[A-Z]\d\b|\b[A-Z]{4}\b", meaning):
+        yield stated, stated if stated in values else f"{words} does not have it"
+
+
 def examples(program):
     """Each example by its name, with the pairs of what the page says and what is answered."""
     page = Page("MODEL.md")
+    for row in page.rows(None, "In short", "Message"):
+        yield f"MODEL.md, line {row.line}", of_notation(row)
     for block in page.blocks():
         yield f"MODEL.md, line {block.line}", of_block(program, block)
     for row in page.rows("3. Transfer and recall", "Message", "Transfers", "Recalls"):
