@@ -167,7 +167,7 @@ class Message:
         return {**self.original(transaction), **own.get(self.kind, lambda _: {})(transaction)}
 
     def lines(self):
-        """The message as objects, of which each is a line."""
+        """The objects of the message. Each becomes a line."""
         if self.kind == "camt.056":
             keys = [self.keys(transaction) for transaction in self.transactions]
             return [{**self.head_of(None), **keys[0]} if len(keys) == 1 else {**self.head_of(None), "TxInf": keys}]

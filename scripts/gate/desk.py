@@ -9,7 +9,7 @@ else than the files and the pages say.
   one after the other in one copy of examples/.
 - Each line that a table of docs/CODES.md shows in its column Line or Example is a line of some file of examples/, or is `fault
   N` and N ends a run by the code.
-- The numbers and names in the tables of docs/CODES.md are those of the code.
+- The numbers and names in the tables of docs/CODES.md are those of the code, and so are the numbers that it says are free.
 - docs/sct_sites.1 is what scripts/generate/man_page.py makes of docs/CODES.md.
 
 The last line is 'N passed, M failed', and the exit status is 0 if none has failed.
@@ -28,6 +28,7 @@ DOCS = crates.TOP / "docs"
 CODES = DOCS / "CODES.md"
 PAGES = ["CODES.md", "DESK.md", "PARTICIPANTS.md"]
 SHOWN = ["Line", "Example"]
+MOST = 67  # the greatest number
 # a program that writes half an answer and ends with a fault
 FAULTY = "#!/bin/sh\ncat > /dev/null\necho 'T|HANSDEHHXXX|'\necho 'fault {}' >&2\nexit {}\n"
 
@@ -177,6 +178,12 @@ def numbers_of_code():
     return pairs, ends
 
 
+def said_free(text):
+    """The numbers that the page says are not assigned, with `|` between them."""
+    spans = re.findall(r"(\d+) to (\d+)", re.search(r"\*\*([^*]*) are not\s+assigned\.\*\*", text).group(1))
+    return "|".join(str(number) for first, last in spans for number in range(int(first), int(last) + 1))
+
+
 def example_lines():
     """The lines of all files of examples/."""
     lines = set()
@@ -188,13 +195,16 @@ def example_lines():
 
 def codes():
     """Whether the tables of codes name the numbers of the code, and show lines of examples."""
-    table, (pairs, ends), examples = list(rows(CODES.read_text(encoding="utf-8"))), numbers_of_code(), example_lines()
+    text, (pairs, ends), examples = CODES.read_text(encoding="utf-8"), numbers_of_code(), example_lines()
+    table = list(rows(text))
     named = {(row["Number"], re.match(r"`(\w+)`", row["Name"]).group(1)) for row in table if "Number" in row}
     for pair in sorted(pairs - named, key=lambda pair: (int(pair[0]), pair[1])):
         yield reported(f"CODES.md has no row {pair[0]} {pair[1]}", False)
     for pair in sorted(named - pairs):
         yield reported(f"CODES.md has a row {pair[0]} {pair[1]}, and the code has not", False)
     yield reported("the numbers of CODES.md are those of the code", named == pairs)
+    free = "|".join(str(number) for number in range(1, MOST + 1) if str(number) not in {number for number, _ in pairs})
+    yield reported("CODES.md says which numbers are not assigned", free == said_free(text))
     for row in table:
         for column in SHOWN:
             for line in re.findall(r"`([^`]+)`", row.get(column, "")):
