@@ -179,9 +179,9 @@ def numbers_of_code():
 
 
 def said_free(text):
-    """The numbers that the page says are not assigned, with `|` between them."""
+    """The numbers that the page says are not assigned."""
     spans = re.findall(r"(\d+) to (\d+)", re.search(r"\*\*([^*]*) are not\s+assigned\.\*\*", text).group(1))
-    return "|".join(str(number) for first, last in spans for number in range(int(first), int(last) + 1))
+    return [number for first, last in spans for number in range(int(first), int(last) + 1)]
 
 
 def example_lines():
@@ -203,7 +203,8 @@ def codes():
     for pair in sorted(named - pairs):
         yield reported(f"CODES.md has a row {pair[0]} {pair[1]}, and the code has not", False)
     yield reported("the numbers of CODES.md are those of the code", named == pairs)
-    free = "|".join(str(number) for number in range(1, MOST + 1) if str(number) not in {number for number, _ in pairs})
+    taken = {int(number) for number, _ in pairs}
+    free = [number for number in range(1, MOST + 1) if number not in taken]
     yield reported("CODES.md says which numbers are not assigned", free == said_free(text))
     for row in table:
         for column in SHOWN:
