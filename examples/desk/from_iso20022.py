@@ -212,8 +212,11 @@ def correlated(one, recalls):
 def main():
     words, held = sys.argv[1:], []
     if words[:1] == ["--archive"] and len(words) > 1:
-        with open(words[1], encoding="utf-8") as archive:
-            held = [json.loads(line) for line in archive if line.strip()]
+        try:
+            with open(words[1], encoding="utf-8") as archive:
+                held = [json.loads(line) for line in archive if line.strip()]
+        except (OSError, ValueError) as why:
+            sys.exit(f"from_iso20022: {words[1]} is not an archive that can be read: {why}")
         words = words[2:]
     if not words:
         sys.exit(__doc__)
