@@ -12,6 +12,10 @@ use Rattle.sct_json.specs.Reading.{value_in, object_in, message_in}
 use Rattle.sct_json.specs.Form.{IsFormOf, StandsFor}
 use Rattle.sct_json.proofs.Forms.{RulesAreKnown, forms_read}
 
+pub message_in_text : (bytes : List ℕ) → IsUtf8 bytes → message_in bytes ≡ value_in (read bytes)
+unfolding message_in
+message_in_text bytes u = cond-true _ _ _ (is_utf8-from_IsUtf8 bytes u)
+
 pub message_in_object : (bytes : List ℕ) (d : Data) → IsUtf8 bytes → read bytes ≡ Some d → message_in bytes ≡ object_in d
 unfolding message_in
 message_in_object bytes d u e = cond-true _ _ _ (is_utf8-from_IsUtf8 bytes u) ∙ ap value_in e

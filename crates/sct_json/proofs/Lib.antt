@@ -3,10 +3,13 @@ pub mod Beside
 pub mod Bytes
 pub mod Extra
 pub mod Forms
+pub mod KeyByKey
 pub mod KeyTables
+pub mod KeyTexts
 pub mod NameRule
 pub mod Names
 pub mod Ordered
+pub mod PlainTexts
 pub mod RecallForms
 pub mod Refusals
 pub mod Rows

@@ -1,5 +1,5 @@
 -- The keys of the JSON form (short names of ISO 20022), and those of each kind and each shape. Read by an auditor.
-use Rattle.std.specs.Prelude.{ℕ, List, [], ◌∷◌, ◌||◌, Bool, false, codes, if◌then◌else◌}
+use Rattle.std.specs.Prelude.{ℕ, List, [], ◌∷◌, ◌==◌, ◌||◌, Bool, false, codes, if◌then◌else◌}
 use Rattle.std.specs.List.{list_any}
 use Rattle.std.specs.Ordering.{nat_cmp, is_lt}
 use Rattle.std.specs.Cmp.Lexicographic.{slice_cmp}
@@ -117,3 +117,23 @@ abbrev pub is_key_in : Shape → List ℕ → Bool
 is_key_in (Flat kind) name = is_key_of kind name
 is_key_in Listed name = is_among head_keys name || is_among list_keys name
 is_key_in Transaction name = is_among original_keys name || is_among cancellation_request_keys name
+
+-- the keys whose texts have a length
+unfoldable pub keys_of_length : ℕ → List Key
+keys_of_length n =
+    if n == 3 then Ccy ∷ Rsn ∷ [] else
+    if n == 4 then TxId ∷ Dbtr ∷ Cdtr ∷ Conf ∷ [] else
+    if n == 5 then MsgId ∷ TxSts ∷ Ustrd ∷ CxlId ∷ RtrId ∷ TxInf ∷ [] else
+    if n == 6 then SvcLvl ∷ ChrgBr ∷ [] else
+    if n == 7 then MsgNmId ∷ DbtrAgt ∷ CreDtTm ∷ CdtrAgt ∷ InstrId ∷ [] else
+    if n == 8 then InstgAgt ∷ InstdAgt ∷ DbtrAcct ∷ CdtrAcct ∷ CxlStsId ∷ [] else
+    if n == 9 then OrgnlTxId ∷ LclInstrm ∷ [] else
+    if n == 10 then OrgnlMsgId ∷ EndToEndId ∷ OrgnlCxlId ∷ [] else
+    if n == 11 then AccptncDtTm ∷ [] else
+    if n == 12 then OrgnlMsgNmId ∷ [] else
+    if n == 13 then IntrBkSttlmDt ∷ [] else
+    if n == 14 then IntrBkSttlmAmt ∷ [] else
+    if n == 15 then OrgnlEndToEndId ∷ [] else
+    if n == 18 then OrgnlIntrBkSttlmDt ∷ RtrdIntrBkSttlmAmt ∷ [] else
+    if n == 19 then OrgnlIntrBkSttlmAmt ∷ [] else
+    []

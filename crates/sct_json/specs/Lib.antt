@@ -3,6 +3,8 @@ pub mod Faults
 pub mod Form
 pub mod Keys
 pub mod Line
+pub mod Members
 pub mod Names
+pub mod Objects
 pub mod Reading
 pub mod Writing

@@ -1,7 +1,9 @@
 //! camt.056: the recall of 1 to 100 transfers. It has two forms. Of one transfer, the elements of the recall stand beside
 //! those of the head. Of one or more, a list has an object for each.
-ghost use Rattle.std.specs.Prelude.{◌≡◌, ◌∷◌, [], Ok, OnOk};
-ghost use Rattle.serde_json.specs.View.{view};
+ghost use Rattle.std.specs.Prelude.{◌≡◌, ◌∷◌, [], Some, Ok, OnOk};
+ghost use Rattle.serde_json.specs.Data.{Data};
+ghost use Rattle.serde_json.specs.Find.{get};
+ghost use Rattle.sct_json.specs.Keys.{key_text};
 ghost use Rattle.sct_json.specs.Reading.{Gives, GivesItems, flat_recall_in, listed_recalls_in, cancellation_request_in};
 ghost use Rattle.sct_json.specs.Line.{with_line, one_recall_line, with_recalls, Writes};
 ghost use Rattle.sct_json.specs.Writing.{RecallsReadBack};
@@ -9,10 +11,10 @@ ghost use Rattle.sct_json.specs.Writing.{RecallsReadBack};
 use crate::faults::JsonFault;
 use crate::keys::Key;
 use crate::members::{put, put_optional};
+use crate::object::{Found, Object};
 use crate::{head, recall_list, transaction};
 use json::Writer;
 use sct_message::{CancellationRequest, Head, RecallTx};
-use serde_json::Value;
 use std::alloc::{AllocError, Global};
 
 /// A list of one transaction.
@@ -27,8 +29,8 @@ fn list_of(alloc: Global, tx: RecallTx) -> Result<Vec<RecallTx>, JsonFault>
 
 /// The form of one transaction, whose keys stand beside those of the head.
 #[tactic(auto, unfolding(crate::specs::Reading::flat_recall_in))]
-fn read_flat(alloc: Global, object: &Value) -> Result<CancellationRequest, JsonFault>
-    ensures { Gives result (flat_recall_in (view object.now)) }
+fn read_flat<O: Object>(alloc: Global, object: &O) -> Result<CancellationRequest, JsonFault>
+    ensures { Gives result (flat_recall_in (O.value object.now)) }
 {
     let head = head::read(alloc, object)?;
     let tx = transaction::read(alloc, object)?;
@@ -38,25 +40,22 @@ fn read_flat(alloc: Global, object: &Value) -> Result<CancellationRequest, JsonF
 
 /// The form with a list of transactions.
 #[tactic(auto, unfolding(crate::specs::Reading::listed_recalls_in))]
-fn read_listed(
-    alloc: Global,
-    list: &Value,
-    object: &Value,
-) -> Result<CancellationRequest, JsonFault>
-    ensures { Gives result (listed_recalls_in (view list.now) (view object.now)) }
+fn read_listed<O: Object>(alloc: Global, object: &O) -> Result<CancellationRequest, JsonFault>
+    ensures { (list : Data) → get (key_text Key.TxInf) (O.value object.now) ≡ Some list
+        → Gives result (listed_recalls_in list (O.value object.now)) }
 {
     let head = head::read(alloc, object)?;
-    let txs = recall_list::read_list(alloc, list)?;
+    let txs = recall_list::read_list(alloc, object.items(Key::TxInf))?;
     Ok(CancellationRequest { head, txs })
 }
 
 #[tactic(auto, unfolding(crate::specs::Reading::cancellation_request_in))]
-pub(crate) fn read(alloc: Global, object: &Value) -> Result<CancellationRequest, JsonFault>
-    ensures { Gives result (cancellation_request_in (view object.now)) }
+pub(crate) fn read<O: Object>(alloc: Global, object: &O) -> Result<CancellationRequest, JsonFault>
+    ensures { Gives result (cancellation_request_in (O.value object.now)) }
 {
-    match object.get(Key::TxInf.text()) {
-        Some(list) => read_listed(alloc, list, object),
-        None => read_flat(alloc, object),
+    match object.at(Key::TxInf) {
+        Found::Nothing => read_flat(alloc, object),
+        _ => read_listed(alloc, object),
     }
 }
 

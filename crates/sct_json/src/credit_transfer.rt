@@ -1,6 +1,5 @@
 //! pacs.008: a credit transfer.
 ghost use Rattle.std.specs.Prelude.{◌≡◌, OnOk};
-ghost use Rattle.serde_json.specs.View.{view};
 ghost use Rattle.sct_json.specs.Reading.{Gives, credit_transfer_in};
 ghost use Rattle.sct_json.specs.Line.{with_line, credit_transfer_line, Writes};
 ghost use Rattle.sct_json.specs.Writing.{CreditTransferReadsBack};
@@ -9,10 +8,10 @@ use crate::faults::JsonFault;
 use crate::head;
 use crate::keys::Key;
 use crate::members::{may_read_back, optional, put, put_optional, reads_back, required};
+use crate::object::Object;
 use crate::tables::{read_back_member, read_back_table, read_member, read_table};
 use json::Writer;
 use sct_message::CreditTransfer;
-use serde_json::Value;
 use std::alloc::{AllocError, Global};
 
 /// The keys of a pacs.008, in their order.
@@ -42,8 +41,8 @@ macro_rules! credit_transfer_table {
 }
 
 #[tactic(auto, unfolding(crate::specs::Reading::credit_transfer_in))]
-pub(crate) fn read(alloc: Global, object: &Value) -> Result<CreditTransfer, JsonFault>
-    ensures { Gives result (credit_transfer_in (view object.now)) }
+pub(crate) fn read<O: Object>(alloc: Global, object: &O) -> Result<CreditTransfer, JsonFault>
+    ensures { Gives result (credit_transfer_in (O.value object.now)) }
 {
     credit_transfer_table!(read_table! { alloc, object })
 }

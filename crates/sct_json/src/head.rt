@@ -1,6 +1,5 @@
 //! What every message begins with.
 ghost use Rattle.std.specs.Prelude.{◌≡◌, OnOk};
-ghost use Rattle.serde_json.specs.View.{view};
 ghost use Rattle.sct_json.specs.Reading.{GivesWithoutMemory, head_in};
 ghost use Rattle.sct_json.specs.Line.{with_line, head_line, Writes};
 ghost use Rattle.sct_json.specs.Writing.{HeadReadsBack};
@@ -8,10 +7,10 @@ ghost use Rattle.sct_json.specs.Writing.{HeadReadsBack};
 use crate::faults::JsonFault;
 use crate::keys::Key;
 use crate::members::{may_read_back, optional, put, put_optional, reads_back, required};
+use crate::object::Object;
 use crate::tables::{read_back_member, read_back_table, read_member, read_table};
 use json::Writer;
 use sct_message::Head;
-use serde_json::Value;
 use std::alloc::{AllocError, Global};
 
 /// The keys of the head, in their order.
@@ -28,8 +27,8 @@ macro_rules! head_table {
 }
 
 #[tactic(auto, unfolding(crate::specs::Reading::head_in))]
-pub(crate) fn read(alloc: Global, object: &Value) -> Result<Head, JsonFault>
-    ensures { GivesWithoutMemory result (head_in (view object.now)) }
+pub(crate) fn read<O: Object>(alloc: Global, object: &O) -> Result<Head, JsonFault>
+    ensures { GivesWithoutMemory result (head_in (O.value object.now)) }
 {
     head_table!(read_table! { alloc, object })
 }

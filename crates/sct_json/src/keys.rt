@@ -1,7 +1,9 @@
 //! The keys of the JSON form: short names of ISO 20022 elements.
-ghost use Rattle.std.specs.Prelude.{◌≡◌, ℕ, List, map};
+ghost use Rattle.std.specs.Prelude.{◌≡◌, ℕ, List, Some, IfSome, find, map};
+ghost use Rattle.std.specs.Option.{option_copied};
+ghost use Rattle.sct_element.specs.Text.{is_text};
 ghost use Rattle.sct_message.specs.declared.kinds.Kind.{Kind};
-ghost use Rattle.sct_json.specs.Keys.{key_text, is_among, is_key_of, is_key_in};
+ghost use Rattle.sct_json.specs.Keys.{key_text, is_among, is_key_of, is_key_in, keys_of_length};
 ghost use Rattle.sct_json.specs.Names.{AscendByBytes};
 
 use sct_message::Kind;
@@ -86,6 +88,21 @@ pub enum Key {
 }
 
 impl Key {
+    /// The key of a text; none if no key has it.
+    pub(crate) fn of_text(text: &str) -> Option<Key>
+        ensures some { IfSome result (λ key. key_text key ≡ text.now) }
+        ensures all { (key : Key) → text.now ≡ key_text key → result ≡ Some key }
+    {
+        first_of_text(keys_of_length(text.len()), text).copied()
+    }
+
+    /// Whether this is the other key.
+    pub(crate) fn is(self, other: Key) -> bool
+        ensures { result ≡ is_text (key_text other) (key_text self) }
+    {
+        self == other
+    }
+
     /// The key as it stands in an object.
     pub fn text(self) -> &'static str
         ensures { result.now ≡ key_text self }
@@ -129,6 +146,87 @@ impl Key {
             Key::CxlStsId => "CxlStsId",
             Key::Conf => "Conf",
         }
+    }
+}
+
+/// The first of these keys that has a text.
+fn first_of_text<'a>(keys: &'a [Key], text: &str) -> Option<&'a Key>
+    ensures { option_copied result ≡ find (λ key. is_text text.now (key_text key)) keys.now }
+{
+    keys.iter().find(|key| text == key.text())
+}
+
+static KEYS_OF_3: [Key; 2] = [Key::Ccy, Key::Rsn];
+
+static KEYS_OF_4: [Key; 4] = [Key::TxId, Key::Dbtr, Key::Cdtr, Key::Conf];
+
+static KEYS_OF_5: [Key; 6] = [
+    Key::MsgId,
+    Key::TxSts,
+    Key::Ustrd,
+    Key::CxlId,
+    Key::RtrId,
+    Key::TxInf,
+];
+
+static KEYS_OF_6: [Key; 2] = [Key::SvcLvl, Key::ChrgBr];
+
+static KEYS_OF_7: [Key; 5] = [
+    Key::MsgNmId,
+    Key::DbtrAgt,
+    Key::CreDtTm,
+    Key::CdtrAgt,
+    Key::InstrId,
+];
+
+static KEYS_OF_8: [Key; 5] = [
+    Key::InstgAgt,
+    Key::InstdAgt,
+    Key::DbtrAcct,
+    Key::CdtrAcct,
+    Key::CxlStsId,
+];
+
+static KEYS_OF_9: [Key; 2] = [Key::OrgnlTxId, Key::LclInstrm];
+
+static KEYS_OF_10: [Key; 3] = [Key::OrgnlMsgId, Key::EndToEndId, Key::OrgnlCxlId];
+
+static KEYS_OF_11: [Key; 1] = [Key::AccptncDtTm];
+
+static KEYS_OF_12: [Key; 1] = [Key::OrgnlMsgNmId];
+
+static KEYS_OF_13: [Key; 1] = [Key::IntrBkSttlmDt];
+
+static KEYS_OF_14: [Key; 1] = [Key::IntrBkSttlmAmt];
+
+static KEYS_OF_15: [Key; 1] = [Key::OrgnlEndToEndId];
+
+static KEYS_OF_18: [Key; 2] = [Key::OrgnlIntrBkSttlmDt, Key::RtrdIntrBkSttlmAmt];
+
+static KEYS_OF_19: [Key; 1] = [Key::OrgnlIntrBkSttlmAmt];
+
+/// The keys whose texts have a length.
+#[tactic(auto, unfolding(crate::specs::Keys::keys_of_length))]
+fn keys_of_length(length: usize) -> &'static [Key]
+    ensures { result.now ≡ keys_of_length length }
+{
+    match length {
+        3 => &KEYS_OF_3,
+        4 => &KEYS_OF_4,
+        5 => &KEYS_OF_5,
+        6 => &KEYS_OF_6,
+        7 => &KEYS_OF_7,
+        8 => &KEYS_OF_8,
+        9 => &KEYS_OF_9,
+        10 => &KEYS_OF_10,
+        11 => &KEYS_OF_11,
+        12 => &KEYS_OF_12,
+        13 => &KEYS_OF_13,
+        14 => &KEYS_OF_14,
+        15 => &KEYS_OF_15,
+        18 => &KEYS_OF_18,
+        19 => &KEYS_OF_19,
+        _ => &[],
     }
 }
 

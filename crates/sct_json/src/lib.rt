@@ -14,8 +14,10 @@ mod head;
 mod keys;
 mod laws;
 mod members;
+mod object;
 mod original;
 mod payment_return;
+mod plain;
 mod reading;
 mod recall_list;
 mod resolution;
@@ -34,5 +36,5 @@ pub use laws::{
     no_message_is_refused_for_its_name, reading_never_wants_memory,
     the_extra_key_told_is_the_least, the_keys_of_a_written_text_ascend,
 };
-pub use reading::read_message;
+pub use reading::{MessageReader, read_message};
 pub use writing::write_message;

@@ -1,26 +1,21 @@
 //! One key of an object: read as an element, and written.
 ghost use Rattle.std.specs.Prelude.{Some, OnOk, option_map};
-ghost use Rattle.serde_json.specs.View.{view};
-ghost use Rattle.sct_json.specs.Reading.{GivesWhere, required, optional, value_as};
+ghost use Rattle.sct_json.specs.Reading.{GivesWhere, required, optional, text_as};
 ghost use Rattle.sct_json.specs.Line.{with_member, Writes};
 ghost use Rattle.sct_json.specs.Writing.{ReadsBack, MayReadBack};
 
 use crate::elements::Element;
 use crate::faults::JsonFault;
 use crate::keys::Key;
+use crate::object::{Found, Object};
 use json::Writer;
 use sct_element::ElementFault;
-use serde_json::Value;
 use std::alloc::{AllocError, Global};
 
-/// The element that a key's value is read as.
-fn value_as<E: Element>(alloc: Global, key: Key, value: &Value) -> Result<E, JsonFault>
-    ensures { GivesWhere E.takes_memory result (value_as E.reads E.refusal key (view value.now)) }
+/// The element that a key's text is read as.
+fn text_as<E: Element>(alloc: Global, key: Key, text: &str) -> Result<E, JsonFault>
+    ensures { GivesWhere E.takes_memory result (text_as E.reads E.refusal key (Some text.now)) }
 {
-    let text = match value.as_str() {
-        Some(text) => text,
-        None => return Err(JsonFault::NotText(key)),
-    };
     match E::read_element(alloc, text) {
         Ok(element) => Ok(element),
         Err(ElementFault::Memory) => Err(JsonFault::Memory),
@@ -30,30 +25,36 @@ fn value_as<E: Element>(alloc: Global, key: Key, value: &Value) -> Result<E, Jso
 
 /// The element at a key that each message of the kind has.
 #[tactic(auto, unfolding(crate::specs::Reading::required))]
-pub(crate) fn required<E: Element>(alloc: Global, key: Key, object: &Value) -> Result<E, JsonFault>
-    ensures { GivesWhere E.takes_memory result (required E.reads E.refusal key (view object.now)) }
+pub(crate) fn required<E: Element, O: Object>(
+    alloc: Global,
+    key: Key,
+    object: &O,
+) -> Result<E, JsonFault>
+    ensures { GivesWhere E.takes_memory result (required E.reads E.refusal key (O.value object.now)) }
 {
-    match object.get(key.text()) {
-        Some(value) => value_as(alloc, key, value),
-        None => Err(JsonFault::Missing(key)),
+    match object.at(key) {
+        Found::Text(text) => text_as(alloc, key, text),
+        Found::NoText => Err(JsonFault::NotText(key)),
+        Found::Nothing => Err(JsonFault::Missing(key)),
     }
 }
 
 /// The element at a key that may be absent.
 #[tactic(auto, unfolding(crate::specs::Reading::optional))]
-pub(crate) fn optional<E: Element>(
+pub(crate) fn optional<E: Element, O: Object>(
     alloc: Global,
     key: Key,
-    object: &Value,
+    object: &O,
 ) -> Result<Option<E>, JsonFault>
-    ensures { GivesWhere E.takes_memory result (optional E.reads E.refusal key (view object.now)) }
+    ensures { GivesWhere E.takes_memory result (optional E.reads E.refusal key (O.value object.now)) }
 {
-    match object.get(key.text()) {
-        Some(value) => {
-            let element = value_as(alloc, key, value)?;
+    match object.at(key) {
+        Found::Text(text) => {
+            let element = text_as(alloc, key, text)?;
             Ok(Some(element))
         }
-        None => Ok(None),
+        Found::NoText => Err(JsonFault::NotText(key)),
+        Found::Nothing => Ok(None),
     }
 }
 

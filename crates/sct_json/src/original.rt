@@ -1,15 +1,14 @@
 //! The transfer that a later message is about.
 ghost use Rattle.std.specs.Prelude.{◌≡◌};
-ghost use Rattle.serde_json.specs.View.{view};
 ghost use Rattle.sct_json.specs.Reading.{GivesWithoutMemory, original_in};
 ghost use Rattle.sct_json.specs.Writing.{OriginalReadsBack};
 
 use crate::faults::JsonFault;
 use crate::keys::Key;
 use crate::members::{may_read_back, optional, reads_back, required};
+use crate::object::Object;
 use crate::tables::{read_back_member, read_back_table, read_member, read_table};
 use sct_message::Original;
-use serde_json::Value;
 use std::alloc::Global;
 
 /// The keys of the original message, in their order.
@@ -25,8 +24,8 @@ macro_rules! original_table {
 }
 
 #[tactic(auto, unfolding(crate::specs::Reading::original_in))]
-pub(crate) fn read(alloc: Global, object: &Value) -> Result<Original, JsonFault>
-    ensures { GivesWithoutMemory result (original_in (view object.now)) }
+pub(crate) fn read<O: Object>(alloc: Global, object: &O) -> Result<Original, JsonFault>
+    ensures { GivesWithoutMemory result (original_in (O.value object.now)) }
 {
     original_table!(read_table! { alloc, object })
 }

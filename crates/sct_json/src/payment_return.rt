@@ -1,6 +1,5 @@
 //! pacs.004: the return of a transfer's money.
 ghost use Rattle.std.specs.Prelude.{◌≡◌, OnOk};
-ghost use Rattle.serde_json.specs.View.{view};
 ghost use Rattle.sct_json.specs.Reading.{GivesWithoutMemory, payment_return_in};
 ghost use Rattle.sct_json.specs.Line.{with_line, payment_return_line, Writes};
 ghost use Rattle.sct_json.specs.Writing.{PaymentReturnReadsBack};
@@ -8,11 +7,11 @@ ghost use Rattle.sct_json.specs.Writing.{PaymentReturnReadsBack};
 use crate::faults::JsonFault;
 use crate::keys::Key;
 use crate::members::{may_read_back, optional, put, put_optional, reads_back, required};
+use crate::object::Object;
 use crate::tables::{read_back_member, read_back_table, read_member, read_table};
 use crate::{head, original};
 use json::Writer;
 use sct_message::PaymentReturn;
-use serde_json::Value;
 use std::alloc::{AllocError, Global};
 
 /// The keys of a pacs.004, in their order.
@@ -34,8 +33,8 @@ macro_rules! payment_return_table {
 }
 
 #[tactic(auto, unfolding(crate::specs::Reading::payment_return_in))]
-pub(crate) fn read(alloc: Global, object: &Value) -> Result<PaymentReturn, JsonFault>
-    ensures { GivesWithoutMemory result (payment_return_in (view object.now)) }
+pub(crate) fn read<O: Object>(alloc: Global, object: &O) -> Result<PaymentReturn, JsonFault>
+    ensures { GivesWithoutMemory result (payment_return_in (O.value object.now)) }
 {
     payment_return_table!(read_table! { alloc, object })
 }

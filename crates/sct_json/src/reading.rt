@@ -1,40 +1,48 @@
 //! From the bytes of an object to its message.
 ghost use Rattle.std.specs.Prelude.{◌≡◌};
+ghost use Rattle.serde_json.specs.Read.{read};
 ghost use Rattle.serde_json.specs.View.{view, members_view};
-ghost use Rattle.sct_json.specs.Reading.{Gives, GivesWhere, keeps_memory, draft_in, kind_in, shape_in, message_in_whole, object_in, message_in};
+ghost use Rattle.sct_message.specs.Rules.{first_broken_rule};
+ghost use Rattle.sct_json.specs.Objects.{object_of, GivesOrLeaves};
+ghost use Rattle.sct_json.specs.Reading.{Gives, GivesWhere, keeps_memory, draft_in, kind_in, shape_in, follows_unless, message_in_whole, object_in, value_in, message_in};
 
 use crate::extra_key::refuse_extra;
 use crate::faults::JsonFault;
 use crate::keys::{Key, Shape};
+use crate::object::{Found, Object};
+use crate::plain::PlainObject;
 use crate::{
-    cancellation_request, credit_transfer, payment_return, resolution, status_report,
+    cancellation_request, credit_transfer, payment_return, plain, resolution, status_report,
     status_request,
 };
+use json::Scratch;
 use sct_message::{Draft, Kind, Message};
 use serde_json::{Map, Value};
 use std::alloc::Global;
 
 /// The kind that the text at `MsgNmId` names.
-fn kind_in(object: &Value) -> Option<Kind>
-    ensures { result ≡ kind_in (view object.now) }
+fn kind_in<O: Object>(object: &O) -> Option<Kind>
+    ensures { result ≡ kind_in (O.value object.now) }
 {
-    let name = object.get(Key::MsgNmId.text())?.as_str()?;
-    Kind::of_name(name)
+    match object.at(Key::MsgNmId) {
+        Found::Text(name) => Kind::of_name(name),
+        _ => None,
+    }
 }
 
 /// The shape of an object that is to be a message of a kind.
-fn shape_in(kind: Kind, object: &Value) -> Shape
-    ensures { result ≡ shape_in kind (view object.now) }
+fn shape_in<O: Object>(kind: Kind, object: &O) -> Shape
+    ensures { result ≡ shape_in kind (O.value object.now) }
 {
-    match kind {
-        Kind::Camt056 if object.get(Key::TxInf.text()).is_some() => Shape::Listed,
+    match (kind, object.at(Key::TxInf)) {
+        (Kind::Camt056, Found::NoText | Found::Text(_)) => Shape::Listed,
         _ => Shape::Flat(kind),
     }
 }
 
 /// The elements of a message of a kind.
-fn read_draft(alloc: Global, kind: Kind, object: &Value) -> Result<Draft, JsonFault>
-    ensures { GivesWhere (keeps_memory kind) result (draft_in kind (view object.now)) }
+fn read_draft<O: Object>(alloc: Global, kind: Kind, object: &O) -> Result<Draft, JsonFault>
+    ensures { GivesWhere (keeps_memory kind) result (draft_in kind (O.value object.now)) }
 {
     match kind {
         Kind::Pacs008 => Ok(Draft::CreditTransfer(credit_transfer::read(alloc, object)?)),
@@ -43,6 +51,16 @@ fn read_draft(alloc: Global, kind: Kind, object: &Value) -> Result<Draft, JsonFa
         Kind::Camt056 => Ok(Draft::CancellationRequest(cancellation_request::read(alloc, object)?)),
         Kind::Pacs004 => Ok(Draft::PaymentReturn(payment_return::read(alloc, object)?)),
         Kind::Camt029 => Ok(Draft::Resolution(resolution::read(alloc, object)?)),
+    }
+}
+
+/// The message of elements that follow the rules of their kind.
+fn keeping_rules(elements: Draft) -> Result<Message, JsonFault>
+    ensures { Gives result (follows_unless (first_broken_rule elements) elements) }
+{
+    match Message::of(elements) {
+        Ok(message) => Ok(message),
+        Err(fault) => Err(JsonFault::Rule(fault)),
     }
 }
 
@@ -56,10 +74,7 @@ fn message_of(
     ensures { Gives result (message_in_whole shape (members_view object.now.entries) elements) }
 {
     refuse_extra(alloc, shape, object)?;
-    match Message::of(elements) {
-        Ok(message) => Ok(message),
-        Err(fault) => Err(JsonFault::Rule(fault)),
-    }
+    keeping_rules(elements)
 }
 
 /// The message of which an object is a form.
@@ -73,18 +88,94 @@ fn read_object(alloc: Global, object: &Value) -> Result<Message, JsonFault>
     let Some(kind) = kind_in(object) else {
         return Err(JsonFault::UnknownKind);
     };
+    let shape = shape_in(kind, object);
     let elements = read_draft(alloc, kind, object)?;
-    message_of(alloc, shape_in(kind, object), members, elements)
+    message_of(alloc, shape, members, elements)
 }
 
-/// Reads the bytes of one JSON object as the message of which it is a form, or answers the first reason why it is
-/// a form of none. Of two equal keys the last counts. Only `JsonFault::Memory` says nothing of the bytes.
-pub fn read_message(alloc: Global, bytes: &[u8]) -> Result<Message, JsonFault>
-    ensures { Gives result (message_in bytes.now) }
+/// The message of a plain object; none if it has a key of another kind.
+#[tactic(auto, unfolding(crate::specs::Reading::object_in))]
+fn read_plain(alloc: Global, object: &PlainObject<'_>) -> Result<Option<Message>, JsonFault>
+    ensures { GivesOrLeaves result (object_in (object_of object.now)) }
 {
-    match Value::from_slice(alloc, bytes) {
+    let Some(kind) = kind_in(object) else {
+        return Err(JsonFault::UnknownKind);
+    };
+    let elements = read_draft(alloc, kind, object)?;
+    if !object.has_keys_in(shape_in(kind, object)) {
+        return Ok(None);
+    }
+    match keeping_rules(elements) {
+        Ok(message) => Ok(Some(message)),
+        Err(fault) => Err(fault),
+    }
+}
+
+/// The message of a text, read by way of a JSON value.
+fn read_value(alloc: Global, text: &str) -> Result<Message, JsonFault>
+    ensures { Gives result (value_in (read text.now)) }
+{
+    match Value::from_str(alloc, text) {
         Ok(value) => read_object(alloc, &value),
         Err(error) if error.is_memory() => Err(JsonFault::Memory),
         Err(_) => Err(JsonFault::NotJson),
     }
+}
+
+/// Reads messages one after another, over memory that is kept from each to the next.
+#[derive(Drop)]
+pub struct MessageReader {
+    alloc: Global,
+    scratch: Scratch,
+}
+
+impl MessageReader {
+    /// A reader that holds no memory yet.
+    pub fn new(alloc: Global) -> MessageReader {
+        MessageReader {
+            alloc,
+            scratch: Scratch::new(alloc),
+        }
+    }
+
+    /// The message of a text whose members are all texts at keys of its kind; none for another text.
+    fn read_texts(&mut self, text: &str) -> Result<Option<Message>, JsonFault>
+        ensures { GivesOrLeaves result (value_in (read text.now)) }
+    {
+        match plain::read(self.alloc, text, &mut self.scratch) {
+            Ok(Some(object)) => read_plain(self.alloc, &object),
+            Ok(None) => Ok(None),
+            Err(_) => Err(JsonFault::Memory),
+        }
+    }
+
+    /// The message of a text.
+    fn read_text(&mut self, text: &str) -> Result<Message, JsonFault>
+        ensures { Gives result (value_in (read text.now)) }
+    {
+        match self.read_texts(text) {
+            Ok(Some(message)) => Ok(message),
+            Ok(None) => read_value(self.alloc, text),
+            Err(fault) => Err(fault),
+        }
+    }
+
+    /// As [`read_message`]. The reader grows to the longest text that it has read.
+    pub fn read(&mut self, bytes: &[u8]) -> Result<Message, JsonFault>
+        ensures { Gives result (message_in bytes.now) }
+    {
+        match str::from_utf8(bytes) {
+            Ok(text) => self.read_text(text),
+            Err(_) => Err(JsonFault::NotJson),
+        }
+    }
+}
+
+/// Reads the bytes of one JSON object as the message of which it is a form, or answers the first reason why it is
+/// a form of none. Of two equal keys the last counts. Only `JsonFault::Memory` says nothing of the bytes. Of many
+/// messages a [`MessageReader`] reads each in less time.
+pub fn read_message(alloc: Global, bytes: &[u8]) -> Result<Message, JsonFault>
+    ensures { Gives result (message_in bytes.now) }
+{
+    MessageReader::new(alloc).read(bytes)
 }

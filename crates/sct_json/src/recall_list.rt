@@ -1,6 +1,7 @@
 //! The list of transactions of a camt.056.
 ghost use Rattle.std.specs.Prelude.{◌≡◌, ◌≤◌, length, map, option_map, OnOk};
 ghost use Rattle.std.specs.List.{AllByRecursion};
+ghost use Rattle.serde_json.specs.Data.{Data};
 ghost use Rattle.serde_json.specs.View.{view};
 ghost use Rattle.sct_json.specs.Reading.{GivesItems, items_in, first_no_object, elements_in, list_in};
 ghost use Rattle.sct_json.specs.Line.{with_objects, with_array, Writes};
@@ -13,13 +14,6 @@ use json::Writer;
 use sct_message::{RecallTx, is_right_count};
 use serde_json::Value;
 use std::alloc::{AllocError, Global};
-
-/// The elements of a list; none where the value is no list.
-fn items_in(list: &Value) -> Option<&Vec<Value>>
-    ensures { option_map (λ elements. map view elements.now.items) result ≡ items_in (view list.now) }
-{
-    list.as_array()
-}
 
 /// The place, from 1, of the first element that is no object.
 fn first_no_object(elements: &[Value]) -> Option<usize>
@@ -63,10 +57,11 @@ fn read_elements(alloc: Global, elements: &[Value]) -> Result<Vec<RecallTx>, Jso
 
 /// The transactions of a list of 1 to 100 objects.
 #[tactic(auto, unfolding(crate::specs::Reading::list_in))]
-pub(crate) fn read_list(alloc: Global, list: &Value) -> Result<Vec<RecallTx>, JsonFault>
-    ensures { GivesItems result (list_in (view list.now)) }
+pub(crate) fn read_list(alloc: Global, list: Option<&[Value]>) -> Result<Vec<RecallTx>, JsonFault>
+    ensures { (whole : Data) → option_map (λ elements. map view elements.now) list.entry ≡ items_in whole
+        → GivesItems result (list_in whole) }
 {
-    let Some(elements) = items_in(list) else {
+    let Some(elements) = list else {
         return Err(JsonFault::BadTransactions(0));
     };
     if !is_right_count(elements.len()) {

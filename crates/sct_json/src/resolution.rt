@@ -1,6 +1,5 @@
 //! camt.029: the refusal of a recall.
 ghost use Rattle.std.specs.Prelude.{◌≡◌, OnOk};
-ghost use Rattle.serde_json.specs.View.{view};
 ghost use Rattle.sct_json.specs.Reading.{GivesWithoutMemory, resolution_in};
 ghost use Rattle.sct_json.specs.Line.{with_line, resolution_line, Writes};
 ghost use Rattle.sct_json.specs.Writing.{ResolutionReadsBack};
@@ -8,11 +7,11 @@ ghost use Rattle.sct_json.specs.Writing.{ResolutionReadsBack};
 use crate::faults::JsonFault;
 use crate::keys::Key;
 use crate::members::{may_read_back, optional, put, put_optional, reads_back, required};
+use crate::object::Object;
 use crate::tables::{read_back_member, read_back_table, read_member, read_table};
 use crate::{head, original};
 use json::Writer;
 use sct_message::Resolution;
-use serde_json::Value;
 use std::alloc::{AllocError, Global};
 
 /// The keys of a camt.029, in their order.
@@ -31,8 +30,8 @@ macro_rules! resolution_table {
 }
 
 #[tactic(auto, unfolding(crate::specs::Reading::resolution_in))]
-pub(crate) fn read(alloc: Global, object: &Value) -> Result<Resolution, JsonFault>
-    ensures { GivesWithoutMemory result (resolution_in (view object.now)) }
+pub(crate) fn read<O: Object>(alloc: Global, object: &O) -> Result<Resolution, JsonFault>
+    ensures { GivesWithoutMemory result (resolution_in (O.value object.now)) }
 {
     resolution_table!(read_table! { alloc, object })
 }

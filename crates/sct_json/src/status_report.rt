@@ -1,6 +1,5 @@
 //! pacs.002: a confirmation or a rejection.
 ghost use Rattle.std.specs.Prelude.{◌≡◌, OnOk};
-ghost use Rattle.serde_json.specs.View.{view};
 ghost use Rattle.sct_json.specs.Reading.{GivesWithoutMemory, status_report_in};
 ghost use Rattle.sct_json.specs.Line.{with_line, status_report_line, Writes};
 ghost use Rattle.sct_json.specs.Writing.{StatusReportReadsBack};
@@ -8,11 +7,11 @@ ghost use Rattle.sct_json.specs.Writing.{StatusReportReadsBack};
 use crate::faults::JsonFault;
 use crate::keys::Key;
 use crate::members::{may_read_back, optional, put, put_optional, reads_back, required};
+use crate::object::Object;
 use crate::tables::{read_back_member, read_back_table, read_member, read_table};
 use crate::{head, original};
 use json::Writer;
 use sct_message::StatusReport;
-use serde_json::Value;
 use std::alloc::{AllocError, Global};
 
 /// The keys of a pacs.002, in their order.
@@ -29,8 +28,8 @@ macro_rules! status_report_table {
 }
 
 #[tactic(auto, unfolding(crate::specs::Reading::status_report_in))]
-pub(crate) fn read(alloc: Global, object: &Value) -> Result<StatusReport, JsonFault>
-    ensures { GivesWithoutMemory result (status_report_in (view object.now)) }
+pub(crate) fn read<O: Object>(alloc: Global, object: &O) -> Result<StatusReport, JsonFault>
+    ensures { GivesWithoutMemory result (status_report_in (O.value object.now)) }
 {
     status_report_table!(read_table! { alloc, object })
 }

@@ -1,6 +1,5 @@
 //! pacs.028: a question after the status of a transfer or of a recall.
 ghost use Rattle.std.specs.Prelude.{◌≡◌, OnOk};
-ghost use Rattle.serde_json.specs.View.{view};
 ghost use Rattle.sct_json.specs.Reading.{GivesWithoutMemory, status_request_in};
 ghost use Rattle.sct_json.specs.Line.{with_line, status_request_line, Writes};
 ghost use Rattle.sct_json.specs.Writing.{StatusRequestReadsBack};
@@ -8,11 +7,11 @@ ghost use Rattle.sct_json.specs.Writing.{StatusRequestReadsBack};
 use crate::faults::JsonFault;
 use crate::keys::Key;
 use crate::members::{may_read_back, optional, put, put_optional, reads_back, required};
+use crate::object::Object;
 use crate::tables::{read_back_member, read_back_table, read_member, read_table};
 use crate::{head, original};
 use json::Writer;
 use sct_message::StatusRequest;
-use serde_json::Value;
 use std::alloc::{AllocError, Global};
 
 /// The keys of a pacs.028, in their order.
@@ -28,8 +27,8 @@ macro_rules! status_request_table {
 }
 
 #[tactic(auto, unfolding(crate::specs::Reading::status_request_in))]
-pub(crate) fn read(alloc: Global, object: &Value) -> Result<StatusRequest, JsonFault>
-    ensures { GivesWithoutMemory result (status_request_in (view object.now)) }
+pub(crate) fn read<O: Object>(alloc: Global, object: &O) -> Result<StatusRequest, JsonFault>
+    ensures { GivesWithoutMemory result (status_request_in (O.value object.now)) }
 {
     status_request_table!(read_table! { alloc, object })
 }

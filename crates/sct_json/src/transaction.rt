@@ -9,6 +9,7 @@ use crate::extra_key::refuse_extra;
 use crate::faults::JsonFault;
 use crate::keys::{Key, Shape};
 use crate::members::{may_read_back, optional, put, put_optional, reads_back, required};
+use crate::object::Object;
 use crate::original;
 use crate::tables::{read_back_member, read_back_table, read_member, read_table};
 use json::Writer;
@@ -32,8 +33,8 @@ macro_rules! transaction_table {
 }
 
 #[tactic(auto, unfolding(crate::specs::Reading::transaction_in))]
-pub(crate) fn read(alloc: Global, object: &Value) -> Result<RecallTx, JsonFault>
-    ensures { GivesWithoutMemory result (transaction_in (view object.now)) }
+pub(crate) fn read<O: Object>(alloc: Global, object: &O) -> Result<RecallTx, JsonFault>
+    ensures { GivesWithoutMemory result (transaction_in (O.value object.now)) }
 {
     transaction_table!(read_table! { alloc, object })
 }

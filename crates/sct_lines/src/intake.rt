@@ -15,7 +15,7 @@ ghost use Rattle.sct_message.specs.Sets.{messages_in};
 use crate::lines::{first_line, is_blank_line};
 use crate::shortage::Shortage;
 use crate::told::push_refusal;
-use sct_json::{JsonFault, read_message};
+use sct_json::{JsonFault, MessageReader};
 use sct_message::Message;
 use std::alloc::{AllocError, Global};
 use std::sync::Arc;
@@ -29,13 +29,23 @@ pub struct Intake {
 }
 
 /// The message of which a line is a form, or why it is none.
-pub fn read_line(alloc: Global, line: &[u8]) -> Result<Result<Message, JsonFault>, AllocError>
+fn read_by(
+    reader: &mut MessageReader,
+    line: &[u8],
+) -> Result<Result<Message, JsonFault>, AllocError>
     ensures { IfOk result (λ read. message_in line.now ≡ read) }
 {
-    match read_message(alloc, line) {
+    match reader.read(line) {
         Err(JsonFault::Memory) => Err(AllocError),
         read => Ok(read),
     }
+}
+
+/// The message of which one line is a form, or why it is none. Only out of memory is an error.
+pub fn read_line(alloc: Global, line: &[u8]) -> Result<Result<Message, JsonFault>, AllocError>
+    ensures { IfOk result (λ read. message_in line.now ≡ read) }
+{
+    read_by(&mut MessageReader::new(alloc), line)
 }
 
 impl Intake {
@@ -57,6 +67,7 @@ impl Intake {
     fn take(
         &mut self,
         alloc: Global,
+        reader: &mut MessageReader,
         front: &str,
         number: u64,
         line: &[u8],
@@ -74,7 +85,7 @@ impl Intake {
         if is_blank_line(line) {
             return Ok(());
         }
-        match read_line(alloc, line)? {
+        match read_by(reader, line)? {
             Ok(message) => self.messages.push(Arc::new(alloc, message)?)?,
             Err(fault) => {
                 self.told.push_str(front)?;
@@ -134,13 +145,14 @@ pub(crate) fn read_part(
     ensures { IfOk result (IsReadAfter front.now before part.now) }
 {
     let mut intake = Intake::new(alloc);
+    let mut reader = MessageReader::new(alloc);
     let mut number = before;
     let mut rest = part;
     while let Some((line, after)) = first_line(rest) {
         shortage.check()?;
         ask_ahead(alloc, number);
         number += 1;
-        intake.take(alloc, front, number, line)?;
+        intake.take(alloc, &mut reader, front, number, line)?;
         rest = after;
     }
     Ok(intake)

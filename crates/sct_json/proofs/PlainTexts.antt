@@ -1,0 +1,220 @@
+-- An object whose members are all texts.
+use Rattle.std.proofs.Common.{◌≡◌, ◌∙◌, ap, sym, subst, refl, arith, ℕ, ◌+◌, ◌-◌, ◌<◌, Bool, true, false, cond, List, [], ◌∷◌, ◌++◌, length, Option, Some, None, option_map, Result, Ok, take, get_or}
+use Rattle.std.specs.Prelude.{option_and_then, ◌&&◌, zero, suc, find, not, ok_or}
+use Rattle.std.specs.Ordering.{nat_cmp, match_ordering}
+use Rattle.std.specs.declared.cmp.Ordering.{Ordering}
+use Rattle.std.specs.declared.cmp.Ordering.TheVariants.{Less, Equal, Greater}
+use Rattle.std.specs.Cmp.Lexicographic.{slice_cmp, bytes_decides}
+use Rattle.std.specs.List.{list_all}
+use Rattle.std.proofs.lemmas.Bool.{false≢true, cond-true, cond-false}
+use Rattle.std.proofs.lemmas.List.{take_all, take_more, map-append}
+use Rattle.json.specs.Token as json
+use Rattle.json.specs.Lex.{tokens}
+use Rattle.json.specs.Json as grammar
+use Rattle.serde_json.specs.Data.{Data, string, object, Members, no_members, member, put}
+use Rattle.serde_json.specs.Read.{read, of_json, of_members, max_depth}
+use Rattle.serde_json.specs.Find.{get_member, as_str}
+use Rattle.serde_json.proofs.Views.{get_member-put, get_member-put_other}
+use Rattle.sct_element.specs.Text.{is_text}
+use Rattle.sct_message.specs.declared.draft.Draft.{Draft}
+use Rattle.sct_message.specs.declared.kinds.Kind.{Kind}
+use Rattle.sct_json.specs.declared.faults.JsonFault.{JsonFault}
+use Rattle.sct_json.specs.declared.faults.JsonFault.TheVariants.{UnknownKind}
+use Rattle.sct_message.specs.Rules.{first_broken_rule}
+use Rattle.sct_json.specs.declared.keys.Key.{Key}
+use Rattle.sct_json.specs.declared.keys.Shape.{Shape}
+use Rattle.sct_json.specs.declared.plain.Member.{Member}
+use Rattle.sct_json.specs.Keys.{key_text, is_key_in}
+use Rattle.sct_json.specs.Members.{texts_of}
+use Rattle.sct_json.specs.Objects.{put_texts, object_of, later_or, last_text, tokens_before}
+use Rattle.sct_json.specs.Reading.{◌>>=◌, items_in, names_of, passes_unless, kind_in, draft_in, shape_in, follows_unless, message_in_whole, object_in}
+
+first_holds : (a b : Bool) → (a && b) ≡ true → a ≡ true
+first_holds true b e = refl
+first_holds false b e = e
+
+second_holds : (a b : Bool) → (a && b) ≡ true → b ≡ true
+second_holds true b e = e
+second_holds false b e = absurd (false≢true e)
+
+-- ---- the last text at a key
+
+-- the text, or else what was there
+text_or : Option (List ℕ) → Option Data → Option Data
+text_or None earlier = earlier
+text_or (Some s) earlier = Some (string s)
+
+not_same : (s t : List ℕ) → is_text s t ≡ false → s ≡ t → ⊥
+not_same s t other same = false≢true (sym other ∙ (bytes_decides s t).1 same)
+
+one_put : (b : Bool) (name : List ℕ) (m : Key × List ℕ) (later : Option (List ℕ)) (found : Members) → is_text name (key_text m.0) ≡ b
+    → text_or later (get_member name (put (key_text m.0) (string m.1) found)) ≡ text_or (later_or later (cond b (Some m.1) None)) (get_member name found)
+unfolding text_or
+one_put b name m (Some s) found e = refl
+one_put true name m None found e =
+    subst (λ (s : List ℕ). get_member s (put (key_text m.0) (string m.1) found) ≡ Some (string m.1)) (sym ((bytes_decides name (key_text m.0)).0 e)) (get_member-put (key_text m.0) (string m.1) found)
+one_put false name m None found e = get_member-put_other name (key_text m.0) (string m.1) found (not_same name (key_text m.0) e)
+
+texts_found : (name : List ℕ) (ms : List (Key × List ℕ)) (found : Members) → get_member name (put_texts ms found) ≡ text_or (last_text name ms) (get_member name found)
+unfolding text_or
+texts_found name [] found = refl
+texts_found name (m ∷ ms) found =
+    texts_found name ms (put (key_text m.0) (string m.1) found) ∙ one_put (is_text name (key_text m.0)) name m (last_text name ms) found refl
+
+only_text : (o : Option (List ℕ)) → text_or o None ≡ option_map string o
+unfolding text_or
+only_text None = refl
+only_text (Some s) = refl
+
+-- what is at a name is the last text there
+pub text_at : (name : List ℕ) (ms : List (Key × List ℕ)) → get_member name (put_texts ms no_members) ≡ option_map string (last_text name ms)
+text_at name ms = texts_found name ms no_members ∙ only_text (last_text name ms)
+
+no_items : (o : Option (List ℕ)) → None ≡ option_and_then items_in (option_map string o)
+no_items None = refl
+no_items (Some s) = refl
+
+-- a text is no list
+pub no_list_at : (name : List ℕ) (ms : List (Key × List ℕ)) → None ≡ option_and_then items_in (get_member name (put_texts ms no_members))
+no_list_at name ms = no_items (last_text name ms) ∙ ap (option_and_then items_in) (sym (text_at name ms))
+
+seen_alike : (o : Option (List ℕ)) → option_map (λ s. Some s) o ≡ option_map as_str (option_map string o)
+seen_alike None = refl
+seen_alike (Some s) = refl
+
+pub text_seen : (name : List ℕ) (ms : List (Key × List ℕ)) → option_map (λ s. Some s) (last_text name ms) ≡ option_map as_str (get_member name (put_texts ms no_members))
+text_seen name ms = seen_alike (last_text name ms) ∙ ap (option_map as_str) (sym (text_at name ms))
+
+-- ---- the keys
+
+pub all_alike : {X : Type 0} (p q : X → Bool) → ((x : X) → p x ≡ q x) → (xs : List X) → list_all p xs ≡ list_all q xs
+all_alike p q same [] = refl
+all_alike p q same (x ∷ xs) = ap (λ (b : Bool). b && list_all p xs) (same x) ∙ ap (λ (b : Bool). q x && b) (all_alike p q same xs)
+
+-- ---- members in front of another
+
+last_in_front : (b : Bool) (later : Option (List ℕ)) (s : List ℕ) (before : Option (List ℕ))
+    → later_or (cond b (Some s) later) before ≡ cond b (Some s) (later_or later before)
+last_in_front true later s before = refl
+last_in_front false later s before = refl
+
+pub last_text-append : (name : List ℕ) (ms : List (Key × List ℕ)) (m : Key × List ℕ)
+    → last_text name (ms ++ m ∷ []) ≡ cond (is_text name (key_text m.0)) (Some m.1) (last_text name ms)
+last_text-append name [] m = refl
+last_text-append name (n ∷ ms) m =
+    ap (λ (later : Option (List ℕ)). later_or later (cond (is_text name (key_text n.0)) (Some n.1) None)) (last_text-append name ms m)
+    ∙ last_in_front (is_text name (key_text m.0)) (last_text name ms) m.1 _
+
+apart : {X : Type 0} (xs : List X) (d : X) → 0 < length xs → xs ≡ take (length xs - 1) xs ++ get_or xs (length xs - 1) d ∷ []
+apart xs d some = sym (take_all (length xs - 1 + 1) xs (omega arith)) ∙ take_more xs (length xs - 1) d (omega arith)
+
+last_text-last : (name : List ℕ) (xs : List Member) (d : Member) → 0 < length xs
+    → last_text name (texts_of xs) ≡ cond (is_text name (key_text (get_or xs (length xs - 1) d).key)) (Some (get_or xs (length xs - 1) d).text.now) (last_text name (texts_of (take (length xs - 1) xs)))
+last_text-last name xs d some =
+    ap (λ (ms : List Member). last_text name (texts_of ms)) (apart xs d some)
+    ∙ ap (last_text name) (map-append (λ (m : Member). (m.key, m.text.now)) (take (length xs - 1) xs) (get_or xs (length xs - 1) d ∷ []))
+    ∙ last_text-append name (texts_of (take (length xs - 1) xs)) ((get_or xs (length xs - 1) d).key, (get_or xs (length xs - 1) d).text.now)
+
+pub last_text_before : (name : List ℕ) (xs : List Member) (d : Member) → 0 < length xs → is_text name (key_text (get_or xs (length xs - 1) d).key) ≡ false
+    → last_text name (texts_of (take (length xs - 1) xs)) ≡ last_text name (texts_of xs)
+last_text_before name xs d some other = sym (last_text-last name xs d some ∙ cond-false _ _ _ other)
+
+pub last_text_there : (name : List ℕ) (xs : List Member) (d : Member) → 0 < length xs → is_text name (key_text (get_or xs (length xs - 1) d).key) ≡ true
+    → Some (get_or xs (length xs - 1) d).text.now ≡ last_text name (texts_of xs)
+last_text_there name xs d some same = sym (last_text-last name xs d some ∙ cond-true _ _ _ same)
+
+pub tokens_before-append : (ms : List (Key × List ℕ)) (m : Key × List ℕ) (rest : List json.Token)
+    → tokens_before (ms ++ m ∷ []) rest ≡ tokens_before ms (json.key (key_text m.0) ∷ json.string m.1 ∷ rest)
+tokens_before-append [] m rest = refl
+tokens_before-append (n ∷ ms) m rest = ap (λ (ts : List json.Token). json.key (key_text n.0) ∷ json.string n.1 ∷ ts) (tokens_before-append ms m rest)
+
+-- one member more is read
+pub one_more : (first before left now : List json.Token) (name : List ℕ) (ms : List Member) (m : Member) → first ≡ tokens_before (texts_of ms) before → before ≡ json.key name ∷ left
+    → key_text m.key ≡ name → left ≡ json.string m.text.now ∷ now → first ≡ tokens_before (texts_of (ms ++ m ∷ [])) now
+one_more first before left now name ms m so_far next named text =
+    so_far ∙ ap (tokens_before (texts_of ms)) (next ∙ ap (λ (s : List ℕ). json.key s ∷ left) (sym named) ∙ ap (λ (ts : List json.Token). json.key (key_text m.key) ∷ ts) text)
+    ∙ sym (tokens_before-append (texts_of ms) (m.key, m.text.now) now)
+    ∙ ap (λ (all : List (Key × List ℕ)). tokens_before all now) (sym (map-append (λ (other : Member). (other.key, other.text.now)) ms (m ∷ [])))
+
+-- ---- the value of the tokens
+
+json_members : List (Key × List ℕ) → grammar.Members
+json_members [] = grammar.no_members
+json_members (m ∷ ms) = grammar.member (key_text m.0) (grammar.string m.1) (json_members ms)
+
+value_string : (d : ℕ) (s : List ℕ) (ts : List json.Token) → grammar.value d (json.string s ∷ ts) ≡ Some (grammar.string s, ts)
+unfolding grammar.value
+value_string zero s ts = refl
+value_string (suc d) s ts = refl
+
+enough : (ms : List (Key × List ℕ)) (rest : List json.Token) → length ms < length (tokens_before ms (json.end_object ∷ rest))
+enough [] rest = omega arith
+enough (m ∷ ms) rest = let later : length ms < length (tokens_before ms (json.end_object ∷ rest)) = enough ms rest in omega arith
+
+members_read : (d n : ℕ) (ms : List (Key × List ℕ)) (rest : List json.Token) → length ms < n
+    → grammar.members (grammar.value d) n (tokens_before ms (json.end_object ∷ rest)) ≡ Some (json_members ms, rest)
+unfolding grammar.members json_members
+members_read d zero ms rest more = absurd (omega arith)
+members_read d (suc n) [] rest more = refl
+members_read d (suc n) (m ∷ ms) rest more =
+    ap (option_and_then (λ p. grammar.parse_map (grammar.member (key_text m.0) p.0) (grammar.members (grammar.value d) n p.1))) (value_string d m.1 (tokens_before ms (json.end_object ∷ rest)))
+    ∙ ap (grammar.parse_map (grammar.member (key_text m.0) (grammar.string m.1))) (members_read d n ms rest (omega arith))
+
+object_read : (d : ℕ) (ms : List (Key × List ℕ)) → grammar.value (suc d) (json.begin_object ∷ tokens_before ms (json.end_object ∷ [])) ≡ Some (grammar.object (json_members ms), [])
+unfolding grammar.value
+object_read d ms = ap (grammar.parse_map grammar.object) (members_read d (length (tokens_before ms (json.end_object ∷ []))) ms [] (enough ms []))
+
+texts_put : (ms : List (Key × List ℕ)) (found : Members) → of_members (json_members ms) found ≡ Some (put_texts ms found)
+unfolding json_members
+texts_put [] found = refl
+texts_put (m ∷ ms) found = texts_put ms (put (key_text m.0) (string m.1) found)
+
+-- a text of these tokens is the object
+pub read_texts : (text : List ℕ) (ms : List (Key × List ℕ)) → tokens text ≡ json.begin_object ∷ tokens_before ms (json.end_object ∷ []) → read text ≡ Some (object_of ms)
+read_texts text ms e =
+    ap (λ (ts : List json.Token). option_and_then of_json (option_and_then (λ p. grammar.if_last p.0 p.1) (grammar.value max_depth ts))) e
+    ∙ ap (λ r. option_and_then of_json (option_and_then (λ p. grammar.if_last p.0 p.1) r)) (object_read 126 ms)
+    ∙ ap (option_map object) (texts_put ms no_members)
+
+-- ---- no other key
+
+names_put_at : (o : Ordering) (q : List ℕ → Bool) (k l : List ℕ) (d e : Data) (ms : Members) → q k ≡ true → list_all q (l ∷ names_of ms) ≡ true → list_all q (names_of (put k d ms)) ≡ true
+    → list_all q (names_of (match_ordering o (member k d (member l e ms)) (member l d ms) (member l e (put k d ms)))) ≡ true
+names_put_at Less q k l d e ms here all later = ap (λ (b : Bool). b && list_all q (l ∷ names_of ms)) here ∙ all
+names_put_at Equal q k l d e ms here all later = all
+names_put_at Greater q k l d e ms here all later = ap (λ (b : Bool). b && list_all q (names_of (put k d ms))) (first_holds (q l) (list_all q (names_of ms)) all) ∙ later
+
+names_put : (q : List ℕ → Bool) (k : List ℕ) (d : Data) (ms : Members) → q k ≡ true → list_all q (names_of ms) ≡ true → list_all q (names_of (put k d ms)) ≡ true
+names_put q k d no_members here all = ap (λ (b : Bool). b && true) here
+names_put q k d (member l e ms) here all =
+    names_put_at (slice_cmp nat_cmp k l) q k l d e ms here all (names_put q k d ms here (second_holds (q l) (list_all q (names_of ms)) all))
+
+names_of_texts : (q : List ℕ → Bool) (ms : List (Key × List ℕ)) (found : Members) → list_all (λ m. q (key_text m.0)) ms ≡ true → list_all q (names_of found) ≡ true
+    → list_all q (names_of (put_texts ms found)) ≡ true
+names_of_texts q [] found all before = before
+names_of_texts q (m ∷ ms) found all before =
+    names_of_texts q ms (put (key_text m.0) (string m.1) found) (second_holds (q (key_text m.0)) (list_all (λ n. q (key_text n.0)) ms) all)
+    (names_put q (key_text m.0) (string m.1) found (first_holds (q (key_text m.0)) (list_all (λ n. q (key_text n.0)) ms) all) before)
+
+none_other : (q : List ℕ → Bool) (names : List (List ℕ)) → list_all q names ≡ true → find (λ name. not (q name)) names ≡ None
+none_other q [] all = refl
+none_other q (name ∷ names) all =
+    ap (λ (b : Bool). cond (not b) (Some name) (find (λ other. not (q other)) names)) (first_holds (q name) (list_all q names) all)
+    ∙ none_other q names (second_holds (q name) (list_all q names) all)
+
+-- an object with keys of its shape alone is a message if its elements follow the rules
+pub message_of_texts : (shape : Shape) (ms : List (Key × List ℕ)) (elements : Draft) → list_all (λ m. is_key_in shape (key_text m.0)) ms ≡ true
+    → message_in_whole shape (put_texts ms no_members) elements ≡ follows_unless (first_broken_rule elements) elements
+message_of_texts shape ms elements all =
+    ap (λ (extra : Option (List ℕ)). passes_unless extra >>= λ alone. follows_unless (first_broken_rule elements) elements)
+    (none_other (is_key_in shape) (names_of (put_texts ms no_members)) (names_of_texts (is_key_in shape) ms no_members all refl))
+
+-- an object of a kind, with keys of its shape alone
+pub object_of_kind : (ms : List (Key × List ℕ)) (kind : Kind) (shape : Shape) (elements : Draft) → Some kind ≡ kind_in (object_of ms) → draft_in kind (object_of ms) ≡ Ok elements
+    → shape ≡ shape_in kind (object_of ms) → true ≡ list_all (λ m. is_key_in shape (key_text m.0)) ms → object_in (object_of ms) ≡ follows_unless (first_broken_rule elements) elements
+unfolding object_in
+object_of_kind ms kind shape elements found drafted shaped all =
+    ap (λ (k : Option Kind). ok_or k UnknownKind >>= λ k. draft_in k (object_of ms) >>= λ m. message_in_whole (shape_in k (object_of ms)) (put_texts ms no_members) m) (sym found)
+    ∙ ap (λ (r : Result Draft JsonFault). r >>= λ m. message_in_whole (shape_in kind (object_of ms)) (put_texts ms no_members) m) drafted
+    ∙ ap (λ (s : Shape). message_in_whole s (put_texts ms no_members) elements) (sym shaped)
+    ∙ message_of_texts shape ms elements (sym all)
