@@ -3,6 +3,7 @@
 mod faults;
 mod forms;
 mod lists;
+mod ways;
 
 use faults::*;
 use forms::*;
@@ -13,6 +14,7 @@ use std::alloc::{AllocError, Global};
 use std::fmt::Write;
 use std::process::Abort;
 use std::test::Fail;
+use ways::*;
 
 /// A text with the first `old` in it replaced.
 fn changed(alloc: Global, text: &str, old: &str, new: &str) -> Result<String, AllocError> {
@@ -154,6 +156,107 @@ fn tells_the_first_fault_of_each_kind(rt: HostRuntime) -> Result<(), Fail> {
     )?;
     assert_faults(&rt, rt.alloc(), PAYMENT_RETURN, &PAYMENT_RETURN_FAULTS)?;
     assert_faults(&rt, rt.alloc(), RESOLUTION, &RESOLUTION_FAULTS)
+}
+
+/// Each text that is written for an object of texts, with a member before the others that is not a text.
+fn not_of_texts(alloc: Global, text: &str) -> Result<String, AllocError> {
+    let (old, new) = NOT_A_TEXT;
+    changed(alloc, text, old, new)
+}
+
+#[test]
+fn reads_each_kind_in_both_ways(rt: HostRuntime) -> Result<(), Fail> {
+    let alloc = rt.alloc();
+    for (text, form) in &FORMS {
+        let text = not_of_texts(alloc, text)?;
+        assert_written(&rt, alloc, text.as_str(), form)?;
+    }
+    Ok(())
+}
+
+/// Each row of a table has the result that it names, also if the object has a member that is not a text.
+fn assert_faults_in_both_ways(
+    rt: &impl Abort,
+    alloc: Global,
+    text: &str,
+    rows: &[Row],
+) -> Result<(), Fail> {
+    assert_faults(rt, alloc, text, rows)?;
+    assert_faults(rt, alloc, not_of_texts(alloc, text)?.as_str(), rows)
+}
+
+#[test]
+fn tells_faults_in_both_ways(rt: HostRuntime) -> Result<(), Fail> {
+    let alloc = rt.alloc();
+    assert_faults_in_both_ways(&rt, alloc, CREDIT_TRANSFER, &WAYS)?;
+    let text = not_of_texts(alloc, CREDIT_TRANSFER)?;
+    assert_faults(&rt, alloc, text.as_str(), &CREDIT_TRANSFER_FAULTS)?;
+    let text = not_of_texts(alloc, RESOLUTION)?;
+    assert_faults(&rt, alloc, text.as_str(), &RESOLUTION_FAULTS)
+}
+
+#[test]
+fn tells_what_comes_after_an_object(rt: HostRuntime) -> Result<(), Fail> {
+    let alloc = rt.alloc();
+    for (ending, fault) in &ENDINGS {
+        let mut text = String::from_str(alloc, CREDIT_TRANSFER)?;
+        text.push_str(ending)?;
+        assert_told(&rt, alloc, text.as_str(), fault)?;
+    }
+    Ok(())
+}
+
+#[test]
+fn reads_an_object_of_many_members(rt: HostRuntime) -> Result<(), Fail> {
+    let alloc = rt.alloc();
+    let currencies = repeated(alloc, r#""Ccy":"USD","#, 10_000)?;
+    let mut members = String::from_str(alloc, "{")?;
+    members.push_str(currencies.as_str())?;
+    let text = changed(alloc, CREDIT_TRANSFER, "{", members.as_str())?;
+    assert_told(&rt, alloc, text.as_str(), "read")?;
+    let text = changed(alloc, text.as_str(), r#"{"Ccy""#, r#"{"Cxy""#)?;
+    assert_told(&rt, alloc, text.as_str(), "37 Cxy")
+}
+
+#[test]
+fn tells_how_deep_an_extra_key_nests(rt: HostRuntime) -> Result<(), Fail> {
+    let alloc = rt.alloc();
+    for (depth, fault) in &DEPTHS {
+        let mut lists = String::from_str(alloc, r#"{"Foo":"#)?;
+        lists.push_str(repeated(alloc, "[", *depth)?.as_str())?;
+        lists.push_str(repeated(alloc, "]", *depth)?.as_str())?;
+        lists.push_str(",")?;
+        let text = changed(alloc, CREDIT_TRANSFER, "{", lists.as_str())?;
+        assert_told(&rt, alloc, text.as_str(), fault)?;
+    }
+    Ok(())
+}
+
+/// The written form of the message that a reader makes of a text.
+fn rewritten_by(
+    alloc: Global,
+    reader: &mut MessageReader,
+    text: &str,
+) -> Result<Vec<u8>, JsonFault> {
+    let message = reader.read(text.as_bytes())?;
+    write_message(alloc, &message)
+}
+
+#[test]
+fn one_reader_reads_many_texts(rt: HostRuntime) -> Result<(), Fail> {
+    let alloc = rt.alloc();
+    let mut reader = MessageReader::new(alloc);
+    for (part, read, old, written) in &PARTS {
+        let text = changed(alloc, CREDIT_TRANSFER, part, read)?;
+        let form = changed(alloc, WRITTEN, old, written)?;
+        assert_eq!(rt;
+            rewritten_by(alloc, &mut reader, text.as_str())?.as_slice(),
+            form.as_bytes(),
+            "of {text}"
+        );
+        assert!(rt; rewritten_by(alloc, &mut reader, "{}").is_err());
+    }
+    Ok(())
 }
 
 #[test]
