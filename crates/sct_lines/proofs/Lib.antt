@@ -1,4 +1,5 @@
 -- The lemmas behind the lines.
+pub mod FeedLemmas
 pub mod LineLawLemmas
 pub mod LineLemmas
 pub mod PartLemmas

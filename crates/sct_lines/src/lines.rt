@@ -4,6 +4,8 @@ ghost use Rattle.std.specs.List.{position_from};
 ghost use Rattle.sct_lines.specs.LineLaws.{LinesMakeTheText, NoLineHasAFeed};
 ghost use Rattle.sct_lines.specs.Lines.{is_blank, lines_of};
 
+use memchr::memchr;
+
 /// The lines of a text are what stands between its line feeds, and nothing of it is lost.
 pub fn lines_tile_the_text()
     ensures whole { LinesMakeTheText }
@@ -16,7 +18,7 @@ pub(crate) fn line_feed(bytes: &[u8]) -> Option<usize>
     ensures within { IfSome result (λ at. at < length bytes.now) }
     ensures feed { IfSome result (λ at. slice_index bytes.now at ≡ 10) }
 {
-    bytes.iter().position(|byte| *byte == b'\n')
+    memchr(b'\n', bytes)
 }
 
 // The first line of a text that is not empty, and what comes after its line feed.
