@@ -156,76 +156,46 @@ fn first_of_text<'a>(keys: &'a [Key], text: &str) -> Option<&'a Key>
     keys.iter().find(|key| text == key.text())
 }
 
-static KEYS_OF_3: [Key; 2] = [Key::Ccy, Key::Rsn];
-
-static KEYS_OF_4: [Key; 4] = [Key::TxId, Key::Dbtr, Key::Cdtr, Key::Conf];
-
-static KEYS_OF_5: [Key; 6] = [
-    Key::MsgId,
-    Key::TxSts,
-    Key::Ustrd,
-    Key::CxlId,
-    Key::RtrId,
-    Key::TxInf,
-];
-
-static KEYS_OF_6: [Key; 2] = [Key::SvcLvl, Key::ChrgBr];
-
-static KEYS_OF_7: [Key; 5] = [
-    Key::MsgNmId,
-    Key::DbtrAgt,
-    Key::CreDtTm,
-    Key::CdtrAgt,
-    Key::InstrId,
-];
-
-static KEYS_OF_8: [Key; 5] = [
-    Key::InstgAgt,
-    Key::InstdAgt,
-    Key::DbtrAcct,
-    Key::CdtrAcct,
-    Key::CxlStsId,
-];
-
-static KEYS_OF_9: [Key; 2] = [Key::OrgnlTxId, Key::LclInstrm];
-
-static KEYS_OF_10: [Key; 3] = [Key::OrgnlMsgId, Key::EndToEndId, Key::OrgnlCxlId];
-
-static KEYS_OF_11: [Key; 1] = [Key::AccptncDtTm];
-
-static KEYS_OF_12: [Key; 1] = [Key::OrgnlMsgNmId];
-
-static KEYS_OF_13: [Key; 1] = [Key::IntrBkSttlmDt];
-
-static KEYS_OF_14: [Key; 1] = [Key::IntrBkSttlmAmt];
-
-static KEYS_OF_15: [Key; 1] = [Key::OrgnlEndToEndId];
-
-static KEYS_OF_18: [Key; 2] = [Key::OrgnlIntrBkSttlmDt, Key::RtrdIntrBkSttlmAmt];
-
-static KEYS_OF_19: [Key; 1] = [Key::OrgnlIntrBkSttlmAmt];
-
 /// The keys whose texts have a length.
 #[tactic(auto, unfolding(crate::specs::Keys::keys_of_length))]
 fn keys_of_length(length: usize) -> &'static [Key]
     ensures { result.now ≡ keys_of_length length }
 {
     match length {
-        3 => &KEYS_OF_3,
-        4 => &KEYS_OF_4,
-        5 => &KEYS_OF_5,
-        6 => &KEYS_OF_6,
-        7 => &KEYS_OF_7,
-        8 => &KEYS_OF_8,
-        9 => &KEYS_OF_9,
-        10 => &KEYS_OF_10,
-        11 => &KEYS_OF_11,
-        12 => &KEYS_OF_12,
-        13 => &KEYS_OF_13,
-        14 => &KEYS_OF_14,
-        15 => &KEYS_OF_15,
-        18 => &KEYS_OF_18,
-        19 => &KEYS_OF_19,
+        3 => &[Key::Ccy, Key::Rsn],
+        4 => &[Key::TxId, Key::Dbtr, Key::Cdtr, Key::Conf],
+        5 => &[
+            Key::MsgId,
+            Key::TxSts,
+            Key::Ustrd,
+            Key::CxlId,
+            Key::RtrId,
+            Key::TxInf,
+        ],
+        6 => &[Key::SvcLvl, Key::ChrgBr],
+        7 => &[
+            Key::MsgNmId,
+            Key::DbtrAgt,
+            Key::CreDtTm,
+            Key::CdtrAgt,
+            Key::InstrId,
+        ],
+        8 => &[
+            Key::InstgAgt,
+            Key::InstdAgt,
+            Key::DbtrAcct,
+            Key::CdtrAcct,
+            Key::CxlStsId,
+        ],
+        9 => &[Key::OrgnlTxId, Key::LclInstrm],
+        10 => &[Key::OrgnlMsgId, Key::EndToEndId, Key::OrgnlCxlId],
+        11 => &[Key::AccptncDtTm],
+        12 => &[Key::OrgnlMsgNmId],
+        13 => &[Key::IntrBkSttlmDt],
+        14 => &[Key::IntrBkSttlmAmt],
+        15 => &[Key::OrgnlEndToEndId],
+        18 => &[Key::OrgnlIntrBkSttlmDt, Key::RtrdIntrBkSttlmAmt],
+        19 => &[Key::OrgnlIntrBkSttlmAmt],
         _ => &[],
     }
 }
