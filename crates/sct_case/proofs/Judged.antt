@@ -1,5 +1,5 @@
 -- What the words on a transfer come to where there is no message, and by whether something was found.
-use Rattle.std.proofs.Common.{◌≡◌, ◌∙◌, refl, sym, ap, arith, ℕ, Bool, true, false, not, List, [], ◌∷◌, ◌++◌, length, map, filter}
+use Rattle.std.proofs.Common.{◌≡◌, ◌∙◌, refl, sym, ap, arith, Bool, true, false, not, List, [], ◌∷◌, ◌++◌, length, map, filter}
 use Rattle.std.specs.Prelude.{◌==◌, ◌&&◌}
 use Rattle.std.specs.List.{list_any}
 use Rattle.std.specs.List.Sorted.{IsStrictlySortedBy}
@@ -14,10 +14,8 @@ use Rattle.sct_message.specs.declared.keys.TransferKey.{TransferKey}
 use Rattle.sct_message.proofs.AscendingLemmas.{ascending-sorted}
 use Rattle.sct_case.specs.declared.finding.Finding.{Finding}
 use Rattle.sct_case.specs.declared.finding.Finding.TheVariants as finding
-use Rattle.sct_case.specs.declared.status.RecallStatus.{RecallStatus}
-use Rattle.sct_case.specs.declared.status.RecallStatus.TheVariants as recall
 use Rattle.sct_case.specs.Told.{has_some, cxls, differ_among, recall_of_it, return_of_it, refusal_of_it, same_recall, same_refusal, findings_of_instruction, findings_of_recalls, findings_of}
-use Rattle.sct_case.specs.Statuses.{Standing, Contradicted, Unknown, first_standing, is_unknown, standing_of, transfer_status_of, first_recall, recall_standing_of, recall_status_of}
+use Rattle.sct_case.specs.Statuses.{Standing, Contradicted, Unknown, first_standing, is_unknown, standing_of, transfer_status_of}
 
 -- ---- where there is no message
 

@@ -1,7 +1,6 @@
 -- The proofs of findings and statuses.
 pub mod AnyOrder
 pub mod Exact
-pub mod FoundByRecall
 pub mod InOrder
 pub mod Instructed
 pub mod Judged
@@ -10,7 +9,8 @@ pub mod LookedUp
 pub mod Membership
 pub mod OfOneRecall
 pub mod RecallSentences
+pub mod SaidOf
+pub mod SaidOn
 pub mod Same
 pub mod Sentences
-pub mod StandingByRecall
 pub mod Stays

@@ -1,26 +1,18 @@
 //! The findings and statuses of one transfer, from its clean messages and its asides.
 ghost use Rattle.std.specs.Prelude.{◌≡◌, List, IfOk};
 ghost use Rattle.sct_message.specs.Sets.{messages_in};
-ghost use Rattle.sct_case.specs.Told.{has_some, findings_of};
+ghost use Rattle.sct_case.specs.Told.{findings_of};
 ghost use Rattle.sct_case.specs.Statuses.{told, transfer_status_of, recall_status_of};
 
 use crate::fault::CaseFault;
 use crate::finding::Finding;
-use crate::found::findings_on;
 use crate::recalls::recall_status_by;
-use crate::standing::standing_on;
+use crate::said::Said;
 use crate::status::{RecallStatus, Status};
 use sct_element::Id35;
 use sct_message::{Identity, Message, TransferKey};
 use std::alloc::Global;
 use std::sync::Arc;
-
-/// Whether there is a finding.
-fn is_contradicted(found: &[Finding]) -> bool
-    ensures { result ≡ has_some found.now }
-{
-    !found.is_empty()
-}
 
 /// The findings of a transfer, in their stated order.
 /// `clean` are the uncontradicted messages on the transfer. `asides` are the contradicted identities that a message on
@@ -34,7 +26,8 @@ pub fn findings(
 ) -> Result<Vec<Finding>, CaseFault>
     ensures { IfOk result (λ found. found.items ≡ findings_of transfer.now (messages_in clean.now) asides.now) }
 {
-    Ok(findings_on(alloc, transfer, clean, asides)?)
+    let said = Said::of(alloc, transfer, clean)?;
+    Ok(said.into_findings(alloc, asides)?)
 }
 
 /// The status of the transfer, from its clean messages and its asides, as [`findings`]
@@ -48,14 +41,16 @@ pub fn transfer_status(
     ensures { IfOk result (λ stands.
         told stands ≡ transfer_status_of transfer.now (messages_in clean.now) asides.now) }
 {
-    let found = findings(alloc, transfer, clean, asides)?;
-    if is_contradicted(&found) {
+    let said = Said::of(alloc, transfer, clean)?;
+    let standing = said.standing();
+    let found = said.into_findings(alloc, asides)?;
+    if !found.is_empty() {
         return Ok(Status::Contradicted(found));
     }
     if clean.is_empty() {
         return Ok(Status::Unknown);
     }
-    Ok(standing_on(alloc, transfer, clean)?)
+    Ok(standing)
 }
 
 /// The status of the recall `cxl` of a transfer, from the transfer's clean messages and

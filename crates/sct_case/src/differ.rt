@@ -11,7 +11,7 @@ ghost use Rattle.sct_case.specs.Statuses.{first};
 ghost use Rattle.sct_case.specs.Told.{same_reason, same_recall, same_return, same_refusal, differ, differ_among, cxls};
 
 use crate::recall_order::on;
-use crate::said::{RecallAsked, RecallMade, RecallNamed, RefusalMade, RejectionReason, ReturnMade};
+use crate::said::{RecallAsked, RecallMade, RefusalMade, RejectionReason, ReturnMade};
 use sct_element::Id35;
 use std::alloc::{AllocError, Global};
 
@@ -93,14 +93,6 @@ impl OfRecall for RefusalMade {
 }
 
 impl OfRecall for RecallAsked {
-    ghost recall = { λ m. m.cxl };
-
-    fn cxl(&self) -> &Id35 {
-        &self.cxl
-    }
-}
-
-impl OfRecall for RecallNamed {
     ghost recall = { λ m. m.cxl };
 
     fn cxl(&self) -> &Id35 {

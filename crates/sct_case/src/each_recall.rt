@@ -1,19 +1,20 @@
 //! The statuses of several recalls of one transfer. The statements about recalls are sorted by recall once,
 //! and each recall is looked up among them.
 ghost use Rattle.std.specs.Prelude.{◌≡◌, List, IfOk, map};
-ghost use Rattle.std.specs.List.{flat_map};
+ghost use Rattle.std.specs.List.{flat_map, list_any};
 ghost use Rattle.sct_message.specs.Sets.{messages_in};
 ghost use Rattle.sct_message.specs.declared.keys.Identity.{Identity as IdentityOf};
-ghost use Rattle.sct_case.specs.Inside.{IsByRecall, SayAlike, standing_by};
-ghost use Rattle.sct_case.specs.Said.{recalls_by, recalls_named_by, refusals_by, requests_by, returns_by};
-ghost use Rattle.sct_case.specs.Statuses.{amount_returned, reason_refused, recall_standing_of, recall_status_of, told, transfer_status_of};
+ghost use Rattle.sct_case.specs.Inside.{IsByRecall, SayAlike, judged};
+ghost use Rattle.sct_case.specs.Said.{recalls_by, refusals_by, requests_by, returns_by};
+ghost use Rattle.sct_case.specs.Statuses.{amount_returned, reason_refused, recall_standing_of, recall_status_of, request_of_it, told, transfer_status_of};
+ghost use Rattle.sct_case.specs.Told.{recall_of_it};
 ghost use Rattle.sct_case.specs.declared.status.RecallStatus.TheVariants as recall;
 
 use crate::differ::{first_on, is_some_on};
 use crate::fault::CaseFault;
 use crate::recall_order::by_recall;
-use crate::said::{RecallAsked, RecallMade, RecallNamed, RefusalMade, ReturnMade, said};
-use crate::standing::answered;
+use crate::recalls::RecallSaid;
+use crate::said::{RecallAsked, RecallMade, RefusalMade, ReturnMade, Said};
 use crate::status::{RecallStatus, Status};
 use sct_element::{Amount, Id35};
 use sct_message::{Message, TransferKey};
@@ -24,12 +25,10 @@ use std::sync::Arc;
 /// The statements of messages about the recalls of a transfer. Each list is sorted by recall.
 #[derive(Drop)]
 struct RecallsSaid {
-    named: Vec<RecallNamed>,
     made: Vec<RecallMade>,
     returns: Vec<ReturnMade>,
     refusals: Vec<RefusalMade>,
     requests: Vec<RecallAsked>,
-    ghost named_in_order: { IsByRecall (λ m. m.cxl) named.items },
     ghost made_in_order: { IsByRecall (λ m. m.cxl) made.items },
     ghost returns_in_order: { IsByRecall (λ m. m.cxl) returns.items },
     ghost refusals_in_order: { IsByRecall (λ m. m.cxl) refusals.items },
@@ -42,8 +41,6 @@ fn recalls_said(
     transfer: &TransferKey,
     clean: &[Arc<Message>],
 ) -> Result<RecallsSaid, AllocError>
-    ensures named { IfOk result (λ said. SayAlike (λ m. m.cxl) said.named.items
-        (flat_map (recalls_named_by transfer.now) (messages_in clean.now))) }
     ensures made { IfOk result (λ said. SayAlike (λ m. m.cxl) said.made.items
         (flat_map (recalls_by transfer.now) (messages_in clean.now))) }
     ensures returns { IfOk result (λ said. SayAlike (λ m. m.cxl) said.returns.items
@@ -53,12 +50,12 @@ fn recalls_said(
     ensures requests { IfOk result (λ said. SayAlike (λ m. m.cxl) said.requests.items
         (flat_map (requests_by transfer.now) (messages_in clean.now))) }
 {
+    let said = Said::of(alloc, transfer, clean)?;
     Ok(RecallsSaid {
-        named: by_recall(said(alloc, transfer, clean)?)?,
-        made: by_recall(said(alloc, transfer, clean)?)?,
-        returns: by_recall(said(alloc, transfer, clean)?)?,
-        refusals: by_recall(said(alloc, transfer, clean)?)?,
-        requests: by_recall(said(alloc, transfer, clean)?)?,
+        made: by_recall(said.recalls)?,
+        returns: by_recall(said.returns)?,
+        refusals: by_recall(said.refusals)?,
+        requests: by_recall(said.requests)?,
     })
 }
 
@@ -84,41 +81,21 @@ fn reason_refused(refusals: &[RefusalMade], cxl: &Id35) -> Option<Reason>
     }
 }
 
-/// The status of a recall by the statements, if its transfer has no finding.
-fn standing_by(said: &RecallsSaid, cxl: &Id35) -> RecallStatus
-    ensures { result ≡ standing_by said.now.named.items said.now.made.items said.now.returns.items
-        said.now.refusals.items said.now.requests.items cxl.now }
-{
-    if !is_some_on(&said.named, cxl) {
-        return RecallStatus::Unknown;
+impl RecallsSaid {
+    /// The status of a recall, if its transfer has no finding. O(log n) in the number of statements.
+    fn standing(&self, cxl: &Id35) -> RecallStatus
+        ensures { result ≡ judged (list_any (recall_of_it cxl.now) self.now.made.items)
+            (amount_returned cxl.now self.now.returns.items) (reason_refused cxl.now self.now.refusals.items)
+            (list_any (request_of_it cxl.now) self.now.requests.items) }
+    {
+        let said = RecallSaid {
+            made: is_some_on(&self.made, cxl),
+            returned: amount_returned(&self.returns, cxl),
+            refused: reason_refused(&self.refusals, cxl),
+            chased: is_some_on(&self.requests, cxl),
+        };
+        said.status()
     }
-    if !is_some_on(&said.made, cxl) {
-        return RecallStatus::Unasked;
-    }
-    answered(
-        amount_returned(&said.returns, cxl),
-        reason_refused(&said.refusals, cxl),
-        is_some_on(&said.requests, cxl),
-    )
-}
-
-/// Each of the recalls with its status by the statements, if their transfer has no finding.
-fn standings_by(
-    alloc: Global,
-    said: &RecallsSaid,
-    cxls: &[Id35],
-) -> Result<Vec<(Id35, RecallStatus)>, AllocError>
-    ensures { IfOk result (λ found. found.items ≡ map (λ cxl. (
-      cxl,
-      standing_by said.now.named.items
-          said.now.made.items said.now.returns.items said.now.refusals.items said.now.requests.items cxl,
-    )) cxls.now) }
-{
-    let mut found = Vec::new(alloc);
-    for cxl in cxls {
-        found.push((cxl.copy(), standing_by(said, cxl)))?;
-    }
-    Ok(found)
 }
 
 /// Each of the recalls with its status, if their transfer has no finding.
@@ -131,8 +108,15 @@ fn standings(
     ensures { IfOk result (λ found. found.items
         ≡ map (λ cxl. (cxl, recall_standing_of transfer.now (messages_in clean.now) cxl)) cxls.now) }
 {
+    let mut found = Vec::new(alloc);
+    if cxls.is_empty() {
+        return Ok(found);
+    }
     let said = recalls_said(alloc, transfer, clean)?;
-    standings_by(alloc, &said, cxls)
+    for cxl in cxls {
+        found.push((cxl.copy(), said.standing(cxl)))?;
+    }
+    Ok(found)
 }
 
 /// Each of the recalls, with the status contradicted.

@@ -1,84 +1,88 @@
-//! The status of a recall, looked up in the messages themselves. No call allocates.
-ghost use Rattle.std.specs.Prelude.{◌≡◌, List, find, option_map};
-ghost use Rattle.std.specs.Arc.{arc_value};
-ghost use Rattle.std.specs.List.{list_any, flat_map};
-ghost use Rattle.std.specs.Option.{option_copied};
-ghost use Rattle.sct_message.specs.Keys.{transfer_key, recalls_named};
-ghost use Rattle.sct_message.specs.Recalls.{recall_in};
+//! The status of one recall of a transfer, from what messages say of it. No call allocates.
+ghost use Rattle.std.specs.Prelude.{◌≡◌, ◌||◌, List};
+ghost use Rattle.std.specs.List.{list_any};
 ghost use Rattle.sct_message.specs.Sets.{messages_in};
+ghost use Rattle.sct_message.specs.declared.draft.Draft.TheVariants as draft;
 ghost use Rattle.sct_message.specs.declared.keys.Identity.{Identity as IdentityOf};
-ghost use Rattle.sct_case.specs.Said.{cancellations_in, made_in, named_in, recalls_by, recalls_named_by, refusals_by, requests_by, returns_by};
-ghost use Rattle.sct_case.specs.Statuses.{amount_returned, named_of_it, reason_refused, recall_standing_of, recall_status_of, request_of_it, told, transfer_status_of};
-ghost use Rattle.sct_case.specs.Told.{recall_of_it, refusal_of_it, return_of_it};
+ghost use Rattle.sct_case.specs.Inside.{IsOneMoreOn, IsSaidOn, judged};
+ghost use Rattle.sct_case.specs.Said.{made_in, recalls_by, refusals_by, requests_by, returns_by};
+ghost use Rattle.sct_case.specs.Statuses.{amount_returned, answered, reason_refused, request_of_it, recall_standing_of, recall_status_of, told, transfer_status_of};
+ghost use Rattle.sct_case.specs.Told.{recall_of_it};
 
 use crate::said::{is_of, recalls};
-use crate::standing::answered;
 use crate::status::{RecallStatus, Status};
-use sct_element::{Amount, Bic, Id35};
-use sct_message::{Draft, Message, RecallTx, StatusRequest, TransferKey};
+use sct_element::{Amount, Id35};
+use sct_message::{
+    CancellationRequest, Draft, Message, PaymentReturn, RecallTx, Resolution, StatusRequest,
+    TransferKey,
+};
 use sct_reason::Reason;
 use std::sync::Arc;
 
-/// Whether a message of one transfer, which names the recall `named` or none, names this recall of this transfer.
-fn is_it(
-    transfer: &TransferKey,
-    cxl: &Id35,
-    debtor_agent: &Bic,
-    tx: &Id35,
-    named: Option<&Id35>,
-) -> bool
-    ensures { result ≡ list_any (named_of_it cxl.now) (flat_map (named_in transfer.now)
-        (recalls_named (transfer_key debtor_agent.now tx.now) (option_copied named.entry))) }
-{
-    match named {
-        Some(named) => is_of(transfer, debtor_agent, tx) && named.text() == cxl.text(),
-        None => false,
+/// What messages say of one recall of a transfer.
+#[derive(Drop)]
+pub(crate) struct RecallSaid {
+    pub(crate) made: bool,
+    pub(crate) returned: Option<Amount>,
+    pub(crate) refused: Option<Reason>,
+    /// Whether the status of the recall was asked for.
+    pub(crate) chased: bool,
+}
+
+impl RecallSaid {
+    /// What the messages on the transfer say of its recall `cxl`.
+    fn of(transfer: &TransferKey, clean: &[Arc<Message>], cxl: &Id35) -> RecallSaid
+        ensures { IsSaidOn transfer.now (messages_in clean.now) cxl.now result }
+    {
+        let mut said = RecallSaid {
+            made: false,
+            returned: None,
+            refused: None,
+            chased: false,
+        };
+        for message in clean {
+            said.add(transfer, message.draft(), cxl);
+        }
+        said
     }
-}
 
-/// Whether a transaction names this recall of this transfer.
-fn names_it(tx: &RecallTx, transfer: &TransferKey, cxl: &Id35) -> bool
-    ensures { result ≡ list_any (named_of_it cxl.now) (named_in transfer.now (recall_in tx.now)) }
-{
-    recalls(transfer, tx) && tx.cancellation_id.text() == cxl.text()
-}
+    /// Adds what one more message says of the recall.
+    fn add(&mut self, transfer: &TransferKey, draft: &Draft, cxl: &Id35)
+        ensures { IsOneMoreOn transfer.now draft.now cxl.now self.old self.new }
+    {
+        match draft {
+            Draft::CreditTransfer(_) | Draft::StatusReport(_) => {}
+            Draft::StatusRequest(m) => self.chased = self.chased || asks(m, transfer, cxl),
+            Draft::CancellationRequest(m) => {
+                if !self.made {
+                    self.made = makes(m, transfer, cxl);
+                }
+            }
+            Draft::PaymentReturn(m) => {
+                if self.returned.is_none() {
+                    self.returned = amount_of(m, transfer, cxl);
+                }
+            }
+            Draft::Resolution(m) => {
+                if self.refused.is_none() {
+                    self.refused = reason_of(m, transfer, cxl);
+                }
+            }
+        }
+    }
 
-/// Whether one of the transactions names this recall of this transfer.
-fn name_it(txs: &[RecallTx], transfer: &TransferKey, cxl: &Id35) -> bool
-    ensures { result ≡ list_any (λ tx. list_any (named_of_it cxl.now)
-        (named_in transfer.now (recall_in tx))) txs.now }
-{
-    txs.iter().any(|tx| names_it(tx, transfer, cxl))
-}
-
-/// Whether a message names the recall `cxl` of the transfer.
-fn names(draft: &Draft, transfer: &TransferKey, cxl: &Id35) -> bool
-    ensures { result ≡ list_any (named_of_it cxl.now) (recalls_named_by transfer.now draft.now) }
-{
-    match draft {
-        Draft::CreditTransfer(_) | Draft::StatusReport(_) => false,
-        Draft::StatusRequest(m) => is_it(
-            transfer,
-            cxl,
-            &m.debtor_agent,
-            &m.original.transaction_id,
-            m.cancellation_id.as_ref(),
-        ),
-        Draft::CancellationRequest(m) => name_it(&m.txs, transfer, cxl),
-        Draft::PaymentReturn(m) => is_it(
-            transfer,
-            cxl,
-            &m.debtor_agent,
-            &m.original.transaction_id,
-            Some(&m.cancellation_id),
-        ),
-        Draft::Resolution(m) => is_it(
-            transfer,
-            cxl,
-            &m.debtor_agent,
-            &m.original.transaction_id,
-            Some(&m.cancellation_id),
-        ),
+    /// The status of the recall, if its transfer has no finding.
+    pub(crate) fn status(self) -> RecallStatus
+        ensures { result ≡ judged self.made self.returned self.refused self.chased }
+    {
+        let named = self.made || self.returned.is_some() || self.refused.is_some() || self.chased;
+        if !named {
+            return RecallStatus::Unknown;
+        }
+        if !self.made {
+            return RecallStatus::Unasked;
+        }
+        answered(self.returned, self.refused, self.chased)
     }
 }
 
@@ -97,170 +101,71 @@ fn make_it(txs: &[RecallTx], transfer: &TransferKey, cxl: &Id35) -> bool
 }
 
 /// Whether a message makes the recall.
-fn makes(draft: &Draft, transfer: &TransferKey, cxl: &Id35) -> bool
-    ensures { result ≡ list_any (recall_of_it cxl.now) (recalls_by transfer.now draft.now) }
+fn makes(request: &CancellationRequest, transfer: &TransferKey, cxl: &Id35) -> bool
+    ensures { result ≡ list_any (recall_of_it cxl.now) (recalls_by transfer.now (draft.CancellationRequest request.now)) }
 {
-    match draft {
-        Draft::CancellationRequest(m) => make_it(&m.txs, transfer, cxl),
-        _ => false,
-    }
+    make_it(&request.txs, transfer, cxl)
 }
 
-/// Whether a request asks for the status of the recall that it names.
-fn asks_for_it(request: &StatusRequest, cxl: &Id35) -> bool
-    ensures { result ≡ list_any (request_of_it cxl.now) (cancellations_in request.now.cancellation_id) }
+/// Whether a message asks for the status of the recall.
+fn asks(request: &StatusRequest, transfer: &TransferKey, cxl: &Id35) -> bool
+    ensures { result ≡ list_any (request_of_it cxl.now) (requests_by transfer.now (draft.StatusRequest request.now)) }
 {
     match &request.cancellation_id {
-        Some(named) => named.text() == cxl.text(),
+        Some(named) => named.text() == cxl.text()
+            && is_of(
+                transfer,
+                &request.debtor_agent,
+                &request.original.transaction_id,
+            ),
         None => false,
     }
 }
 
-/// Whether a message asks for the status of the recall.
-fn asks(draft: &Draft, transfer: &TransferKey, cxl: &Id35) -> bool
-    ensures { result ≡ list_any (request_of_it cxl.now) (requests_by transfer.now draft.now) }
-{
-    match draft {
-        Draft::StatusRequest(m) => is_of(transfer, &m.debtor_agent, &m.original.transaction_id)
-            && asks_for_it(m, cxl),
-        _ => false,
-    }
-}
-
-/// Whether a message returns money after the recall.
-fn returns(draft: &Draft, transfer: &TransferKey, cxl: &Id35) -> bool
-    ensures { result ≡ list_any (return_of_it cxl.now) (returns_by transfer.now draft.now) }
-{
-    match draft {
-        Draft::PaymentReturn(m) => is_of(transfer, &m.debtor_agent, &m.original.transaction_id)
-            && m.cancellation_id.text() == cxl.text(),
-        _ => false,
-    }
-}
-
-/// Whether a message refuses the recall.
-fn refuses(draft: &Draft, transfer: &TransferKey, cxl: &Id35) -> bool
-    ensures { result ≡ list_any (refusal_of_it cxl.now) (refusals_by transfer.now draft.now) }
-{
-    match draft {
-        Draft::Resolution(m) => is_of(transfer, &m.debtor_agent, &m.original.transaction_id)
-            && m.cancellation_id.text() == cxl.text(),
-        _ => false,
-    }
-}
-
 /// The amount that a message returns after the recall.
-fn amount_of(draft: &Draft, transfer: &TransferKey, cxl: &Id35) -> Option<Amount>
-    ensures { result ≡ amount_returned cxl.now (returns_by transfer.now draft.now) }
+fn amount_of(payment: &PaymentReturn, transfer: &TransferKey, cxl: &Id35) -> Option<Amount>
+    ensures { result ≡ amount_returned cxl.now (returns_by transfer.now (draft.PaymentReturn payment.now)) }
 {
-    match draft {
-        Draft::PaymentReturn(m)
-            if is_of(transfer, &m.debtor_agent, &m.original.transaction_id)
-                && m.cancellation_id.text() == cxl.text() => Some(m.returned_amount),
-        _ => None,
+    if is_of(
+        transfer,
+        &payment.debtor_agent,
+        &payment.original.transaction_id,
+    ) && payment.cancellation_id.text() == cxl.text()
+    {
+        Some(payment.returned_amount)
+    } else {
+        None
     }
 }
 
 /// The reason for which a message refuses the recall.
-fn reason_of(draft: &Draft, transfer: &TransferKey, cxl: &Id35) -> Option<Reason>
-    ensures { result ≡ reason_refused cxl.now (refusals_by transfer.now draft.now) }
+fn reason_of(resolution: &Resolution, transfer: &TransferKey, cxl: &Id35) -> Option<Reason>
+    ensures { result ≡ reason_refused cxl.now (refusals_by transfer.now (draft.Resolution resolution.now)) }
 {
-    match draft {
-        Draft::Resolution(m)
-            if is_of(transfer, &m.debtor_agent, &m.original.transaction_id)
-                && m.cancellation_id.text() == cxl.text() => Some(m.reason.copy()),
-        _ => None,
+    if is_of(
+        transfer,
+        &resolution.debtor_agent,
+        &resolution.original.transaction_id,
+    ) && resolution.cancellation_id.text() == cxl.text()
+    {
+        Some(resolution.reason.copy())
+    } else {
+        None
     }
 }
 
-fn is_named(clean: &[Arc<Message>], transfer: &TransferKey, cxl: &Id35) -> bool
-    ensures { result ≡ list_any (λ m. list_any (named_of_it cxl.now)
-        (recalls_named_by transfer.now (arc_value m))) clean.now }
+/// The status of a recall that a message makes.
+fn answered(returned: Option<Amount>, refused: Option<Reason>, chased: bool) -> RecallStatus
+    ensures { result ≡ answered returned refused chased }
 {
-    clean
-        .iter()
-        .any(|message| names(message.draft(), transfer, cxl))
-}
-
-fn is_made(clean: &[Arc<Message>], transfer: &TransferKey, cxl: &Id35) -> bool
-    ensures { result ≡ list_any (λ m. list_any (recall_of_it cxl.now)
-        (recalls_by transfer.now (arc_value m))) clean.now }
-{
-    clean
-        .iter()
-        .any(|message| makes(message.draft(), transfer, cxl))
-}
-
-fn is_asked(clean: &[Arc<Message>], transfer: &TransferKey, cxl: &Id35) -> bool
-    ensures { result ≡ list_any (λ m. list_any (request_of_it cxl.now)
-        (requests_by transfer.now (arc_value m))) clean.now }
-{
-    clean
-        .iter()
-        .any(|message| asks(message.draft(), transfer, cxl))
-}
-
-fn first_return<'a>(
-    clean: &'a [Arc<Message>],
-    transfer: &TransferKey,
-    cxl: &Id35,
-) -> Option<&'a Arc<Message>>
-    ensures { option_copied result
-        ≡ find (λ m. list_any (return_of_it cxl.now) (returns_by transfer.now (arc_value m))) clean.now }
-{
-    clean
-        .iter()
-        .find(|message| returns(message.draft(), transfer, cxl))
-}
-
-fn first_refusal<'a>(
-    clean: &'a [Arc<Message>],
-    transfer: &TransferKey,
-    cxl: &Id35,
-) -> Option<&'a Arc<Message>>
-    ensures { option_copied result
-        ≡ find (λ m. list_any (refusal_of_it cxl.now) (refusals_by transfer.now (arc_value m))) clean.now }
-{
-    clean
-        .iter()
-        .find(|message| refuses(message.draft(), transfer, cxl))
-}
-
-/// The amount of the first return after the recall.
-fn amount_told(clean: &[Arc<Message>], transfer: &TransferKey, cxl: &Id35) -> Option<Amount>
-    ensures { result ≡ amount_returned cxl.now (flat_map (returns_by transfer.now) (messages_in clean.now)) }
-{
-    match first_return(clean, transfer, cxl) {
-        Some(message) => amount_of(message.draft(), transfer, cxl),
-        None => None,
+    match returned {
+        Some(amount) => RecallStatus::Returned(amount),
+        None => match refused {
+            Some(reason) => RecallStatus::Refused(reason),
+            None if chased => RecallStatus::Chased,
+            None => RecallStatus::Open,
+        },
     }
-}
-
-/// The reason of the first refusal of the recall.
-fn reason_told(clean: &[Arc<Message>], transfer: &TransferKey, cxl: &Id35) -> Option<Reason>
-    ensures { result ≡ reason_refused cxl.now (flat_map (refusals_by transfer.now) (messages_in clean.now)) }
-{
-    match first_refusal(clean, transfer, cxl) {
-        Some(message) => reason_of(message.draft(), transfer, cxl),
-        None => None,
-    }
-}
-
-/// The status of a recall by the clean messages on its transfer, if the transfer has no finding.
-fn recall_standing_in(clean: &[Arc<Message>], transfer: &TransferKey, cxl: &Id35) -> RecallStatus
-    ensures { result ≡ recall_standing_of transfer.now (messages_in clean.now) cxl.now }
-{
-    if !is_named(clean, transfer, cxl) {
-        return RecallStatus::Unknown;
-    }
-    if !is_made(clean, transfer, cxl) {
-        return RecallStatus::Unasked;
-    }
-    answered(
-        amount_told(clean, transfer, cxl),
-        reason_told(clean, transfer, cxl),
-        is_asked(clean, transfer, cxl),
-    )
 }
 
 /// The status of the recall `cxl` of a transfer, from the status of the transfer and its
@@ -278,6 +183,6 @@ pub fn recall_status_by(
 {
     match status {
         Status::Contradicted(_) => RecallStatus::Contradicted,
-        _ => recall_standing_in(clean, transfer, cxl),
+        _ => RecallSaid::of(transfer, clean, cxl).status(),
     }
 }

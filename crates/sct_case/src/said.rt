@@ -1,20 +1,21 @@
-//! The statements of messages about one transfer, read into lists.
-ghost use Rattle.std.specs.Prelude.{◌≡◌, ◌++◌, ◌&&◌, List, map, nat_eq, OnOk, IfOk};
+//! What messages say of one transfer, read in one pass.
+ghost use Rattle.std.specs.Prelude.{◌≡◌, ◌++◌, ◌&&◌, List, [], nat_eq, OnOk, IfOk};
 ghost use Rattle.std.specs.List.{flat_map};
 ghost use Rattle.std.specs.Cmp.Lexicographic.{pointwise};
-ghost use Rattle.std.specs.Option.{option_copied};
-ghost use Rattle.sct_message.specs.Keys.{transfer_key, recalls_named};
+ghost use Rattle.sct_message.specs.Keys.{transfer_key};
 ghost use Rattle.sct_message.specs.Order.{same_transfer};
-ghost use Rattle.sct_message.specs.Recalls.{transfer_in, recall_in};
+ghost use Rattle.sct_message.specs.Recalls.{transfer_in};
 ghost use Rattle.sct_message.specs.Sets.{messages_in};
-ghost use Rattle.sct_message.specs.declared.draft.Draft.{Draft as DraftOf};
-ghost use Rattle.sct_message.specs.declared.keys.TransferKey.{TransferKey as TransferOf};
-ghost use Rattle.sct_case.specs.Said.{instructions_by, rejections_by, recalls_by, amounts_by, returns_by, refusals_by, requests_by, recalls_named_by};
-ghost use Rattle.sct_case.specs.Said.{amount_in, cancellations_in, made_in, named_in};
 ghost use Rattle.sct_message.specs.declared.draft.Draft.TheVariants as draft;
+ghost use Rattle.sct_message.specs.declared.keys.TransferKey.{TransferKey as TransferOf};
+ghost use Rattle.sct_case.specs.Inside.{IsOneMore, IsSaidOf};
+ghost use Rattle.sct_case.specs.Said.{amount_in, made_in};
 
 use sct_element::{Amount, Bic, Id35};
-use sct_message::{Draft, Message, RecallTx, StatusReport, StatusRequest, TransferKey};
+use sct_message::{
+    CreditTransfer, Draft, Message, PaymentReturn, RecallTx, Resolution, StatusReport,
+    StatusRequest, TransferKey,
+};
 use sct_reason::Reason;
 use std::alloc::{AllocError, Global};
 use std::sync::Arc;
@@ -66,34 +67,216 @@ pub(crate) struct RecallAsked {
     pub(crate) cxl: Id35,
 }
 
-/// A recall that a message names.
+/// A recall that a message names. Contracts alone speak of it: each statement of the four sorts about a recall names it.
 #[derive(Debug, Drop)]
 pub(crate) struct RecallNamed {
     pub(crate) cxl: Id35,
 }
 
-/// A statement that a message may make about a transfer.
-pub(crate) trait Statement: Drop {
-    ghost by: { TransferOf → DraftOf → List Self };
-
-    /// Appends the statements of the message about the transfer.
-    fn push(found: &mut Vec<Self>, transfer: &TransferKey, draft: &Draft) -> Result<(), AllocError>
-        ensures { OnOk result (found.new.items ≡ found.old.items ++ by transfer.now draft.now) };
+/// What messages say of a transfer. Each list is in the order of the messages.
+#[derive(Debug, Drop)]
+pub(crate) struct Said {
+    pub(crate) instructions: Vec<InstructedAmount>,
+    /// Whether a message accepts the transfer.
+    pub(crate) accepted: bool,
+    pub(crate) rejections: Vec<RejectionReason>,
+    /// Whether the status of the transfer was asked for.
+    pub(crate) investigated: bool,
+    pub(crate) recalls: Vec<RecallMade>,
+    /// The original amounts that recalls and returns name.
+    pub(crate) amounts: Vec<OriginalAmount>,
+    pub(crate) returns: Vec<ReturnMade>,
+    pub(crate) refusals: Vec<RefusalMade>,
+    /// The recalls whose status was asked for.
+    pub(crate) requests: Vec<RecallAsked>,
 }
 
-/// The statements of the messages about a transfer, message by message.
-pub(crate) fn said<S: Statement>(
-    alloc: Global,
-    transfer: &TransferKey,
-    clean: &[Arc<Message>],
-) -> Result<Vec<S>, AllocError>
-    ensures { IfOk result (λ found. found.items ≡ flat_map (S.by transfer.now) (messages_in clean.now)) }
-{
-    let mut found = Vec::new(alloc);
-    for message in clean {
-        S::push(&mut found, transfer, message.draft())?;
+impl Said {
+    /// Nothing said.
+    fn new(alloc: Global) -> Said
+        ensures { (transfer : TransferOf) → IsSaidOf transfer [] result }
+    {
+        Said {
+            instructions: Vec::new(alloc),
+            accepted: false,
+            rejections: Vec::new(alloc),
+            investigated: false,
+            recalls: Vec::new(alloc),
+            amounts: Vec::new(alloc),
+            returns: Vec::new(alloc),
+            refusals: Vec::new(alloc),
+            requests: Vec::new(alloc),
+        }
     }
-    Ok(found)
+
+    /// What the messages say of the transfer.
+    /// O(transactions of the messages).
+    pub(crate) fn of(
+        alloc: Global,
+        transfer: &TransferKey,
+        clean: &[Arc<Message>],
+    ) -> Result<Said, AllocError>
+        ensures { IfOk result (λ said. IsSaidOf transfer.now (messages_in clean.now) said) }
+    {
+        let mut said = Said::new(alloc);
+        for message in clean {
+            said.add(transfer, message.draft())?;
+        }
+        Ok(said)
+    }
+
+    /// Adds what one more message says of the transfer.
+    fn add(&mut self, transfer: &TransferKey, draft: &Draft) -> Result<(), AllocError>
+        ensures { OnOk result (IsOneMore transfer.now draft.now self.old self.new) }
+    {
+        match draft {
+            Draft::CreditTransfer(m) => self.add_instruction(m),
+            Draft::StatusReport(m) => self.add_confirmation(m),
+            Draft::StatusRequest(m) => self.add_request(transfer, m),
+            Draft::CancellationRequest(m) => {
+                push_recalls(&mut self.recalls, &mut self.amounts, transfer, &m.txs)
+            }
+            Draft::PaymentReturn(m) => self.add_return(transfer, m),
+            Draft::Resolution(m) => self.add_refusal(transfer, m),
+        }
+    }
+
+    fn add_instruction(&mut self, instruction: &CreditTransfer) -> Result<(), AllocError>
+        ensures { (transfer : TransferOf)
+            → OnOk result (IsOneMore transfer (draft.CreditTransfer instruction.now) self.old self.new) }
+    {
+        self.instructions.push(InstructedAmount {
+            amount: instruction.settlement_amount,
+        })?;
+        Ok(())
+    }
+
+    fn add_confirmation(&mut self, report: &StatusReport) -> Result<(), AllocError>
+        ensures { (transfer : TransferOf)
+            → OnOk result (IsOneMore transfer (draft.StatusReport report.now) self.old self.new) }
+    {
+        match report.status.text() {
+            "ACCP" => self.accepted = true,
+            "RJCT" => {
+                if let Some(reason) = &report.reason {
+                    self.rejections.push(RejectionReason {
+                        reason: reason.copy(),
+                    })?;
+                }
+            }
+            _ => {}
+        }
+        Ok(())
+    }
+
+    fn add_request(
+        &mut self,
+        transfer: &TransferKey,
+        request: &StatusRequest,
+    ) -> Result<(), AllocError>
+        ensures { OnOk result (IsOneMore transfer.now (draft.StatusRequest request.now) self.old self.new) }
+    {
+        match &request.cancellation_id {
+            None => self.investigated = true,
+            Some(cxl) => {
+                if is_of(
+                    transfer,
+                    &request.debtor_agent,
+                    &request.original.transaction_id,
+                ) {
+                    self.requests.push(RecallAsked { cxl: cxl.copy() })?;
+                }
+            }
+        }
+        Ok(())
+    }
+
+    fn add_return(
+        &mut self,
+        transfer: &TransferKey,
+        payment: &PaymentReturn,
+    ) -> Result<(), AllocError>
+        ensures { OnOk result (IsOneMore transfer.now (draft.PaymentReturn payment.now) self.old self.new) }
+    {
+        if !is_of(
+            transfer,
+            &payment.debtor_agent,
+            &payment.original.transaction_id,
+        ) {
+            return Ok(());
+        }
+        self.amounts.push(OriginalAmount {
+            amount: payment.original_amount,
+        })?;
+        self.returns.push(ReturnMade {
+            return_id: payment.return_id.copy(),
+            cxl: payment.cancellation_id.copy(),
+            amount: payment.returned_amount,
+        })?;
+        Ok(())
+    }
+
+    fn add_refusal(
+        &mut self,
+        transfer: &TransferKey,
+        resolution: &Resolution,
+    ) -> Result<(), AllocError>
+        ensures { OnOk result (IsOneMore transfer.now (draft.Resolution resolution.now) self.old self.new) }
+    {
+        if !is_of(
+            transfer,
+            &resolution.debtor_agent,
+            &resolution.original.transaction_id,
+        ) {
+            return Ok(());
+        }
+        self.refusals.push(RefusalMade {
+            cxl: resolution.cancellation_id.copy(),
+            reason: resolution.reason.copy(),
+        })?;
+        Ok(())
+    }
+}
+
+/// Appends the recalls that the transactions make of the transfer, and the original amounts that they name.
+fn push_recalls(
+    made: &mut Vec<RecallMade>,
+    amounts: &mut Vec<OriginalAmount>,
+    transfer: &TransferKey,
+    txs: &[RecallTx],
+) -> Result<(), AllocError>
+    ensures made { OnOk result (made.new.items ≡ made.old.items ++ flat_map (made_in transfer.now) txs.now) }
+    ensures amounts { OnOk result (amounts.new.items
+        ≡ amounts.old.items ++ flat_map (amount_in transfer.now) txs.now) }
+{
+    for tx in txs {
+        push_recall(made, amounts, transfer, tx)?;
+    }
+    Ok(())
+}
+
+/// Appends the recall that a transaction makes and the original amount that it names, if it recalls the transfer.
+fn push_recall(
+    made: &mut Vec<RecallMade>,
+    amounts: &mut Vec<OriginalAmount>,
+    transfer: &TransferKey,
+    tx: &RecallTx,
+) -> Result<(), AllocError>
+    ensures made { OnOk result (made.new.items ≡ made.old.items ++ made_in transfer.now tx.now) }
+    ensures amounts { OnOk result (amounts.new.items ≡ amounts.old.items ++ amount_in transfer.now tx.now) }
+{
+    if !recalls(transfer, tx) {
+        return Ok(());
+    }
+    made.push(RecallMade {
+        cxl: tx.cancellation_id.copy(),
+        amount: tx.original_amount,
+        reason: tx.reason.copy(),
+    })?;
+    amounts.push(OriginalAmount {
+        amount: tx.original_amount,
+    })?;
+    Ok(())
 }
 
 /// Whether an originator bank and a transfer identification are those of the transfer. The identification is
@@ -117,315 +300,4 @@ pub(crate) fn recalls(transfer: &TransferKey, tx: &RecallTx) -> bool
     ensures { result ≡ same_transfer (transfer_in tx.now) transfer.now }
 {
     is_of(transfer, &tx.debtor_agent, &tx.original.transaction_id)
-}
-
-impl Statement for InstructedAmount {
-    ghost by = { λ t m. instructions_by m };
-
-    fn push(
-        found: &mut Vec<Self>,
-        _transfer: &TransferKey,
-        draft: &Draft,
-    ) -> Result<(), AllocError> {
-        match draft {
-            Draft::CreditTransfer(transfer) => Ok(found.push(InstructedAmount {
-                amount: transfer.settlement_amount,
-            })?),
-            _ => Ok(()),
-        }
-    }
-}
-
-impl Statement for RejectionReason {
-    ghost by = { λ t m. rejections_by m };
-
-    fn push(
-        found: &mut Vec<Self>,
-        _transfer: &TransferKey,
-        draft: &Draft,
-    ) -> Result<(), AllocError> {
-        match draft {
-            Draft::StatusReport(report) => push_reason(found, report),
-            _ => Ok(()),
-        }
-    }
-}
-
-impl Statement for RecallMade {
-    ghost by = { recalls_by };
-
-    fn push(
-        found: &mut Vec<Self>,
-        transfer: &TransferKey,
-        draft: &Draft,
-    ) -> Result<(), AllocError> {
-        match draft {
-            Draft::CancellationRequest(request) => push_all_made(found, transfer, &request.txs),
-            _ => Ok(()),
-        }
-    }
-}
-
-impl Statement for OriginalAmount {
-    ghost by = { amounts_by };
-
-    fn push(
-        found: &mut Vec<Self>,
-        transfer: &TransferKey,
-        draft: &Draft,
-    ) -> Result<(), AllocError> {
-        match draft {
-            Draft::CancellationRequest(request) => push_amounts(found, transfer, &request.txs),
-            Draft::PaymentReturn(payment)
-                if is_of(
-                    transfer,
-                    &payment.debtor_agent,
-                    &payment.original.transaction_id,
-                ) => Ok(found.push(OriginalAmount {
-                amount: payment.original_amount,
-            })?),
-            _ => Ok(()),
-        }
-    }
-}
-
-impl Statement for ReturnMade {
-    ghost by = { returns_by };
-
-    fn push(
-        found: &mut Vec<Self>,
-        transfer: &TransferKey,
-        draft: &Draft,
-    ) -> Result<(), AllocError> {
-        match draft {
-            Draft::PaymentReturn(payment)
-                if is_of(
-                    transfer,
-                    &payment.debtor_agent,
-                    &payment.original.transaction_id,
-                ) => Ok(found.push(ReturnMade {
-                return_id: payment.return_id.copy(),
-                cxl: payment.cancellation_id.copy(),
-                amount: payment.returned_amount,
-            })?),
-            _ => Ok(()),
-        }
-    }
-}
-
-impl Statement for RefusalMade {
-    ghost by = { refusals_by };
-
-    fn push(
-        found: &mut Vec<Self>,
-        transfer: &TransferKey,
-        draft: &Draft,
-    ) -> Result<(), AllocError> {
-        match draft {
-            Draft::Resolution(resolution)
-                if is_of(
-                    transfer,
-                    &resolution.debtor_agent,
-                    &resolution.original.transaction_id,
-                ) => Ok(found.push(RefusalMade {
-                cxl: resolution.cancellation_id.copy(),
-                reason: resolution.reason.copy(),
-            })?),
-            _ => Ok(()),
-        }
-    }
-}
-
-impl Statement for RecallAsked {
-    ghost by = { requests_by };
-
-    fn push(
-        found: &mut Vec<Self>,
-        transfer: &TransferKey,
-        draft: &Draft,
-    ) -> Result<(), AllocError> {
-        match draft {
-            Draft::StatusRequest(request)
-                if is_of(
-                    transfer,
-                    &request.debtor_agent,
-                    &request.original.transaction_id,
-                ) => push_asked(found, request),
-            _ => Ok(()),
-        }
-    }
-}
-
-impl Statement for RecallNamed {
-    ghost by = { recalls_named_by };
-
-    fn push(
-        found: &mut Vec<Self>,
-        transfer: &TransferKey,
-        draft: &Draft,
-    ) -> Result<(), AllocError> {
-        match draft {
-            Draft::CreditTransfer(_) | Draft::StatusReport(_) => Ok(()),
-            Draft::StatusRequest(m) => push_named(
-                found,
-                transfer,
-                &m.debtor_agent,
-                &m.original.transaction_id,
-                m.cancellation_id.as_ref(),
-            ),
-            Draft::CancellationRequest(m) => push_all_named(found, transfer, &m.txs),
-            Draft::PaymentReturn(m) => push_named(
-                found,
-                transfer,
-                &m.debtor_agent,
-                &m.original.transaction_id,
-                Some(&m.cancellation_id),
-            ),
-            Draft::Resolution(m) => push_named(
-                found,
-                transfer,
-                &m.debtor_agent,
-                &m.original.transaction_id,
-                Some(&m.cancellation_id),
-            ),
-        }
-    }
-}
-
-/// Appends the recall that a transaction makes, if it recalls the transfer.
-fn push_made(
-    found: &mut Vec<RecallMade>,
-    transfer: &TransferKey,
-    tx: &RecallTx,
-) -> Result<(), AllocError>
-    ensures { OnOk result (found.new.items ≡ found.old.items ++ made_in transfer.now tx.now) }
-{
-    if !recalls(transfer, tx) {
-        return Ok(());
-    }
-    Ok(found.push(RecallMade {
-        cxl: tx.cancellation_id.copy(),
-        amount: tx.original_amount,
-        reason: tx.reason.copy(),
-    })?)
-}
-
-/// Appends the recalls that the transactions make of the transfer.
-fn push_all_made(
-    found: &mut Vec<RecallMade>,
-    transfer: &TransferKey,
-    txs: &[RecallTx],
-) -> Result<(), AllocError>
-    ensures { OnOk result (found.new.items ≡ found.old.items ++ flat_map (made_in transfer.now) txs.now) }
-{
-    for tx in txs {
-        push_made(found, transfer, tx)?;
-    }
-    Ok(())
-}
-
-/// Appends the original amount that a transaction names, if it recalls the transfer.
-fn push_amount(
-    found: &mut Vec<OriginalAmount>,
-    transfer: &TransferKey,
-    tx: &RecallTx,
-) -> Result<(), AllocError>
-    ensures { OnOk result (found.new.items ≡ found.old.items ++ amount_in transfer.now tx.now) }
-{
-    if !recalls(transfer, tx) {
-        return Ok(());
-    }
-    Ok(found.push(OriginalAmount {
-        amount: tx.original_amount,
-    })?)
-}
-
-/// Appends the original amounts that the transactions name for the transfer.
-fn push_amounts(
-    found: &mut Vec<OriginalAmount>,
-    transfer: &TransferKey,
-    txs: &[RecallTx],
-) -> Result<(), AllocError>
-    ensures { OnOk result (found.new.items ≡ found.old.items ++ flat_map (amount_in transfer.now) txs.now) }
-{
-    for tx in txs {
-        push_amount(found, transfer, tx)?;
-    }
-    Ok(())
-}
-
-/// Appends the recall that a message of one transfer names, if it names one and is on the transfer.
-fn push_named(
-    found: &mut Vec<RecallNamed>,
-    transfer: &TransferKey,
-    debtor_agent: &Bic,
-    tx: &Id35,
-    cxl: Option<&Id35>,
-) -> Result<(), AllocError>
-    ensures { OnOk result (found.new.items ≡ found.old.items
-        ++ flat_map (named_in transfer.now)
-        (recalls_named (transfer_key debtor_agent.now tx.now) (option_copied cxl.entry))) }
-{
-    match cxl {
-        Some(cxl) if is_of(transfer, debtor_agent, tx) => Ok(found.push(RecallNamed {
-            cxl: cxl.copy(),
-        })?),
-        _ => Ok(()),
-    }
-}
-
-/// Appends the identification of the recall that a transaction makes, if it recalls the transfer.
-fn push_named_by(
-    found: &mut Vec<RecallNamed>,
-    transfer: &TransferKey,
-    tx: &RecallTx,
-) -> Result<(), AllocError>
-    ensures { OnOk result (found.new.items ≡ found.old.items ++ named_in transfer.now (recall_in tx.now)) }
-{
-    if !recalls(transfer, tx) {
-        return Ok(());
-    }
-    Ok(found.push(RecallNamed {
-        cxl: tx.cancellation_id.copy(),
-    })?)
-}
-
-/// Appends the identifications of the recalls that the transactions make of the transfer.
-fn push_all_named(
-    found: &mut Vec<RecallNamed>,
-    transfer: &TransferKey,
-    txs: &[RecallTx],
-) -> Result<(), AllocError>
-    ensures { OnOk result (found.new.items
-        ≡ found.old.items ++ flat_map (named_in transfer.now) (map recall_in txs.now)) }
-{
-    for tx in txs {
-        push_named_by(found, transfer, tx)?;
-    }
-    Ok(())
-}
-
-/// Appends the reason of a status report, if it is a rejection with a reason.
-fn push_reason(found: &mut Vec<RejectionReason>, report: &StatusReport) -> Result<(), AllocError>
-    ensures { OnOk result (found.new.items ≡ found.old.items ++ rejections_by (draft.StatusReport report.now)) }
-{
-    if report.status.text() != "RJCT" {
-        return Ok(());
-    }
-    match &report.reason {
-        Some(reason) => Ok(found.push(RejectionReason {
-            reason: reason.copy(),
-        })?),
-        None => Ok(()),
-    }
-}
-
-/// Appends the recall that a request for a status names, if it names one.
-fn push_asked(found: &mut Vec<RecallAsked>, request: &StatusRequest) -> Result<(), AllocError>
-    ensures { OnOk result (found.new.items ≡ found.old.items ++ cancellations_in request.now.cancellation_id) }
-{
-    match &request.cancellation_id {
-        Some(cxl) => Ok(found.push(RecallAsked { cxl: cxl.copy() })?),
-        None => Ok(()),
-    }
 }

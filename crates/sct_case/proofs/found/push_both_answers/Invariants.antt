@@ -6,4 +6,4 @@ use Rattle.sct_case.specs.Told.{return_of_it}
 use Rattle.sct_case.proofs.found.push_both_answers.Given as goal
 
 abbrev pub invariant-loop-cxl : goal.invariant-loop-cxl
-invariant-loop-cxl l = l.found.items ≡ l.initial.found.items ++ map (λ c. finding.BothAnswers c) (filter (λ c. list_any (return_of_it c) l.returns) (take l.cxl-index l.cxls))
+invariant-loop-cxl l = l.found.items ≡ l.initial.found.items ++ map (λ c. finding.BothAnswers c) (filter (λ c. list_any (return_of_it c) l.fn.returns.items) (take l.cxl-index l.cxls))

@@ -7,9 +7,9 @@ use Rattle.sct_case.specs.Told.{recall_of_it}
 use Rattle.sct_case.proofs.LookedUp.{any_parts}
 use Rattle.sct_case.proofs.recalls.makes.Goals as goal
 
-pub returns-in-CancellationRequest : goal.returns-in-CancellationRequest
-returns-in-CancellationRequest c =
-    rw (c.in-CancellationRequest.is, ← c.m.view_is)
+pub returns : goal.returns
+returns c =
+    rw (← c.request.view_is)
     (c.make_it.ensures
     ∙ ap (λ (txs : List RecallTx). list_any (λ tx. list_any (recall_of_it c.args.cxl.now) (made_in c.args.transfer.now tx)) txs) c.deref.ensures.value
-    ∙ any_parts (made_in c.args.transfer.now) (recall_of_it c.args.cxl.now) c.m.inside.txs.items)
+    ∙ any_parts (made_in c.args.transfer.now) (recall_of_it c.args.cxl.now) c.request.inside.txs.items)

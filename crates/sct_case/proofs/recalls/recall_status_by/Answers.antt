@@ -1,8 +1,10 @@
 -- What was found decides; where nothing was found, how the recall stands.
 use Rattle.std.proofs.Common.{◌∙◌, subst, sym}
 use Rattle.sct_message.specs.Sets.{messages_in}
+use Rattle.sct_case.specs.Inside.{judged}
 use Rattle.sct_case.specs.Statuses.{told}
 use Rattle.sct_case.proofs.LookedUp.{IsContradictedStanding, recall_clear_by, recall_contradicted_by, told_clear}
+use Rattle.sct_case.proofs.SaidOn.{judged_is}
 use Rattle.sct_case.proofs.recalls.recall_status_by.Goals as goal
 
 pub returns-in-Contradicted : goal.returns-in-Contradicted
@@ -12,5 +14,8 @@ returns-in-Contradicted c = λ asides stands.
 
 pub returns-in_default : goal.returns-in_default
 returns-in_default c = λ asides stands.
-    c.recall_standing_in.ensures
+    let said = c.of.ensures in
+    c.status.ensures
+    ∙ (λ i. judged (said.made i) (said.returned i) (said.refused i) (said.chased i))
+    ∙ judged_is c.args.transfer.now c.args.cxl.now (messages_in c.args.clean.now)
     ∙ recall_clear_by c.args.transfer.now (messages_in c.args.clean.now) asides c.args.cxl.now (told c.args.status.now) stands (told_clear c.args.status.now c.in_default.not-Contradicted)

@@ -1,8 +1,0 @@
--- So far, what the first transactions say of the transfer.
-use Rattle.std.proofs.Common.{◌≡◌, ◌++◌, take}
-use Rattle.std.specs.List.{flat_map}
-use Rattle.sct_case.specs.Said.{made_in}
-use Rattle.sct_case.proofs.said.push_all_made.Given as goal
-
-abbrev pub invariant-loop-tx : goal.invariant-loop-tx
-invariant-loop-tx l = l.found.items ≡ l.initial.found.items ++ flat_map (made_in l.transfer) (take l.tx-index l.txs)
