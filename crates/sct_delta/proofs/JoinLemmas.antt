@@ -1,17 +1,19 @@
 -- What logs hold once a delta that fits was joined. It serves the laws of logs, and the sites and worlds above.
 use Rattle.std.proofs.Common.{◌≡◌, ◌∙◌, refl, ap, sym, ℕ, ◌+◌, ◌-◌, ◌<◌, ◌≤◌, Bool, true, false, not, cond, ◌&&◌, ◌||◌, List, [], ◌∷◌, filter, length, drop, arith, nat_eq, nat_lt, Option, Some, None, zero, suc}
-use Rattle.std.specs.List.{list_any, find, slice_get}
-use Rattle.std.specs.Option.{option_or}
+use Rattle.std.specs.List.{list_all, list_any, find, slice_get}
+use Rattle.std.specs.Option.{is_none, option_or}
 use Rattle.std.proofs.Math.Seq.{drop-nil}
-use Rattle.std.proofs.lemmas.Bool.{false≢true}
+use Rattle.std.proofs.lemmas.Bool.{false≢true, and_parts, or_parts}
 use Rattle.std.proofs.lemmas.Bool.Decides.{nat_tests}
 use Rattle.std.proofs.lemmas.List.Folds.{list_any-append}
+use Rattle.std.proofs.lemmas.List.Kept.{IsStrictlySortedBy-filter}
 use Rattle.sct_message.specs.declared.draft.Draft.{Draft}
-use Rattle.sct_delta.specs.Entries.{Placed, is_from, entries_from, log_of, numbered, same_entry, holds, IsDelta}
-use Rattle.sct_delta.specs.Refusals.{message_at, is_same_as, is_other_than, is_held, is_outside, is_ahead, is_past, is_fork, told, firsts_after, first_refusal, outside_refusal, ahead_refusal, gap_refusal, fork_refusal, vector_of, fresh_in, joined}
+use Rattle.sct_delta.specs.Entries.{Placed, is_from, entries_from, log_of, numbered, same_entry, holds, place_order, IsDelta}
+use Rattle.sct_delta.specs.Refusals.{message_at, is_same_as, is_other_than, is_held, is_new, is_outside, is_ahead, is_past, is_fork, told, firsts_after, first_refusal, outside_refusal, ahead_refusal, gap_refusal, fork_refusal, vector_of, fresh_in, joined}
+use Rattle.sct_delta.specs.Sites.{is_site}
 use Rattle.sct_delta.specs.declared.fault.DeltaFault.{DeltaFault}
 use Rattle.sct_delta.specs.declared.fault.DeltaFault.TheVariants as fault
-use Rattle.sct_delta.proofs.EntryLemmas.{numbered-append, log_is}
+use Rattle.sct_delta.proofs.EntryLemmas.{numbered-append, log_is, run_is}
 use Rattle.sct_delta.proofs.HeldLemmas.{or_first, or_second, one_entry, holds_from, held_as_run}
 
 -- ---- a delta is refused for nothing
@@ -195,6 +197,15 @@ filter_comm p q (x ∷ es) =
       ]
     ] refl
 
+all_kept : (p q : Placed → Bool) (es : List Placed) → list_all p es ≡ true → list_all p (filter q es) ≡ true
+all_kept p q [] all = refl
+all_kept p q (x ∷ es) all =
+    let parts : (p x ≡ true) × (list_all p es ≡ true) = and_parts (p x) (list_all p es) all in
+    elim (q x) as (λ b. list_all p (cond b (x ∷ filter q es) (filter q es)) ≡ true) [
+      | true ↦ λ i. parts.0 i && all_kept p q es parts.1 i
+      | false ↦ all_kept p q es parts.1
+    ]
+
 pub any_kept : (p q : Placed → Bool) (es : List Placed) → list_any p es ≡ false → list_any p (filter q es) ≡ false
 any_kept p q [] none = refl
 any_kept p q (x ∷ es) none =
@@ -243,6 +254,31 @@ fresh_continues own group log delta shape p o =
       | true ↦ λ t. self_numbered o (vector_of log o + 1) [] (fresh_in log delta) (nothing_fresh log delta o (none_from_0 group delta p.inside o t))
       | false ↦ λ t. let run = shape.runs o in fresh_run log delta o run.first (log_of o delta) run.above_0 t p.no_gap p.no_fork run.follow
     ] refl
+
+-- what is fresh of a delta that fits is a delta
+pub fresh_is_delta : (own group : ℕ) (log : ℕ → List Draft) (delta : List Placed) → IsDelta delta → IsPassed own group log delta → IsDelta (fresh_in log delta)
+fresh_is_delta own group log delta shape p = record {
+  runs = λ o. run_is o (vector_of log o + 1) (log_of o (fresh_in log delta)) (fresh_in log delta) (omega arith) (fresh_continues own group log delta shape p o);
+  rises = IsStrictlySortedBy-filter place_order (λ e. not (is_held log e)) delta shape.rises;
+  sites = all_kept (λ e. is_site e.origin) (λ e. not (is_held log e)) delta shape.sites;
+}
+
+-- of a delta that is no fork, the entries whose numbers are not held are those that are not held
+pub new_is_fresh : (log : ℕ → List Draft) (ds : List Placed) → list_any (is_fork log) ds ≡ false → filter (is_new log) ds ≡ fresh_in log ds
+new_is_fresh log [] none = refl
+new_is_fresh log (d ∷ ds) none =
+    let parts : (is_fork log d ≡ false) × (list_any (is_fork log) ds ≡ false) = or_parts (is_fork log d) (list_any (is_fork log) ds) none in
+    let rest : filter (is_new log) ds ≡ fresh_in log ds = new_is_fresh log ds parts.1 in
+    (elim (message_at (log d.origin) d.n) as (λ held. is_other_than d.message held ≡ false → cond (is_none held) (d ∷ filter (is_new log) ds) (filter (is_new log) ds) ≡ cond (not (is_same_as d.message held)) (d ∷ fresh_in log ds) (fresh_in log ds)) [
+      | None ↦ λ no_fork. ap (λ (es : List Placed). d ∷ es) rest
+      | Some held ↦ λ no_fork. rest ∙ sym (λ i. cond (no_fork i) (d ∷ fresh_in log ds) (fresh_in log ds))
+    ]) parts.0
+
+-- so in logs that hold the same, what is new of a delta that fits is what is fresh of it
+pub kept_fresh : (own group : ℕ) (log held : ℕ → List Draft) (delta ds es : List Placed) → first_refusal own group log delta ≡ None
+    → ((o : ℕ) → held o ≡ log o) → ds ≡ delta → es ≡ filter (is_new held) ds → es ≡ fresh_in log delta
+kept_fresh own group log held delta ds es none same whole is =
+    is ∙ (λ i. filter (is_new (λ o. same o i)) (whole i)) ∙ new_is_fresh log delta (passed own group log delta none).no_fork
 
 -- ---- what is held once a delta was joined
 

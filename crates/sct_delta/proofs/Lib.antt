@@ -15,7 +15,6 @@ pub mod HeldLemmas
 pub mod JoinLemmas
 pub mod LawLemmas
 pub mod ReadingLemmas
-pub mod RefusalLemmas
 pub mod RightFrontLemmas
 pub mod RoomLemmas
 pub mod ShapeLemmas

@@ -24,7 +24,7 @@ one_or_none o e es = elim (nat_eq e.origin o) as (λ b. length (cond b (e ∷ fi
   | false ↦ omega arith
 ]
 
-split_at : (i : ℕ) (es : List Placed) (e : Placed) → i < length es → e ≡ get_or es i e → drop i es ≡ e ∷ drop (i + 1) es
+pub split_at : (i : ℕ) (es : List Placed) (e : Placed) → i < length es → e ≡ get_or es i e → drop i es ≡ e ∷ drop (i + 1) es
 split_at i es e inside is = drop-cons es i e inside ∙ (λ j. sym is j ∷ drop (sym (add-one i) j) es)
 
 pub drop_more : (o i : ℕ) (es : List Placed) (e : Placed) → i < length es → e ≡ get_or es i e

@@ -2,7 +2,7 @@
 -- auditor. Logs and sites use these words.
 use Rattle.std.specs.Prelude.{◌≡◌, ◌+◌, ◌-◌, ◌++◌, ◌&&◌, not, ℕ, Bool, false, List, [], ◌∷◌, filter, length, nat_eq, nat_lt, drop, if◌then◌else◌, Option, Some, None}
 use Rattle.std.specs.List.{find, slice_get}
-use Rattle.std.specs.Option.{option_or}
+use Rattle.std.specs.Option.{is_none, option_or}
 use Rattle.sct_message.specs.declared.draft.Draft.{Draft}
 use Rattle.sct_message.specs.Order.{same_message}
 use Rattle.sct_delta.specs.Entries.{Placed, entries_from, log_of, numbered}
@@ -28,6 +28,10 @@ is_other_than message (Some held) = not (same_message held message)
 -- the entry is held
 abbrev pub is_held : (ℕ → List Draft) → Placed → Bool
 is_held log entry = is_same_as entry.message (message_at (log entry.origin) entry.n)
+
+-- no entry is held under the number of this one
+abbrev pub is_new : (ℕ → List Draft) → Placed → Bool
+is_new log entry = is_none (message_at (log entry.origin) entry.n)
 
 -- the version vector: how many entries of each origin are held
 abbrev pub vector_of : (ℕ → List Draft) → ℕ → ℕ

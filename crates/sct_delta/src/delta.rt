@@ -116,8 +116,8 @@ impl Delta {
         &self.entries
     }
 
-    // Takes the entries out of the delta.
-    pub(crate) fn into_entries(self) -> Vec<Entry>
+    /// Takes the entries out of the delta.
+    pub fn into_entries(self) -> Vec<Entry>
         ensures entries { result.items ≡ self }
         ensures shape { IsDelta result.items }
     {

@@ -1,6 +1,10 @@
 //! An entry: a message under the number that its origin gave it.
 
+ghost use Rattle.std.specs.Prelude.{◌≡◌, map, IfOk};
+ghost use Rattle.sct_message.specs.Sets.{messages_in};
+
 use sct_message::Message;
+use std::alloc::{AllocError, Global};
 use std::marker::Model;
 use std::sync::Arc;
 
@@ -21,4 +25,28 @@ impl Model for Entry {
     ghost Value = { Placed };
 
     ghost view = { λ e. record { origin = e.origin; n = e.n; message = arc_value e.message } };
+}
+
+impl Entry {
+    // A copy that shares the message.
+    pub(crate) fn share(&self) -> Result<Entry, AllocError>
+        ensures { IfOk result (λ entry. entry ≡ self.now) }
+    {
+        Ok(Entry {
+            origin: self.origin,
+            n: self.n,
+            message: self.message.clone()?,
+        })
+    }
+}
+
+/// The messages of the entries, in their order, shared. The only error is that it is out of memory. O(entries).
+pub fn messages_in(alloc: Global, entries: &[Entry]) -> Result<Vec<Arc<Message>>, AllocError>
+    ensures { IfOk result (λ messages. messages_in messages.items ≡ map (λ entry. entry.message) entries.now) }
+{
+    let mut messages = Vec::new(alloc);
+    for entry in entries {
+        messages.push(entry.message.clone()?)?;
+    }
+    Ok(messages)
 }

@@ -10,33 +10,25 @@ use crate::logs::Logs;
 impl Logs {
     ghost use Rattle.sct_delta.specs.declared.fault.DeltaFault.TheVariants as fault;
     ghost use Rattle.sct_delta.specs.Logs.{log_in};
-    ghost use Rattle.sct_delta.specs.Refusals.{is_outside, is_ahead, is_fork, is_past, outside_refusal, ahead_refusal, gap_refusal, fork_refusal, first_refusal};
-
-    fn is_outside(&self, entry: &Entry) -> bool
-        ensures { result ≡ is_outside self.now.group entry.now }
-    {
-        !self.has_site(entry.origin)
-    }
+    ghost use Rattle.sct_delta.specs.Refusals.{is_fork, outside_refusal, ahead_refusal, gap_refusal, fork_refusal, first_refusal};
 
     fn outside(&self, delta: &[Entry]) -> Option<DeltaFault>
         ensures { result ≡ outside_refusal self.now.group delta.now }
     {
-        match delta.iter().find(|entry| self.is_outside(entry)) {
+        match delta.iter().find(|entry| !self.has_site(entry.origin)) {
             Some(_) => Some(DeltaFault::BadSite),
             None => None,
         }
     }
 
-    fn is_ahead(&self, own: u16, entry: &Entry) -> bool
-        ensures { result ≡ is_ahead own (log_in self.now) entry.now }
-    {
-        entry.origin == own && self.count(own) < entry.n
-    }
-
     fn ahead(&self, own: u16, delta: &[Entry]) -> Option<DeltaFault>
         ensures { result ≡ ahead_refusal own (log_in self.now) delta.now }
     {
-        match delta.iter().find(|entry| self.is_ahead(own, entry)) {
+        let count = self.count(own);
+        match delta
+            .iter()
+            .find(|entry| entry.origin == own && count < entry.n)
+        {
             Some(entry) => Some(DeltaFault::OwnAhead { n: entry.n }),
             None => None,
         }
@@ -84,34 +76,29 @@ impl Logs {
         }
     }
 
-    #[tactic(auto, unfolding(crate::specs::Refusals::first_refusal))]
-    fn refusal(&self, own: u16, delta: &[Entry]) -> Option<DeltaFault>
-        ensures { result ≡ first_refusal own self.now.group (log_in self.now) delta.now }
-    {
-        if let Some(refusal) = self.outside(delta) {
-            return Some(refusal);
-        }
-        if let Some(refusal) = self.ahead(own, delta) {
-            return Some(refusal);
-        }
-        if let Some(refusal) = self.gap(delta) {
-            return Some(refusal);
-        }
-        self.fork(delta)
-    }
-
     /// Whether the site `own` accepts a delta. If not, the first of these errors is returned. It does not allocate.
     /// - `BadSite` (44): the group does not have an origin of the delta;
     /// - `OwnAhead` (43): an entry of the own origin is above the own count;
     /// - `Gap` (41): the least number of an origin is past the next one;
     /// - `Fork` (42): a number of the delta is held with another message.
+    #[tactic(auto, unfolding(crate::specs::Refusals::first_refusal))]
     pub fn fits(&self, own: u16, delta: &Delta) -> Result<(), DeltaFault>
         ensures first { MatchOption (first_refusal own self.now.group (log_in self.now) delta.now)
             (result ≡ Ok tt) (λ refusal. result ≡ Err refusal) }
         ensures ok { OnOk result (first_refusal own self.now.group (log_in self.now) delta.now ≡ None) }
         ensures no_memory { IfErr result (λ refusal. refusal ≢ fault.Memory) }
     {
-        match self.refusal(own, delta.entries()) {
+        let entries = delta.entries();
+        if let Some(refusal) = self.outside(entries) {
+            return Err(refusal);
+        }
+        if let Some(refusal) = self.ahead(own, entries) {
+            return Err(refusal);
+        }
+        if let Some(refusal) = self.gap(entries) {
+            return Err(refusal);
+        }
+        match self.fork(entries) {
             Some(refusal) => Err(refusal),
             None => Ok(()),
         }

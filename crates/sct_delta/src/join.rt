@@ -1,18 +1,21 @@
 //! Joins the delta of another site into the logs.
 
-ghost use Rattle.std.specs.Prelude.{◌≡◌, ◌≢◌, ◌≤◌, ◌+◌, ◌++◌, ℕ, None, false, length, OnOk, OnErr, IfOk, IfErr, IsOk, MatchOption};
+ghost use Rattle.std.specs.Prelude.{◌≡◌, ◌≢◌, ◌≤◌, ◌+◌, ◌++◌, ℕ, None, false, map, length, OnOk, OnErr, IfOk, IfErr, IsOk, MatchOption};
 
 use crate::delta::Delta;
 use crate::entry::Entry;
 use crate::fault::DeltaFault;
 use crate::logs::Logs;
+use sct_message::Message;
+use std::sync::Arc;
 
 impl Logs {
     ghost use Rattle.std.specs.List.{list_any};
+    ghost use Rattle.sct_message.specs.Sets.{messages_in};
     ghost use Rattle.sct_delta.specs.declared.fault.DeltaFault.TheVariants as fault;
     ghost use Rattle.sct_delta.specs.Entries.{held_from, log_of};
     ghost use Rattle.sct_delta.specs.Logs.{log_in, room_at, HasRoomFor, HoldSame, KeepsNoEmpty};
-    ghost use Rattle.sct_delta.specs.Refusals.{first_refusal, fresh_in, is_held, is_outside, joined};
+    ghost use Rattle.sct_delta.specs.Refusals.{first_refusal, fresh_in, is_outside, joined};
 
     // Makes room for the entries of a delta. If out of memory, some of the room may have been made.
     fn room_for_each(&mut self, delta: &Delta) -> Result<(), DeltaFault>
@@ -53,25 +56,32 @@ impl Logs {
         Ok(())
     }
 
-    // Whether the logs hold the entry.
-    fn is_held(&self, entry: &Entry) -> bool
-        ensures { result ≡ is_held (log_in self.now) entry.now }
+    /// Appends the messages of entries, each to the log of its origin. There is room for all of them, so it does not
+    /// allocate. O(entries).
+    pub fn append_all(
+        &mut self,
+        entries: &[Entry],
+        messages: Vec<Arc<Message>>,
+    ) -> Result<(), DeltaFault>
+        requires messages { messages_in messages.items ≡ map (λ entry. entry.message) entries.now }
+        requires room { HasRoomFor self.old entries.now }
+        requires inside { list_any (is_outside self.old.group) entries.now ≡ false }
+        ensures group { self.new.group ≡ self.old.group }
+        ensures ok { IsOk result }
+        ensures logs { (origin : ℕ) → log_in self.new origin
+            ≡ log_in self.old origin ++ log_of origin entries.now }
     {
-        match self.get(entry.origin, entry.n) {
-            Some(held) => **held == *entry.message,
-            None => false,
+        let mut place = 0;
+        for message in messages {
+            let entry = &entries[place];
+            self.append(entry.origin, message)?;
+            place += 1;
         }
-    }
-
-    // Removes the entries that the logs hold.
-    fn keep_fresh(&self, entries: &mut Vec<Entry>)
-        ensures { entries.new.items ≡ fresh_in (log_in self.now) entries.old.items }
-    {
-        entries.retain(|entry| !self.is_held(entry));
+        Ok(())
     }
 
     // Appends each entry to the log of its origin. There is room for all of them.
-    fn append_all(&mut self, entries: Vec<Entry>) -> Result<(), DeltaFault>
+    fn append_each(&mut self, entries: Vec<Entry>) -> Result<(), DeltaFault>
         requires room { HasRoomFor self.old entries.items }
         requires inside { list_any (is_outside self.old.group) entries.items ≡ false }
         ensures group { self.new.group ≡ self.old.group }
@@ -104,9 +114,9 @@ impl Logs {
         self.fits(own, &delta)?;
         self.reserve(&delta)?;
         let mut entries = delta.into_entries();
-        self.keep_fresh(&mut entries);
+        entries.retain(|entry| self.is_new(entry));
         let fresh = entries.len() as u64;
-        self.append_all(entries)?;
+        self.append_each(entries)?;
         Ok(fresh)
     }
 }

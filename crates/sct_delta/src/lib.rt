@@ -10,14 +10,13 @@ mod join;
 pub mod laws;
 mod logs;
 mod raise;
-mod share;
 mod shelf;
 mod sites;
 mod text;
 mod vector;
 
 pub use delta::{Delta, entries_make_a_delta};
-pub use entry::Entry;
+pub use entry::{Entry, messages_in};
 pub use fault::DeltaFault;
 pub use logs::Logs;
 pub use sites::MOST_SITES;

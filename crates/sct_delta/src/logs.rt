@@ -1,15 +1,17 @@
 //! The logs of one site: one log for each origin, with the vector that counts their entries.
 
-ghost use Rattle.std.specs.Prelude.{◌≡◌, ◌≢◌, ◌≤◌, ◌+◌, ℕ, [], true, false, length, nat_eq, if◌then◌else◌, OnOk, OnErr, IfOk, IfErr, IsOk, option_map};
+ghost use Rattle.std.specs.Prelude.{◌≡◌, ◌≢◌, ◌≤◌, ◌+◌, ℕ, [], None, true, false, length, nat_eq, not, if◌then◌else◌, OnOk, OnErr, IfOk, IfErr, IsOk, MatchOption, option_map};
 ghost use Rattle.std.specs.Arc.{arc_value};
+ghost use Rattle.std.specs.List.{list_all};
 ghost use Rattle.std.specs.Option.{option_copied};
-ghost use Rattle.sct_delta.specs.Entries.{IsDelta};
+ghost use Rattle.sct_delta.specs.Entries.{entries_from, log_of, numbered, IsDelta};
 ghost use Rattle.sct_delta.specs.Vectors.{count_in};
 ghost use Rattle.sct_delta.specs.Shelves.{log_on};
-ghost use Rattle.sct_delta.specs.Refusals.{appended, has_site, message_at, refusal_at, vector_of, IsCut};
+ghost use Rattle.sct_delta.specs.Refusals.{appended, first_refusal, fresh_in, has_site, is_new, message_at, refusal_at, vector_of, IsCut};
 ghost use Rattle.sct_delta.specs.Sites.{is_group};
 
 use crate::delta::Delta;
+use crate::entry::Entry;
 use crate::fault::DeltaFault;
 use crate::shelf::Shelf;
 use crate::sites::is_site;
@@ -62,6 +64,44 @@ impl Logs {
         ensures { option_map arc_value (option_copied result) ≡ message_at (log_in self.now origin) n }
     {
         self.shelf.get(origin, n)
+    }
+
+    // Whether no entry is held under the number of this one. It looks at no message.
+    pub(crate) fn is_new(&self, entry: &Entry) -> bool
+        ensures { result ≡ is_new (log_in self.now) entry.now }
+    {
+        self.get(entry.origin, entry.n).is_none()
+    }
+
+    /// Whether an entry is held under each number of a delta, whatever its message. It looks at no
+    /// message. O(entries of the delta).
+    pub fn has_numbers(&self, delta: &Delta) -> bool
+        ensures { result ≡ list_all (λ entry. not (is_new (log_in self.now) entry)) delta.now }
+    {
+        delta.entries().iter().all(|entry| !self.is_new(entry))
+    }
+
+    /// The entries of a delta that are not held, in its order, as a delta that shares their messages.
+    /// A delta that the site `own` does not accept is refused as by `fits`. Further error: `Memory` (40).
+    /// The numbers of each origin go on where the logs end.
+    /// O(entries of the delta). A held entry is compared once.
+    pub fn fresh(&self, own: u16, delta: &Delta) -> Result<Delta, DeltaFault>
+        ensures ok { IfOk result (λ fresh. fresh ≡ fresh_in (log_in self.now) delta.now) }
+        ensures goes_on { IfOk result (λ fresh. (origin : ℕ) → entries_from origin fresh
+            ≡ numbered origin (vector_of (log_in self.now) origin + 1) (log_of origin fresh)) }
+        ensures fits { OnOk result (first_refusal own self.now.group (log_in self.now) delta.now ≡ None) }
+        ensures err { IfErr result (λ refusal. MatchOption
+            (first_refusal own self.now.group (log_in self.now) delta.now)
+            (refusal ≡ fault.Memory) (λ first. refusal ≡ first)) }
+    {
+        self.fits(own, delta)?;
+        let mut fresh = Vec::new(self.shelf.allocator());
+        for entry in delta.entries() {
+            if self.is_new(entry) {
+                fresh.push(entry.share()?)?;
+            }
+        }
+        Ok(Delta::of_shape(fresh))
     }
 
     /// The entries numbered above `vector`, of every origin, as a delta. Error: `Memory` (40).

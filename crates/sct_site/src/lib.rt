@@ -2,7 +2,6 @@
 #![tactic(auto)]
 
 mod answers;
-mod fresh;
 mod site;
 
 pub use answers::{Accepted, Took};

@@ -8,8 +8,7 @@ ghost use Rattle.sct_delta.specs.declared.fault.DeltaFault.TheVariants as fault;
 ghost use Rattle.sct_site.specs.Cores.{Core, IsSite, is_open, took_by, arrivals_taken, refusal_by, fresh_of, has_numbers, arrivals_joined, entries_above};
 
 use crate::answers::{Accepted, Took};
-use crate::fresh::{are_numbers_held, messages_in, new_in};
-use sct_delta::{Delta, DeltaFault, Entry, Logs, Vector};
+use sct_delta::{Delta, DeltaFault, Entry, Logs, Vector, messages_in};
 use sct_message::Message;
 use sct_set::Archive;
 use std::alloc::Global;
@@ -132,46 +131,7 @@ impl SiteCore {
     pub fn has_numbers(&self, delta: &Delta) -> bool
         ensures { result ≡ has_numbers self.now.arrivals delta.now }
     {
-        are_numbers_held(&self.logs, delta.entries())
-    }
-
-    // The first reason why the site does not accept a delta, or none.
-    fn refusal(&self, delta: &Delta) -> Option<DeltaFault>
-        ensures first { result ≡ refusal_by self.now delta.now }
-        ensures site { IsSite self.now }
-    {
-        match self.logs.fits(self.number, delta) {
-            Ok(()) => None,
-            Err(refusal) => Some(refusal),
-        }
-    }
-
-    // Adds the entries of a delta that fits. If out of memory, nothing changes.
-    fn admit(&mut self, delta: &Delta) -> Result<Accepted, DeltaFault>
-        requires { refusal_by self.old delta.now ≡ None }
-        ensures answer { IfOk result (λ accepted. accepted.fresh
-            ≡ length (fresh_of self.old.arrivals delta.now)) }
-        ensures number { self.new.number ≡ self.old.number }
-        ensures group { self.new.group ≡ self.old.group }
-        ensures ok { OnOk result (self.new.arrivals ≡ arrivals_joined self.old.arrivals delta.now) }
-        ensures err { IfErr result (λ refusal. refusal ≡ fault.Memory) }
-        ensures unchanged { OnErr result (self.new ≡ self.old) }
-    {
-        let mut fresh = new_in(self.alloc, &self.logs, delta.entries())?;
-        if fresh.is_empty() {
-            return Ok(Accepted { fresh: 0 });
-        }
-        let copy = delta.share(self.alloc)?;
-        let messages = messages_in(self.alloc, &fresh)?;
-        self.arrivals.reserve(fresh.len())?;
-        self.logs.reserve(&copy)?;
-        if let Err(_) = self.archive.add_all(&messages) {
-            self.logs.drop_empty();
-            return Err(DeltaFault::Memory);
-        }
-        let count = self.logs.join(self.number, copy)?;
-        self.arrivals.append(&mut fresh)?;
-        Ok(Accepted { fresh: count })
+        self.logs.has_numbers(delta)
     }
 
     /// Accepts another site's delta. The entries that the site does not hold are added, in the delta's order.
@@ -193,10 +153,19 @@ impl SiteCore {
         ensures unchanged { OnErr result (self.new ≡ self.old) }
         ensures site { IsSite self.old }
     {
-        if let Some(refusal) = self.refusal(delta) {
-            return Err(refusal);
+        let fresh = self.logs.fresh(self.number, delta)?;
+        let messages = messages_in(self.alloc, fresh.entries())?;
+        self.arrivals.reserve(fresh.entries().len())?;
+        self.logs.reserve(&fresh)?;
+        if let Err(_) = self.archive.add_all(&messages) {
+            self.logs.drop_empty();
+            return Err(DeltaFault::Memory);
         }
-        self.admit(delta)
+        let mut entries = fresh.into_entries();
+        let count = entries.len() as u64;
+        self.logs.append_all(&entries, messages)?;
+        self.arrivals.append(&mut entries)?;
+        Ok(Accepted { fresh: count })
     }
 
     /// The entries numbered above `vector`, of every origin, as a delta. Error: `Memory` (40).

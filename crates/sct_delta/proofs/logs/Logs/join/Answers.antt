@@ -1,22 +1,34 @@
--- There is room for what is fresh of a delta where there is room for the delta.
-use Rattle.std.proofs.Common.{◌≡◌, ◌∙◌, ap, arith, not}
-use Rattle.sct_delta.specs.Entries.{held_from}
-use Rattle.sct_delta.specs.Logs.{log_in}
+-- What is kept of a delta is what is fresh of it, and there is room for that where there is room for the delta.
+use Rattle.std.proofs.Common.{◌≡◌, ◌∙◌, ◌++◌, ap, arith, not, length, rules}
+use Rattle.std.proofs.lemmas.Fn.{filter_same}
 use Rattle.std.specs.List.{list_any}
-use Rattle.sct_delta.specs.Refusals.{is_held, is_outside, fresh_in}
-use Rattle.sct_delta.proofs.JoinLemmas.{passed, any_kept}
+use Rattle.sct_delta.specs.Entries.{held_from, log_of}
+use Rattle.sct_delta.specs.Logs.{log_in}
+use Rattle.sct_delta.specs.Refusals.{is_held, is_new, is_outside, fresh_in}
+use Rattle.sct_delta.proofs.JoinLemmas.{passed, any_kept, kept_fresh}
 use Rattle.sct_delta.proofs.RoomLemmas.{held_fewer}
 use Rattle.sct_delta.proofs.logs.Logs.join.Goals as goal
 
-pub append_all-requires : goal.append_all-requires
-append_all-requires c =
-    let held = log_in c.reserve.new.self in
-    let fresh : c.keep_fresh.new.entries.items ≡ fresh_in held c.args.delta =
-    c.keep_fresh.ensures ∙ ap (fresh_in held) c.into_entries-entries.ensures.entries in
-    let group : c.reserve.new.self.group ≡ c.args.self.now.group = c.in_ok-reserve.ensures.group in
-    let passes = passed c.args.own c.args.self.now.group (log_in c.args.self.now) c.args.delta c.in_ok-fits.ensures.ok in
+pub append_each-requires : goal.append_each-requires
+append_each-requires c =
+    let held = log_in c.args.self.now in
+    let kept : c.retain.new.self.items ≡ fresh_in held c.args.delta =
+    kept_fresh c.args.own c.args.self.now.group held (log_in c.reserve.new.self) c.args.delta _ _ c.in_ok-fits.ensures.ok c.in_ok-reserve.ensures.same c.into_entries-entries.ensures.entries
+    (filter_same _ (is_new (log_in c.reserve.new.self)) _ (λ x b f' k. search rules) _ _ c.retain.ensures.filtered) in
     record {
-      room = λ o. let count : held_from o c.keep_fresh.new.entries.items ≡ held_from o (fresh_in held c.args.delta) = ap (held_from o) fresh in
-          omega (arith, count, c.in_ok-reserve.ensures.ok o, held_fewer o (λ entry. not (is_held held entry)) c.args.delta);
-      inside = (λ i. list_any (is_outside (group i)) (fresh i)) ∙ any_kept (is_outside c.args.self.now.group) (λ entry. not (is_held held entry)) c.args.delta passes.inside;
+      room = λ o. omega (arith, ap (held_from o) kept, c.in_ok-reserve.ensures.ok o, held_fewer o (λ entry. not (is_held held entry)) c.args.delta);
+      inside = (λ i. list_any (is_outside (c.in_ok-reserve.ensures.group i)) (kept i))
+          ∙ any_kept (is_outside c.args.self.now.group) (λ entry. not (is_held held entry)) c.args.delta
+          (passed c.args.own c.args.self.now.group held c.args.delta c.in_ok-fits.ensures.ok).inside;
     }
+
+fresh : (c : goal.In_ok-append_each) → c.retain.new.self.items ≡ fresh_in (log_in c.args.self.now) c.args.delta
+fresh c =
+    kept_fresh c.args.own c.args.self.now.group (log_in c.args.self.now) (log_in c.reserve.new.self) c.args.delta _ _ c.in_ok-fits.ensures.ok c.in_ok-reserve.ensures.same c.into_entries-entries.ensures.entries
+    (filter_same _ (is_new (log_in c.reserve.new.self)) _ (λ x b f' k. search rules) _ _ c.retain.ensures.filtered)
+
+pub returns-clause-answer : goal.returns-clause-answer
+returns-clause-answer c = omega (arith, c.retain.new.self.ok, c.len-fresh.ensures, ap length (fresh c))
+
+pub returns-clause-ok : goal.returns-clause-ok
+returns-clause-ok c = λ o. c.in_ok-append_each.ensures.logs o ∙ (λ i. c.in_ok-reserve.ensures.same o i ++ log_of o (fresh c i))

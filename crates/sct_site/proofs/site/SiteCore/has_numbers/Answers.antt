@@ -8,6 +8,6 @@ use Rattle.sct_site.proofs.site.SiteCore.has_numbers.Goals as goal
 
 pub returns : goal.returns
 returns c =
-    c.are_numbers_held.ensures
-    ∙ (λ i. list_all (λ e. not (is_none (message_at (c.self.invariant.by_origin e.origin i) e.n))) (c.entries.ensures.entries i))
+    c.has_numbers.ensures
+    ∙ (λ i. list_all (λ e. not (is_none (message_at (c.self.invariant.by_origin e.origin i) e.n))) c.args.delta.now)
     ∙ ap (λ (core : Core). has_numbers core.arrivals c.args.delta.now) c.self.view_is
