@@ -15,7 +15,7 @@ use Rattle.sct_message.specs.Keys.{identity_of, transfers_of}
 use Rattle.sct_message.specs.Order.{identity_order, message_order, same_transfer, transfer_order}
 use Rattle.sct_message.specs.OrderLaws.{identity_total, identities_same, message_total, message_same, transfer_total, transfers_same}
 use Rattle.sct_message.specs.Sets.{MessageSet, in_order, is_contradicted}
-use Rattle.sct_message.specs.Transfers.{is_on, instruction_of, keys_of, messages_on, asides_of}
+use Rattle.sct_message.specs.Transfers.{is_on, keys_of, messages_on, asides_of}
 use Rattle.sct_message.specs.declared.draft.Draft.{Draft}
 use Rattle.sct_message.specs.declared.keys.TransferKey.{TransferKey}
 use Rattle.sct_message.proofs.AscendingLemmas.{any_ascending, ascending-filter, ascending-same, ascending-sorted}
@@ -30,7 +30,9 @@ use Rattle.sct_set.proofs.ContentsLemmas.{any_items, union-none}
 use Rattle.sct_set.specs.Contents.{contents_of}
 use Rattle.sct_view.specs.Answers.{recall_of, status_of}
 use Rattle.sct_view.specs.Filed.{HasThose}
-use Rattle.sct_view.specs.Kept.{Kept, AreTotalsOver, IsSmall, IsViewOf, case_at, case_of, instruction_in, kept_or_none, totals_or_none, contradicted_on, no_messages, same_key, share_in, totals_at}
+use Rattle.sct_view.specs.Listed.{lines_of_recalls}
+use Rattle.sct_view.specs.StatusText.{recall_line}
+use Rattle.sct_view.specs.Kept.{Kept, AreTotalsOver, IsSmall, IsViewOf, case_at, case_of, kept_or_none, totals_or_none, contradicted_on, no_messages, same_key, share_in, totals_at}
 use Rattle.indexmap.specs.IndexMap.{IndexMap}
 use Rattle.sct_view.specs.declared.case.Case.{Case}
 use Rattle.sct_view.specs.declared.totals.Totals.{Totals}
@@ -229,42 +231,38 @@ empty_view s cases totals e no_cases none =
     built_all s cases totals [] (sym (ascending-sorted transfer_total transfers_same [] tt) ∙ keys-contents s [] (sym e))
     (built_none s cases totals (no_case_in cases no_cases) (no_totals_in totals none))
 
-module _ (s u : MessageSet) (is : s ≡ u) (t : TransferKey) (kept : Kept) (e : kept ≡ case_of s t) where
-  pub status_told : kept.stands ≡ status_of u t
-  unfolding case_of
-  status_told = ap (λ (k : Kept). k.stands) e ∙ ap (λ (v : MessageSet). status_of v t) is
-
-  pub instruction_told : instruction_in kept ≡ instruction_of u t
-  unfolding case_of
-  instruction_told = ap (λ (k : Kept). instruction_in k) e ∙ ap (λ (v : MessageSet). instruction_of v t) is
-
--- what is told of a recall by what is kept of its transfer
-pub recall_told : (s u : MessageSet) → s ≡ u → (r : RecallKey) (kept : Kept) → kept ≡ case_of s r.transfer → (stands : RecallStatus)
+-- the status of a recall by the case of its transfer
+pub recall_told : (s : MessageSet) (r : RecallKey) (kept : Kept) → kept ≡ case_of s r.transfer → (stands : RecallStatus)
     → ((asides : List Identity) → kept.stands ≡ transfer_status_of r.transfer kept.clean asides
     → stands ≡ recall_status_of r.transfer kept.clean asides r.cxl)
-    → stands ≡ recall_of u r
+    → stands ≡ recall_of s r
 unfolding case_of status_of recall_of
-recall_told s u is r kept e stands told_by =
+recall_told s r kept e stands told_by =
     let t = r.transfer in
     let clean : kept.clean ≡ messages_on s t = ap (λ (k : Kept). k.clean) e in
     let status : kept.stands ≡ transfer_status_of t kept.clean (asides_of s t) =
     ap (λ (k : Kept). k.stands) e ∙ sym (ap (λ (ms : List Draft). transfer_status_of t ms (asides_of s t)) clean) in
     told_by (asides_of s t) status
     ∙ ap (λ (ms : List Draft). recall_status_of t ms (asides_of s t) r.cxl) clean
-    ∙ ap (λ (v : MessageSet). recall_of v r) is
 
--- the same of each of some recalls
-pub recalls_told : (s : MessageSet) (t : TransferKey) (kept : Kept) → kept ≡ case_of s t → (cxls : List (List ℕ)) (found : List (List ℕ × RecallStatus))
+-- the lines of some recalls by the case of their transfer
+each_made : {X Y : Type 0} (line : Y → List ℕ) (made : X → Y) (xs : List X) → flat_map line (map made xs) ≡ flat_map (λ x. line (made x)) xs
+each_made line made [] = refl
+each_made line made (x ∷ xs) = ap (λ (l : List ℕ). line (made x) ++ l) (each_made line made xs)
+
+pub lines_told : (s : MessageSet) (t : TransferKey) (kept : Kept) → kept ≡ case_of s t → (cxls : List (List ℕ)) (found : List (List ℕ × RecallStatus))
     → ((asides : List Identity) → kept.stands ≡ transfer_status_of t kept.clean asides
     → found ≡ map (λ cxl. (cxl, recall_status_of t kept.clean asides cxl)) cxls)
-    → found ≡ map (λ cxl. (cxl, recall_of s (record { transfer = t; cxl = cxl }))) cxls
+    → flat_map (λ recall. recall_line t recall.0 recall.1) found ≡ lines_of_recalls s t cxls
 unfolding case_of status_of recall_of
-recalls_told s t kept e cxls found told_by =
+lines_told s t kept e cxls found told_by =
     let clean : kept.clean ≡ messages_on s t = ap (λ (k : Kept). k.clean) e in
     let status : kept.stands ≡ transfer_status_of t kept.clean (asides_of s t) =
     ap (λ (k : Kept). k.stands) e ∙ sym (ap (λ (ms : List Draft). transfer_status_of t ms (asides_of s t)) clean) in
-    told_by (asides_of s t) status
-    ∙ ap (λ (ms : List Draft). map (λ cxl. (cxl, recall_status_of t ms (asides_of s t) cxl)) cxls) clean
+    ap (λ (rs : List (List ℕ × RecallStatus)). flat_map (λ recall. recall_line t recall.0 recall.1) rs)
+    (told_by (asides_of s t) status
+    ∙ ap (λ (ms : List Draft). map (λ cxl. (cxl, recall_status_of t ms (asides_of s t) cxl)) cxls) clean)
+    ∙ each_made (λ recall. recall_line t recall.0 recall.1) (λ cxl. (cxl, recall_of s (record { transfer = t; cxl = cxl }))) cxls
 
 -- of a transfer without messages nothing is recalled
 pub nothing_recalled : (t : TransferKey) (cxl : List ℕ) (asides : List Identity) → Unknown ≡ transfer_status_of t [] asides

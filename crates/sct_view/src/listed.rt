@@ -1,36 +1,25 @@
-//! The lists that the tables of a view give.
-ghost use Rattle.std.specs.Prelude.{◌≡◌, ◌++◌, ◌∷◌, ◌||◌, [], List, map, filter, not, if◌then◌else◌, IfOk, OnOk};
+//! The lists that a view gives.
+
+ghost use Rattle.std.specs.Prelude.{◌≡◌, ◌++◌, IfOk, OnOk};
 ghost use Rattle.std.specs.List.{flat_map};
-ghost use Rattle.std.specs.Option.{option_copied};
 ghost use Rattle.indexmap.specs.IndexMap.{IsUnique};
 ghost use Rattle.sct_message.specs.Sets.{messages_in};
 ghost use Rattle.sct_message.specs.Transfers.{keys_of, instruction_of};
-ghost use Rattle.sct_message.specs.declared.keys.TransferKey.{TransferKey as TransferOf};
 ghost use Rattle.sct_view.specs.Answers.{cxls_named_by, recalls_of, all_findings_of, transfers_of, is_originator, is_beneficiary, found_on};
-ghost use Rattle.sct_view.specs.Kept.{kept_in, kept_or_none, same_key, case_at, case_of, instruction_in};
-ghost use Rattle.sct_view.specs.Listed.{beside, cxls_in, has_messages, keys_with, recalls_in};
+ghost use Rattle.sct_view.specs.Kept.{kept_in, same_key, instruction_in};
+ghost use Rattle.sct_view.specs.Listed.{cxls_in, has_messages, keys_with, recalls_in};
 
 use crate::case::Case;
 use crate::found::{findings_in, push_beside};
+use crate::view::View;
 use indexmap::IndexMap;
 use sct_case::{CaseFault, Finding};
 use sct_element::{Bic, Id35};
 use sct_message::{Message, RecallKey, TransferKey, keys_are_ordered};
-use sct_set::Archive;
 use std::alloc::{AllocError, Global};
 use std::sync::Arc;
 
 // ---- one transfer
-
-/// The case of a transfer, if the table has one.
-pub(crate) fn case_in<'a>(
-    cases: &'a IndexMap<TransferKey, Case>,
-    transfer: &TransferKey,
-) -> Option<&'a Case>
-    ensures { kept_or_none (option_copied result) ≡ case_at cases.now transfer.now }
-{
-    cases.get(transfer)
-}
 
 // Appends the identification of a recall, if it is a recall of the transfer.
 fn push_where_of(
@@ -105,22 +94,6 @@ pub(crate) fn recalls_in(
     Ok(found)
 }
 
-/// The recalls of a transfer that messages held name, contradicted messages included, ascending, each once.
-pub(crate) fn recalls_of(
-    alloc: Global,
-    archive: &Archive,
-    cases: &IndexMap<TransferKey, Case>,
-    transfer: &TransferKey,
-) -> Result<Vec<Id35>, CaseFault>
-    requires { (t : TransferOf) → case_at cases.now t ≡ case_of archive.now t }
-    ensures { IfOk result (λ found. found.items ≡ recalls_of archive.now transfer.now) }
-{
-    match case_in(cases, transfer) {
-        Some(case) => Ok(recalls_in(alloc, transfer, case)?),
-        None => Ok(Vec::new(alloc)),
-    }
-}
-
 // ---- all transfers
 
 // Whether a case has a message.
@@ -147,57 +120,6 @@ fn keys_kept(
     Ok(keys)
 }
 
-/// The transfers that messages held are on, ascending.
-pub(crate) fn keys(
-    alloc: Global,
-    archive: &Archive,
-    cases: &IndexMap<TransferKey, Case>,
-) -> Result<Vec<TransferKey>, CaseFault>
-    requires { (t : TransferOf) → case_at cases.now t ≡ case_of archive.now t }
-    ensures { IfOk result (λ keys. keys.items ≡ keys_of archive.now) }
-{
-    keys_are_ordered();
-    let mut keys = keys_kept(alloc, cases)?;
-    keys.sort()?;
-    keys.dedup();
-    Ok(keys)
-}
-
-// Appends the findings of a transfer, each with the transfer's key.
-fn push_found(
-    found: &mut Vec<(TransferKey, Finding)>,
-    archive: &Archive,
-    cases: &IndexMap<TransferKey, Case>,
-    transfer: &TransferKey,
-) -> Result<(), AllocError>
-    requires { (t : TransferOf) → case_at cases.now t ≡ case_of archive.now t }
-    ensures { OnOk result (found.new.items
-        ≡ found.old.items ++ beside transfer.now (found_on archive.now transfer.now)) }
-{
-    match case_in(cases, transfer) {
-        Some(case) => push_beside(found, transfer, findings_in(&case.status)),
-        None => Ok(()),
-    }
-}
-
-/// All findings, each with its transfer, sorted by transfer and then in the order in which findings are reported.
-#[tactic(auto, unfolding(crate::specs::Answers::all_findings_of))]
-pub(crate) fn all_findings(
-    alloc: Global,
-    archive: &Archive,
-    cases: &IndexMap<TransferKey, Case>,
-) -> Result<Vec<(TransferKey, Finding)>, CaseFault>
-    requires { (t : TransferOf) → case_at cases.now t ≡ case_of archive.now t }
-    ensures { IfOk result (λ found. found.items ≡ all_findings_of archive.now) }
-{
-    let transfers = keys(alloc, archive, cases)?;
-    let mut found = Vec::new(alloc);
-    for transfer in &transfers {
-        push_found(&mut found, archive, cases, transfer)?;
-    }
-    Ok(found)
-}
-
 // ---- the transfers of a bank
 
 fn is_originator(bank: &Bic, transfer: &TransferKey) -> bool
@@ -215,39 +137,76 @@ fn is_beneficiary(bank: &Bic, case: &Case) -> bool
     }
 }
 
-// Whether the bank is the beneficiary bank of the transfer's instruction.
-fn is_paid(
-    bank: &Bic,
-    archive: &Archive,
-    cases: &IndexMap<TransferKey, Case>,
-    transfer: &TransferKey,
-) -> bool
-    requires { (t : TransferOf) → case_at cases.now t ≡ case_of archive.now t }
-    ensures { result ≡ is_beneficiary bank.now (instruction_of archive.now transfer.now) }
-{
-    match case_in(cases, transfer) {
-        Some(case) => is_beneficiary(bank, case),
-        None => false,
-    }
-}
+// ---- the lists of a view
 
-/// The transfers that have a bank as the originator bank, or as the beneficiary bank of their instruction, ascending.
-#[tactic(auto, unfolding(crate::specs::Answers::transfers_of))]
-pub(crate) fn transfers_of(
-    alloc: Global,
-    archive: &Archive,
-    cases: &IndexMap<TransferKey, Case>,
-    bank: &Bic,
-) -> Result<Vec<TransferKey>, CaseFault>
-    requires { (t : TransferOf) → case_at cases.now t ≡ case_of archive.now t }
-    ensures { IfOk result (λ transfers. transfers.items ≡ transfers_of archive.now bank.now) }
-{
-    let keys = keys(alloc, archive, cases)?;
-    let mut transfers = Vec::new(alloc);
-    for transfer in keys {
-        if is_originator(bank, &transfer) || is_paid(bank, archive, cases, &transfer) {
-            transfers.push(transfer)?;
+impl View {
+    // The findings of a transfer.
+    fn findings(&self, transfer: &TransferKey) -> &[Finding]
+        ensures { result.now ≡ found_on self.now transfer.now }
+    {
+        findings_in(self.status(transfer))
+    }
+
+    // Whether the bank is the beneficiary bank of the transfer's instruction.
+    fn is_paid(&self, bank: &Bic, transfer: &TransferKey) -> bool
+        ensures { result ≡ is_beneficiary bank.now (instruction_of self.now transfer.now) }
+    {
+        match self.case_on(transfer) {
+            Some(case) => is_beneficiary(bank, case),
+            None => false,
         }
     }
-    Ok(transfers)
+
+    /// The transfers that messages held are on, ascending. Error: `Memory` (39). O(n log n) in the transfers held.
+    pub fn keys(&self) -> Result<Vec<TransferKey>, CaseFault>
+        ensures { IfOk result (λ keys. keys.items ≡ keys_of self.now) }
+    {
+        keys_are_ordered();
+        let mut keys = keys_kept(self.alloc, &self.cases)?;
+        keys.sort()?;
+        keys.dedup();
+        Ok(keys)
+    }
+
+    /// The recalls of a transfer that messages held name, contradicted messages included,
+    /// ascending. Error: `Memory` (39).
+    pub fn recalls_of(&self, transfer: &TransferKey) -> Result<Vec<Id35>, CaseFault>
+        ensures { IfOk result (λ recalls. recalls.items ≡ recalls_of self.now transfer.now) }
+    {
+        match self.case_on(transfer) {
+            Some(case) => Ok(recalls_in(self.alloc, transfer, case)?),
+            None => Ok(Vec::new(self.alloc)),
+        }
+    }
+
+    /// The transfers that have a bank as the originator bank, or as the beneficiary bank
+    /// of their instruction, ascending.
+    /// Error: `Memory` (39). It looks at every transfer held.
+    #[tactic(auto, unfolding(crate::specs::Answers::transfers_of))]
+    pub fn transfers_of(&self, bank: &Bic) -> Result<Vec<TransferKey>, CaseFault>
+        ensures { IfOk result (λ transfers. transfers.items ≡ transfers_of self.now bank.now) }
+    {
+        let keys = self.keys()?;
+        let mut transfers = Vec::new(self.alloc);
+        for transfer in keys {
+            if is_originator(bank, &transfer) || self.is_paid(bank, &transfer) {
+                transfers.push(transfer)?;
+            }
+        }
+        Ok(transfers)
+    }
+
+    /// All findings, each with its transfer, sorted by transfer and then in the order in which findings are reported.
+    /// Error: `Memory` (39). It looks at every transfer held.
+    #[tactic(auto, unfolding(crate::specs::Answers::all_findings_of))]
+    pub fn all_findings(&self) -> Result<Vec<(TransferKey, Finding)>, CaseFault>
+        ensures { IfOk result (λ found. found.items ≡ all_findings_of self.now) }
+    {
+        let transfers = self.keys()?;
+        let mut found = Vec::new(self.alloc);
+        for transfer in &transfers {
+            push_beside(&mut found, transfer, self.findings(transfer))?;
+        }
+        Ok(found)
+    }
 }

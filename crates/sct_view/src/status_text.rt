@@ -1,21 +1,17 @@
-//! The status text.
+//! The status text of a view.
+
 ghost use Rattle.std.specs.Prelude.{◌≡◌, ◌++◌, IfOk, OnOk, string_bytes};
 ghost use Rattle.std.specs.List.{flat_map};
-ghost use Rattle.sct_message.specs.declared.keys.TransferKey.{TransferKey as TransferOf};
-ghost use Rattle.sct_view.specs.Kept.{kept_in, case_at, case_of};
-ghost use Rattle.sct_view.specs.Listed.{lines_of_recalls};
 ghost use Rattle.sct_view.specs.StatusText.{finding_line, lines_on, recall_line, status_text_of};
 
-use crate::case::Case;
 use crate::found::findings_in;
-use crate::listed::{case_in, keys, recalls_in};
+use crate::listed::recalls_in;
+use crate::view::View;
 use crate::words::{push_finding_line, push_recall_line, push_status_line};
-use indexmap::IndexMap;
 use sct_case::{CaseFault, Finding, RecallStatus, Status, recall_statuses};
 use sct_element::Id35;
 use sct_message::TransferKey;
-use sct_set::Archive;
-use std::alloc::{AllocError, Global};
+use std::alloc::AllocError;
 
 // Appends the F line of each finding.
 fn push_findings(
@@ -47,88 +43,47 @@ fn push_recall_lines(
     Ok(())
 }
 
-// Appends the R line of each of the recalls, by the transfer's case.
-fn push_recalls(
-    alloc: Global,
-    text: &mut String,
-    archive: &Archive,
-    transfer: &TransferKey,
-    case: &Case,
-    cxls: &[Id35],
-) -> Result<(), CaseFault>
-    requires { kept_in case.now ≡ case_of archive.now transfer.now }
-    ensures { OnOk result (string_bytes text.new
-        ≡ string_bytes text.old ++ lines_of_recalls archive.now transfer.now cxls.now) }
-{
-    let recalls = recall_statuses(alloc, &case.status, transfer, &case.clean, cxls)?;
-    Ok(push_recall_lines(text, transfer, &recalls)?)
-}
-
-// Appends the lines of a transfer, by its case: its T line, its F lines and its R lines.
-fn push_case(
-    alloc: Global,
-    text: &mut String,
-    archive: &Archive,
-    transfer: &TransferKey,
-    case: &Case,
-) -> Result<(), CaseFault>
-    requires { kept_in case.now ≡ case_of archive.now transfer.now }
-    ensures { OnOk result (string_bytes text.new ≡ string_bytes text.old ++ lines_on archive.now transfer.now) }
-{
-    push_status_line(text, transfer, &case.status)?;
-    push_findings(text, transfer, findings_in(&case.status))?;
-    let cxls = recalls_in(alloc, transfer, case)?;
-    push_recalls(alloc, text, archive, transfer, case, &cxls)?;
-    Ok(())
-}
-
-// Appends the lines of a transfer. A transfer without a case is unknown.
-fn push_transfer(
-    alloc: Global,
-    text: &mut String,
-    archive: &Archive,
-    cases: &IndexMap<TransferKey, Case>,
-    transfer: &TransferKey,
-) -> Result<(), CaseFault>
-    requires { (t : TransferOf) → case_at cases.now t ≡ case_of archive.now t }
-    ensures { OnOk result (string_bytes text.new ≡ string_bytes text.old ++ lines_on archive.now transfer.now) }
-{
-    match case_in(cases, transfer) {
-        Some(case) => push_case(alloc, text, archive, transfer, case),
-        None => Ok(push_status_line(text, transfer, &Status::Unknown)?),
+impl View {
+    // Appends the lines of a transfer: its T line, its F lines and its R lines. A transfer without a case is unknown.
+    fn push_transfer(&self, text: &mut String, transfer: &TransferKey) -> Result<(), CaseFault>
+        ensures { OnOk result (string_bytes text.new ≡ string_bytes text.old ++ lines_on self.now transfer.now) }
+    {
+        let Some(case) = self.case_on(transfer) else {
+            return Ok(push_status_line(text, transfer, &Status::Unknown)?);
+        };
+        push_status_line(text, transfer, &case.status)?;
+        push_findings(text, transfer, findings_in(&case.status))?;
+        let cxls = recalls_in(self.alloc, transfer, case)?;
+        let recalls = recall_statuses(self.alloc, &case.status, transfer, &case.clean, &cxls)?;
+        push_recall_lines(text, transfer, &recalls)?;
+        Ok(())
     }
-}
 
-/// Appends the lines of each of the transfers.
-pub(crate) fn push_transfers(
-    alloc: Global,
-    text: &mut String,
-    archive: &Archive,
-    cases: &IndexMap<TransferKey, Case>,
-    transfers: &[TransferKey],
-) -> Result<(), CaseFault>
-    requires { (t : TransferOf) → case_at cases.now t ≡ case_of archive.now t }
-    ensures { OnOk result (string_bytes text.new
-        ≡ string_bytes text.old ++ flat_map (lines_on archive.now) transfers.now) }
-{
-    for transfer in transfers {
-        push_transfer(alloc, text, archive, cases, transfer)?;
+    /// Appends the lines of each of the transfers.
+    pub(crate) fn push_transfers(
+        &self,
+        text: &mut String,
+        transfers: &[TransferKey],
+    ) -> Result<(), CaseFault>
+        ensures { OnOk result (string_bytes text.new
+            ≡ string_bytes text.old ++ flat_map (lines_on self.now) transfers.now) }
+    {
+        for transfer in transfers {
+            self.push_transfer(text, transfer)?;
+        }
+        Ok(())
     }
-    Ok(())
-}
 
-/// The status text of the messages held.
-#[tactic(auto, unfolding(crate::specs::StatusText::status_text_of))]
-pub(crate) fn status_text(
-    alloc: Global,
-    archive: &Archive,
-    cases: &IndexMap<TransferKey, Case>,
-) -> Result<Vec<u8>, CaseFault>
-    requires { (t : TransferOf) → case_at cases.now t ≡ case_of archive.now t }
-    ensures { IfOk result (λ text. text.items ≡ status_text_of archive.now) }
-{
-    let transfers = keys(alloc, archive, cases)?;
-    let mut text = String::new(alloc);
-    push_transfers(alloc, &mut text, archive, cases, &transfers)?;
-    Ok(text.into_bytes())
+    /// The status text in bytes, with a line for each transfer, each finding and each
+    /// recall, and a line feed after each line.
+    /// Error: `Memory` (39). It sorts the transfers held: O(n log n).
+    #[tactic(auto, unfolding(crate::specs::StatusText::status_text_of))]
+    pub fn status_text(&self) -> Result<Vec<u8>, CaseFault>
+        ensures { IfOk result (λ text. text.items ≡ status_text_of self.now) }
+    {
+        let transfers = self.keys()?;
+        let mut text = String::new(self.alloc);
+        self.push_transfers(&mut text, &transfers)?;
+        Ok(text.into_bytes())
+    }
 }

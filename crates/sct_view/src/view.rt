@@ -8,25 +8,21 @@ ghost use Rattle.sct_case.specs.Statuses.{told};
 ghost use Rattle.sct_message.specs.Sets.{messages_in};
 ghost use Rattle.sct_message.specs.Transfers.{instruction_of};
 ghost use Rattle.sct_set.specs.Contents.{contents_of};
-ghost use Rattle.sct_set.specs.Pieces.{joined};
 ghost use Rattle.sct_view.specs.Answers.{recall_of, status_of};
+ghost use Rattle.sct_view.specs.Kept.{case_of, kept_or_none};
 ghost use Rattle.sct_view.specs.Totals.{totals_of};
 ghost use Rattle.sct_view.specs.Touched.{AreOnAtMost, touched_in};
 
 use crate::case::Case;
 use crate::commit::commit_all;
-use crate::listed::{all_findings, keys, recalls_of, transfers_of};
 use crate::parts::filled_in_parts;
 use crate::rebuild::tables_of;
 use crate::replanning::{Replanned, replan};
 use crate::room::make_room;
-use crate::status_parts::status_pieces;
-use crate::status_text::status_text;
 use crate::totals::Totals;
-use crate::totals_text::{banks, totals_text};
 use indexmap::IndexMap;
-use sct_case::{CaseFault, Finding, RecallStatus, Status, recall_status_by};
-use sct_element::{Bic, Id35};
+use sct_case::{CaseFault, RecallStatus, Status, recall_status_by};
+use sct_element::Bic;
 use sct_message::{Message, RecallKey, TransferKey};
 use sct_set::Archive;
 use std::alloc::Global;
@@ -58,10 +54,10 @@ fn brought_by(plan: &Replanned) -> Applied
 /// Messages, each held once, with the case of each transfer and the totals of each bank.
 #[derive(Drop)]
 pub struct View {
-    alloc: Global,
+    pub(crate) alloc: Global,
     archive: Archive,
-    cases: IndexMap<TransferKey, Case>,
-    totals: IndexMap<Bic, Totals>,
+    pub(crate) cases: IndexMap<TransferKey, Case>,
+    pub(crate) totals: IndexMap<Bic, Totals>,
     unknown: Status,
 }
 
@@ -163,11 +159,18 @@ impl View {
         Ok(brought)
     }
 
+    /// The case of a transfer, if the view has one. Expected O(1).
+    pub(crate) fn case_on(&self, transfer: &TransferKey) -> Option<&Case>
+        ensures { kept_or_none (option_copied result) ≡ case_of self.now transfer.now }
+    {
+        self.cases.get(transfer)
+    }
+
     /// The status of a transfer; `Unknown` if no message is on it. Expected O(1).
     pub fn status(&self, transfer: &TransferKey) -> &Status
         ensures { told result.now ≡ status_of self.now transfer.now }
     {
-        match self.cases.get(transfer) {
+        match self.case_on(transfer) {
             Some(case) => &case.status,
             None => &self.unknown,
         }
@@ -177,7 +180,7 @@ impl View {
     pub fn recall(&self, recall: &RecallKey) -> RecallStatus
         ensures { result ≡ recall_of self.now recall.now }
     {
-        match self.cases.get(&recall.transfer) {
+        match self.case_on(&recall.transfer) {
             Some(case) => {
                 recall_status_by(&case.status, &recall.transfer, &case.clean, &recall.cxl)
             }
@@ -200,81 +203,6 @@ impl View {
     pub fn instruction(&self, transfer: &TransferKey) -> Option<&Arc<Message>>
         ensures { option_map arc_value (option_copied result) ≡ instruction_of self.now transfer.now }
     {
-        self.cases.get(transfer)?.instruction()
-    }
-}
-
-impl View {
-    ghost use Rattle.sct_message.specs.Transfers.{keys_of};
-    ghost use Rattle.sct_view.specs.Answers.{recalls_of, transfers_of, all_findings_of};
-    ghost use Rattle.sct_view.specs.StatusText.{status_text_of};
-    ghost use Rattle.sct_view.specs.Totals.{banks_of};
-    ghost use Rattle.sct_view.specs.TotalsText.{totals_text_of};
-
-    /// The transfers that messages held are on, ascending. Error: `Memory` (39). O(n log n) in the transfers held.
-    pub fn keys(&self) -> Result<Vec<TransferKey>, CaseFault>
-        ensures { IfOk result (λ keys. keys.items ≡ keys_of self.now) }
-    {
-        keys(self.alloc, &self.archive, &self.cases)
-    }
-
-    /// The banks whose totals are not all 0, ascending. Error: `Memory` (39). O(n log n) in the banks held.
-    pub fn banks(&self) -> Result<Vec<Bic>, CaseFault>
-        ensures { IfOk result (λ banks. banks.items ≡ banks_of self.now) }
-    {
-        banks(self.alloc, &self.archive, &self.totals)
-    }
-
-    /// The recalls of a transfer that messages held name, contradicted messages included,
-    /// ascending. Error: `Memory` (39).
-    pub fn recalls_of(&self, transfer: &TransferKey) -> Result<Vec<Id35>, CaseFault>
-        ensures { IfOk result (λ recalls. recalls.items ≡ recalls_of self.now transfer.now) }
-    {
-        recalls_of(self.alloc, &self.archive, &self.cases, transfer)
-    }
-
-    /// The transfers that have a bank as the originator bank, or as the beneficiary bank
-    /// of their instruction, ascending.
-    /// Error: `Memory` (39). It looks at every transfer held.
-    pub fn transfers_of(&self, bank: &Bic) -> Result<Vec<TransferKey>, CaseFault>
-        ensures { IfOk result (λ transfers. transfers.items ≡ transfers_of self.now bank.now) }
-    {
-        transfers_of(self.alloc, &self.archive, &self.cases, bank)
-    }
-
-    /// All findings, each with its transfer, sorted by transfer and then in the order in which findings are reported.
-    /// Error: `Memory` (39). It looks at every transfer held.
-    pub fn all_findings(&self) -> Result<Vec<(TransferKey, Finding)>, CaseFault>
-        ensures { IfOk result (λ found. found.items ≡ all_findings_of self.now) }
-    {
-        all_findings(self.alloc, &self.archive, &self.cases)
-    }
-
-    /// The status text in bytes, with a line for each transfer, each finding and each
-    /// recall, and a line feed after each line.
-    /// Error: `Memory` (39). It sorts the transfers held: O(n log n).
-    pub fn status_text(&self) -> Result<Vec<u8>, CaseFault>
-        ensures { IfOk result (λ text. text.items ≡ status_text_of self.now) }
-    {
-        status_text(self.alloc, &self.archive, &self.cases)
-    }
-
-    /// The status text in pieces, one after another, written in as many threads as there are processors.
-    /// If a thread cannot be started, another thread does its work. Error: `Memory` (39).
-    pub fn status_text_in_pieces<R: Threads + Sync>(
-        &self,
-        rt: &R,
-    ) -> Result<Vec<Vec<u8>>, CaseFault>
-        ensures { IfOk result (λ pieces. joined pieces.items ≡ status_text_of self.now) }
-    {
-        status_pieces(rt, self.alloc, &self.archive, &self.cases)
-    }
-
-    /// The totals text in bytes, with a line for each bank whose totals are not all 0, and a line feed after each line.
-    /// Error: `Memory` (39).
-    pub fn totals_text(&self) -> Result<Vec<u8>, CaseFault>
-        ensures { IfOk result (λ text. text.items ≡ totals_text_of self.now) }
-    {
-        totals_text(self.alloc, &self.archive, &self.totals)
+        self.case_on(transfer)?.instruction()
     }
 }

@@ -5,13 +5,15 @@ use Rattle.std.specs.Cmp.Lexicographic.{nat_list_cmp_total, texts_ties}
 use Rattle.sct_message.specs.Ascending.{ascending}
 use Rattle.sct_message.specs.Order.{text_order}
 use Rattle.sct_message.proofs.AscendingLemmas.{ascending-sort_dedup_plain}
+use Rattle.sct_view.specs.Totals.{banks_of}
 use Rattle.sct_view.proofs.ListedLemmas.{banks_listed}
 use Rattle.sct_view.proofs.ToldLemmas.{texts_same}
-use Rattle.sct_view.proofs.totals_text.banks.Goals as goal
+use Rattle.sct_view.proofs.view.View.banks.Goals as goal
 
 pub returns : goal.returns
 returns c =
     dedup_is _ _ _ c.dedup.ensures.filtered
     ∙ ascending-sort_dedup_plain nat_list_cmp_total texts_same _ texts_ties _ _ c.in_ok-sort.ensures.permutation c.in_ok-sort.ensures.sorted
     ∙ ap (ascending text_order) c.in_ok-banks.ensures.banks
-    ∙ banks_listed c.args.archive.now c.args.totals.now c.in_ok-banks.ensures.unique c.requires
+    ∙ banks_listed c.self.inside.archive c.self.inside.totals c.in_ok-banks.ensures.unique c.self.invariant.0.totals_are
+    ∙ ap banks_of c.self.view_is

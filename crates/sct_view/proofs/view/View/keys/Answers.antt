@@ -4,13 +4,15 @@ use Rattle.std.proofs.lemmas.List.Filters.{dedup_is}
 use Rattle.sct_message.specs.Ascending.{ascending}
 use Rattle.sct_message.specs.Order.{transfer_order}
 use Rattle.sct_message.specs.OrderLaws.{transfer_total, transfers_same, transfer_ties}
+use Rattle.sct_message.specs.Transfers.{keys_of}
 use Rattle.sct_message.proofs.AscendingLemmas.{ascending-sort_dedup_plain}
 use Rattle.sct_view.proofs.ListedLemmas.{keys_listed}
-use Rattle.sct_view.proofs.listed.keys.Goals as goal
+use Rattle.sct_view.proofs.view.View.keys.Goals as goal
 
 pub returns : goal.returns
 returns c =
     dedup_is _ _ _ c.dedup.ensures.filtered
     ∙ ascending-sort_dedup_plain transfer_total transfers_same _ transfer_ties _ _ c.in_ok-sort.ensures.permutation c.in_ok-sort.ensures.sorted
     ∙ ap (ascending transfer_order) c.in_ok-keys.ensures.keys
-    ∙ keys_listed c.args.archive.now c.args.cases.now c.in_ok-keys.ensures.unique c.requires
+    ∙ keys_listed c.self.inside.archive c.self.inside.cases c.in_ok-keys.ensures.unique c.self.invariant.0.cases_are
+    ∙ ap keys_of c.self.view_is

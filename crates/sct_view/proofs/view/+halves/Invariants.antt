@@ -1,9 +1,9 @@
 -- Each halving leaves one less to do.
 use Rattle.std.proofs.Common.{◌+◌, ◌*◌}
-use Rattle.sct_view.proofs.status_parts.+halves.Given as goal
+use Rattle.sct_view.proofs.view.+halves.Given as goal
 
-abbrev pub decreases-pieces_by_halves : goal.decreases-pieces_by_halves
-decreases-pieces_by_halves g l = 2 * l.halvings + 1
+abbrev pub decreases-View::pieces_by_halves : goal.decreases-View::pieces_by_halves
+decreases-View::pieces_by_halves g l = 2 * l.halvings + 1
 
 abbrev pub decreases-join+arg2 : goal.decreases-join+arg2
 decreases-join+arg2 g l = 2 * l.halvings
