@@ -1,4 +1,4 @@
--- Tables that are built transfer by transfer. Proof plumbing.
+-- Tables that are built of the cases of all transfers. Proof plumbing.
 use Rattle.std.specs.FinSet as set
 use Rattle.std.specs.FinSet.{contains-empty, contains-union, same_set}
 use Rattle.std.proofs.Common.{◌≡◌, ◌∙◌, refl, sym, ap, subst, ℕ, Bool, true, false, cond, not, ◌||◌, List, [], ◌∷◌, ◌++◌, map, filter, length, take, get_or, ◌+◌, ◌<◌, arith}
@@ -45,36 +45,6 @@ use Rattle.sct_view.proofs.SetKeys.{any_key}
 use Rattle.sct_view.proofs.SumLemmas.{sum_none}
 use Rattle.sct_view.proofs.TotalsLemmas.{Cases, shares_alike, totals_alike, totals_by, totals_same}
 
--- what is kept once these transfers have been evaluated
-abbrev pub so_far : MessageSet → List TransferKey → TransferKey → Kept
-so_far s ts t = cond (list_any (λ k. same_key k t) ts) (case_of s t) no_messages
-
--- Tables that keep these transfers of a set, with the sums over all of them.
-pub record IsBuilt {Y Z : Type 0} (s : MessageSet) (ts : List TransferKey) (cases : IndexMap TransferKey Case Y)
-    (totals : IndexMap (List ℕ) Totals Z) : Type 0 where
-  pub cases_are : (t : TransferKey) → case_at cases t ≡ so_far s ts t
-  pub kept : AreTotalsOver cases totals (keys_of s)
-  pub small : (t : TransferKey) → IsSmall (case_at cases t)
-
--- ---- one transfer more
-
-or_none : (a : Bool) → (a || false) ≡ a
-or_none true = refl
-or_none false = refl
-
-or_true : (a : Bool) → (a || true) ≡ true
-or_true true = refl
-or_true false = refl
-
-module _ (s : MessageSet) (ts : List TransferKey) (k t : TransferKey) where
-  pub more : cond (same_key k t) (case_of s k) (so_far s ts t) ≡ so_far s (ts ++ k ∷ []) t
-  more =
-      elim (same_key k t) as (λ b. same_key k t ≡ b → cond b (case_of s k) (so_far s ts t) ≡ cond (list_any (λ j. same_key j t) ts || (b || false)) (case_of s t) no_messages) [
-        | true ↦ λ e. ap (case_of s) (keys_apart k t e) ∙ ap (λ (b : Bool). cond b (case_of s t) no_messages) (sym (or_true (list_any (λ j. same_key j t) ts)))
-        | false ↦ λ _. ap (λ (b : Bool). cond b (case_of s t) no_messages) (sym (or_none (list_any (λ j. same_key j t) ts)))
-      ] refl
-      ∙ ap (λ (b : Bool). cond b (case_of s t) no_messages) (sym (list_any-append (λ j. same_key j t) ts (k ∷ [])))
-
 -- ---- all transfers
 
 filter_none : {X : Type 0} (p : X → Bool) (xs : List X) → list_any p xs ≡ false → filter p xs ≡ []
@@ -112,8 +82,8 @@ module _ (s : MessageSet) (t : TransferKey) where
       (λ n. transfer_status_of t (clean n) (asides n)) ∙ sym (unknown t [] [] [] (found_of_asides t [] [] refl) refl refl) in
       λ n. record { clean = clean n; contradicted = contradicted n; stands = stands n }
 
-  -- once all keys have been evaluated, what is kept of a transfer is what is to be kept
-  pub complete : so_far s (keys_of s) t ≡ case_of s t
+  -- what is kept of the keys alone is what is to be kept
+  pub complete : cond (list_any (λ k. same_key k t) (keys_of s)) (case_of s t) no_messages ≡ case_of s t
   complete =
       elim (list_any (λ k. same_key k t) (keys_of s)) as (λ b. list_any (λ k. same_key k t) (keys_of s) ≡ b → cond b (case_of s t) no_messages ≡ case_of s t) [
         | true ↦ λ _. refl
@@ -172,23 +142,6 @@ keys-contents s ds e =
     ∙ sym (any_flat_map (same_transfer q) transfers_of (set.items (contents_of ds))))
     ∙ ap keys_of e
 
--- ---- a list, item by item
-
-up_to : (ts : List TransferKey) (i : ℕ) (t : TransferKey) → i < length ts → t ≡ get_or ts i t → take (i + 1) ts ≡ take i ts ++ t ∷ []
-up_to ts i t below is = (take_at_read ts i t below).1 ∙ ap (λ x. take i ts ++ x ∷ []) (sym is)
-
--- an item of the list is among it
-pub item_among : (ts : List TransferKey) (i : ℕ) (t : TransferKey) → i < length ts → t ≡ get_or ts i t → list_any (same_key t) ts ≡ true
-item_among ts i t below is = list_any_at (same_key t) ts i t below (ap (same_key t) (sym is) ∙ key_itself t)
-
-pub one_more : (s : MessageSet) (ts : List TransferKey) (i : ℕ) (k : TransferKey) (before : Cases) → i < length ts → k ≡ get_or ts i k
-    → ((t : TransferKey) → before t ≡ so_far s (take i ts) t)
-    → (t : TransferKey) → cond (same_key k t) (case_of s k) (before t) ≡ so_far s (take (i + 1) ts) t
-one_more s ts i k before below is was t =
-    ap (λ (x : Kept). cond (same_key k t) (case_of s k) x) (was t)
-    ∙ more s (take i ts) k t
-    ∙ ap (λ (ks : List TransferKey). so_far s ks t) (sym (up_to ts i k below is))
-
 -- ---- tables that are built
 
 pub no_case_in : {Y : Type 0} (cases : IndexMap TransferKey Case Y) → cases.entries ≡ [] → (t : TransferKey) → case_at cases t ≡ no_messages
@@ -197,23 +150,20 @@ no_case_in cases e t = ap (λ (es : List (TransferKey × Case)). kept_or_none (l
 pub no_totals_in : {Z : Type 0} (totals : IndexMap (List ℕ) Totals Z) → totals.entries ≡ [] → (p : List ℕ) → totals_at totals p ≡ nothing
 no_totals_in totals e p = ap (λ (es : List (List ℕ × Totals)). totals_or_none (lookup (is_text p) es)) e
 
-module _ {Y Z : Type 0} (s : MessageSet) (cases : IndexMap TransferKey Case Y) (totals : IndexMap (List ℕ) Totals Z) where
-  -- nothing is kept at the beginning
-  pub built_none : ((t : TransferKey) → case_at cases t ≡ no_messages) → ((p : List ℕ) → totals_at totals p ≡ nothing) → IsBuilt s [] cases totals
-  built_none cases_none totals_none = record {
-    cases_are = cases_none;
-    kept = λ p. totals_none p ∙ no_totals (case_at cases) cases_none (keys_of s) p;
-    small = λ t. subst IsSmall (sym (cases_none t)) none_small;
-  }
+-- tables that have the case of each transfer of a set, and the sums over its transfers, are those of the set
+pub view_built : {Y Z : Type 0} (s : MessageSet) (cases : IndexMap TransferKey Case Y) (totals : IndexMap (List ℕ) Totals Z)
+    → ((t : TransferKey) → case_at cases t ≡ case_of s t) → AreTotalsOver cases totals (keys_of s) → ((t : TransferKey) → IsSmall (case_at cases t))
+    → IsViewOf s cases totals
+view_built s cases totals are kept small = record {
+  cases_are = are;
+  totals_are = λ p. kept p ∙ totals_built s (case_at cases) are p;
+  small = small;
+}
 
-  -- and all in the end
-  pub built_all : (ts : List TransferKey) → ts ≡ keys_of s → IsBuilt s ts cases totals → IsViewOf s cases totals
-  built_all ts all built =
-      let cases_are : (t : TransferKey) → case_at cases t ≡ case_of s t = λ t. built.cases_are t ∙ ap (λ (ks : List TransferKey). so_far s ks t) all ∙ complete s t in record {
-        cases_are = cases_are;
-        totals_are = λ p. built.kept p ∙ totals_built s (case_at cases) cases_are p;
-        small = built.small;
-      }
+-- empty tables have the sums over any transfers
+pub kept_in_none : {Y Z : Type 0} (cases : IndexMap TransferKey Case Y) (totals : IndexMap (List ℕ) Totals Z) (ts : List TransferKey)
+    → cases.entries ≡ [] → totals.entries ≡ [] → AreTotalsOver cases totals ts
+kept_in_none cases totals ts no_cases none p = no_totals_in totals none p ∙ no_totals (case_at cases) (no_case_in cases no_cases) ts p
 
 -- ---- sets
 
@@ -228,8 +178,10 @@ pub empty_view : {Y Z : Type 0} (s : MessageSet) (cases : IndexMap TransferKey C
     → s ≡ set.empty → cases.entries ≡ [] → totals.entries ≡ [] → IsViewOf s cases totals
 unfolding IsStrictlySortedBy
 empty_view s cases totals e no_cases none =
-    built_all s cases totals [] (sym (ascending-sorted transfer_total transfers_same [] tt) ∙ keys-contents s [] (sym e))
-    (built_none s cases totals (no_case_in cases no_cases) (no_totals_in totals none))
+    let no_keys : [] ≡ keys_of s = sym (ascending-sorted transfer_total transfers_same [] tt) ∙ keys-contents s [] (sym e) in
+    let nowhere : (t : TransferKey) → list_any (λ k. same_key k t) (keys_of s) ≡ false = λ t. ap (λ (ks : List TransferKey). list_any (λ k. same_key k t) ks) (sym no_keys) in
+    view_built s cases totals (λ t. no_case_in cases no_cases t ∙ sym (absent s t (nowhere t))) (kept_in_none cases totals (keys_of s) no_cases none)
+    (λ t. subst IsSmall (sym (no_case_in cases no_cases t)) none_small)
 
 -- the status of a recall by the case of its transfer
 pub recall_told : (s : MessageSet) (r : RecallKey) (kept : Kept) → kept ≡ case_of s r.transfer → (stands : RecallStatus)

@@ -14,7 +14,6 @@ mod listed;
 mod opening;
 mod parts;
 mod plan;
-mod rebuild;
 mod replacing;
 mod replanning;
 mod room;

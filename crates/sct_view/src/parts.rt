@@ -1,4 +1,4 @@
-//! The archive and the tables of a view, built from all messages in as many threads as there are processors.
+//! The archive and the tables of a view, built from all messages: in one thread, or in as many as there are processors.
 
 ghost use Rattle.std.specs.Prelude.{◌≡◌, ◌<◌, map, IfOk};
 ghost use Rattle.std.specs.FinSet as set;
@@ -16,7 +16,7 @@ ghost use Rattle.sct_view.specs.Kept.{case_of, IsViewOf};
 
 use crate::case::Planned;
 use crate::evaluation::evaluate;
-use crate::filed::{by_transfer, on_transfer, transfers_in_parts};
+use crate::filed::{by_transfer, on_transfer, transfers, transfers_in_parts};
 use crate::filling::{Tables, fill};
 use indexmap::IndexMap;
 use sct_case::CaseFault;
@@ -243,6 +243,16 @@ fn tables_of_planned(
     let mut tables = Tables { cases, totals };
     fill(archive, &mut tables, planned)?;
     Ok(tables)
+}
+
+/// The tables of an archive, built in one thread. Each transfer is evaluated once.
+pub(crate) fn tables_of(alloc: Global, archive: &Archive) -> Result<Tables, CaseFault>
+    ensures { IfOk result (λ tables. IsViewOf archive.now tables.cases tables.totals) }
+{
+    let index = by_transfer(alloc, archive.messages())?;
+    let transfers = transfers(alloc, archive.messages())?;
+    let planned = planned_in_turn(alloc, archive, &index, &transfers)?;
+    tables_of_planned(alloc, archive, planned)
 }
 
 // The tables of an archive. `sorted` has the archive's messages by transfer, and is

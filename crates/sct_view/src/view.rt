@@ -15,8 +15,7 @@ ghost use Rattle.sct_view.specs.Touched.{AreOnAtMost, touched_in};
 
 use crate::case::Case;
 use crate::commit::commit_all;
-use crate::parts::filled_in_parts;
-use crate::rebuild::tables_of;
+use crate::parts::{filled_in_parts, tables_of};
 use crate::replanning::{Replanned, replan};
 use crate::room::make_room;
 use crate::totals::Totals;
