@@ -1,0 +1,1 @@
+"""What generates valid messages, for the benches and for the tests."""

@@ -1,1 +1,0 @@
-"""What the gate runs behind `rt ci`."""

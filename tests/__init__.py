@@ -1,0 +1,1 @@
+"""What the gate runs after `rt ci`."""

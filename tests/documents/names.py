@@ -1,0 +1,322 @@
+"""names.py: the names that README.md, docs/*.md and examples/README.md write are those of the code.
+
+Names in backquotes are declared in a crate, or are words of crates.txt, of the tests, benches or examples, or of OUTSIDE. Those of a
+crate, as "`settle` of sct_world", and those that follow a file, are declared there. Files in backquotes exist, and links lead to a file
+and a heading. README.md links to every page. Rows of promises have functions of their files, clauses of these functions and edits of
+their crates: *only* needs a single clause, and *law* an empty body. Every edit of the crates of a table of edits has a row. Sections
+of the architecture name every source of their crates. The page for auditors has functions with their clauses, definitions, code at
+its line, and every crate of the kit that is used. Edits that were taken away are gone.
+"""
+import functools, os, pathlib, re
+from tests import harness
+from tests.documents import pages, sources
+from tests.documents.pages import codes
+from tests.harness import CRATES, TOP
+
+PAGES = [TOP / "README.md", *sorted((TOP / "docs").glob("*.md")), TOP / "examples" / "README.md"]
+
+# names of std, of the language and of the kit, commands of the shell, and names that a page has because they are wrong here
+OUTSIDE = set("""
+    Brand Copy Debug Display OnErr Option String Vec Wait Writer dac8208d650f15bf ptr_eq replace_with try_send
+    comm diff grep
+    Ctgy HANSDEHH370 PDCR txid
+""".split())
+
+NAME = re.compile(r"[A-Za-z_]\w*(?:::\w+)*(?:\(\))?")
+FILE = re.compile(r"[\w.*/-]+\.(?:rt|antt|py|md|edit|txt|jsonl|list|c|script)")
+TAKEN_AWAY = "## Edits that were taken away"
+
+
+class Report:
+    """What was compared: how much of it is right, and what is wrong."""
+
+    def __init__(self):
+        self.right, self.faults = 0, []
+
+    def check(self, page, line, is_right, fault):
+        if is_right:
+            self.right += 1
+        else:
+            self.faults.append(f"{page.relative_to(TOP)}:{line}: {fault}")
+
+
+def words_of(name):
+    return re.findall(r"\w+", name)
+
+
+def prose(text):
+    """The lines of a page with their numbers, but for blocks of code: between lines of three backquotes, or indented after an empty
+    line."""
+    text = re.sub(r"^( *)```.*?^\1```", lambda block: "\n" * block.group().count("\n"), text, flags=re.MULTILINE | re.DOTALL)
+    found, above = [], ""
+    for number, line in enumerate(text.splitlines(), 1):
+        if line.startswith("    ") and not above and not line.lstrip().startswith("- "):
+            continue
+        found.append((number, line))
+        above = line
+    return found
+
+
+def sections(text):
+    """The lines of each section below its heading, as deep as it goes, with the heading and its line."""
+    found = [(match.start(), len(match.group(1)), match.group(2)) for match in re.finditer(r"^(#+) (.*)$", text, re.MULTILINE)]
+    for place, (start, depth, heading) in enumerate(found):
+        end = next((later for later, other, _ in found[place + 1:] if other <= depth), len(text))
+        yield heading, text.count("\n", 0, start) + 1, text[start:end].splitlines()
+
+
+def rows(lines, first, columns):
+    """The rows of the tables that have these columns, with their line numbers, each as its cells."""
+    within = False
+    for number, line in enumerate(lines, first):
+        cells = pages.cells(line.rstrip()) if line.startswith("|") else []
+        if cells == columns:
+            within = True
+        elif not cells:
+            within = False
+        elif within and set(line) - set("|-"):
+            yield number, cells
+
+
+# ---- names, files and links
+
+def check_names(report, page, text):
+    """Every name in backquotes. The edits that were taken away are judged by themselves."""
+    gone = text.find(TAKEN_AWAY)
+    end = text.find("\n## ", gone + 1) if gone >= 0 else gone
+    skipped = range(text.count("\n", 0, gone) + 1, text.count("\n", 0, end if end > 0 else len(text)) + 2) if gone >= 0 else ()
+    for number, line in prose(text):
+        for name in codes(line):
+            if NAME.fullmatch(name) and number not in skipped:
+                known = all(word in sources.everywhere() or word in OUTSIDE for word in words_of(name))
+                report.check(page, number, known, f"there is no {name}")
+        for name, crate in re.findall(r"`(\w+(?:::\w+)*)` (?:\(|of |in )(sct_\w+)", line):
+            report.check(page, number, is_in(name, crate), f"{crate} has no {name}")
+        for crate, name in re.findall(r"(sct_\w+)'s `(\w+(?:::\w+)*)`", line):
+            report.check(page, number, is_in(name, crate), f"{crate} has no {name}")
+
+
+def is_in(name, crate):
+    return crate in sources.names() and set(words_of(name)) <= sources.defined(crate)
+
+
+def check_outside(report):
+    """Each name of OUTSIDE is on a page."""
+    seen = {word for page in PAGES for _, line in prose(page.read_text()) for name in codes(line) for word in words_of(name)}
+    for name in sorted(OUTSIDE):
+        report.check(pathlib.Path(__file__), 1, name in seen, f"no page has {name} of OUTSIDE")
+
+
+@functools.lru_cache(maxsize=None)
+def all_files():
+    """Every file of the repository that a page may name, with a slash before it."""
+    tops = [TOP / name for name in ("docs", "tests", "bench", "examples")]
+    tops += [CRATES / crate / part for crate in sources.names() for part in ("src", "specs", "proofs", "must-fail")]
+    found = [os.path.join(folder, name) for top in tops for folder, _, names in os.walk(top) for name in names]
+    return "\n".join("/" + os.path.relpath(path, TOP) for path in [*TOP.glob("*.*"), *found]) + "\n"
+
+
+def is_file(name):
+    """Whether there is a file with this path or one that ends so. `*` stands for any part of a name."""
+    return re.search("/" + re.escape(name).replace(r"\*", "[^/\n]*") + "\n", all_files()) is not None
+
+
+def check_files(report, page, text):
+    """Every file in backquotes."""
+    for number, line in prose(text):
+        for code in codes(line):
+            for word in code.split():
+                if FILE.fullmatch(word) and not word.startswith(("/", "..")) and (word == code or "/" in word):
+                    report.check(page, number, is_file(word), f"there is no file {word}")
+
+
+def anchors(page):
+    """What the headings of a page are called in links."""
+    headings = re.findall(r"^#+ (.*)$", page.read_text(), re.MULTILINE)
+    return {re.sub(r"[^\w\- ]", "", heading.lower()).replace(" ", "-") for heading in headings}
+
+
+def path_of(file):
+    """The path of a source or a file of definitions that is named from the top or from crates/ on."""
+    return TOP / file if file.startswith("crates/") else CRATES / file
+
+
+def check_declared(report, page, text):
+    """Every name that follows its file."""
+    for number, line in prose(text):
+        for file, following in re.findall(r"`([\w/]+/(?:src|specs)/[\w/]+\.(?:rt|antt))`((?:,? `\w+`)+)", line):
+            for name in codes(following) if path_of(file).is_file() else []:
+                report.check(page, number, name in sources.declared(path_of(file)), f"{file} declares no {name}")
+
+
+def check_links(report, page, text):
+    """Every link to a file or a heading."""
+    for number, line in prose(text):
+        for target in re.findall(r"\]\(([^)\s]+)\)", line):
+            if "://" not in target:
+                file, _, anchor = target.partition("#")
+                to = (page.parent / file).resolve() if file else page
+                report.check(page, number, to.exists(), f"there is no file {file}")
+                report.check(page, number, not anchor or not to.is_file() or anchor in anchors(to), f"there is no heading {target}")
+
+
+def check_pages(report, page, text):
+    """Whether the page links to every page of docs/."""
+    for other in PAGES:
+        if other.parent != TOP:
+            name = other.relative_to(TOP).as_posix()
+            report.check(page, 1, f"]({name})" in text, f"the page has no link to {name}")
+
+
+# ---- tables
+
+def found(name, functions):
+    """The functions that a name of a table means: of a type or a trait if it has one before it. A trait means its members."""
+    owner, _, last = name.rpartition("::")
+    if owner:
+        return [one for one in functions if one.name == last and owner in (one.type, one.trait)]
+    members = [one for one in functions if one.name is None and name in (one.type, one.trait)]
+    return [one for one in functions if one.name == name] or members
+
+
+def check_promise(report, page, number, cells):
+    """A row: Promise, Function, Clause, Edit, File."""
+    _, named, clauses, edits, in_files = cells
+    in_files = codes(in_files)
+    in_crates = {file.split("/")[0] for file in in_files}
+    functions = [one for crate in in_crates if crate in sources.names() for one in sources.functions(crate) if one.file in in_files]
+    meant = {name: found(name, functions) for name in codes(named)}
+    for name, ones in meant.items():
+        report.check(page, number, bool(ones), f"no file of the row has {name}")
+    for file in in_files:
+        used = any(one.file == file for ones in meant.values() for one in ones)
+        report.check(page, number, used, f"{file} has no function of the row")
+    ones = [one for many in meant.values() for one in many]
+    wanted = codes(re.sub(r"\(.*?\)", "", clauses))
+    for clause in wanted:
+        report.check(page, number, any(clause in one.clauses for one in ones), f"no function of the row has the clause {clause}")
+    plain = re.sub(r"`.*?`|\(.*?\)", "", clauses)
+    for one in ones:
+        is_carried = set(wanted) & set(one.clauses) or ("only" in plain and len(one.clauses) == 1) or ("law" in plain and one.is_law)
+        is_carried = is_carried or one.name is None and (plain.strip() == "invariant" or not one.clauses)
+        report.check(page, number, is_carried, f"{one.file} carries no clause of the row by {one.name or one.trait}")
+    for edit in codes(edits):
+        crate = re.search(rf"`{edit}` \((sct_\w+)\)", edits)
+        among = [crate.group(1)] if crate else in_crates
+        report.check(page, number, any(edit in sources.edits(one) for one in among), f"there is no edit {edit} of {', '.join(among)}")
+
+
+def check_promises(report, page, text):
+    for number, cells in rows(text.splitlines(), 1, ["Promise", "Function", "Clause", "Edit that shows it", "File"]):
+        check_promise(report, page, number, cells)
+
+
+def crates_of(heading):
+    return [word for word in re.findall(r"\bsct_\w+", heading) if word in sources.names()]
+
+
+def check_edits(report, page, text):
+    """The tables of edits, by the crates of their sections, and whether each edit of these has a row."""
+    for heading, first, lines in sections(text):
+        its = crates_of(heading)
+        table = list(rows(lines, first, ["Edit", "What it shows", "Refused at"])) if its else []
+        listed = {name for _, cells in table for name in codes(cells[0])}
+        there = {edit for crate in its for edit in sources.edits(crate)}
+        for number, cells in table:
+            for name in codes(cells[0]):
+                report.check(page, number, name in there, f"there is no edit {name} of {heading}")
+        for name in sorted(there) if table else []:
+            report.check(page, first, name in listed, f"{heading} has no row for the edit {name}")
+
+
+def check_taken_away(report, page, text):
+    """The edits that were taken away, by the crates of their sections."""
+    _, _, after = text.partition(TAKEN_AWAY + "\n")
+    first = text.count("\n", 0, len(text) - len(after))
+    for heading, line, lines in sections(re.split(r"^## ", after, flags=re.MULTILINE)[0]):
+        its = {edit for crate in crates_of(heading) for edit in sources.edits(crate)}
+        for number, words in enumerate(lines, first + line):
+            for name in re.findall(r"^- `(\w+)`:", words):
+                report.check(page, number, name not in its, f"{name} is an edit of {heading}")
+
+
+def is_source(name, crate):
+    """Whether a crate has a source with this path or one that ends so."""
+    return any(f"/{crate}/src/{file}".endswith(f"/{name}") for file in sources.files(crate))
+
+
+def check_sources(report, page, text):
+    """Whether a section on crates that names sources names each of them, and no others but as those of another crate."""
+    for heading, first, lines in sections(text):
+        named = {name for line in lines for name in codes(line) if name.endswith(".rt")}
+        its = crates_of(heading)
+        if its and named:
+            for crate, file in ((crate, file) for crate in its for file in sources.files(crate)):
+                is_listed = file == "lib.rt" or any(f"/{crate}/src/{file}".endswith(f"/{name}") for name in named)
+                report.check(page, first, is_listed, f"{heading} lacks {file} of {crate}")
+            others = re.findall(r"`([\w/]+\.rt)` (?:\(|of |in )(sct_\w+)", "\n".join(lines))
+            for name in named:
+                is_there = any(is_source(name, crate) for crate in its) or any(is_source(*other) for other in others if other[0] == name)
+                report.check(page, first, is_there, f"{heading} has no {name}")
+
+
+# ---- the page for auditors
+
+def check_carried(report, page, text):
+    """The tables of what carries the commands, and of the definitions: functions with their clauses, and definitions, by file."""
+    for number, cells in rows(text.splitlines(), 1, ["Command", "Function and clause", "File", "What is printed"]):
+        functions = [one for file in codes(cells[2]) for one in sources.functions(file.split("/")[1]) if f"crates/{one.file}" == file]
+        names = codes(cells[1])
+        ones = [one for one in functions if one.name in names]
+        report.check(page, number, bool(ones), f"no file of the row has {names[0]}")
+        for name in names:
+            known = any(name == one.name or name in one.clauses for one in ones) or name.startswith("Is")
+            report.check(page, number, known or name in sources.names(), f"no function of the row has the clause {name}")
+    for number, (names, _, files) in rows(text.splitlines(), 1, ["Definition", "Says", "File"]):
+        there = set().union(*(sources.declared(path_of(file)) for file in codes(files) if path_of(file).is_file()))
+        for name in codes(names):
+            report.check(page, number, name in there, f"no file of the row declares {name}")
+
+
+def check_quotes(report, page, text):
+    """Code that a page shows with its file and line."""
+    for match in re.finditer(r"`([\w./-]+):(\d+)`:\n\n((?:    .*\n)+)", text):
+        file, line, block = match.groups()
+        shown = "".join(part.strip() + "\n" for part in block.splitlines())
+        path = TOP / file
+        there = "".join(part.strip() + "\n" for part in path.read_text().splitlines()) if path.is_file() else ""
+        at = there.count("\n", 0, there.index(shown)) + 1 if shown in there else "no line"
+        report.check(page, text.count("\n", 0, match.start()) + 1, str(at) == line, f"{file}:{line}: this code is at {at}")
+
+
+def check_kit(report, page, text):
+    """Whether the page names each crate that crates.txt has and this repository does not."""
+    lines = [line.partition(":") for line in (TOP / "crates.txt").read_text().splitlines() if not line.startswith("#")]
+    own = {head.split()[0] for head, _, _ in lines if head.strip()}
+    for crate in sorted({word for _, _, uses in lines for word in uses.split()} - own):
+        report.check(page, 1, f"`{crate}`" in text, f"the page does not name the crate {crate} of the kit")
+
+
+BY_PAGE = {
+    "README.md": [check_pages],
+    "docs/PROMISES.md": [check_promises],
+    "docs/PROOF_REVIEW.md": [check_edits, check_taken_away],
+    "docs/ARCHITECTURE.md": [check_sources],
+    "docs/PROVED.md": [check_carried, check_quotes, check_kit],
+}
+
+
+def main():
+    report = Report()
+    for page in PAGES:
+        text = page.read_text()
+        for check in [check_names, check_files, check_declared, check_links, *BY_PAGE.get(page.relative_to(TOP).as_posix(), [])]:
+            check(report, page, text)
+    check_outside(report)
+    for fault in report.faults:
+        print(fault)
+    harness.end(report.right, len(report.faults))
+
+
+if __name__ == "__main__":
+    main()

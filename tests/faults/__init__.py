@@ -1,0 +1,1 @@
+"""What is refused to the program: memory, allocations and growths."""

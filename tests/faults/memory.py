@@ -1,0 +1,47 @@
+"""memory.py: the program is run in less memory than it wants.
+
+What limits a run is how many bytes it may map to write in, the stacks of its threads included. The first thread's own stack is not
+counted: the system ends a process whose first stack may not grow. The limit grows by STEP bytes up to MOST. With the small limits no
+thread has room for its stack, with others some allocation is refused, and with the largest there is room for all. A run must write
+the right text, or nothing but `fault 65` and end with 3. `run` may write `fault 67` too, if there is no thread for a worker, and end
+with 2. Runs of each command must do the one and the other.
+"""
+import collections, tempfile
+from tests import harness
+from tests.harness import NO_WORKER, OUT_OF_MEMORY, Answer
+from tests.inputs import long_input, two_files
+from tests.oracle import status as definitions
+
+MESSAGES = 8_000
+STEP = 1 << 20
+MOST = 96 << 20
+
+
+def tried(program, words, data, right, wanting):
+    """How many runs with these limits ended as they may, and how many failed: the right text must come, and come not always."""
+    counts = collections.Counter(harness.run([program, *words], data, memory=memory) for memory in range(STEP, MOST + STEP, STEP))
+    others = {answer: count for answer, count in counts.items() if answer not in (right, *wanting)}
+    for text, errors, status in others:
+        print(f"{words[0]}: {text[:80]!r}, {errors[-80:]!r}, status {status}")
+    short = sum(counts[answer] for answer in wanting)
+    print(f"{words[0]}: {counts[right]} runs with the right text, {short} in want, {sum(others.values())} in another way", flush=True)
+    return counts[right] + short, sum(others.values()) + (not counts[right]) + (not short)
+
+
+def tries(program):
+    """The numbers of each command."""
+    data = long_input(MESSAGES)
+    for command in definitions.TEXT:
+        text, refused, status = definitions.answer(command, data)
+        yield tried(program, [command], data, Answer(text.encode(), refused.encode(), status), [OUT_OF_MEMORY])
+    with tempfile.TemporaryDirectory() as folder:
+        run = two_files(folder)
+        yield tried(program, run.words, b"", Answer(run.text, run.refused, run.status), [OUT_OF_MEMORY, NO_WORKER])
+
+
+def main():
+    harness.end_with(tries(harness.program()))
+
+
+if __name__ == "__main__":
+    main()

@@ -1,0 +1,51 @@
+/* refuse_nth.c: refuses one allocation of a program, and counts all of them. tests/harness.py preloads it.
+ *
+ * It comes before malloc, calloc and realloc of the GNU C library, in all threads. REFUSE_NUMBER is the number of the allocation that
+ * is answered NULL, from 1 in the order in which they come. If it is 0, none is. The file REFUSE_COUNTS has room for three unsigned
+ * longs: how many allocations came, from how many threads, and how many bytes they asked for together. It is mapped, so they are in
+ * it however the program ends. What the C library allocates by these three counts too, as for the start of a thread. A thread's
+ * stack, which it maps, does not.
+ */
+#include <errno.h>
+#include <fcntl.h>
+#include <stdatomic.h>
+#include <stdlib.h>
+#include <sys/mman.h>
+#include <unistd.h>
+
+extern void *__libc_malloc(size_t size);
+extern void *__libc_calloc(size_t many, size_t size);
+extern void *__libc_realloc(void *old, size_t size);
+
+struct counts {
+    atomic_ulong allocations, threads, bytes;
+};
+
+/* Before `begin` there is no number, and the counts go nowhere. */
+static struct counts nowhere, *counts = &nowhere;
+static unsigned long number;
+static __thread int has_allocated __attribute__((tls_model("initial-exec")));
+
+__attribute__((constructor)) static void begin(void) {
+    int file = open(getenv("REFUSE_COUNTS"), O_RDWR);
+    void *mapped = mmap(NULL, sizeof *counts, PROT_READ | PROT_WRITE, MAP_SHARED, file, 0);
+    if (mapped == MAP_FAILED) abort();
+    close(file);
+    counts = mapped;
+    number = strtoul(getenv("REFUSE_NUMBER"), NULL, 10);
+}
+
+static int is_refused(size_t size) {
+    if (!has_allocated) {
+        has_allocated = 1;
+        atomic_fetch_add(&counts->threads, 1);
+    }
+    atomic_fetch_add(&counts->bytes, size);
+    if (atomic_fetch_add(&counts->allocations, 1) + 1 != number) return 0;
+    errno = ENOMEM; /* pthread_create answers it if its own allocation is refused */
+    return 1;
+}
+
+void *malloc(size_t size) { return is_refused(size) ? NULL : __libc_malloc(size); }
+void *calloc(size_t many, size_t size) { return is_refused(many * size) ? NULL : __libc_calloc(many, size); }
+void *realloc(void *old, size_t size) { return is_refused(size) ? NULL : __libc_realloc(old, size); }

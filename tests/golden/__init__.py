@@ -1,0 +1,1 @@
+"""What the program must answer: examples and commands with their answers."""

@@ -1,0 +1,58 @@
+"""failing_streams.py: the program ends as it must if a stream fails after any number of bytes.
+
+A read that fails is 62, and nothing is written. A write that fails is 63, and what was written is a prefix of the right text. If the
+error output fails too, the exit status alone reports it. No bytes are written of an empty text.
+"""
+import os, pty, tempfile, tty
+from tests import harness
+from tests.inputs import instruction
+
+
+def front_then_failure(front):
+    """An input that gives these bytes, and then fails: the other end of a terminal that was closed."""
+    end, terminal = pty.openpty()
+    tty.setraw(terminal)
+    os.write(terminal, front)
+    os.close(terminal)
+    return end
+
+
+def after_failing_read(program, front):
+    """The answer of `status` to an input that fails after these bytes."""
+    end = front_then_failure(front)
+    answer = harness.run([program, "status"], stdin=end)
+    os.close(end)
+    return answer
+
+
+def into_little_room(program, data, room, full):
+    """The answer of `status` if one output, stdout or stderr, has room for so many bytes."""
+    with tempfile.TemporaryFile() as file:
+        text, errors, status = harness.run([program, "status"], data, room=room, **{full: file})
+        file.seek(0)
+        held = file.read()
+    return (held, errors, status) if full == "stdout" else (text, held, status)
+
+
+def runs(program):
+    """Whether each run ends as it must, by what fails."""
+    data = b"foo\n" + instruction(1).encode()
+    text, refused = b"T|BANKDEFFXXX|T1|PENDING\n", b"line 1: 31\n"
+    return {
+        "an input of which a read fails": [
+            after_failing_read(program, data[:length]) == (b"", b"fault 62\n", 2) for length in range(len(data) + 1)],
+        "an output that is full": [
+            into_little_room(program, data, room, "stdout") == (text[:room], refused + b"fault 63\n", 2) for room in range(len(text))],
+        "an error output that is full": [
+            into_little_room(program, data, room, "stderr") == (b"", refused[:room], 2) for room in range(len(refused))],
+        "an empty text": [into_little_room(program, b"\n", 0, full) == (b"", b"", 0) for full in ("stdout", "stderr")],
+    }
+
+
+def main():
+    of_each = runs(harness.program())
+    harness.end_of([harness.reported(f"{name}, in {len(right)} ways", all(right)) for name, right in of_each.items()])
+
+
+if __name__ == "__main__":
+    main()

@@ -1,0 +1,46 @@
+"""long_inputs.py: the program answers inputs that it reads in several threads as the definitions say, on any number of processors.
+
+The long input has made-up messages, recalls of several transfers, blank lines and refused ones. Its lines in turn are also the
+sixteen files of a `run`, which must answer the same status text, and report the refused lines of each file. tests/oracle/status.py
+has the right answers. On a machine with fewer processors all of them are used.
+"""
+import tempfile
+from tests import harness
+from tests.harness import PROCESSORS, case
+from tests.inputs import files_of, long_input
+from tests.oracle import status as definitions
+
+LONG = 2000  # messages: about a megabyte, which is read in several parts
+FILES = 16
+
+
+def long_cases():
+    """The long input with each command."""
+    data = long_input(LONG)
+    for command in definitions.TEXT:
+        text, refused, _ = definitions.answer(command, data)
+        yield case(f"{LONG} messages {command}", [command], data, text.encode(), refused.encode())
+
+
+def sixteen_files(folder):
+    """The lines of the long input in turn in as many files as a run may have."""
+    data = long_input(LONG)
+    lines = data.splitlines(keepends=True)
+    texts = [b"".join(lines[place::FILES]) for place in range(FILES)]
+    text, _, _ = definitions.answer("status", data)
+    reported = ""
+    for file, part in enumerate(texts, start=1):
+        _, refused, _ = definitions.answer("status", part)
+        reported += "".join(f"file {file} {line}" for line in refused.splitlines(keepends=True))
+    return case(f"run of {FILES} files", ["run", *files_of(folder, "part", texts)], b"", text.encode(), reported.encode())
+
+
+def main():
+    program = harness.program()
+    with tempfile.TemporaryDirectory() as folder:
+        long = [*long_cases(), sixteen_files(folder)]
+        harness.end_of([harness.fits(program, one, processors) for processors in PROCESSORS for one in long])
+
+
+if __name__ == "__main__":
+    main()

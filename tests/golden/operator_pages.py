@@ -1,0 +1,28 @@
+"""operator_pages.py: the commands of the operator's pages print what the pages show.
+
+The commands of a page run one after another in one copy of examples/.
+"""
+import shutil, tempfile
+from tests import harness
+from tests.golden.shown import is_printed, place, shell, shown
+from tests.harness import EXAMPLES, TOP
+
+PAGES = ["CODES.md", "DESK.md", "PARTICIPANTS.md"]
+
+
+def page_runs(name, program):
+    """Whether each command of a page prints what the page shows."""
+    with tempfile.TemporaryDirectory() as folder:
+        commands, copy = place(folder, program), shutil.copytree(EXAMPLES, f"{folder}/examples")
+        for number, command, lines in shown((TOP / "docs" / name).read_text(encoding="utf-8")):
+            text, _ = shell(command, copy, commands)
+            yield harness.reported(f"{name}, line {number}", is_printed(lines, text), text)
+
+
+def main():
+    program = harness.program()
+    harness.end_of([right for name in PAGES for right in page_runs(name, program)])
+
+
+if __name__ == "__main__":
+    main()

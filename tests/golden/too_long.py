@@ -1,0 +1,50 @@
+"""too_long.py: the program refuses inputs of one byte more than 1 GiB, and folders in place of files.
+
+An input that is too long is `fault 60`: in a file of `run`, in the list of `report` and on standard input. A folder in place of a file
+of `run` or of a list is `fault 62`. In `run` it is the second of two files, so each file must be read by its own path. A fault is all
+that is written, and ends the program with 2. The long file is sparse and takes no room on the disk. The program takes up to 2 GiB of
+memory.
+"""
+import os, pathlib, tempfile
+from tests import harness
+from tests.inputs import files_of, instruction
+
+MOST = 1 << 30
+TOO_LONG = (b"", b"fault 60\n", 2)
+UNREAD = (b"", b"fault 62\n", 2)
+REPORT = ["report", "BANKDEFF", "2024-05-02"]
+
+
+def zeros(folder, length):
+    """The path of a new file with so many zeros."""
+    path = pathlib.Path(folder, "zeros")
+    path.touch()
+    os.truncate(path, length)
+    return str(path)
+
+
+def cases(folder):
+    """What is run, with a name, the path that standard input comes from, and what must be answered."""
+    longer = zeros(folder, MOST + 1)
+    [short] = files_of(folder, "short", [instruction(1).encode()])
+    yield "run of a short file and one that is too long", ["run", short, longer], os.devnull, TOO_LONG
+    yield "report on a list that is too long", [*REPORT, longer], os.devnull, TOO_LONG
+    yield "status of an input that is too long", ["status"], longer, TOO_LONG
+    yield "run of a short file and a folder", ["run", short, folder], os.devnull, UNREAD
+    yield "report on a folder", [*REPORT, folder], os.devnull, UNREAD
+
+
+def fits(program, name, words, path, wanted):
+    """Whether the program answers as it must, which is printed too."""
+    with open(path, "rb") as file:
+        return harness.reported(name, harness.run([program, *words], stdin=file) == wanted)
+
+
+def main():
+    program = harness.program()
+    with tempfile.TemporaryDirectory() as folder:
+        harness.end_of([fits(program, *one) for one in cases(folder)])
+
+
+if __name__ == "__main__":
+    main()

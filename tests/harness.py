@@ -1,0 +1,202 @@
+"""harness.py: what the checks share: the paths of programs, a run and its answer, the comparison with the right one, the last line.
+
+The program is the one that `rt run` and the gate leave in crates/sct_sites, and the test driver the one in crates/sct_test_driver.
+The variables SCT_SITES and SCT_TEST_DRIVER may name other programs. A run may be limited: in processors, in memory, in the bytes that
+it writes to a file, and in seconds. One of its allocations may be refused.
+"""
+import collections, os, pathlib, re, resource, shutil, struct, subprocess, sys, tempfile
+from concurrent.futures import ThreadPoolExecutor
+
+TOP = pathlib.Path(__file__).resolve().parents[1]
+CRATES = TOP / "crates"
+EXAMPLES = TOP / "examples"
+PROCESSORS = [1, 2, 4, 8]
+COUNTS = struct.Struct("@LLL")
+SECONDS = 20  # a run with an allocation refused that lasts longer is stopped, and has failed
+
+# what a process wrote to standard output and to standard error, and the status that it ended with
+Answer = collections.namedtuple("Answer", "text errors status")
+OUT_OF_MEMORY = Answer(b"", b"fault 65\n", 3)
+NO_WORKER = Answer(b"", b"fault 67\n", 2)
+
+# what is run, in which folder and on which input, and what the program must write and end with
+Case = collections.namedtuple("Case", "name words input text refused status folder", defaults=[EXAMPLES])
+
+# a run with the allocation of one number refused: its answer, how many allocations came, from how many threads, and their bytes
+Refusing = collections.namedtuple("Refusing", "number answer allocations threads bytes")
+
+
+# ---- programs and files
+
+def stop(why):
+    """Ends the check that was started, with one line that names it."""
+    sys.exit(f"{pathlib.Path(sys.argv[0]).stem}: {why}")
+
+
+def there(path, what, how):
+    """The whole path of a file, which must be there."""
+    if not os.path.isfile(path):
+        stop(f"there is no {what} {path}; {how} makes it")
+    return os.path.abspath(path)
+
+
+def program(crate="sct_sites"):
+    """The program of a crate: the one that a variable names, else the one that `rt run` and the gate leave."""
+    path = os.environ.get(crate.upper()) or CRATES / crate / "out" / crate
+    return there(path, "program", f"`rt run` in crates/{crate}")
+
+
+def crate_tests(crate):
+    """The tests of a crate, as `rt test` and the gate leave them."""
+    return there(CRATES / crate / "out" / f"{crate}_tests", "tests", f"`rt test` in crates/{crate}")
+
+
+def command(name):
+    """The path of a command of this machine."""
+    path = shutil.which(name)
+    if path is None:
+        stop(f"there is no command {name} on this machine")
+    return path
+
+
+# ---- a run and its answer
+
+def limits(processors, memory, room):
+    """What limits a process before its program begins, or None if nothing does."""
+    if processors is memory is room is None:
+        return None
+
+    def limit():
+        if processors is not None:
+            os.sched_setaffinity(0, sorted(os.sched_getaffinity(0))[:processors])
+        if memory is not None:
+            resource.setrlimit(resource.RLIMIT_DATA, (memory, memory))
+        if room is not None:
+            resource.setrlimit(resource.RLIMIT_FSIZE, (room, room))
+    return limit
+
+
+def run(words, data=None, processors=None, memory=None, room=None, seconds=None, **more):
+    """The answer of a process to an input.
+
+    It runs on so many processors, or on all if there are fewer. It may map so many bytes of memory to write in, its threads' stacks
+    included, and write so many bytes to a file. A process that goes on for longer than these seconds is stopped.
+    """
+    streams = {"stdout": subprocess.PIPE, "stderr": subprocess.PIPE, **more}
+    try:
+        # if room is limited, the signal for a full file stays ignored, so that the write fails
+        done = subprocess.run(words, input=data, preexec_fn=limits(processors, memory, room), restore_signals=room is None,
+                              timeout=seconds, **streams)
+    except subprocess.TimeoutExpired:
+        return Answer(b"", b"", f"none in {seconds} seconds")
+    return Answer(done.stdout, done.stderr, done.returncode)
+
+
+def spent(words, data=None, **streams):
+    """The seconds of the processor that a process takes, in all its threads, and the status that it ends with."""
+    before = resource.getrusage(resource.RUSAGE_CHILDREN)
+    status = run(words, data, **{"stdout": subprocess.DEVNULL, "stderr": subprocess.DEVNULL, **streams}).status
+    after = resource.getrusage(resource.RUSAGE_CHILDREN)
+    return after.ru_utime + after.ru_stime - before.ru_utime - before.ru_stime, status
+
+
+def driver_answers(cases, *flags):
+    """What the test driver answers to each case: its text and the status that it ends with. A case has a name, words and an input.
+
+    `rt try` builds the driver once for all of them, and proves nothing.
+    """
+    with tempfile.TemporaryDirectory() as folder:
+        for name, (words, data) in cases.items():
+            pathlib.Path(folder, name).write_bytes(data)
+            pathlib.Path(folder, name + ".args").write_text("\n".join(words) + "\n")
+        answer = run([command("rt"), "try", *flags, "--cases", folder], cwd=CRATES / "sct_test_driver")
+    out, errors = answer.text.decode(), answer.errors.decode()
+    texts = dict(re.findall(r"^== (\w+)\n(.*?)(?=^== \w+\n|\Z)", out, re.M | re.S))
+    statuses = dict(re.findall(r"^case=(\w+) run=ended status=(\d+) ", errors, re.M))
+    if not set(cases) == set(texts) == set(statuses):
+        stop(f"{len(statuses)} cases of {len(cases)} ended:\n{out[-2000:]}{errors[-2000:]}")
+    return {name: (texts[name], int(statuses[name])) for name in cases}
+
+
+# ---- runs with one allocation refused
+
+def refuser(folder):
+    """The library that refuses one allocation, made in a folder. It is preloaded."""
+    path = pathlib.Path(folder, "refuse_nth.so")
+    source = TOP / "tests" / "faults" / "refuse_nth.c"
+    subprocess.run([command("cc"), "-O2", "-shared", "-fPIC", "-o", path, source], check=True)
+    return str(path)
+
+
+def run_refusing(number, library, words, data):
+    """A run in which the allocation with this number is refused. With 0 none is."""
+    with tempfile.NamedTemporaryFile() as counts:
+        os.truncate(counts.name, COUNTS.size)
+        variables = {"LD_PRELOAD": library, "REFUSE_NUMBER": str(number), "REFUSE_COUNTS": counts.name}
+        answer = run(words, data, seconds=SECONDS, env={**os.environ, **variables})
+        return Refusing(number, answer, *COUNTS.unpack(counts.read()))
+
+
+def each_refused(library, words, data):
+    """A run with no allocation refused, and one with each number up to the greatest count of allocations."""
+    runs, most = [], 0
+    with ThreadPoolExecutor(len(os.sched_getaffinity(0))) as pool:
+        while len(runs) <= most:
+            runs += pool.map(lambda number: run_refusing(number, library, words, data), range(len(runs), most + 1))
+            most = max(run.allocations for run in runs)
+    return runs
+
+
+def is_refused(run):
+    """Whether the allocation came that was to be refused."""
+    return 0 < run.number <= run.allocations
+
+
+# ---- the comparison
+
+def case(name, words, data, text, refused):
+    """A case that ends with status 1 if a line is refused, else with 0."""
+    return Case(name, words, data, text, refused, 1 if refused else 0)
+
+
+def reported(name, right, written=""):
+    """Whether something is right, which is printed. If it is not, what was written is printed too."""
+    print(f"{name}: {'ok' if right else 'DIFFERS'}", flush=True)
+    if not right and written:
+        print(written, end="" if written.endswith("\n") else "\n", flush=True)
+    return right
+
+
+def answers(program, one, processors):
+    """Whether a program answers a case as it must, on so many processors."""
+    return run([program, *one.words], one.input, processors, cwd=one.folder) == (one.text, one.refused, one.status)
+
+
+def fits(program, one, processors=PROCESSORS[-1], times=1):
+    """Whether a program answers a case as it must, so many times in a row."""
+    again = f", {times} times" if times > 1 else ""
+    right = all(answers(program, one, processors) for _ in range(times))
+    return reported(f"{one.name}, on {processors} processors{again}", right)
+
+
+def all_fit(program, ones):
+    """Whether a program answers each of some cases of one name as it must."""
+    return reported(f"{ones[0].name}, in {len(ones)} ways", all(answers(program, one, PROCESSORS[-1]) for one in ones))
+
+
+# ---- the last line
+
+def end(passed, failed):
+    """Prints how many passed and how many failed, and ends the check. The exit status is 0 if none has failed."""
+    print(f"{passed} passed, {failed} failed")
+    sys.exit(1 if failed else 0)
+
+
+def end_with(numbers):
+    """Ends the check with several pairs of how many passed and how many failed."""
+    end(*map(sum, zip(*numbers)))
+
+
+def end_of(right):
+    """Ends the check with a list of whether each thing is right."""
+    end(sum(right), len(right) - sum(right))

@@ -1,0 +1,60 @@
+"""inputs.py: inputs that more than one check runs the program on."""
+import json, pathlib
+from bench.generate import messages, samples
+from tests.harness import case
+
+
+def instruction(number):
+    """The line of an instruction."""
+    return samples.line(samples.instruction(MsgId=f"M{number}", TxId=f"T{number}"))
+
+
+def confirmation(number):
+    """The line of the confirmation of the instruction with this number."""
+    return samples.line(samples.confirmation(MsgId=f"C{number}", OrgnlMsgId=f"M{number}", OrgnlTxId=f"T{number}"))
+
+
+def returned():
+    """An accepted transfer of 100 euro that was recalled, and of which 99 euro were returned."""
+    whole = {"OrgnlIntrBkSttlmAmt": "100.00"}
+    messages = [samples.instruction(IntrBkSttlmAmt="100.00"), samples.confirmation(), samples.recall([samples.transaction(**whole)]),
+                samples.payback(RtrdIntrBkSttlmAmt="99.00", **whole)]
+    text = b"T|BANKDEFFXXX|T1|RETURNED|99.00\nR|BANKDEFFXXX|T1|R1|RETURNED|99.00\n"
+    return case("a return", ["status"], "".join(map(samples.line, messages)).encode(), text, b"")
+
+
+def recall(number, lines):
+    """The line of a recall of all transfers that these lines instruct. Every third recall has another amount for the first
+    transfer. Every fourth has the identification of the one before."""
+    instructed = [message for message in map(json.loads, lines) if message["MsgNmId"] == "pacs.008"]
+    amounts = [message["IntrBkSttlmAmt"] for message in instructed]
+    if number % 3 == 0:
+        amounts[0] = "999999999.99"
+    listed = [samples.transaction(OrgnlTxId=message["TxId"], OrgnlIntrBkSttlmAmt=amount, DbtrAgt=message["DbtrAgt"])
+              for message, amount in zip(instructed, amounts)]
+    return samples.line(samples.recall(listed, MsgId=f"K{number - (number % 4 == 0)}"))
+
+
+def long_input(many):
+    """So many made-up messages, with recalls of several transfers, blank lines and refused ones between them."""
+    lines = [line[:-1] for line in messages.lines(many)]
+    for place in range(0, len(lines), 37):
+        lines[place] += ["\nfoo", "\r\n", "\n \t\r\n{}"][place % 3]
+    for place in range(37, len(lines), 37):
+        lines[place] += "\n" + recall(place // 37, lines[place - 20:place])[:-1]
+    return "\n".join(lines).encode()
+
+
+def files_of(folder, name, texts):
+    """The paths of new files with these texts."""
+    paths = [pathlib.Path(folder, f"{name}{place}") for place in range(1, len(texts) + 1)]
+    for path, text in zip(paths, texts):
+        path.write_bytes(text)
+    return [str(path) for path in paths]
+
+
+def two_files(folder):
+    """A transfer and its confirmation in one file, another transfer in the other."""
+    texts = [(instruction(1) + confirmation(1)).encode(), instruction(2).encode()]
+    text = b"T|BANKDEFFXXX|T1|ACCEPTED\nT|BANKDEFFXXX|T2|PENDING\n"
+    return case("run of two files", ["run", *files_of(folder, "small", texts)], b"", text, b"")

@@ -1,0 +1,1 @@
+"""Made-up inputs, and what the definitions say of them."""

@@ -1,0 +1,1 @@
+"""How processor time grows with the input."""
