@@ -56,7 +56,7 @@ class Trial:
 
 
 def batches(lines, size):
-    """The lines, an empty one behind each so many."""
+    """The lines, with an empty one after each so many."""
     return [it for at in range(0, len(lines), size) for it in lines[at:at + size] + [""]]
 
 

@@ -14,7 +14,7 @@ PARTS = 10
 
 
 def times(many):
-    """The nanoseconds that each take and each answer lasted, by the word that stands before them."""
+    """The nanoseconds that each take and each answer lasted, by the word before them."""
     done = subprocess.run([harness.program("sct_test_driver"), "times", str(many)], capture_output=True, text=True, check=True)
     found = collections.defaultdict(list)
     for line in done.stdout.splitlines():

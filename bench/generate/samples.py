@@ -50,7 +50,7 @@ def transaction(**elements):
 
 
 def recall(transactions, **elements):
-    """A recall of these transactions: flat where there is one, else with their list."""
+    """A recall of these transactions: flat if there is one, else with their list."""
     head = {"MsgNmId": "camt.056", "MsgId": "K1", "CreDtTm": "2024-05-03T09:00:00Z", "InstgAgt": "BANKDEFF", **elements}
     return {**head, **transactions[0]} if len(transactions) == 1 else {**head, "TxInf": transactions}
 

@@ -110,7 +110,7 @@ def written_forms(program, page, messages):
 # ---- section 3: names of kinds, reasons
 
 def kinds(program, page, messages):
-    """Names that are read as a kind, and names that are read as none."""
+    """Names that are read as a kind, and names that are refused."""
     of_kind = {json.loads(line)["MsgNmId"]: json.loads(line) for line in list(messages.values())[:-1]}
     for row in page.rows("Names of kinds", "Kind", "Read as this kind"):
         kind, names = row.cells

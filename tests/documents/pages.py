@@ -27,7 +27,7 @@ class Page:
         return self.text.count("\n", 0, place) + 1
 
     def section(self, heading):
-        """Where a section begins and ends: at the next heading of its own level or of a higher one."""
+        """The places at which a section begins and ends: at the next heading of its own level or of a higher one."""
         begin = re.search(rf"^(##+) {re.escape(heading)}\n", self.text, re.M)
         if begin is None:
             stop(f"{self.name} has no section {heading}")

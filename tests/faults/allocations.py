@@ -19,7 +19,7 @@ TRANSFERS = 256  # fewer are evaluated and written in one part, as fewer bytes t
 ROUNDS = 8
 
 # what is run, in how many rounds, the right answer, what may be answered if an allocation was refused, and how many threads must allocate
-Command = collections.namedtuple("Command", "words input rounds right wanting threads", defaults=[2])
+Command = collections.namedtuple("Command", "words input rounds right shortages threads", defaults=[2])
 
 
 def small_input():
@@ -51,10 +51,10 @@ def commands(folder):
 
 
 def mark_of(command, run):
-    """What a run wrote: the right text, or the want that it may report. None if it failed."""
+    """What a run wrote: the right text, or what it may be out of. None if it failed."""
     if run.answer == command.right:
         return "the right text"
-    return run.answer.errors.decode().strip() if is_refused(run) and run.answer in command.wanting else None
+    return run.answer.errors.decode().strip() if is_refused(run) and run.answer in command.shortages else None
 
 
 def print_failures(command, runs):
@@ -74,14 +74,14 @@ def tried(program, library, command):
     runs = [run for _ in range(command.rounds) for run in harness.each_refused(library, words, command.input)]
     marks = collections.Counter(mark_of(command, run) for run in runs)
     failed = marks.pop(None, 0)
-    wants = sum(marks.values()) - marks["the right text"]
+    short = sum(marks.values()) - marks["the right text"]
     threads = min(run.threads for run in runs if run.number == 0)
     refused = sum(map(is_refused, runs))
     print_failures(command, runs)
     print(f"{command.words[0]}: up to {max(run.allocations for run in runs)} allocations, {threads} threads with none refused")
     print(f"{command.words[0]}: {refused} runs with one refused, {len(runs) - refused} with none: "
           + ", ".join(f"{mark} {times}" for mark, times in marks.items()) + f", {failed} in another way", flush=True)
-    return len(runs) - failed, failed + (threads < command.threads) + (not wants)
+    return len(runs) - failed, failed + (threads < command.threads) + (not short)
 
 
 def main():

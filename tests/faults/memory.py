@@ -1,4 +1,4 @@
-"""memory.py: the program is run in less memory than it wants.
+"""memory.py: the program is run in less memory than it needs.
 
 What limits a run is how many bytes it may map to write in, the stacks of its threads included. The first thread's own stack is not
 counted: the system ends a process whose first stack may not grow. The limit grows by STEP bytes up to MOST. With the small limits no
@@ -17,14 +17,15 @@ STEP = 1 << 20
 MOST = 96 << 20
 
 
-def tried(program, words, data, right, wanting):
+def tried(program, words, data, right, shortages):
     """How many runs with these limits ended as they may, and how many failed: the right text must come, and come not always."""
     counts = collections.Counter(harness.run([program, *words], data, memory=memory) for memory in range(STEP, MOST + STEP, STEP))
-    others = {answer: count for answer, count in counts.items() if answer not in (right, *wanting)}
+    others = {answer: count for answer, count in counts.items() if answer not in (right, *shortages)}
     for text, errors, status in others:
         print(f"{words[0]}: {text[:80]!r}, {errors[-80:]!r}, status {status}")
-    short = sum(counts[answer] for answer in wanting)
-    print(f"{words[0]}: {counts[right]} runs with the right text, {short} in want, {sum(others.values())} in another way", flush=True)
+    short = sum(counts[answer] for answer in shortages)
+    print(f"{words[0]}: {counts[right]} runs with the right text, {short} out of memory or of threads, "
+          f"{sum(others.values())} in another way", flush=True)
     return counts[right] + short, sum(others.values()) + (not counts[right]) + (not short)
 
 

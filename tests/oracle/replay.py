@@ -53,7 +53,7 @@ def vector(text):
 # ---- a line
 
 def event(line):
-    """The event that a line tells. Raises what the line is refused for."""
+    """The event of a line. Raises what the line is refused for."""
     word, rest = parted(line, b" ")
     if word == b"take":
         site, json = parted(rest, b" ")
@@ -68,7 +68,7 @@ def event(line):
 
 
 def size(line):
-    """How many sites a first line tells, or None."""
+    """How many sites a first line has, or None."""
     try:
         word, count = parted(line, b" ")
         sites = number(count)
@@ -91,7 +91,7 @@ def place(entry):
 
 
 def refusal(held, own, group, delta):
-    """Why a site refuses a delta, with the fields behind the number, or None."""
+    """Why a site refuses a delta, with the fields after the number, or None."""
     have = counted(held)
     ordered = sorted(delta, key=place)
     if any(origin > group for origin, _, _ in ordered):
@@ -140,26 +140,26 @@ class World:
 # ---- the whole
 
 def answer(data):
-    """The text, the lines told and the exit status."""
+    """The text, the refused lines and the exit status."""
     lines = lines_of(data)
     sites = size(lines[0][1]) if lines else None
     if sites is None:
         return "", "fault 64\n", 2
-    world, text, told, events = World(sites), [], [], 0
+    world, text, refused, events = World(sites), [], [], 0
     for n, line in lines[1:]:
         try:
-            told_event = event(line)
+            happening = event(line)
         except NoEvent:
-            told.append(f"line {n}: 64\n")
+            refused.append(f"line {n}: 64\n")
         except Refused as e:
-            told.append(f"line {n}: {e}\n")
+            refused.append(f"line {n}: {e}\n")
         else:
             events += 1
-            text.append("|".join(map(str, ["E", events, *world.step(*told_event)])) + "\n")
+            text.append("|".join(map(str, ["E", events, *world.step(*happening)])) + "\n")
     for site, held in world.held.items():
         messages = {message for _, _, message in held}
         text += [f"S|{site}\n", archive_text(messages), status_text(messages), totals_text(messages)]
-    return "".join(text), "".join(told), 1 if told else 0
+    return "".join(text), "".join(refused), 1 if refused else 0
 
 
 if __name__ == "__main__":

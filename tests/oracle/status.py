@@ -304,7 +304,7 @@ def written(msg):
 
 
 def shown(code, usual):
-    """A reason as it is shown where these are usual."""
+    """A reason as it is shown if these are usual."""
     return code if code in usual else code + "?"
 
 
@@ -460,13 +460,13 @@ def lines_of(data):
 
 
 def answer(job, data):
-    messages, told = set(), []
+    messages, refused = set(), []
     for n, line in lines_of(data):
         try:
             messages.add(read_message(line))
         except Refused as e:
-            told.append(f"line {n}: {e}\n")
-    return TEXT[job](messages), "".join(told), 1 if told else 0
+            refused.append(f"line {n}: {e}\n")
+    return TEXT[job](messages), "".join(refused), 1 if refused else 0
 
 
 def write_answer(answer, words, usage):

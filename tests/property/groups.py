@@ -18,7 +18,7 @@ TO_MEET = ["SETTLED", "REFUSED|42", "REFUSED|43", "REFUSED|44", "no site", "one 
 
 
 class Site:
-    """A site: its number, its group and its entries, and the lines that tell them."""
+    """A site: its number, its group and its entries, and the lines that make it."""
 
     def __init__(self, number, group):
         self.number, self.group, self.held = number, group, frozenset()
@@ -37,7 +37,7 @@ class Site:
         self.held |= {(origin, n, read_message(text))}
 
     def accept(self, delta):
-        """Why the site refuses a delta, where it does; else it has the entries."""
+        """Why the site refuses a delta, or None. If it does not, it has the entries."""
         refused = refusal(self.held, self.number, self.group, delta)
         if not refused:
             self.held |= delta
@@ -101,7 +101,7 @@ def handed_on(sites):
 
 
 def settled(sites):
-    """Why settling is refused, with the fields behind the number, or none. The sites have what they were handed."""
+    """Why settling is refused, with the fields after the number, or None. The sites have what they were handed."""
     if len({site.number for site in sites}) < len(sites) or len({site.group for site in sites}) > 1:
         return [44]
     for giver, taker in handed_on(sites):

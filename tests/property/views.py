@@ -100,21 +100,21 @@ def sent(messages):
 
 def trial(batches, often):
     """The lines that ask for it all, what must be printed, and what the batches meet."""
-    asked, told, held, counted, met = ["new"], ["new\n"], set(), set(), []
+    asked, printed, held, counted, met = ["new"], ["new\n"], set(), set(), []
     for number, batch in enumerate(batches, 1):
         messages = {read_message(line.encode()) for line in batch}
         fresh = messages - held
         reached = touched(held, fresh)
         met += met_by_batch(held, fresh, reached)
         asked += batch + [""]
-        told.append(f"{len(fresh)} {len(reached)}\n")
+        printed.append(f"{len(fresh)} {len(reached)}\n")
         held |= fresh
         before, counted = counted, sent(held)
         met += [TAKEN_BACK] * len(before - counted)
         if often or number == len(batches):
             asked.append("tell")
-            told.append(status_text(held) + totals_text(held))
-    return "\n".join(asked) + "\n", "".join(told), met
+            printed.append(status_text(held) + totals_text(held))
+    return "\n".join(asked) + "\n", "".join(printed), met
 
 
 # ---- what is met
@@ -152,7 +152,7 @@ def met_by_two(one, other):
 
 
 def met_by_recall(message, stands):
-    """What a recall meets by where its transfers stand."""
+    """What a recall meets by the statuses of its transfers."""
     findings = [stands[t][1] for t in transfers(message)]
     if [] in findings and ["AmountDiffers"] in findings:
         yield ONE_CONTRADICTED
@@ -162,7 +162,7 @@ def met_by_recall(message, stands):
 
 
 def met_by_standing(status, findings, recalls):
-    """What is met where one transfer stands."""
+    """What is met by the status of one transfer, its findings and its recalls."""
     yield "T " + status.partition("|")[0]
     yield from (finding.partition("|")[0] for finding in findings)
     yield from ("R " + recall.split("|")[1] for recall in recalls)
@@ -190,5 +190,5 @@ def tries(r, number):
     lines = made_up_set(r, number)
     in_each = [*met_by_set(lines)]
     for way, batches in cuts(r, lines).items():
-        asked, told, met = trial(batches, way == "cut at random")
-        yield Try(f"set {number}, {way}", asked.encode(), told), in_each + met
+        asked, printed, met = trial(batches, way == "cut at random")
+        yield Try(f"set {number}, {way}", asked.encode(), printed), in_each + met

@@ -92,7 +92,7 @@ def line(r, sites, messages, cuts):
 
 
 def script(r):
-    """The bytes of a script, or of an input that is none."""
+    """The bytes of a script, or of an input that is not a valid script."""
     sites, cuts, pool = r.randint(3, 5), [], Pool(r)
     messages = [pool.message() for _ in range(r.randint(3, 12))]
     messages += [written_out(message) for message in messages[:2]]
@@ -104,12 +104,12 @@ def script(r):
 
 # ---- what is met
 
-def met_in(text, told):
+def met_in(text, refused):
     """What a right answer shows."""
     yield from re.findall(r"^E\|\d+\|(REFUSED\|\d+|[A-Z]+)", text, re.M)
-    for refusal in re.findall(r"^line \d+: (.*)", told, re.M):
+    for refusal in re.findall(r"^line \d+: (.*)", refused, re.M):
         yield from ("line " + reason for reason in REASONS if (refusal + " ").startswith(reason + " "))
-    if told == "fault 64\n":
+    if refused == "fault 64\n":
         yield "fault 64"
     if "|CONTRADICTED\n" in text:
         yield "contradicted"
@@ -120,6 +120,6 @@ def met_in(text, told):
 def tries(r, number):
     """The try of the world with this number, with what it meets."""
     data = script(r)
-    text, told, _ = answer(data)
-    wanted = told + SEPARATOR + "\n" + text + SEPARATOR + "\n"
-    yield Try(f"world {number}", data + SEPARATOR.encode(), wanted), met_in(text, told)
+    text, refused, _ = answer(data)
+    wanted = refused + SEPARATOR + "\n" + text + SEPARATOR + "\n"
+    yield Try(f"world {number}", data + SEPARATOR.encode(), wanted), met_in(text, refused)
