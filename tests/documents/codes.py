@@ -13,18 +13,6 @@ SHOWN = ["Line", "Example"]
 MOST = 67  # the greatest number
 
 
-def rows(text):
-    """The rows of all tables of a page, by the names of their columns."""
-    names = None
-    for line in text.split("\n"):
-        if not line.startswith("|"):
-            names = None
-        elif names is None:
-            names = pages.cells(line)
-        elif not line.startswith("|---"):
-            yield dict(zip(names, pages.cells(line)))
-
-
 def numbers_of_code():
     """The pairs of numbers and names by the functions `number` of the code, and the numbers that end a run."""
     pairs, ends = {("64", "NoEvent")}, set()
@@ -84,7 +72,7 @@ def is_man_page_made(text):
 
 def main():
     text, (pairs, ends) = man_page.PAGE.read_text(encoding="utf-8"), numbers_of_code()
-    table = list(rows(text))
+    table = [dict(zip(columns, row.cells)) for columns, row in pages.tables(text.splitlines())]
     harness.end_of([*numbers(text, table, pairs), *lines_shown(table, ends), is_man_page_made(text)])
 
 

@@ -8,20 +8,13 @@ examples/hub-morning.run-refused. Section 14 has bad lists and a report. A row i
 """
 import json, pathlib, re, tempfile
 from bench.generate import samples
-from tests import harness
-from tests.documents.pages import Page, codes
+from tests.documents.pages import Page, answered, codes
 from tests.harness import EXAMPLES, stop
 
 NAMES = ["the instruction", "the confirmation", "the request", "the recall", "the return", "the resolution", "the batch"]
 ORDINALS = {"first": 0, "second": 1}
 BEGINNINGS = {"the header": "DbtrAgt,TxId,Amt,Sts\n", "an empty file": "", "no header": "", "two blank lines": "\n\n"}
 MOST = 100
-
-
-def answered(program, words, data):
-    """What the program writes on an input, and the status that it ends with."""
-    text, refused, status = harness.run([program, *words], data.encode())
-    return text.decode(), refused.decode(), status
 
 
 # ---- section 5: lines that are changed

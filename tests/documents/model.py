@@ -5,8 +5,7 @@ of a form of FORMS, or a script with its events. A block of another form stops t
 """
 import json, re
 from bench.generate import samples
-from tests import harness
-from tests.documents.pages import Page
+from tests.documents.pages import Page, answered
 from tests.harness import stop
 from tests.oracle.status import read_message
 from tests.property.groups import Site, settled
@@ -92,10 +91,10 @@ def lines_of(words):
 
 # ---- what the program answers
 
-def answered(program, command, lines):
-    """What a command writes on some lines, with the status that it ends with."""
-    text, refused, status = harness.run([program, command], "".join(lines).encode())
-    return text.decode() + refused.decode(), status
+def written(program, command, lines):
+    """What a command writes on some lines, to one output after the other, with the status that it ends with."""
+    text, refused, status = answered(program, [command], "".join(lines))
+    return text + refused, status
 
 
 def columns(rows):
@@ -109,13 +108,13 @@ def text_of(command):
         lines = lines_of(" ".join(held))
         stated = "".join(row + "\n" for row in text), 0
         for given in (lines, lines[::-1], lines + lines):
-            yield stated, answered(program, command, given)
+            yield stated, written(program, command, given)
     return compared
 
 
 def archived(program, lines):
     """The lines of the archive text."""
-    text, status = answered(program, "archive", lines)
+    text, status = written(program, "archive", lines)
     return set(text.splitlines()), status
 
 
@@ -163,7 +162,7 @@ def replayed(program, events, **sites):
     """The outcome of each event, and the status text of each site that is named."""
     words, outcomes = zip(*columns(events))
     script = ["sites 3\n", *map(event_line, words)]
-    text, status = answered(program, "replay", script)
+    text, status = written(program, "replay", script)
     happened, *held = re.split(r"^S\|\d+\n", text, flags=re.M)
     yield (["E|{}|{}".format(*one) for one in enumerate(outcomes, 1)], 0), (happened.splitlines(), status)
     for site, stated in sites.items():
@@ -235,7 +234,7 @@ def of_block(program, block):
 def of_message(program, row):
     """The transfers and the recalls that one message names, by the lines of its status text."""
     words, *keys = row.cells
-    text, _ = answered(program, "status", lines_of(words))
+    text, _ = written(program, "status", lines_of(words))
     for stated, pattern in zip(keys, (r"^T\|([^|\n]*)\|([^|\n]*)", r"^R\|([^|\n]*)\|([^|\n]*)\|([^|\n]*)")):
         found = re.findall(pattern, text, re.M)
         yield stated, "; ".join(", ".join(key) for key in found) or "none"

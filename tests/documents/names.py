@@ -9,8 +9,8 @@ its line, and every crate of the kit that is used. Edits that were taken away ar
 """
 import functools, os, pathlib, re
 from tests import harness
-from tests.documents import pages, sources
-from tests.documents.pages import codes
+from tests.documents import sources
+from tests.documents.pages import codes, rows
 from tests.harness import CRATES, TOP
 
 PAGES = [TOP / "README.md", *sorted((TOP / "docs").glob("*.md")), TOP / "examples" / "README.md"]
@@ -63,19 +63,6 @@ def sections(text):
     for place, (start, depth, heading) in enumerate(found):
         end = next((later for later, other, _ in found[place + 1:] if other <= depth), len(text))
         yield heading, text.count("\n", 0, start) + 1, text[start:end].splitlines()
-
-
-def rows(lines, first, columns):
-    """The rows of the tables that have these columns, with their line numbers, each as its cells."""
-    within = False
-    for number, line in enumerate(lines, first):
-        cells = pages.cells(line.rstrip()) if line.startswith("|") else []
-        if cells == columns:
-            within = True
-        elif not cells:
-            within = False
-        elif within and set(line) - set("|-"):
-            yield number, cells
 
 
 # ---- names, files and links

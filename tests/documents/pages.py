@@ -1,14 +1,37 @@
-"""pages.py: the examples and tables of a page of docs/, each with the number of its first line."""
+"""pages.py: the examples and tables of a page of docs/, each with the number of its first line, and the answers of the program."""
 import collections, re
-from tests.harness import TOP, stop
+from tests.harness import TOP, run, stop
 
 Block = collections.namedtuple("Block", "line text")
-Row = collections.namedtuple("Row", "line cells")
+Row = collections.namedtuple("Row", "line cells")  # the number of the line of a row, and its cells
+
+
+def answered(program, words, data):
+    """What the program writes to both outputs on an input, and the status that it ends with."""
+    text, refused, status = run([program, *words], data.encode())
+    return text.decode(), refused.decode(), status
 
 
 def cells(line):
     """The cells of a row of a table. A `|` in a cell has a backslash before it."""
     return [cell.strip().replace("\\|", "|") for cell in re.split(r"(?<!\\)\|", line)[1:-1]]
+
+
+def tables(lines, first=1):
+    """Each row of the tables of some lines with the names of its columns. The first line has this number."""
+    columns = None
+    for number, line in enumerate(lines, first):
+        if not line.startswith("|"):
+            columns = None
+        elif columns is None:
+            columns = cells(line)
+        elif set(line) - set("|-"):
+            yield columns, Row(number, cells(line))
+
+
+def rows(lines, first, columns):
+    """The rows of the tables that have these columns."""
+    return (row for found, row in tables(lines, first) if found == list(columns))
 
 
 def codes(text):
@@ -44,11 +67,9 @@ class Page:
             yield Block(self.line_at(match.start(1)), match.group(1))
 
     def rows(self, heading, *columns):
-        """The rows of the tables of a section that have these columns, each as its cells. There is one at least."""
-        title = r"\| " + r" \| ".join(map(re.escape, columns)) + r" \|\n\|[-|]+\|\n"
-        tables = list(self.found(rf"^{title}((?:\|.*?\|\n)+)", heading))
-        if not tables:
+        """The rows of the tables of a section that have these columns. There is one at least."""
+        begin, end = self.section(heading) if heading else (0, len(self.text))
+        found = list(rows(self.text[begin:end].splitlines(), self.line_at(begin), columns))
+        if not found:
             stop(f"{self.name}, {heading} has no table of {', '.join(columns)}")
-        for table in tables:
-            for number, row in enumerate(table.group(1).splitlines(), self.line_at(table.start(1))):
-                yield Row(number, cells(row))
+        yield from found
