@@ -1,4 +1,4 @@
-//! Growths that are refused. `scripts/gate/refuse_growths.py` has the toolchain refuse one allocation
+//! Growths that are refused. `tests/faults/archive_growths.py` has the toolchain refuse one allocation
 //! of each test, always the one of the same number. The tests differ in how many allocations they
 //! make first, so each meets another refusal.
 
