@@ -43,6 +43,7 @@ CHECKS = {
     },
     "times": {
         "growing_times": "times the program on a transfer, a script and a run of four times the size",
+        "two_ways": "times the program on objects of texts, and on the same objects with a number",
     },
     "property": {
         "made_up": "compares made-up sets, worlds and groups with the definitions",
