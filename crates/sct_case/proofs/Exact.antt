@@ -1,9 +1,8 @@
 -- A finding is told exactly where its relation holds: for each piece of the list, what is in it and that it is in it.
 use Rattle.std.proofs.Common.{◌≡◌, ◌∙◌, refl, sym, ap, subst, inl, inr, ℕ, Bool, true, false, nat_eq, not, List, [], ◌∷◌, ◌++◌, map}
-use Rattle.std.specs.Prelude.{◌≢◌}
 use Rattle.std.specs.List.{flat_map, list_any}
 use Rattle.std.specs.Cmp.Lexicographic.{nat_list_cmp_total, pointwise}
-use Rattle.std.proofs.lemmas.Bool.{false≢true, eqb-true, eq-eqb}
+use Rattle.std.proofs.lemmas.Bool.{and_from, and_parts, eq-eqb, false≢true, ne_eqb, not_from_false, not-true}
 use Rattle.sct_message.specs.declared.draft.Draft.{Draft}
 use Rattle.sct_message.specs.declared.keys.Identity.{Identity}
 use Rattle.sct_message.specs.declared.keys.TransferKey.{TransferKey}
@@ -20,7 +19,7 @@ use Rattle.sct_case.specs.Told.{where_found, has_some, cxls, differ_among, has_t
 use Rattle.sct_case.specs.Laws.{AreApart, TellsExactly}
 use Rattle.sct_case.proofs.Membership.{In, in_contains, contains_in, in_left, in_right, in_either, in_map, mapped_in, in_filter, filtered_in, any_has, has_any, some_has, said_in, in_said, differ_among_has, has_differ_among, in_ascending, ascending_in}
 use Rattle.sct_case.proofs.Judged.{some}
-use Rattle.sct_case.proofs.Same.{texts_same, text_is, text_itself, both_true, true_both, reason_is, reason_itself, recall_is, recall_itself, return_is, return_itself, refusal_is, refusal_itself}
+use Rattle.sct_case.proofs.Same.{texts_same, text_is, text_itself, reason_is, reason_itself, recall_is, recall_itself, return_is, return_itself, refusal_is, refusal_itself}
 use Rattle.sct_case.proofs.Instructed.{two_of, of_two, two_different, different_two, sole_of, of_sole}
 
 -- ---- pieces of the list
@@ -53,13 +52,13 @@ module _ (clean : List Draft) where
 
   confirmed_has : is_both_confirmed clean ≡ true → IsBothConfirmed clean
   confirmed_has h =
-      let parts = both_true (list_any is_acceptance clean) (has_some (flat_map rejections_by clean)) h in
+      let parts = and_parts (list_any is_acceptance clean) (has_some (flat_map rejections_by clean)) h in
       let a = any_has is_acceptance clean parts.0 in
       let r = some_has (flat_map rejections_by clean) parts.1 in
       record { acceptance = a.0; held = contains_in clean a.0 a.1; accepts = a.2; reason = r.0; rejected = in_said rejections_by clean r.0 r.1 }
 
   has_confirmed : IsBothConfirmed clean → is_both_confirmed clean ≡ true
-  has_confirmed b = true_both _ _
+  has_confirmed b = and_from _ _
       (has_any is_acceptance clean b.acceptance (in_contains clean b.acceptance b.held) b.accepts)
       (has_some_of (flat_map rejections_by clean) b.reason (said_in rejections_by clean b.reason b.rejected))
 
@@ -81,12 +80,6 @@ module _ (clean : List Draft) where
 
 -- ---- amounts
 
-unequal : (m n : ℕ) → not (nat_eq m n) ≡ true → m ≢ n
-unequal m n h e = let k : nat_eq m n ≡ true = eq-eqb m n e in false≢true (sym (ap not k) ∙ h)
-
-not_equal : (m n : ℕ) → m ≢ n → not (nat_eq m n) ≡ true
-not_equal m n different = elim (nat_eq m n) as (λ b. nat_eq m n ≡ b → not b ≡ true) [ true ↦ λ e. absurd (different (eqb-true m n e)) | false ↦ λ e. refl ] refl
-
 module _ (t : TransferKey) (clean : List Draft) where
   amount_has : (instructed : List InstructedAmount) → flat_map instructions_by clean ≡ instructed
       → names_another instructed (flat_map (amounts_by t) clean) ≡ true → DoesAmountDiffer t clean
@@ -101,7 +94,7 @@ module _ (t : TransferKey) (clean : List Draft) where
         of_instruction = contains_in (instructions_by s.0) a s.2;
         named = r.0;
         is_named = in_said (amounts_by t) clean r.0 r.1;
-        different = unequal r.0.amount a.amount r.2;
+        different = λ e. false≢true (sym (not-true _ r.2) ∙ eq-eqb r.0.amount a.amount e);
       }
   amount_has (a ∷ (b ∷ more)) e h = absurd (false≢true h)
 
@@ -112,7 +105,7 @@ module _ (t : TransferKey) (clean : List Draft) where
       (in_contains (instructions_by d.instruction) d.instructed d.of_instruction) in
       ap (λ (xs : List InstructedAmount). names_another xs (flat_map (amounts_by t) clean)) alone
       ∙ has_any (λ (other : OriginalAmount). not (nat_eq other.amount d.instructed.amount)) (flat_map (amounts_by t) clean) d.named
-      (said_in (amounts_by t) clean d.named d.is_named) (not_equal d.named.amount d.instructed.amount d.different)
+      (said_in (amounts_by t) clean d.named d.is_named) (not_from_false _ (ne_eqb d.named.amount d.instructed.amount d.different))
 
   -- ---- recalls and their answers
 
@@ -221,13 +214,13 @@ module _ (t : TransferKey) (clean : List Draft) where
 
   rejected_has : has_return_of_rejected t clean ≡ true → HasReturnOfRejected t clean
   rejected_has h =
-      let parts = both_true (has_some returns) (has_some (flat_map rejections_by clean)) h in
+      let parts = and_parts (has_some returns) (has_some (flat_map rejections_by clean)) h in
       let p = some_has returns parts.0 in
       let r = some_has (flat_map rejections_by clean) parts.1 in
       record { return = p.0; returned = in_said (returns_by t) clean p.0 p.1; reason = r.0; rejected = in_said rejections_by clean r.0 r.1 }
 
   has_rejected : HasReturnOfRejected t clean → has_return_of_rejected t clean ≡ true
-  has_rejected d = true_both _ _
+  has_rejected d = and_from _ _
       (has_some_of returns d.return (said_in (returns_by t) clean d.return d.returned))
       (has_some_of (flat_map rejections_by clean) d.reason (said_in rejections_by clean d.reason d.rejected))
 

@@ -4,10 +4,8 @@ use Rattle.std.specs.Prelude.{◌==◌, ◌&&◌}
 use Rattle.std.specs.List.{list_any}
 use Rattle.std.specs.List.Sorted.{IsStrictlySortedBy}
 use Rattle.std.specs.Cmp.Lexicographic.{nat_list_cmp_total}
-use Rattle.std.specs.FinSet.{IsAntisymmetric, nat_cmp-IsAntisymmetric, slice_cmp-IsAntisymmetric}
-use Rattle.std.proofs.lemmas.Bool.{false≢true, ne_eqb}
+use Rattle.std.proofs.lemmas.Bool.{false≢true, ne_eqb, not-false}
 use Rattle.std.proofs.lemmas.List.{append-nil}
-use Rattle.sct_message.specs.Order.{text_order}
 use Rattle.sct_message.specs.declared.draft.Draft.{Draft}
 use Rattle.sct_message.specs.declared.keys.Identity.{Identity}
 use Rattle.sct_message.specs.declared.keys.TransferKey.{TransferKey}
@@ -15,12 +13,10 @@ use Rattle.sct_message.proofs.AscendingLemmas.{ascending-sorted}
 use Rattle.sct_case.specs.declared.finding.Finding.{Finding}
 use Rattle.sct_case.specs.declared.finding.Finding.TheVariants as finding
 use Rattle.sct_case.specs.Told.{has_some, cxls, differ_among, recall_of_it, return_of_it, refusal_of_it, same_recall, same_refusal, findings_of_instruction, findings_of_recalls, findings_of}
+use Rattle.sct_case.proofs.Same.{texts_same}
 use Rattle.sct_case.specs.Statuses.{Standing, Contradicted, Unknown, first_standing, is_unknown, standing_of, transfer_status_of}
 
 -- ---- where there is no message
-
-texts_same : IsAntisymmetric text_order
-texts_same = slice_cmp-IsAntisymmetric nat_cmp-IsAntisymmetric
 
 no_cxls : cxls [] ≡ []
 unfolding IsStrictlySortedBy
@@ -52,14 +48,16 @@ found_of_asides t clean asides none =
 pub some : {X : Type 0} (x : X) (xs : List X) → (length (x ∷ xs) == 0) ≡ false
 some x xs = ne_eqb _ _ (λ e. omega arith)
 
-pub none_in : {X : Type 0} (xs : List X) → has_some xs ≡ false → xs ≡ []
-none_in [] e = refl
-none_in (x ∷ xs) e = let s = some x xs in let k : has_some (x ∷ xs) ≡ true = ap not s in cc
+pub empty_of : {X : Type 0} (xs : List X) → (length xs == 0) ≡ true → xs ≡ []
+empty_of [] e = refl
+empty_of (x ∷ xs) e = absurd (false≢true (sym (some x xs) ∙ e))
+
+none_in : {X : Type 0} (xs : List X) → has_some xs ≡ false → xs ≡ []
+none_in xs e = empty_of xs (not-false _ e)
 
 -- whether there is anything, of a list and of what it is mapped to
 pub none_held : {X Y : Type 0} (g : X → Y) (xs : List X) → (length xs == 0) ≡ true → map g xs ≡ []
-none_held g [] e = refl
-none_held g (x ∷ xs) e = absurd (false≢true (sym (some x xs) ∙ e))
+none_held g xs e = ap (map g) (empty_of xs e)
 
 pub some_held : {X Y : Type 0} (g : X → Y) (xs : List X) → (length xs == 0) ≡ false → has_some (map g xs) ≡ true
 some_held g [] e = cc

@@ -1,8 +1,6 @@
--- What the messages on a transfer say, looked up in the messages themselves. Proof plumbing.
-use Rattle.std.proofs.Common.{◌≡◌, ◌∙◌, refl, sym, ap, subst, ℕ, Bool, true, false, ◌||◌, List, [], ◌∷◌, Option, Some, None}
+-- The status of a recall by the status of its transfer. Proof plumbing.
+use Rattle.std.proofs.Common.{◌≡◌, refl, sym, subst, ℕ, Bool, true, false, List, [], ◌∷◌, Option, Some, None}
 use Rattle.std.specs.Global.{Vec}
-use Rattle.std.specs.List.{list_any, flat_map}
-use Rattle.std.proofs.lemmas.List.Folds.{list_any-append}
 use Rattle.sct_reason.specs.declared.reasons.Reason.{Reason}
 use Rattle.sct_message.specs.declared.draft.Draft.{Draft}
 use Rattle.sct_message.specs.declared.keys.Identity.{Identity}
@@ -14,16 +12,6 @@ use Rattle.sct_case.specs.declared.status.RecallStatus.{RecallStatus}
 use Rattle.sct_case.specs.declared.status.RecallStatus.TheVariants as recall
 use Rattle.sct_case.specs.Statuses.{Standing, Contradicted, confirmed, first_recall, first_standing, is_unknown, known, recall_standing_of, recall_status_of, standing_of, told, transfer_status_of}
 use Rattle.sct_case.specs.Told.{findings_of}
-
-module _ {X Y : Type 0} (says : X → List Y) (p : Y → Bool) where
-  -- what the items of a list say, one after the other
-  pub any_parts : (xs : List X) → list_any (λ x. list_any p (says x)) xs ≡ list_any p (flat_map says xs)
-  any_parts [] = refl
-  any_parts (x ∷ xs) =
-      ap (λ (b : Bool). list_any p (says x) || b) (any_parts xs)
-      ∙ sym (list_any-append p (says x) (flat_map says xs))
-
--- ---- by where the transfer stands
 
 abbrev pub IsContradictedStanding : Standing → Type 0
 IsContradictedStanding (Contradicted found) = Unit {0}

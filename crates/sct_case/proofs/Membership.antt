@@ -5,7 +5,7 @@ use Rattle.std.specs.List.{list_any, flat_map}
 use Rattle.std.specs.Ordering.{eq_by_cmp}
 use Rattle.std.specs.Cmp.{IsTotalOrder}
 use Rattle.std.specs.FinSet.{IsAntisymmetric}
-use Rattle.std.proofs.lemmas.Bool.{false≢true}
+use Rattle.std.proofs.lemmas.Bool.{and_parts, false≢true, not-true, true_from_ne_false}
 use Rattle.std.proofs.lemmas.List.Elements.{Contains-append_left, Contains-append_right, Contains-append_cases, Contains-push, Contains-push_cases}
 use Rattle.sct_message.specs.Ascending.{ascending}
 use Rattle.sct_message.proofs.AscendingLemmas.{members_ascending}
@@ -130,18 +130,6 @@ pub record Differ {X : Type 0} (p : X → Bool) (xs : List X) : Type 0 where
   pub other_passes : p other ≡ true
   pub different : one ≢ other
 
-both : (a b : Bool) → (a && b) ≡ true → (a ≡ true) × (b ≡ true)
-both true b h = (refl, h)
-both false b h = absurd (false≢true h)
-
-is_false : (b : Bool) → not b ≡ true → b ≡ false
-is_false true h = absurd (false≢true h)
-is_false false h = refl
-
-is_true : (b : Bool) → (b ≡ false → ⊥) → b ≡ true
-is_true true h = refl
-is_true false h = absurd (h refl)
-
 pub found_in : {X : Type 0} (p : X → Bool) (xs : List X) (x : X) → find p xs ≡ Some x → In x xs × (p x ≡ true)
 found_in p [] x h = cc
 found_in p (z ∷ xs) x h =
@@ -165,7 +153,7 @@ module _ {X : Type 0} (same : X → X → Bool) (alike : (x y : X) → same x y 
   differ_has p xs (Some one) e h =
       let f = found_in p xs one e in
       let r = any_has (λ other. p other && not (same one other)) xs h in
-      let passes = both (p r.0) (not (same one r.0)) r.2 in
+      let passes = and_parts (p r.0) (not (same one r.0)) r.2 in
       record {
         one = one;
         other = r.0;
@@ -173,7 +161,7 @@ module _ {X : Type 0} (same : X → X → Bool) (alike : (x y : X) → same x y 
         other_in = r.1;
         one_passes = f.1;
         other_passes = passes.0;
-        different = λ e. false≢true (sym (is_false _ passes.1) ∙ ap (same one) (sym e) ∙ itself one);
+        different = λ e. false≢true (sym (not-true _ passes.1) ∙ ap (same one) (sym e) ∙ itself one);
       }
 
   -- two that differ are found
@@ -183,9 +171,9 @@ module _ {X : Type 0} (same : X → X → Bool) (alike : (x y : X) → same x y 
   has_differ : (p : X → Bool) (xs : List X) (first : Option X) → find p xs ≡ first → Differ p xs → differ_from p same first xs ≡ true
   has_differ p xs None e d = absurd (find_some p xs d.one d.one_in d.one_passes e)
   has_differ p xs (Some one) e d =
-      is_true _ (λ none.
+      true_from_ne_false _ (λ none.
       let alike_one : (x : X) → In x xs → p x ≡ true → one ≡ x =
-      λ x h passes. alike one x (is_true _ (λ differs. false≢true (sym none ∙ has_any (λ other. p other && not (same one other)) xs x h (λ i. passes i && not (differs i))))) in
+      λ x h passes. alike one x (true_from_ne_false _ (λ differs. false≢true (sym none ∙ has_any (λ other. p other && not (same one other)) xs x h (λ i. passes i && not (differs i))))) in
       d.different (sym (alike_one d.one d.one_in d.one_passes) ∙ alike_one d.other d.other_in d.other_passes))
 
   -- where two differ, that is found

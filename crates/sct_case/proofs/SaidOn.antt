@@ -26,6 +26,15 @@ use Rattle.sct_case.specs.Told.{recall_of_it, refusal_of_it, return_of_it}
 use Rattle.sct_case.specs.Inside.{IsOneMoreOn, IsSaidOn, SayAlike, judged}
 use Rattle.sct_case.proofs.OfOneRecall.{first_alike, some_alike}
 
+-- ---- what the items of a list say, one after the other
+
+module _ {X Y : Type 0} (says : X → List Y) (p : Y → Bool) where
+  pub any_parts : (xs : List X) → list_any (λ x. list_any p (says x)) xs ≡ list_any p (flat_map says xs)
+  any_parts [] = refl
+  any_parts (x ∷ xs) =
+      ap (λ (b : Bool). list_any p (says x) || b) (any_parts xs)
+      ∙ sym (list_any-append p (says x) (flat_map says xs))
+
 -- ---- a message names a recall in one of four ways
 
 or_pairs : (a b x y : Bool) → ((a || x) || (b || y)) ≡ ((a || b) || (x || y))

@@ -1,9 +1,9 @@
 -- Things said are the same exactly where all their parts are.
-use Rattle.std.proofs.Common.{◌≡◌, ◌∙◌, refl, sym, ℕ, Bool, true, false, nat_eq, List}
+use Rattle.std.proofs.Common.{◌≡◌, ◌∙◌, refl, sym, ℕ, true, nat_eq, List}
 use Rattle.std.specs.Prelude.{◌&&◌}
 use Rattle.std.specs.Cmp.Lexicographic.{nat_list_cmp_total, texts_ties}
 use Rattle.std.specs.FinSet.{IsAntisymmetric, nat_cmp-IsAntisymmetric, slice_cmp-IsAntisymmetric}
-use Rattle.std.proofs.lemmas.Bool.{eqb-true, eq-eqb, false≢true}
+use Rattle.std.proofs.lemmas.Bool.{and_from, and_parts, eqb-true, eq-eqb}
 use Rattle.sct_reason.specs.declared.reasons.Reason.{Reason}
 use Rattle.sct_reason.specs.Codes.{reason_text}
 use Rattle.sct_reason.specs.ReasonLaws.{same_text}
@@ -28,13 +28,6 @@ text_itself s = texts_ties s s ∙ ties_itself nat_list_cmp_total texts_same s
 code_is : (r q : Reason) → is_text (reason_text r) (reason_text q) ≡ true → r ≡ q
 code_is r q h = same_text r q (text_is (reason_text r) (reason_text q) h)
 
-pub both_true : (a b : Bool) → (a && b) ≡ true → (a ≡ true) × (b ≡ true)
-both_true true b h = (refl, h)
-both_true false b h = absurd (false≢true h)
-
-pub true_both : (a b : Bool) → a ≡ true → b ≡ true → (a && b) ≡ true
-true_both a b h k = λ i. h i && k i
-
 pub reason_is : (a b : RejectionReason) → same_reason a b ≡ true → a ≡ b
 reason_is a b h = λ i. record { reason = code_is a.reason b.reason h i }
 
@@ -43,8 +36,8 @@ reason_itself a = text_itself (reason_text a.reason)
 
 pub recall_is : (a b : RecallMade) → same_recall a b ≡ true → a ≡ b
 recall_is a b h =
-    let outer = both_true (is_text a.cxl b.cxl && nat_eq a.amount b.amount) (is_text (reason_text a.reason) (reason_text b.reason)) h in
-    let inner = both_true (is_text a.cxl b.cxl) (nat_eq a.amount b.amount) outer.0 in
+    let outer = and_parts (is_text a.cxl b.cxl && nat_eq a.amount b.amount) (is_text (reason_text a.reason) (reason_text b.reason)) h in
+    let inner = and_parts (is_text a.cxl b.cxl) (nat_eq a.amount b.amount) outer.0 in
     let cxl = text_is a.cxl b.cxl inner.0 in
     let amount = eqb-true a.amount b.amount inner.1 in
     let reason = code_is a.reason b.reason outer.1 in
@@ -52,13 +45,13 @@ recall_is a b h =
 
 pub recall_itself : (a : RecallMade) → same_recall a a ≡ true
 recall_itself a =
-    true_both (is_text a.cxl a.cxl && nat_eq a.amount a.amount) (is_text (reason_text a.reason) (reason_text a.reason))
-    (true_both (is_text a.cxl a.cxl) (nat_eq a.amount a.amount) (text_itself a.cxl) (eq-eqb a.amount a.amount refl)) (text_itself (reason_text a.reason))
+    and_from (is_text a.cxl a.cxl && nat_eq a.amount a.amount) (is_text (reason_text a.reason) (reason_text a.reason))
+    (and_from (is_text a.cxl a.cxl) (nat_eq a.amount a.amount) (text_itself a.cxl) (eq-eqb a.amount a.amount refl)) (text_itself (reason_text a.reason))
 
 pub return_is : (a b : ReturnMade) → same_return a b ≡ true → a ≡ b
 return_is a b h =
-    let outer = both_true (is_text a.return_id b.return_id && is_text a.cxl b.cxl) (nat_eq a.amount b.amount) h in
-    let inner = both_true (is_text a.return_id b.return_id) (is_text a.cxl b.cxl) outer.0 in
+    let outer = and_parts (is_text a.return_id b.return_id && is_text a.cxl b.cxl) (nat_eq a.amount b.amount) h in
+    let inner = and_parts (is_text a.return_id b.return_id) (is_text a.cxl b.cxl) outer.0 in
     let id = text_is a.return_id b.return_id inner.0 in
     let cxl = text_is a.cxl b.cxl inner.1 in
     let amount = eqb-true a.amount b.amount outer.1 in
@@ -66,15 +59,15 @@ return_is a b h =
 
 pub return_itself : (a : ReturnMade) → same_return a a ≡ true
 return_itself a =
-    true_both (is_text a.return_id a.return_id && is_text a.cxl a.cxl) (nat_eq a.amount a.amount)
-    (true_both (is_text a.return_id a.return_id) (is_text a.cxl a.cxl) (text_itself a.return_id) (text_itself a.cxl)) (eq-eqb a.amount a.amount refl)
+    and_from (is_text a.return_id a.return_id && is_text a.cxl a.cxl) (nat_eq a.amount a.amount)
+    (and_from (is_text a.return_id a.return_id) (is_text a.cxl a.cxl) (text_itself a.return_id) (text_itself a.cxl)) (eq-eqb a.amount a.amount refl)
 
 pub refusal_is : (a b : RefusalMade) → same_refusal a b ≡ true → a ≡ b
 refusal_is a b h =
-    let parts = both_true (is_text a.cxl b.cxl) (is_text (reason_text a.reason) (reason_text b.reason)) h in
+    let parts = and_parts (is_text a.cxl b.cxl) (is_text (reason_text a.reason) (reason_text b.reason)) h in
     let cxl = text_is a.cxl b.cxl parts.0 in
     let reason = code_is a.reason b.reason parts.1 in
     λ i. record { cxl = cxl i; reason = reason i }
 
 pub refusal_itself : (a : RefusalMade) → same_refusal a a ≡ true
-refusal_itself a = true_both (is_text a.cxl a.cxl) (is_text (reason_text a.reason) (reason_text a.reason)) (text_itself a.cxl) (text_itself (reason_text a.reason))
+refusal_itself a = and_from (is_text a.cxl a.cxl) (is_text (reason_text a.reason) (reason_text a.reason)) (text_itself a.cxl) (text_itself (reason_text a.reason))

@@ -2,7 +2,7 @@
 use Rattle.std.proofs.Common.{◌≡◌, ◌∙◌, refl, sym, ap, subst, inl, ℕ, Bool, true, false, List, [], ◌∷◌, map, Option, Some, None}
 use Rattle.std.specs.Prelude.{◌≢◌, ◌==◌, option_map, length}
 use Rattle.std.specs.List.{list_any, flat_map}
-use Rattle.std.proofs.lemmas.Bool.{false≢true}
+use Rattle.std.proofs.lemmas.Bool.{and_from, and_parts, false≢true}
 use Rattle.sct_reason.specs.declared.reasons.Reason.{Reason}
 use Rattle.sct_message.specs.declared.draft.Draft.{Draft}
 use Rattle.sct_message.specs.declared.keys.Identity.{Identity}
@@ -17,10 +17,9 @@ use Rattle.sct_case.specs.Statuses.{Standing, Contradicted, Unknown, Missing, Re
 use Rattle.sct_case.specs.Sentences.{IsConsistent, IsInstructed, IsRejectedFor, IsRejected, IsAccepted, IsReturned, IsInvestigated, Goes, IsStatus, TellsEachStatus}
 use Rattle.sct_case.specs.Laws.{AreApart, SaysOneThing}
 use Rattle.sct_case.proofs.Membership.{In, in_contains, contains_in, any_has, has_any, some_has, said_in, in_said}
-use Rattle.sct_case.proofs.Same.{both_true, true_both}
 use Rattle.sct_case.proofs.Instructed.{some_instructs, instructs_some}
 use Rattle.sct_case.proofs.Exact.{has_some_of}
-use Rattle.sct_case.proofs.Judged.{some, found_of_asides, mapped_none}
+use Rattle.sct_case.proofs.Judged.{empty_of, some, found_of_asides, mapped_none}
 use Rattle.sct_case.proofs.Stays.{consistent_say_one_thing}
 
 -- ---- tests that tell a sentence
@@ -111,10 +110,6 @@ by_cases P [] false true None true None v one two three four five six seven eigh
 by_cases P [] false true None false m true one two three four five six seven eight = seven refl refl refl refl refl
 by_cases P [] false true None false m false one two three four five six seven eight = eight refl refl refl refl refl
 
-empty_of : {X : Type 0} (xs : List X) → (length xs == 0) ≡ true → xs ≡ []
-empty_of [] e = refl
-empty_of (x ∷ xs) e = absurd (false≢true (sym (some x xs) ∙ e))
-
 of_empty : {X : Type 0} (xs : List X) → xs ≡ [] → (length xs == 0) ≡ true
 of_empty xs e = ap (λ ys. length ys == 0) e
 
@@ -126,14 +121,14 @@ module _ (t : TransferKey) (clean : List Draft) (asides : List Identity) where
   known_message : findings_of t clean asides ≡ [] → is_unknown clean asides ≡ false → clean ≢ []
   known_message f u none =
       let identities = mapped_none (λ i. finding.Identity i) asides (found_of_asides t clean asides none ∙ f) in
-      false≢true (sym u ∙ true_both (length clean == 0) (length asides == 0) (of_empty clean none) (of_empty asides identities))
+      false≢true (sym u ∙ and_from (length clean == 0) (length asides == 0) (of_empty clean none) (of_empty asides identities))
 
   pub told_holds : IsStatus t clean asides (transfer_status_of t clean asides)
   unfolding transfer_status_of
   told_holds = by_cases (IsStatus t clean asides) (findings_of t clean asides) (is_unknown clean asides) (has_some (flat_map instructions_by clean)) (rejection_told clean)
       (list_any is_acceptance clean) (return_told t clean) (list_any is_investigation clean)
       (λ f. (refl, f))
-      (λ f u. let parts = both_true (length clean == 0) (length asides == 0) u in (empty_of clean parts.0, empty_of asides parts.1))
+      (λ f u. let parts = and_parts (length clean == 0) (length asides == 0) u in (empty_of clean parts.0, empty_of asides parts.1))
       (λ f u i. (f, known_message f u, told_not _ _ (instructed_told clean) i))
       (λ f i r e. (f, (instructed_told clean).0 i, rejected_for clean r e))
       (λ f i r a m e. (goes f i r, (accepted_told clean).0 a, returned t clean m e))
@@ -142,7 +137,7 @@ module _ (t : TransferKey) (clean : List Draft) (asides : List Identity) where
       (λ f i r a v. (goes f i r, told_not _ _ (accepted_told clean) a, told_not _ _ (investigated_told clean) v))
 
   some_clean : clean ≢ [] → is_unknown clean asides ≡ false
-  some_clean h = not_told (is_unknown clean asides) (clean ≡ []) (λ u. empty_of clean (both_true (length clean == 0) (length asides == 0) u).0, λ e. absurd (h e)) h
+  some_clean h = not_told (is_unknown clean asides) (clean ≡ []) (λ u. empty_of clean (and_parts (length clean == 0) (length asides == 0) u).0, λ e. absurd (h e)) h
 
   instructed_clean : IsInstructed clean → is_unknown clean asides ≡ false
   instructed_clean m = some_clean (λ e. subst (λ ms. In m.0 ms) e (in_contains clean m.0 m.1))
@@ -177,7 +172,7 @@ module _ (t : TransferKey) (clean : List Draft) (asides : List Identity) where
   unfolding transfer_status_of
   told_unknown none no_asides =
       let found = sym (found_of_asides t clean asides none) ∙ ap (λ (is : List Identity). map (λ i. finding.Identity i) is) no_asides in
-      let u = true_both (length clean == 0) (length asides == 0) (of_empty clean none) (of_empty asides no_asides) in
+      let u = and_from (length clean == 0) (length asides == 0) (of_empty clean none) (of_empty asides no_asides) in
       λ i. first_standing (found i) (u i) (known (has_some (flat_map instructions_by clean)) (rejection_told clean) (list_any is_acceptance clean) (return_told t clean) (list_any is_investigation clean))
 
   told_contradicted : (found : List Finding) → found ≡ findings_of t clean asides → found ≢ [] → transfer_status_of t clean asides ≡ Contradicted found

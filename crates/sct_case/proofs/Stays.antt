@@ -1,5 +1,5 @@
 -- A contradiction stays in every larger set; and where there is none, messages say one thing.
-use Rattle.std.proofs.Common.{◌≡◌, ◌∙◌, refl, sym, ap, subst, inl, inr, Bool, true, false, not, List, [], ◌∷◌, map, filter}
+use Rattle.std.proofs.Common.{◌≡◌, ◌∙◌, refl, sym, ap, subst, inl, inr, true, false, not, List, [], ◌∷◌, map, filter}
 use Rattle.std.specs.FinSet as set
 use Rattle.std.specs.FinSet.{contains-items}
 use Rattle.std.specs.Prelude.{◌≢◌, ◌&&◌, Contains}
@@ -8,7 +8,7 @@ use Rattle.std.specs.List.Sorted.{IsStrictlySortedBy}
 use Rattle.std.specs.Ordering.{eq_by_cmp}
 use Rattle.std.specs.declared.cmp.Ordering.TheVariants.{Less, Equal}
 use Rattle.std.specs.Cmp.{tied_itself}
-use Rattle.std.proofs.lemmas.Bool.{false≢true}
+use Rattle.std.proofs.lemmas.Bool.{and_from, and_parts, false_from_ne_true, false≢true, not_from_false, not-true}
 use Rattle.std.proofs.lemmas.List.Kept.{IsStrictlySortedBy-filter}
 use Rattle.sct_message.specs.Keys.{identity_of}
 use Rattle.sct_message.specs.Order.{message_order, same_identity, same_message}
@@ -27,16 +27,8 @@ use Rattle.sct_case.specs.Findings.{IsFound, HasTwoInstructions}
 use Rattle.sct_case.specs.Told.{findings_of, same_reason, same_return, same_refusal}
 use Rattle.sct_case.specs.Laws.{AreApart, findings_in, ContradictionsStay, MessagesAreApart, ConsistentSayOneThing}
 use Rattle.sct_case.proofs.Membership.{In, in_contains, contains_in, in_map, mapped_in, in_filter, filtered_in, any_has, has_any, in_ascending, ascending_in}
-use Rattle.sct_case.proofs.Same.{both_true, true_both, reason_is, reason_itself, return_is, return_itself, refusal_is, refusal_itself}
+use Rattle.sct_case.proofs.Same.{reason_is, reason_itself, return_is, return_itself, refusal_is, refusal_itself}
 use Rattle.sct_case.proofs.Exact.{told_is_found, found_is_told}
-
-pub is_false : (b : Bool) → not b ≡ true → b ≡ false
-is_false true h = absurd (false≢true h)
-is_false false h = refl
-
-not_true : (b : Bool) → (b ≡ true → ⊥) → not b ≡ true
-not_true true h = absurd (h refl)
-not_true false h = refl
 
 -- ---- the messages of a set
 
@@ -53,18 +45,18 @@ in_held held m h = contains-items held m ∙ has_any (eq_by_cmp message_order m)
 another : (held : MessageSet) (m other : Draft) → In other (set.items held) → identity_of other ≡ identity_of m → other ≢ m → is_contradicted held m ≡ true
 another held m other h e different =
     has_any (λ (x : Draft). same_identity (identity_of x) (identity_of m) && not (same_message x m)) (set.items held) other h
-    (true_both _ _
+    (and_from _ _
     (ap (λ (i : Identity). same_identity i (identity_of m)) e ∙ ties_itself identity_total identities_same (identity_of m))
-    (not_true _ (λ same. different (tie_is message_total message_same other m same))))
+    (not_from_false _ (false_from_ne_true _ (λ same. different (tie_is message_total message_same other m same)))))
 
 the_other : (held : MessageSet) (m : Draft) → is_contradicted held m ≡ true → (other : Draft) × In other (set.items held) × (identity_of other ≡ identity_of m) × (other ≢ m)
 the_other held m h =
     let r = any_has (λ (x : Draft). same_identity (identity_of x) (identity_of m) && not (same_message x m)) (set.items held) h in
-    let parts = both_true (same_identity (identity_of r.0) (identity_of m)) (not (same_message r.0 m)) r.2 in (
+    let parts = and_parts (same_identity (identity_of r.0) (identity_of m)) (not (same_message r.0 m)) r.2 in (
       r.0,
       r.1,
       tie_is identity_total identities_same (identity_of r.0) (identity_of m) parts.0,
-      λ e. false≢true (sym (is_false _ parts.1) ∙ ap (λ (x : Draft). same_message x m) e ∙ ties_itself message_total message_same m),
+      λ e. false≢true (sym (not-true _ parts.1) ∙ ap (λ (x : Draft). same_message x m) e ∙ ties_itself message_total message_same m),
     )
 
 -- ---- the messages on a transfer
@@ -73,7 +65,7 @@ on_is : (held : MessageSet) (t : TransferKey) (m : Draft) → In m (messages_on 
 on_is held t m h =
     let outer = in_filter (is_on t) (clean_messages held) m h in
     let inner = in_filter (λ x. not (is_contradicted held x)) (in_order held) m outer.0 in
-    (in_ascending message_total message_same (set.items held) m inner.0, is_false _ inner.1, outer.1)
+    (in_ascending message_total message_same (set.items held) m inner.0, not-true _ inner.1, outer.1)
 
 is_on_it : (held : MessageSet) (t : TransferKey) (m : Draft) → In m (set.items held) → is_contradicted held m ≡ false → is_on t m ≡ true → In m (messages_on held t)
 is_on_it held t m h clean on =
@@ -178,7 +170,7 @@ module _ (t : TransferKey) (on larger : List Draft) (asides more_asides : List I
       as (λ b. list_any (λ (m : Draft). is_instruction m && not (same_message m h.instruction)) larger ≡ b → (g : Finding) × IsFound t larger more_asides g) [
         | true ↦ λ e.
             let r = any_has (λ (m : Draft). is_instruction m && not (same_message m h.instruction)) larger e in
-            let parts = both_true (is_instruction r.0) (not (same_message r.0 h.instruction)) r.2 in (
+            let parts = and_parts (is_instruction r.0) (not (same_message r.0 h.instruction)) r.2 in (
               finding.TwoInstructions,
               record {
                 one = r.0;
@@ -187,7 +179,7 @@ module _ (t : TransferKey) (on larger : List Draft) (asides more_asides : List I
                 other_held = held;
                 one_instructs = parts.0;
                 other_instructs = h.sole.instructs;
-                different = λ k. false≢true (sym (is_false _ parts.1) ∙ ap (λ (x : Draft). same_message x h.instruction) k ∙ ties_itself message_total message_same h.instruction);
+                different = λ k. false≢true (sym (not-true _ parts.1) ∙ ap (λ (x : Draft). same_message x h.instruction) k ∙ ties_itself message_total message_same h.instruction);
               },
             )
         | false ↦ λ e. (
@@ -201,7 +193,7 @@ module _ (t : TransferKey) (on larger : List Draft) (asides more_asides : List I
                   elim (same_message other h.instruction) as (λ b. same_message other h.instruction ≡ b → other ≡ h.instruction) [
                     | true ↦ λ s. tie_is message_total message_same other h.instruction s
                     | false ↦ λ s. absurd (false≢true (sym e
-                        ∙ has_any (λ (m : Draft). is_instruction m && not (same_message m h.instruction)) larger other (in_contains larger other k) (true_both _ _ i (ap not s))))
+                        ∙ has_any (λ (m : Draft). is_instruction m && not (same_message m h.instruction)) larger other (in_contains larger other k) (and_from _ _ i (ap not s))))
                   ] refl;
             };
             instructed = h.instructed;

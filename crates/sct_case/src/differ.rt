@@ -152,11 +152,7 @@ pub(crate) fn differ_on<S: Compared + OfRecall>(said: &[S], cxl: &Id35) -> bool
 fn cxls_as_said<S: OfRecall>(alloc: Global, said: &[S]) -> Result<Vec<Id35>, AllocError>
     ensures { IfOk result (λ found. found.items ≡ map S.recall said.now) }
 {
-    let mut found = Vec::new(alloc);
-    for one in said {
-        found.push(one.cxl().copy())?;
-    }
-    Ok(found)
+    said.iter().map(|one| one.cxl().copy()).collect(alloc)
 }
 
 /// The recalls that statements are about, each once, ascending.

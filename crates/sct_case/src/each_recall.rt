@@ -24,7 +24,7 @@ use std::sync::Arc;
 
 /// The statements of messages about the recalls of a transfer. Each list is sorted by recall.
 #[derive(Drop)]
-struct RecallsSaid {
+struct SaidByRecall {
     made: Vec<RecallMade>,
     returns: Vec<ReturnMade>,
     refusals: Vec<RefusalMade>,
@@ -35,39 +35,12 @@ struct RecallsSaid {
     ghost requests_in_order: { IsByRecall (λ m. m.cxl) requests.items },
 }
 
-/// The statements of the messages about the recalls of a transfer.
-fn recalls_said(
-    alloc: Global,
-    transfer: &TransferKey,
-    clean: &[Arc<Message>],
-) -> Result<RecallsSaid, AllocError>
-    ensures made { IfOk result (λ said. SayAlike (λ m. m.cxl) said.made.items
-        (flat_map (recalls_by transfer.now) (messages_in clean.now))) }
-    ensures returns { IfOk result (λ said. SayAlike (λ m. m.cxl) said.returns.items
-        (flat_map (returns_by transfer.now) (messages_in clean.now))) }
-    ensures refusals { IfOk result (λ said. SayAlike (λ m. m.cxl) said.refusals.items
-        (flat_map (refusals_by transfer.now) (messages_in clean.now))) }
-    ensures requests { IfOk result (λ said. SayAlike (λ m. m.cxl) said.requests.items
-        (flat_map (requests_by transfer.now) (messages_in clean.now))) }
-{
-    let said = Said::of(alloc, transfer, clean)?;
-    Ok(RecallsSaid {
-        made: by_recall(said.recalls)?,
-        returns: by_recall(said.returns)?,
-        refusals: by_recall(said.refusals)?,
-        requests: by_recall(said.requests)?,
-    })
-}
-
 /// The amount that is returned after a recall.
 fn amount_returned(returns: &[ReturnMade], cxl: &Id35) -> Option<Amount>
     requires { IsByRecall (λ m. m.cxl) returns.now }
     ensures { result ≡ amount_returned cxl.now returns.now }
 {
-    match first_on(returns, cxl) {
-        Some(made) => Some(made.amount),
-        None => None,
-    }
+    first_on(returns, cxl).map(|made| made.amount)
 }
 
 /// The reason for which a recall was refused.
@@ -75,13 +48,34 @@ fn reason_refused(refusals: &[RefusalMade], cxl: &Id35) -> Option<Reason>
     requires { IsByRecall (λ m. m.cxl) refusals.now }
     ensures { result ≡ reason_refused cxl.now refusals.now }
 {
-    match first_on(refusals, cxl) {
-        Some(made) => Some(made.reason.copy()),
-        None => None,
-    }
+    first_on(refusals, cxl).map(|made| made.reason.copy())
 }
 
-impl RecallsSaid {
+impl SaidByRecall {
+    /// The statements of the messages about the recalls of a transfer.
+    fn of(
+        alloc: Global,
+        transfer: &TransferKey,
+        clean: &[Arc<Message>],
+    ) -> Result<SaidByRecall, AllocError>
+        ensures made { IfOk result (λ said. SayAlike (λ m. m.cxl) said.made.items
+            (flat_map (recalls_by transfer.now) (messages_in clean.now))) }
+        ensures returns { IfOk result (λ said. SayAlike (λ m. m.cxl) said.returns.items
+            (flat_map (returns_by transfer.now) (messages_in clean.now))) }
+        ensures refusals { IfOk result (λ said. SayAlike (λ m. m.cxl) said.refusals.items
+            (flat_map (refusals_by transfer.now) (messages_in clean.now))) }
+        ensures requests { IfOk result (λ said. SayAlike (λ m. m.cxl) said.requests.items
+            (flat_map (requests_by transfer.now) (messages_in clean.now))) }
+    {
+        let said = Said::of(alloc, transfer, clean)?;
+        Ok(SaidByRecall {
+            made: by_recall(said.recalls)?,
+            returns: by_recall(said.returns)?,
+            refusals: by_recall(said.refusals)?,
+            requests: by_recall(said.requests)?,
+        })
+    }
+
     /// The status of a recall, if its transfer has no finding. O(log n) in the number of statements.
     fn standing(&self, cxl: &Id35) -> RecallStatus
         ensures { result ≡ judged (list_any (recall_of_it cxl.now) self.now.made.items)
@@ -112,7 +106,7 @@ fn standings(
     if cxls.is_empty() {
         return Ok(found);
     }
-    let said = recalls_said(alloc, transfer, clean)?;
+    let said = SaidByRecall::of(alloc, transfer, clean)?;
     for cxl in cxls {
         found.push((cxl.copy(), said.standing(cxl)))?;
     }
@@ -123,11 +117,9 @@ fn standings(
 fn contradicted(alloc: Global, cxls: &[Id35]) -> Result<Vec<(Id35, RecallStatus)>, AllocError>
     ensures { IfOk result (λ found. found.items ≡ map (λ cxl. (cxl, recall.Contradicted)) cxls.now) }
 {
-    let mut found = Vec::new(alloc);
-    for cxl in cxls {
-        found.push((cxl.copy(), RecallStatus::Contradicted))?;
-    }
-    Ok(found)
+    cxls.iter()
+        .map(|cxl| (cxl.copy(), RecallStatus::Contradicted))
+        .collect(alloc)
 }
 
 /// Each of the recalls with its status, from the status of the transfer and its clean messages. Error: `Memory` (39).

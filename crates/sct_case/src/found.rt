@@ -187,9 +187,8 @@ fn push_where(found: &mut Vec<Finding>, holds: bool, finding: Finding) -> Result
 fn contradictions(alloc: Global, asides: &[Identity]) -> Result<Vec<Finding>, AllocError>
     ensures { IfOk result (λ found. found.items ≡ map (λ i. finding.Identity i) asides.now) }
 {
-    let mut found = Vec::new(alloc);
-    for identity in asides {
-        found.push(Finding::Identity(identity.copy()))?;
-    }
-    Ok(found)
+    asides
+        .iter()
+        .map(|identity| Finding::Identity(identity.copy()))
+        .collect(alloc)
 }

@@ -21,19 +21,19 @@ use std::alloc::{AllocError, Global};
 use std::sync::Arc;
 
 /// An instruction, by its amount.
-#[derive(Debug, Drop)]
+#[derive(Drop)]
 pub(crate) struct InstructedAmount {
     pub(crate) amount: Amount,
 }
 
 /// A rejection, by its reason.
-#[derive(Debug, Drop)]
+#[derive(Drop)]
 pub(crate) struct RejectionReason {
     pub(crate) reason: Reason,
 }
 
 /// A recall: its identification, the original amount that it names, and its reason.
-#[derive(Debug, Drop)]
+#[derive(Drop)]
 pub(crate) struct RecallMade {
     pub(crate) cxl: Id35,
     pub(crate) amount: Amount,
@@ -41,13 +41,13 @@ pub(crate) struct RecallMade {
 }
 
 /// An original amount that a recall or a return names.
-#[derive(Debug, Drop)]
+#[derive(Drop)]
 pub(crate) struct OriginalAmount {
     pub(crate) amount: Amount,
 }
 
 /// A return: its identification, the recall that it answers, and the returned amount.
-#[derive(Debug, Drop)]
+#[derive(Drop)]
 pub(crate) struct ReturnMade {
     pub(crate) return_id: Id35,
     pub(crate) cxl: Id35,
@@ -55,26 +55,26 @@ pub(crate) struct ReturnMade {
 }
 
 /// A refusal: the recall that it answers, and its reason.
-#[derive(Debug, Drop)]
+#[derive(Drop)]
 pub(crate) struct RefusalMade {
     pub(crate) cxl: Id35,
     pub(crate) reason: Reason,
 }
 
 /// A recall whose status is asked for.
-#[derive(Debug, Drop)]
+#[derive(Drop)]
 pub(crate) struct RecallAsked {
     pub(crate) cxl: Id35,
 }
 
-/// A recall that a message names. Contracts alone speak of it: each statement of the four sorts about a recall names it.
-#[derive(Debug, Drop)]
+/// A recall that a message names. Contracts alone use it, and no code makes one.
+#[derive(Drop)]
 pub(crate) struct RecallNamed {
     pub(crate) cxl: Id35,
 }
 
 /// What messages say of a transfer. Each list is in the order of the messages.
-#[derive(Debug, Drop)]
+#[derive(Drop)]
 pub(crate) struct Said {
     pub(crate) instructions: Vec<InstructedAmount>,
     /// Whether a message accepts the transfer.

@@ -14,19 +14,11 @@ impl Said {
     pub(crate) fn standing(&self) -> Status
         ensures { told result ≡ standing_said self.now }
     {
-        let rejection = match first(&self.rejections) {
-            Some(rejection) => Some(rejection.reason.copy()),
-            None => None,
-        };
-        let returned = match first(&self.returns) {
-            Some(made) => Some(made.amount),
-            None => None,
-        };
         known(
             !self.instructions.is_empty(),
-            rejection,
+            first(&self.rejections).map(|rejection| rejection.reason.copy()),
             self.accepted,
-            returned,
+            first(&self.returns).map(|made| made.amount),
             self.investigated,
         )
     }

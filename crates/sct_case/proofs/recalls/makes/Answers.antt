@@ -4,7 +4,7 @@ use Rattle.std.specs.List.{list_any}
 use Rattle.sct_message.specs.declared.draft.RecallTx.{RecallTx}
 use Rattle.sct_case.specs.Said.{made_in}
 use Rattle.sct_case.specs.Told.{recall_of_it}
-use Rattle.sct_case.proofs.LookedUp.{any_parts}
+use Rattle.sct_case.proofs.SaidOn.{any_parts}
 use Rattle.sct_case.proofs.recalls.makes.Goals as goal
 
 pub returns : goal.returns

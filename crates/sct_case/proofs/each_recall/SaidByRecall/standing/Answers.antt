@@ -4,7 +4,7 @@ use Rattle.std.specs.List.{list_any}
 use Rattle.sct_case.specs.Inside.{judged}
 use Rattle.sct_case.specs.Statuses.{amount_returned, reason_refused, request_of_it}
 use Rattle.sct_case.specs.Told.{recall_of_it}
-use Rattle.sct_case.proofs.each_recall.RecallsSaid.standing.Goals as goal
+use Rattle.sct_case.proofs.each_recall.SaidByRecall.standing.Goals as goal
 
 pub returns : goal.returns
 returns c =
