@@ -2,7 +2,7 @@
 use Rattle.std.proofs.Common.{◌≡◌, ◌∙◌, refl, ap, sym, ℕ, ◌+◌, ◌-◌, ◌<◌, ◌≤◌, Bool, true, false, not, cond, ◌&&◌, ◌||◌, List, [], ◌∷◌, length, arith, nat_eq, nat_lt, Option, Some, None, suc}
 use Rattle.std.specs.List.{list_any, slice_get}
 use Rattle.std.specs.List.Sorted.{IsStrictlySortedBy}
-use Rattle.std.proofs.lemmas.Bool.{false≢true}
+use Rattle.std.proofs.lemmas.Bool.{eqb-true, false≢true}
 use Rattle.std.proofs.lemmas.Bool.Decides.{nat_tests}
 use Rattle.std.proofs.lemmas.Option.{slice_get_past}
 use Rattle.std.proofs.lemmas.Map.Keys.{sorted_tail}
@@ -11,7 +11,7 @@ use Rattle.sct_delta.specs.Entries.{Placed, entries_from, held_from, log_of, num
 use Rattle.sct_delta.specs.Refusals.{message_at, is_same_as, is_other_than, is_held, is_outside, is_ahead, is_past, is_fork, has_site, firsts_after, vector_of}
 use Rattle.sct_delta.specs.Laws.{Held, IsFitting, IsReached, IsRefusedWhereItDoesNotFit}
 use Rattle.sct_delta.proofs.EntryLemmas.{same_number}
-use Rattle.sct_delta.proofs.HeldLemmas.{entry_itself, none_passes, passes_none, holds_from, holds_run, equal_numbers}
+use Rattle.sct_delta.proofs.HeldLemmas.{entry_itself, none_passes, passes_none, holds_from, holds_run}
 use Rattle.sct_delta.proofs.JoinLemmas.{IsPassed, passed, unrefused, fresh_at, first_reached, not_past}
 use Rattle.sct_delta.proofs.RoomLemmas.{none_of_earlier, first_rises}
 
@@ -151,7 +151,7 @@ back own group log delta shape f = record {
   inside = passes_none (is_outside group) delta (λ e among. ap not (f.inside e among));
   known = passes_none (is_ahead own log) delta (λ e among.
       elim (nat_eq e.origin own) as (λ b. nat_eq e.origin own ≡ b → (b && nat_lt (vector_of log own) e.n) ≡ false) [
-        | true ↦ λ t. not_above (vector_of log own) e.n (f.known e among (equal_numbers e.origin own t))
+        | true ↦ λ t. not_above (vector_of log own) e.n (f.known e among (eqb-true e.origin own t))
         | false ↦ λ t. refl
       ] refl);
   no_gap = firsts_pass log 0 delta shape.rises (λ o below. absurd (omega (arith, below))) (λ e rest new is.

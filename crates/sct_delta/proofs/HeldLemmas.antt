@@ -1,7 +1,8 @@
 -- Which entries lists and logs hold. It serves the laws of logs, and the sites and worlds above.
 use Rattle.std.proofs.Common.{◌≡◌, ◌∙◌, refl, ap, sym, ℕ, ◌+◌, ◌-◌, Bool, true, false, cond, ◌&&◌, ◌||◌, List, [], ◌∷◌, drop, arith, nat_eq, nat_lt, None, zero, suc}
 use Rattle.std.specs.List.{list_any, slice_get}
-use Rattle.std.proofs.lemmas.Bool.{false≢true}
+use Rattle.std.proofs.Math.Bool.{and-false, and-true, or-false, or-true}
+use Rattle.std.proofs.lemmas.Bool.{and_parts, eqb-true, false≢true, or_parts}
 use Rattle.std.proofs.lemmas.Bool.Decides.{nat_tests}
 use Rattle.sct_message.specs.declared.draft.Draft.{Draft}
 use Rattle.sct_message.specs.Order.{same_message}
@@ -12,39 +13,10 @@ use Rattle.sct_delta.specs.Refusals.{message_at, is_same_as, is_held, IsCut}
 use Rattle.sct_delta.proofs.EntryLemmas.{same_number}
 
 pub and_first : (a b : Bool) → (a && b) ≡ true → a ≡ true
-and_first true b e = refl
-and_first false b e = e
-
-pub and_second : (a b : Bool) → (a && b) ≡ true → b ≡ true
-and_second true b e = e
-and_second false b e = absurd (false≢true e)
+and_first a b e = (and_parts a b e).0
 
 pub or_true : (a : Bool) → (a || true) ≡ true
-or_true true = refl
-or_true false = refl
-
-pub or_false : (a : Bool) → (a || false) ≡ a
-or_false true = refl
-or_false false = refl
-
-pub or_first : (a b : Bool) → (a || b) ≡ false → a ≡ false
-or_first true b e = e
-or_first false b e = refl
-
-pub or_second : (a b : Bool) → (a || b) ≡ false → b ≡ false
-or_second true b e = absurd (false≢true (sym e))
-or_second false b e = e
-
-pub and_true : (a : Bool) → (a && true) ≡ a
-and_true true = refl
-and_true false = refl
-
-pub and_false : (a : Bool) → (a && false) ≡ false
-and_false true = refl
-and_false false = refl
-
-pub equal_numbers : (a b : ℕ) → nat_eq a b ≡ true → a ≡ b
-equal_numbers a b e = grind (arith, nat_tests)
+or_true = or-true
 
 -- ---- one entry
 
@@ -56,11 +28,9 @@ draft_itself = ties_itself message_total message_same
 
 pub one_entry : (a b : Placed) → same_entry a b ≡ true → a ≡ b
 one_entry a b e =
-    let rest = and_second (nat_eq a.origin b.origin) (nat_eq a.n b.n && same_message a.message b.message) e in
-    let origin = equal_numbers a.origin b.origin (and_first (nat_eq a.origin b.origin) (nat_eq a.n b.n && same_message a.message b.message) e) in
-    let n = equal_numbers a.n b.n (and_first (nat_eq a.n b.n) (same_message a.message b.message) rest) in
-    let message = same_draft a.message b.message (and_second (nat_eq a.n b.n) (same_message a.message b.message) rest) in
-    λ i. record { origin = origin i; n = n i; message = message i }
+    let first : (nat_eq a.origin b.origin ≡ true) × ((nat_eq a.n b.n && same_message a.message b.message) ≡ true) = and_parts _ _ e in
+    let rest : (nat_eq a.n b.n ≡ true) × (same_message a.message b.message ≡ true) = and_parts _ _ first.1 in
+    λ i. record { origin = eqb-true a.origin b.origin first.0 i; n = eqb-true a.n b.n rest.0 i; message = same_draft a.message b.message rest.1 i }
 
 pub entry_itself : (a : Placed) → same_entry a a ≡ true
 entry_itself a = (λ i. same_number a.origin i && (same_number a.n i && draft_itself a.message i))
@@ -70,8 +40,8 @@ pub none_passes : (p : Placed → Bool) (es : List Placed) → list_any p es ≡
 none_passes p [] none e among = absurd (false≢true among)
 none_passes p (x ∷ es) none e among =
     elim (same_entry x e) as (λ b. same_entry x e ≡ b → (b || holds es e) ≡ true → p e ≡ false) [
-      | true ↦ λ is _. ap p (sym (one_entry x e is)) ∙ or_first (p x) (list_any p es) none
-      | false ↦ λ _ later. none_passes p es (or_second (p x) (list_any p es) none) e later
+      | true ↦ λ is _. ap p (sym (one_entry x e is)) ∙ (or_parts _ _ none).0
+      | false ↦ λ _ later. none_passes p es (or_parts _ _ none).1 e later
     ] refl among
 
 pub passes_none : (p : Placed → Bool) (es : List Placed) → ((e : Placed) → holds es e ≡ true → p e ≡ false) → list_any p es ≡ false
@@ -130,7 +100,7 @@ holds_run o f (m ∷ ms) e is =
           elim (nat_eq f e.n) as (λ b. nat_eq f e.n ≡ b → ((b && same_message m e.message) || cond (nat_lt e.n (f + 1)) false (is_same_as e.message (slice_get ms (e.n - (f + 1)))))
           ≡ is_same_as e.message (slice_get (m ∷ ms) (e.n - f))) [
             | true ↦ λ u. (λ i. same_message m e.message || cond (next_above e.n f u i) false (is_same_as e.message (slice_get ms (e.n - (f + 1)))))
-                ∙ or_false (same_message m e.message)
+                ∙ or-false (same_message m e.message)
                 ∙ ap (λ (k : ℕ). is_same_as e.message (slice_get (m ∷ ms) k)) (sym (first_place e.n f u))
             | false ↦ λ u. (λ i. cond (above_next e.n f t u i) false (is_same_as e.message (slice_get ms (e.n - (f + 1)))))
                 ∙ ap (λ (k : ℕ). is_same_as e.message (slice_get (m ∷ ms) k)) (sym (later_place e.n f t u))
@@ -181,10 +151,10 @@ cut_at ms c n m =
           (λ i. cond (past_it c n t i) false (is_same_as m (slice_get (drop c ms) (n - (c + 1)))))
           ∙ ap (is_same_as m) (after_drop c ms (n - (c + 1)) ∙ ap (slice_get ms) (same_place c n t))
           ∙ (λ i. is_same_as m (cond (sym (not_0 c n t) i) None (slice_get ms (n - 1))))
-          ∙ sym (and_true (is_same_as m (message_at ms n)))
+          ∙ sym (and-true (is_same_as m (message_at ms n)))
       | false ↦ λ t.
           (λ i. cond (up_to_it c n t i) false (is_same_as m (slice_get (drop c ms) (n - (c + 1)))))
-          ∙ sym (and_false (is_same_as m (message_at ms n)))
+          ∙ sym (and-false (is_same_as m (message_at ms n)))
     ] refl
 
 pub cut_holds : (log : ℕ → List Draft) (count : ℕ → ℕ) (delta : List Placed) → IsCut log count delta

@@ -1,20 +1,21 @@
 -- What logs hold once a delta that fits was joined. It serves the laws of logs, and the sites and worlds above.
-use Rattle.std.proofs.Common.{◌≡◌, ◌∙◌, refl, ap, sym, ℕ, ◌+◌, ◌-◌, ◌<◌, ◌≤◌, Bool, true, false, not, cond, ◌&&◌, ◌||◌, List, [], ◌∷◌, filter, length, drop, arith, nat_eq, nat_lt, Option, Some, None, zero, suc}
-use Rattle.std.specs.List.{list_all, list_any, find, slice_get}
+use Rattle.std.proofs.Common.{◌≡◌, ◌∙◌, refl, ap, sym, ℕ, ◌+◌, ◌-◌, ◌<◌, ◌≤◌, Bool, true, false, not, cond, ◌||◌, List, [], ◌∷◌, filter, length, drop, arith, nat_eq, nat_lt, Option, Some, None, zero, suc}
+use Rattle.std.specs.List.{list_any, find, slice_get}
 use Rattle.std.specs.Option.{is_none, option_or}
 use Rattle.std.proofs.Math.Seq.{drop-nil}
-use Rattle.std.proofs.lemmas.Bool.{false≢true, and_parts, or_parts}
+use Rattle.std.proofs.lemmas.Bool.{false≢true, or_parts}
 use Rattle.std.proofs.lemmas.Bool.Decides.{nat_tests}
 use Rattle.std.proofs.lemmas.List.Folds.{list_any-append}
 use Rattle.std.proofs.lemmas.List.Kept.{IsStrictlySortedBy-filter}
 use Rattle.sct_message.specs.declared.draft.Draft.{Draft}
-use Rattle.sct_delta.specs.Entries.{Placed, is_from, entries_from, log_of, numbered, same_entry, holds, place_order, IsDelta}
+use Rattle.sct_delta.specs.Entries.{Placed, is_from, entries_from, log_of, numbered, same_entry, holds, place_order, IsRun, IsDelta}
 use Rattle.sct_delta.specs.Refusals.{message_at, is_same_as, is_other_than, is_held, is_new, is_outside, is_ahead, is_past, is_fork, told, firsts_after, first_refusal, outside_refusal, ahead_refusal, gap_refusal, fork_refusal, vector_of, fresh_in, joined}
 use Rattle.sct_delta.specs.Sites.{is_site}
 use Rattle.sct_delta.specs.declared.fault.DeltaFault.{DeltaFault}
 use Rattle.sct_delta.specs.declared.fault.DeltaFault.TheVariants as fault
 use Rattle.sct_delta.proofs.EntryLemmas.{numbered-append, log_is, run_is}
-use Rattle.sct_delta.proofs.HeldLemmas.{or_first, or_second, one_entry, holds_from, held_as_run}
+use Rattle.sct_delta.proofs.HeldLemmas.{one_entry, holds_from, held_as_run}
+use Rattle.sct_delta.proofs.TestLemmas.{all_kept, filter_comm, filter_none, none_also, none_kept}
 
 -- ---- a delta is refused for nothing
 
@@ -25,55 +26,44 @@ pub record IsPassed (own group : ℕ) (log : ℕ → List Draft) (delta : List P
   pub no_gap : list_any (is_past log) (firsts_after 0 delta) ≡ false
   pub no_fork : list_any (is_fork log) delta ≡ false
 
-found_none : (p : Placed → Bool) (es : List Placed) → find p es ≡ None → list_any p es ≡ false
-found_none p [] e = refl
-found_none p (x ∷ es) e =
-    elim (p x) as (λ b. cond b (Some x) (find p es) ≡ None → (b || list_any p es) ≡ false) [
-      | true ↦ λ f. cc
-      | false ↦ λ f. found_none p es f
-    ] e
+told_none : (tells : Placed → DeltaFault) (p : Placed → Bool) (ds : List Placed) → told tells (find p ds) ≡ None → list_any p ds ≡ false
+told_none tells p [] none = refl
+told_none tells p (d ∷ ds) none =
+    elim (p d) as (λ b. told tells (cond b (Some d) (find p ds)) ≡ None → (b || list_any p ds) ≡ false) [
+      | true ↦ λ e. cc
+      | false ↦ λ e. told_none tells p ds e
+    ] none
 
-none_found : (p : Placed → Bool) (es : List Placed) → list_any p es ≡ false → find p es ≡ None
-none_found p [] e = refl
-none_found p (x ∷ es) e =
-    elim (p x) as (λ b. (b || list_any p es) ≡ false → cond b (Some x) (find p es) ≡ None) [
-      | true ↦ λ f. absurd (false≢true (sym f))
-      | false ↦ λ f. none_found p es f
-    ] e
+none_told : (tells : Placed → DeltaFault) (p : Placed → Bool) (ds : List Placed) → list_any p ds ≡ false → told tells (find p ds) ≡ None
+none_told tells p [] none = refl
+none_told tells p (d ∷ ds) none =
+    let parts : (p d ≡ false) × (list_any p ds ≡ false) = or_parts (p d) (list_any p ds) none in
+    (λ i. told tells (cond (parts.0 i) (Some d) (find p ds))) ∙ none_told tells p ds parts.1
 
-untold : (tells : Placed → DeltaFault) (x : Option Placed) → told tells x ≡ None → x ≡ None
-untold tells None e = refl
-untold tells (Some x) e = cc
-
-first_none : (a b : Option DeltaFault) → option_or a b ≡ None → a ≡ None
-first_none None b e = refl
-first_none (Some x) b e = cc
-
-second_none : (a b : Option DeltaFault) → option_or a b ≡ None → b ≡ None
-second_none None b e = e
-second_none (Some x) b e = cc
+neither : (a b : Option DeltaFault) → option_or a b ≡ None → (a ≡ None) × (b ≡ None)
+neither None b e = (refl, e)
+neither (Some f) b e = cc
 
 pub passed : (own group : ℕ) (log : ℕ → List Draft) (delta : List Placed) → first_refusal own group log delta ≡ None → IsPassed own group log delta
 unfolding first_refusal
 passed own group log delta none =
-    let after_44 = second_none (outside_refusal group delta) (option_or (ahead_refusal own log delta) (option_or (gap_refusal log delta) (fork_refusal log delta))) none in
-    let after_43 = second_none (ahead_refusal own log delta) (option_or (gap_refusal log delta) (fork_refusal log delta)) after_44 in
-    record {
-      inside = found_none (is_outside group) delta (untold (λ entry. fault.BadSite) (find (is_outside group) delta) (first_none (outside_refusal group delta) _ none));
-      known = found_none (is_ahead own log) delta (untold (λ entry. fault.OwnAhead entry.n) (find (is_ahead own log) delta) (first_none (ahead_refusal own log delta) _ after_44));
-      no_gap = found_none (is_past log) (firsts_after 0 delta)
-          (untold (λ entry. fault.Gap entry.origin (vector_of log entry.origin) entry.n) (find (is_past log) (firsts_after 0 delta)) (first_none (gap_refusal log delta) (fork_refusal log delta) after_43));
-      no_fork = found_none (is_fork log) delta
-          (untold (λ entry. fault.Fork entry.origin entry.n) (find (is_fork log) delta) (second_none (gap_refusal log delta) (fork_refusal log delta) after_43));
+    let one : (outside_refusal group delta ≡ None) × (option_or (ahead_refusal own log delta) (option_or (gap_refusal log delta) (fork_refusal log delta)) ≡ None)
+    = neither _ _ none in
+    let two : (ahead_refusal own log delta ≡ None) × (option_or (gap_refusal log delta) (fork_refusal log delta) ≡ None) = neither _ _ one.1 in
+    let three : (gap_refusal log delta ≡ None) × (fork_refusal log delta ≡ None) = neither _ _ two.1 in record {
+      inside = told_none (λ entry. fault.BadSite) (is_outside group) delta one.0;
+      known = told_none (λ entry. fault.OwnAhead entry.n) (is_ahead own log) delta two.0;
+      no_gap = told_none (λ entry. fault.Gap entry.origin (vector_of log entry.origin) entry.n) (is_past log) (firsts_after 0 delta) three.0;
+      no_fork = told_none (λ entry. fault.Fork entry.origin entry.n) (is_fork log) delta three.1;
     }
 
 pub unrefused : (own group : ℕ) (log : ℕ → List Draft) (delta : List Placed) → IsPassed own group log delta → first_refusal own group log delta ≡ None
 unfolding first_refusal
 unrefused own group log delta p =
-    λ i. option_or (told (λ entry. fault.BadSite) (none_found (is_outside group) delta p.inside i))
-    (option_or (told (λ entry. fault.OwnAhead entry.n) (none_found (is_ahead own log) delta p.known i))
-    (option_or (told (λ entry. fault.Gap entry.origin (vector_of log entry.origin) entry.n) (none_found (is_past log) (firsts_after 0 delta) p.no_gap i))
-    (told (λ entry. fault.Fork entry.origin entry.n) (none_found (is_fork log) delta p.no_fork i))))
+    λ i. option_or (none_told (λ entry. fault.BadSite) (is_outside group) delta p.inside i)
+    (option_or (none_told (λ entry. fault.OwnAhead entry.n) (is_ahead own log) delta p.known i)
+    (option_or (none_told (λ entry. fault.Gap entry.origin (vector_of log entry.origin) entry.n) (is_past log) (firsts_after 0 delta) p.no_gap i)
+    (none_told (λ entry. fault.Fork entry.origin entry.n) (is_fork log) delta p.no_fork i)))
 
 -- ---- where an origin begins
 
@@ -95,8 +85,8 @@ first_reached log o previous (x ∷ es) e rest new none is =
       | true ↦ λ t f. first_reached log o previous es e rest new f (ap (λ (b : Bool). cond b (x ∷ entries_from o es) (entries_from o es)) (sym (other_origin x.origin o previous t new)) ∙ is)
       | false ↦ λ t f.
           elim (nat_eq x.origin o) as (λ b. nat_eq x.origin o ≡ b → cond b (x ∷ entries_from o es) (entries_from o es) ≡ e ∷ rest → is_past log e ≡ false) [
-            | true ↦ λ u is. ap (is_past log) (sym (is_the_first x e (entries_from o es) rest is)) ∙ or_first (is_past log x) (list_any (is_past log) (firsts_after x.origin es)) f
-            | false ↦ λ u is. first_reached log o x.origin es e rest (swapped x.origin o u) (or_second (is_past log x) (list_any (is_past log) (firsts_after x.origin es)) f) is
+            | true ↦ λ u is. ap (is_past log) (sym (is_the_first x e (entries_from o es) rest is)) ∙ (or_parts _ _ f).0
+            | false ↦ λ u is. first_reached log o x.origin es e rest (swapped x.origin o u) (or_parts _ _ f).1 is
           ] refl is
     ] refl none
 
@@ -130,9 +120,10 @@ fresh_of_run : (log : ℕ → List Draft) (o f : ℕ) (ms : List Draft) → 1 �
 fresh_of_run log o f [] above none = refl
 fresh_of_run log o f (m ∷ ms) above none =
     let entry : Placed = record { origin = o; n = f; message = m } in
-    λ i. cond (fresh_at (log o) f m above (or_first (is_fork log entry) (list_any (is_fork log) (numbered o (f + 1) ms)) none) i)
-    (entry ∷ fresh_of_run log o (f + 1) ms (omega arith) (or_second (is_fork log entry) (list_any (is_fork log) (numbered o (f + 1) ms)) none) i)
-    (fresh_of_run log o (f + 1) ms (omega arith) (or_second (is_fork log entry) (list_any (is_fork log) (numbered o (f + 1) ms)) none) i)
+    let parts : (is_fork log entry ≡ false) × (list_any (is_fork log) (numbered o (f + 1) ms) ≡ false) = or_parts _ _ none in
+    let rest : filter (λ e. not (is_held log e)) (numbered o (f + 1) ms) ≡ filter (λ e. nat_lt (vector_of log o) e.n) (numbered o (f + 1) ms) =
+    fresh_of_run log o (f + 1) ms (omega arith) parts.1 in
+    λ i. cond (fresh_at (log o) f m above parts.0 i) (entry ∷ rest i) (rest i)
 
 is_above : (h n : ℕ) → h < n → nat_lt h n ≡ true
 is_above h n e = grind (arith, nat_tests)
@@ -162,9 +153,6 @@ one_to_drop h n t = grind (arith, nat_tests)
 pub not_past : (h n : ℕ) → nat_lt (h + 1) n ≡ false → n ≤ h + 1
 not_past h n t = grind (arith, nat_tests)
 
-not_from_0 : (x o : ℕ) (inside : Bool) → not (nat_lt 0 x && inside) ≡ false → nat_eq o 0 ≡ true → nat_eq x o ≡ false
-not_from_0 x o inside t z = grind (arith, nat_tests)
-
 one_first : (k : ℕ) → 1 + k ≡ k + 1
 one_first k = omega arith
 
@@ -183,37 +171,6 @@ above_count o h n (m ∷ ms) reached =
 
 -- ---- what is fresh of a delta
 
-filter_comm : (p q : Placed → Bool) (es : List Placed) → filter p (filter q es) ≡ filter q (filter p es)
-filter_comm p q [] = refl
-filter_comm p q (x ∷ es) =
-    elim (p x) as (λ b. p x ≡ b → filter p (cond (q x) (x ∷ filter q es) (filter q es)) ≡ filter q (cond b (x ∷ filter p es) (filter p es))) [
-      | true ↦ λ t. elim (q x) as (λ d. filter p (cond d (x ∷ filter q es) (filter q es)) ≡ cond d (x ∷ filter q (filter p es)) (filter q (filter p es))) [
-        | true ↦ (λ i. cond (t i) (x ∷ filter p (filter q es)) (filter p (filter q es))) ∙ ap (λ (l : List Placed). x ∷ l) (filter_comm p q es)
-        | false ↦ filter_comm p q es
-      ]
-      | false ↦ λ t. elim (q x) as (λ d. filter p (cond d (x ∷ filter q es) (filter q es)) ≡ filter q (filter p es)) [
-        | true ↦ (λ i. cond (t i) (x ∷ filter p (filter q es)) (filter p (filter q es))) ∙ filter_comm p q es
-        | false ↦ filter_comm p q es
-      ]
-    ] refl
-
-all_kept : (p q : Placed → Bool) (es : List Placed) → list_all p es ≡ true → list_all p (filter q es) ≡ true
-all_kept p q [] all = refl
-all_kept p q (x ∷ es) all =
-    let parts : (p x ≡ true) × (list_all p es ≡ true) = and_parts (p x) (list_all p es) all in
-    elim (q x) as (λ b. list_all p (cond b (x ∷ filter q es) (filter q es)) ≡ true) [
-      | true ↦ λ i. parts.0 i && all_kept p q es parts.1 i
-      | false ↦ all_kept p q es parts.1
-    ]
-
-pub any_kept : (p q : Placed → Bool) (es : List Placed) → list_any p es ≡ false → list_any p (filter q es) ≡ false
-any_kept p q [] none = refl
-any_kept p q (x ∷ es) none =
-    elim (q x) as (λ b. list_any p (cond b (x ∷ filter q es) (filter q es)) ≡ false) [
-      | true ↦ (λ i. or_first (p x) (list_any p es) none i || any_kept p q es (or_second (p x) (list_any p es) none) i)
-      | false ↦ any_kept p q es (or_second (p x) (list_any p es) none)
-    ]
-
 -- what is fresh of a run that begins at most at the next number begins at the next number
 fresh_follows : (log : ℕ → List Draft) (delta : List Placed) (o first : ℕ) (ms : List Draft) → 1 ≤ first → first ≤ vector_of log o + 1
     → list_any (is_fork log) delta ≡ false → entries_from o delta ≡ numbered o first ms
@@ -221,7 +178,7 @@ fresh_follows : (log : ℕ → List Draft) (delta : List Placed) (o first : ℕ)
 fresh_follows log delta o first ms above reached none is =
     filter_comm (is_from o) (λ e. not (is_held log e)) delta
     ∙ ap (filter (λ e. not (is_held log e))) is
-    ∙ fresh_of_run log o first ms above (ap (list_any (is_fork log)) (sym is) ∙ any_kept (is_fork log) (is_from o) delta none)
+    ∙ fresh_of_run log o first ms above (ap (list_any (is_fork log)) (sym is) ∙ none_kept (is_fork log) (is_from o) delta none)
     ∙ above_count o (vector_of log o) first ms reached
 
 self_numbered : (o n : ℕ) (ms : List Draft) (es : List Placed) → entries_from o es ≡ numbered o n ms → entries_from o es ≡ numbered o n (log_of o es)
@@ -240,25 +197,26 @@ fresh_run log delta o first (m ∷ ms) above other no_gap no_fork is =
     self_numbered o (vector_of log o + 1) (drop (vector_of log o + 1 - first) (m ∷ ms)) (fresh_in log delta)
     (fresh_follows log delta o first (m ∷ ms) above (not_past (vector_of log o) first reached) no_fork is)
 
+-- no site is 0
+inside_site : (group o : ℕ) (e : Placed) → nat_eq o 0 ≡ true → is_outside group e ≡ false → is_from o e ≡ false
+inside_site group o e zero_is inside = grind (arith, nat_tests)
+
 none_from_0 : (group : ℕ) (es : List Placed) → list_any (is_outside group) es ≡ false → (o : ℕ) → nat_eq o 0 ≡ true → entries_from o es ≡ []
-none_from_0 group [] none o zero_is = refl
-none_from_0 group (x ∷ es) none o zero_is =
-    rw (not_from_0 x.origin o (not (nat_lt group x.origin)) (or_first (is_outside group x) (list_any (is_outside group) es) none) zero_is)
-    (none_from_0 group es (or_second (is_outside group x) (list_any (is_outside group) es) none) o zero_is)
+none_from_0 group es none o zero_is = filter_none (is_from o) es (none_also (is_outside group) (is_from o) (λ e. inside_site group o e zero_is) es none)
 
 -- what is fresh of each origin follows what is held of it
-pub fresh_continues : (own group : ℕ) (log : ℕ → List Draft) (delta : List Placed) → IsDelta delta → IsPassed own group log delta
+pub fresh_continues : (own group : ℕ) (log : ℕ → List Draft) (delta : List Placed) → ((o : ℕ) → IsRun o delta) → IsPassed own group log delta
     → (o : ℕ) → entries_from o (fresh_in log delta) ≡ numbered o (vector_of log o + 1) (log_of o (fresh_in log delta))
-fresh_continues own group log delta shape p o =
+fresh_continues own group log delta runs p o =
     elim (nat_eq o 0) as (λ b. nat_eq o 0 ≡ b → entries_from o (fresh_in log delta) ≡ numbered o (vector_of log o + 1) (log_of o (fresh_in log delta))) [
       | true ↦ λ t. self_numbered o (vector_of log o + 1) [] (fresh_in log delta) (nothing_fresh log delta o (none_from_0 group delta p.inside o t))
-      | false ↦ λ t. let run = shape.runs o in fresh_run log delta o run.first (log_of o delta) run.above_0 t p.no_gap p.no_fork run.follow
+      | false ↦ λ t. let run : IsRun o delta = runs o in fresh_run log delta o run.first (log_of o delta) run.above_0 t p.no_gap p.no_fork run.follow
     ] refl
 
 -- what is fresh of a delta that fits is a delta
 pub fresh_is_delta : (own group : ℕ) (log : ℕ → List Draft) (delta : List Placed) → IsDelta delta → IsPassed own group log delta → IsDelta (fresh_in log delta)
 fresh_is_delta own group log delta shape p = record {
-  runs = λ o. run_is o (vector_of log o + 1) (log_of o (fresh_in log delta)) (fresh_in log delta) (omega arith) (fresh_continues own group log delta shape p o);
+  runs = λ o. run_is o (vector_of log o + 1) (log_of o (fresh_in log delta)) (fresh_in log delta) (omega arith) (fresh_continues own group log delta shape.runs p o);
   rises = IsStrictlySortedBy-filter place_order (λ e. not (is_held log e)) delta shape.rises;
   sites = all_kept (λ e. is_site e.origin) (λ e. not (is_held log e)) delta shape.sites;
 }
@@ -310,6 +268,6 @@ joins own group log delta shape p e =
     ∙ ap (λ (l : List Placed). holds l e) (numbered-append o 1 (log o) more)
     ∙ list_any-append (λ x. same_entry x e) (numbered o 1 (log o)) (numbered o (1 + length (log o)) more)
     ∙ (λ i. sym (held_as_run log e) i || holds (numbered o (one_first (length (log o)) i) more) e)
-    ∙ ap (λ (l : List Placed). is_held log e || holds l e) (sym (fresh_continues own group log delta shape p o))
+    ∙ ap (λ (l : List Placed). is_held log e || holds l e) (sym (fresh_continues own group log delta shape.runs p o))
     ∙ ap (λ (b : Bool). is_held log e || b) (sym (holds_from e (fresh_in log delta)))
     ∙ held_or_fresh log delta e

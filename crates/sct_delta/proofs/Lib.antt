@@ -18,6 +18,7 @@ pub mod ReadingLemmas
 pub mod RightFrontLemmas
 pub mod RoomLemmas
 pub mod ShapeLemmas
+pub mod TestLemmas
 pub mod TextLemmas
 pub mod WritingLemmas
 pub mod WrongLineLemmas

@@ -5,6 +5,7 @@ use Rattle.std.specs.List.{AllByRecursion}
 use Rattle.std.specs.List.Sorted.{IsStrictlySortedBy}
 use Rattle.std.specs.Ordering.{nat_cmp, ordering_then}
 use Rattle.std.proofs.Math.Seq.{drop-cons}
+use Rattle.std.proofs.lemmas.Bool.{eqb-true}
 use Rattle.std.proofs.lemmas.Bool.Decides.{nat_tests}
 use Rattle.std.proofs.lemmas.List.{take-append-drop}
 use Rattle.std.proofs.lemmas.List.Elements.{filter-append}
@@ -94,9 +95,6 @@ new_origin e i es previous origin last counted view inside is later earlier othe
 
 -- ---- one entry more
 
-equal_numbers : (a b : ℕ) → nat_eq a b ≡ true → a ≡ b
-equal_numbers a b e = grind (arith, nat_tests)
-
 differ : (a b : ℕ) → a < b → nat_eq a b ≡ false
 differ a b e = grind (arith, nat_tests)
 
@@ -137,7 +135,7 @@ pub room_more : (i : ℕ) (es : List Placed) (e : Placed) (last counted : ℕ) (
     → (o : ℕ) → held_from o (take (i + 1) es) ≤ new o
 room_more i es e last counted old new inside is k room grows own o =
     elim (nat_eq e.origin o) as (λ b. nat_eq e.origin o ≡ b → held_from o (take (i + 1) es) ≤ new o) [
-      | true ↦ λ t. subst (λ (p : ℕ). held_from p (take (i + 1) es) ≤ new p) (equal_numbers e.origin o t)
+      | true ↦ λ t. subst (λ (p : ℕ). held_from p (take (i + 1) es) ≤ new p) (eqb-true e.origin o t)
           (let c : counted ≡ held_from e.origin (take i es) = k.counted in omega (arith, own_more i es e inside is))
       | false ↦ λ t. omega (arith, other_more o i es e inside is t, room o, grows o)
     ] refl

@@ -16,8 +16,9 @@ use Rattle.sct_message.proofs.Members.{list_any-filter, tie_is}
 use Rattle.sct_delta.specs.Entries.{Placed, is_from, entries_from, log_of, numbered, place_order, IsArrivals, IsDelta}
 use Rattle.sct_delta.specs.Refusals.{IsCut}
 use Rattle.sct_delta.proofs.EntryLemmas.{same_number}
+use Rattle.sct_delta.proofs.JoinLemmas.{above_count}
+use Rattle.sct_delta.proofs.TestLemmas.{filter_agree, filter_comm}
 use Rattle.sct_site.specs.Cores.{logs_of, entry_order, is_above, entries_above}
-use Rattle.sct_site.proofs.JoinLemmas.{filter_comm, filter_agree, above_count}
 
 -- ---- the order of entries
 

@@ -11,10 +11,10 @@ use Rattle.sct_message.specs.Order.{message_order}
 use Rattle.sct_set.specs.Contents.{Contents, contents_of}
 use Rattle.sct_delta.specs.Entries.{Placed, entries_from, log_of, messages_of, numbered}
 use Rattle.sct_delta.specs.Logs.{log_in}
-use Rattle.sct_delta.specs.Refusals.{first_refusal, fresh_in}
+use Rattle.sct_delta.specs.Refusals.{first_refusal}
 use Rattle.sct_delta.specs.declared.logs.Logs.{Logs}
 use Rattle.sct_delta.proofs.EntryLemmas.{log-append}
-use Rattle.sct_site.specs.Cores.{Core, logs_of, fresh_of, refusal_by}
+use Rattle.sct_site.specs.Cores.{Core, logs_of, refusal_by}
 use Rattle.sct_site.specs.Inside.{IsCore}
 use Rattle.sct_site.proofs.ArrivalLemmas.{arrivals-append, length-log}
 
@@ -60,10 +60,3 @@ pub refusal_is : (core : Core) (number group : ℕ) (logs : Logs) (es ds : List 
     → first_refusal number logs.group (log_in logs) ds ≡ refusal_by core ds
 refusal_is core number group logs es ds s view inside =
     (λ i. first_refusal number (inside.one_group i) (logs_are logs es inside.by_origin i) ds) ∙ ap (λ (c : Core). refusal_by c ds) view
-
--- what is fresh to the logs of a site is fresh to the site
-pub fresh_is : (core : Core) (number group : ℕ) (logs : Logs) (es ds : List Placed) (s : Contents)
-    → record { number = number; group = group; arrivals = es } ≡ core → IsCore number group logs es s
-    → fresh_in (log_in logs) ds ≡ fresh_of core.arrivals ds
-fresh_is core number group logs es ds s view inside =
-    (λ i. fresh_in (logs_are logs es inside.by_origin i) ds) ∙ ap (λ (c : Core). fresh_of c.arrivals ds) view

@@ -2,6 +2,5 @@
 pub mod AboveLemmas
 pub mod AcceptLemmas
 pub mod ArrivalLemmas
-pub mod JoinLemmas
 pub mod SiteLemmas
 pub mod TakeLemmas

@@ -2,6 +2,7 @@
 use Rattle.std.proofs.Common.{◌≡◌, ◌∙◌, refl, ap, inl, inr, ℕ, ◌+◌, ◌-◌, Bool, true, false, not, cond, ◌||◌, List, [], ◌∷◌, ◌++◌, filter, length, arith, nat_eq, nat_lt}
 use Rattle.std.specs.Prelude.{Option, Some, None, Ok, Err}
 use Rattle.std.specs.List.{list_any}
+use Rattle.std.proofs.lemmas.Bool.{or_parts}
 use Rattle.std.proofs.lemmas.Bool.Decides.{nat_tests}
 use Rattle.std.proofs.lemmas.List.{append-nil, set-get_or}
 use Rattle.sct_message.specs.declared.draft.Draft.{Draft}
@@ -9,8 +10,9 @@ use Rattle.sct_set.proofs.ContentsLemmas.{same_is, same_itself}
 use Rattle.sct_delta.specs.Entries.{Placed, log_of, same_entry, holds, IsArrivals}
 use Rattle.sct_delta.specs.Refusals.{message_at, is_held, is_same_as, is_outside, is_ahead, is_past, is_fork, firsts_after}
 use Rattle.sct_delta.specs.declared.fault.DeltaFault.{DeltaFault}
+use Rattle.sct_delta.proofs.JoinLemmas.{IsPassed, passed, unrefused}
+use Rattle.sct_delta.proofs.TestLemmas.{filter_none}
 use Rattle.sct_site.specs.Cores.{logs_of, arrivals_joined, fresh_of, refusal_by}
-use Rattle.sct_site.proofs.JoinLemmas.{or_none, filter_none, Fits, fits, none_refused}
 use Rattle.sct_world.specs.Closed.{IsClosed}
 use Rattle.sct_world.specs.Laws.{history, ChangesNothing, HandingAgainChangesNothing}
 use Rattle.sct_world.specs.States.{State, is_no_site, held_at, core_at, with_held, delta_at}
@@ -35,7 +37,7 @@ none_in p (d ∷ ds) never =
 none_first : (p : Placed → Bool) (previous : ℕ) (ds : List Placed) → list_any p ds ≡ false → list_any p (firsts_after previous ds) ≡ false
 none_first p previous [] none = refl
 none_first p previous (d ∷ ds) none =
-    let parts : (p d ≡ false) × (list_any p ds ≡ false) = or_none (p d) (list_any p ds) none in
+    let parts : (p d ≡ false) × (list_any p ds ≡ false) = or_parts (p d) (list_any p ds) none in
     elim (nat_eq d.origin previous) as (λ b. list_any p (cond b (firsts_after previous ds) (d ∷ firsts_after d.origin ds)) ≡ false) [
       | true ↦ none_first p previous ds parts.1
       | false ↦ λ i. parts.0 i || none_first p d.origin ds parts.1 i
@@ -93,9 +95,9 @@ module _ (w : State) (closed : IsClosed w) (s number : ℕ) (d : List Placed) (c
   all_held = filter_none (λ e. not (is_held (logs_of (held_at w s)) e)) d (none_in _ d (λ x in_delta. ap not (held_stands (held_at w s) (closed.arrivals s) x (all x in_delta))))
 
   nothing_refused : refusal_by (core_at w s) d ≡ None
-  nothing_refused = none_refused s (length w.held) (logs_of (held_at w s)) d (record {
-    sites = sites;
-    own_count = none_in (is_ahead s (logs_of (held_at w s))) d (λ x in_delta. not_ahead w closed s x (own x in_delta));
+  nothing_refused = unrefused s (length w.held) (logs_of (held_at w s)) d (record {
+    inside = sites;
+    known = none_in (is_ahead s (logs_of (held_at w s))) d (λ x in_delta. not_ahead w closed s x (own x in_delta));
     no_gap = none_first (is_past (logs_of (held_at w s))) 0 d (none_in (is_past (logs_of (held_at w s))) d (λ x in_delta.
         not_past (length (log_of x.origin (held_at w s))) x.n
         (within (log_of x.origin (held_at w s)) x.n x.message (one_place (held_at w s) (closed.arrivals s) x (all x in_delta)))));
@@ -168,9 +170,9 @@ handing_again sites before between number s fresh is =
     let a : WasAccepted w number s = was_accepted w number s fresh is in
     let e : Event = event.Hand number s in
     let v : State = world_after_all (world_after w e) between in
-    let f : Fits s (length w.held) (logs_of (held_at w s)) a.delta = fits s (length w.held) (logs_of (held_at w s)) a.delta a.fits in
+    let f : IsPassed s (length w.held) (logs_of (held_at w s)) a.delta = passed s (length w.held) (logs_of (held_at w s)) a.delta a.fits in
     again v (closed_all between (world_after w e) (closed_after w closed e)) s number a.delta
     (there-all between (world_after w e) number a.delta (there-after w e number a.delta a.cut))
-    (ap (λ (n : ℕ). list_any (is_outside n) a.delta) (size-all between (world_after w e) ∙ size-after w e) ∙ f.sites)
+    (ap (λ (n : ℕ). list_any (is_outside n) a.delta) (size-all between (world_after w e) ∙ size-after w e) ∙ f.inside)
     (λ x in_delta. never_loses (world_after w e) between s x (sites-after w e s ∙ a.there) (held_after w closed number s a x in_delta))
     (sites-all between (world_after w e) s ∙ sites-after w e s ∙ a.there)

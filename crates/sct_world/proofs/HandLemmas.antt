@@ -20,10 +20,11 @@ use Rattle.sct_delta.specs.declared.fault.DeltaFault.TheVariants as fault
 use Rattle.sct_delta.proofs.EntryLemmas.{from-append}
 use Rattle.sct_delta.proofs.FittingLemmas.{refused_where_it_does_not_fit}
 use Rattle.sct_delta.proofs.HeldLemmas.{passes_none}
+use Rattle.sct_delta.proofs.JoinLemmas.{IsPassed, passed}
+use Rattle.sct_delta.proofs.TestLemmas.{filter_none, none_also}
 use Rattle.sct_site.specs.Cores.{Core, IsSite, logs_of, is_above, entries_above, fresh_of, arrivals_joined, refusal_by}
 use Rattle.sct_site.proofs.AboveLemmas.{entry_total, entry_same}
 use Rattle.sct_site.proofs.ArrivalLemmas.{length-log}
-use Rattle.sct_site.proofs.JoinLemmas.{filter_none, none_also, Fits, fits}
 use Rattle.sct_world.specs.Settling.{no_core, core_in, held_by_some, IsKept, AreKept, IsWhy, IsAhead, HoldApart, HasAll, HasEach, IsWhole, IsWholeOfOne, OfOneGroup}
 use Rattle.sct_world.proofs.AgainLemmas.{joined_holds}
 use Rattle.sct_world.proofs.HeldLemmas.{either, implied, same_entry_is, one_place, held_number}
@@ -150,8 +151,8 @@ module _ (cores : List Core) (from to : ℕ) (there : to < length cores) (giver 
 
   no_gap : (log : ℕ → List Draft) → list_any (is_past log) (firsts_after 0 d) ≡ false
   no_gap log =
-      let f : Fits 0 (core_in cores from).group (λ o. []) d
-      = fits 0 (core_in cores from).group (λ o. []) d ((refused_where_it_does_not_fit 0 (core_in cores from).group (λ o. []) d shape).1 fits_nothing) in
+      let f : IsPassed 0 (core_in cores from).group (λ o. []) d
+      = passed 0 (core_in cores from).group (λ o. []) d ((refused_where_it_does_not_fit 0 (core_in cores from).group (λ o. []) d shape).1 fits_nothing) in
       none_also (is_past (λ o. [])) (is_past log) (λ e. still_past (length (log e.origin)) e.n) (firsts_after 0 d) f.no_gap
 
   why_ahead : (e : Placed) → holds d e ≡ true → is_ahead own (logs_of held) e ≡ true → IsAhead cores e.n

@@ -18,10 +18,10 @@ use Rattle.sct_delta.specs.Refusals.{message_at, is_other_than, is_held, is_fork
 use Rattle.sct_delta.specs.declared.fault.DeltaFault.{DeltaFault}
 use Rattle.sct_delta.specs.declared.fault.DeltaFault.TheVariants as fault
 use Rattle.sct_delta.proofs.EntryLemmas.{rises-numbered, run_is}
+use Rattle.sct_delta.proofs.JoinLemmas.{passed}
 use Rattle.sct_site.specs.Cores.{logs_of, is_above, entry_order, entries_above, fresh_of, arrivals_joined, arrivals_taken, is_repeat, own_entry, refusal_by}
 use Rattle.sct_site.proofs.AboveLemmas.{entry_total, entry_same, rises_as_entries, from_above}
-use Rattle.sct_site.proofs.ArrivalLemmas.{arrivals-push}
-use Rattle.sct_site.proofs.JoinLemmas.{fits, arrivals-joined}
+use Rattle.sct_site.proofs.ArrivalLemmas.{arrivals-joined, arrivals-push}
 use Rattle.sct_world.specs.Closed.{IsClosed}
 use Rattle.sct_world.specs.Faults.{IsNoFork}
 use Rattle.sct_world.specs.States.{State, is_no_site, held_at, core_at, with_held}
@@ -227,7 +227,7 @@ module _ (w : State) (closed : IsClosed w) (s : ℕ) (there : is_no_site w s ≡
   pub closed_joined : (k : ℕ) → refusal_by (core_at w s) (slice_index_or w.deltas k []) ≡ None → IsClosed (with_held w s (arrivals_joined (held_at w s) (slice_index_or w.deltas k [])))
   closed_joined k none =
       closed_with w closed s there (arrivals_joined (held_at w s) (slice_index_or w.deltas k []))
-      (arrivals-joined s (length w.held) (held_at w s) (slice_index_or w.deltas k []) (closed.arrivals s) (closed.runs k) (fits s (length w.held) (logs_of (held_at w s)) (slice_index_or w.deltas k []) none))
+      (arrivals-joined s (length w.held) (held_at w s) (slice_index_or w.deltas k []) (closed.arrivals s) (closed.runs k) (passed s (length w.held) (logs_of (held_at w s)) (slice_index_or w.deltas k []) none))
       (λ e held. kept_first (held_at w s) (fresh_of (held_at w s) (slice_index_or w.deltas k [])) e held)
       (λ e held. elim (one_of (held_at w s) (fresh_of (held_at w s) (slice_index_or w.deltas k [])) e held) as (λ c. (holds (held_at w e.origin) e ≡ true) ⊎ (e.origin ≡ s)) [
         | inl was ↦ inl (closed.held s e was)

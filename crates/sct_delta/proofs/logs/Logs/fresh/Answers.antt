@@ -31,5 +31,5 @@ returns-clause-goes_on c =
     let log = log_in c.args.self.now in
     subst (λ (fresh : List Placed). (o : ℕ) → entries_from o fresh ≡ numbered o (vector_of log o + 1) (log_of o fresh)) (sym (found c))
     (fresh_continues c.args.own c.args.self.now.group log c.args.delta.now
-    (subst IsDelta c.entries-entry-items.ensures.entries c.entries-entry-items.ensures.shape)
+    (subst IsDelta c.entries-entry-items.ensures.entries c.entries-entry-items.ensures.shape).runs
     (passed c.args.own c.args.self.now.group log c.args.delta.now c.in_ok-fits.ensures.ok))

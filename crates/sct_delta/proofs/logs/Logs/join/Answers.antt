@@ -5,7 +5,8 @@ use Rattle.std.specs.List.{list_any}
 use Rattle.sct_delta.specs.Entries.{held_from, log_of}
 use Rattle.sct_delta.specs.Logs.{log_in}
 use Rattle.sct_delta.specs.Refusals.{is_held, is_new, is_outside, fresh_in}
-use Rattle.sct_delta.proofs.JoinLemmas.{passed, any_kept, kept_fresh}
+use Rattle.sct_delta.proofs.JoinLemmas.{passed, kept_fresh}
+use Rattle.sct_delta.proofs.TestLemmas.{none_kept}
 use Rattle.sct_delta.proofs.RoomLemmas.{held_fewer}
 use Rattle.sct_delta.proofs.logs.Logs.join.Goals as goal
 
@@ -18,7 +19,7 @@ append_each-requires c =
     record {
       room = λ o. omega (arith, ap (held_from o) kept, c.in_ok-reserve.ensures.ok o, held_fewer o (λ entry. not (is_held held entry)) c.args.delta);
       inside = (λ i. list_any (is_outside (c.in_ok-reserve.ensures.group i)) (kept i))
-          ∙ any_kept (is_outside c.args.self.now.group) (λ entry. not (is_held held entry)) c.args.delta
+          ∙ none_kept (is_outside c.args.self.now.group) (λ entry. not (is_held held entry)) c.args.delta
           (passed c.args.own c.args.self.now.group held c.args.delta c.in_ok-fits.ensures.ok).inside;
     }
 

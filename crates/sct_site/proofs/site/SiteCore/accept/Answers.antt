@@ -8,7 +8,8 @@ use Rattle.sct_set.specs.Contents.{contents_of}
 use Rattle.sct_delta.specs.Entries.{Placed, log_of}
 use Rattle.sct_delta.specs.Logs.{log_in}
 use Rattle.sct_delta.specs.Refusals.{is_held, is_outside}
-use Rattle.sct_delta.proofs.JoinLemmas.{any_kept, passed}
+use Rattle.sct_delta.proofs.JoinLemmas.{passed}
+use Rattle.sct_delta.proofs.TestLemmas.{none_kept}
 use Rattle.sct_site.proofs.AcceptLemmas.{IsCore-joined, refusal_is}
 use Rattle.sct_site.proofs.SiteLemmas.{site_is}
 use Rattle.sct_site.proofs.site.SiteCore.accept.Goals as goal
@@ -32,7 +33,7 @@ pub append_all-requires-clause-inside : goal.append_all-requires-clause-inside
 append_all-requires-clause-inside c =
     let log = log_in c.self.inside.logs in
     (λ i. list_any (is_outside (c.in_ok-reserve-2.ensures.group i)) ((c.deref-2.ensures.value ∙ c.into_entries-entries.ensures.entries ∙ c.in_ok-fresh.ensures.ok) i))
-    ∙ any_kept (is_outside c.self.inside.logs.group) (λ entry. not (is_held log entry)) c.args.delta.now
+    ∙ none_kept (is_outside c.self.inside.logs.group) (λ entry. not (is_held log entry)) c.args.delta.now
     (passed c.self.inside.number c.self.inside.logs.group log c.args.delta.now c.in_ok-fresh.ensures.fits).inside
 
 pub invariant_of-self-2 : goal.invariant_of-self-2
