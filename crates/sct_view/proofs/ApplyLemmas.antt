@@ -1,5 +1,5 @@
 -- What a batch adds to a set, and that what it changes is about keys of the set. Proof plumbing.
-use Rattle.std.proofs.Common.{◌≡◌, ℕ, ◌+◌, ◌*◌, ◌≤◌, subst, Bool, true, false, cond, ◌&&◌, ◌||◌, List, [], ◌∷◌, length, map, refl, sym, ap, ◌∙◌, arith}
+use Rattle.std.proofs.Common.{◌≡◌, ℕ, ◌+◌, ◌*◌, ◌≤◌, Bool, true, false, cond, ◌&&◌, ◌||◌, List, [], ◌∷◌, length, map, refl, sym, ap, ◌∙◌, arith}
 use Rattle.std.specs.FinSet as set
 use Rattle.std.specs.FinSet.{contains-from_list, contains-insert, contains-union, len-insert}
 use Rattle.std.specs.List.{list_any}
@@ -72,11 +72,10 @@ pub len_joined : (s b : MessageSet) → set.len (set.union s (fresh_of s b)) ≡
 len_joined s b = len_disjoint s (fresh_of s b) (fresh_apart s b)
 
 -- a batch touches few transfers, where each message is on one
-pub few_applied : (s v f b : MessageSet) (touched fresh : ℕ) → s ≡ v → f ≡ fresh_of s b → touched ≡ length (touched_by s f) → fresh ≡ set.len f
-    → AreOnAtMost 1 v → AreOnAtMost 1 b → touched ≤ 2 * fresh
-few_applied s v f b touched fresh same is counted len before later =
-    let law : length (touched_by s (fresh_of s b)) ≤ 2 * 1 * set.len (fresh_of s b) =
-    batches_touch_few 1 s b (subst (λ (t : MessageSet). AreOnAtMost 1 t) (sym same) before) later in
+pub few_applied : (s f b : MessageSet) (touched fresh : ℕ) → f ≡ fresh_of s b → touched ≡ length (touched_by s f) → fresh ≡ set.len f
+    → AreOnAtMost 1 s → AreOnAtMost 1 b → touched ≤ 2 * fresh
+few_applied s f b touched fresh is counted len before later =
+    let law : length (touched_by s (fresh_of s b)) ≤ 2 * 1 * set.len (fresh_of s b) = batches_touch_few 1 s b before later in
     let all : touched ≡ length (touched_by s (fresh_of s b)) = counted ∙ ap (λ (g : MessageSet). length (touched_by s g)) is in
     let new : fresh ≡ set.len (fresh_of s b) = len ∙ ap (λ (g : MessageSet). set.len g) is in
     omega arith

@@ -1,14 +1,12 @@
 -- Tables that are built of the cases of all transfers. Proof plumbing.
 use Rattle.std.specs.FinSet as set
 use Rattle.std.specs.FinSet.{contains-empty, contains-union, same_set}
-use Rattle.std.proofs.Common.{◌≡◌, ◌∙◌, refl, sym, ap, subst, ℕ, Bool, true, false, cond, not, ◌||◌, List, [], ◌∷◌, ◌++◌, map, filter, length, take, get_or, ◌+◌, ◌<◌, arith}
+use Rattle.std.proofs.Common.{◌≡◌, ◌∙◌, refl, sym, ap, subst, ℕ, Bool, true, false, cond, not, ◌||◌, List, [], ◌∷◌, ◌++◌, map, filter, arith}
 use Rattle.std.specs.List.{flat_map, list_any, sum_by}
 use Rattle.std.specs.List.Sorted.{IsStrictlySortedBy}
 use Rattle.std.specs.Map.{lookup}
 use Rattle.std.specs.Ordering.{eq_by_cmp}
 use Rattle.std.proofs.lemmas.Bool.{false≢true}
-use Rattle.std.proofs.lemmas.Grind.{take_at_read}
-use Rattle.std.proofs.lemmas.List.Folds.{list_any-append, list_any_at}
 use Rattle.sct_element.specs.Text.{is_text}
 use Rattle.sct_message.specs.Ascending.{ascending}
 use Rattle.sct_message.specs.Keys.{identity_of, transfers_of}
@@ -39,7 +37,7 @@ use Rattle.sct_view.specs.declared.totals.Totals.{Totals}
 use Rattle.sct_view.specs.Totals.{nothing, plus, share, totals_of, totals_over}
 use Rattle.sct_view.proofs.EvaluationLemmas.{filter_swap}
 use Rattle.sct_view.proofs.GatheredLemmas.{gathered_those}
-use Rattle.sct_view.proofs.KeyLemmas.{key_itself, keys_apart, same_key_is}
+use Rattle.sct_view.proofs.KeyLemmas.{same_key_is}
 use Rattle.sct_view.proofs.PartLemmas.{any_flat_map}
 use Rattle.sct_view.proofs.SetKeys.{any_key}
 use Rattle.sct_view.proofs.SumLemmas.{sum_none}

@@ -16,7 +16,7 @@ ghost use Rattle.sct_view.specs.Touched.{AreOnAtMost, touched_in};
 use crate::case::Case;
 use crate::commit::commit_all;
 use crate::parts::{filled_in_parts, tables_of};
-use crate::replanning::{Replanned, replan};
+use crate::replanning::Replanned;
 use crate::room::make_room;
 use crate::totals::Totals;
 use indexmap::IndexMap;
@@ -54,7 +54,7 @@ fn brought_by(plan: &Replanned) -> Applied
 #[derive(Drop)]
 pub struct View {
     pub(crate) alloc: Global,
-    archive: Archive,
+    pub(crate) archive: Archive,
     pub(crate) cases: IndexMap<TransferKey, Case>,
     pub(crate) totals: IndexMap<Bic, Totals>,
     unknown: Status,
@@ -139,7 +139,7 @@ impl View {
             → AreOnAtMost 1 (contents_of (messages_in messages.now)) → applied.touched ≤ 2 * applied.fresh) }
         ensures err { OnErr result (self.new ≡ self.old) }
     {
-        let plan = replan(self.alloc, &self.archive, &self.cases, messages)?;
+        let plan = self.replan(messages)?;
         let brought = brought_by(&plan);
         make_room(
             self.alloc,
