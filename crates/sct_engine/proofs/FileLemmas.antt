@@ -4,7 +4,11 @@ use Rattle.std.proofs.lemmas.Grind.{take_at_read}
 use Rattle.std.proofs.lemmas.List.{length-map, map-append}
 use Rattle.std.proofs.lemmas.List.Elements.{Contains-get_or}
 use Rattle.sct_streams.specs.Files.{AreGiven, IsGiven}
-use Rattle.sct_engine.specs.Stream.{EndsFile, EndsFiles, EndsReading}
+use Rattle.sct_streams.specs.Whole.{EndsReading}
+use Rattle.sct_streams.specs.declared.whole.ReadFault.{ReadFault}
+use Rattle.sct_streams.specs.declared.whole.ReadFault.TheVariants as reading
+use Rattle.sct_engine.specs.Fault.{fault_of_read}
+use Rattle.sct_engine.specs.Stream.{EndsFile, EndsFiles}
 use Rattle.sct_engine.specs.declared.fault.ProgramFault.{ProgramFault}
 use Rattle.sct_engine.specs.declared.fault.ProgramFault.TheVariants as fault
 
@@ -29,17 +33,11 @@ file_more gives name items paths inputs n d input below so_far given =
     (one_more gives (map name (take n paths)) (map items inputs) (name path) (items input) so_far given))
 
 -- what ends a reading of at most 1 GiB, ends that of a file
-pub reading_ends : (e : ProgramFault) (before after : Option (List ℕ)) → EndsReading e 1073741824 before after → EndsFile before e
-reading_ends fault.Read before after ends = tt
-reading_ends fault.Memory before after ends = tt
-reading_ends fault.TooLong None after ends = tt
-reading_ends fault.TooLong (Some bytes) after ends = let long = ends.0 in omega (arith, long)
-reading_ends fault.Write before after ends = absurd ends
-reading_ends fault.Usage before after ends = absurd ends
-reading_ends (fault.BadList row) before after ends = absurd ends
-reading_ends fault.Held before after ends = absurd ends
-reading_ends (fault.Refused number) before after ends = absurd ends
-reading_ends fault.NoWorker before after ends = absurd ends
+pub reading_ends : (f : ReadFault) (before after : Option (List ℕ)) → EndsReading f 1073741824 before after → EndsFile before (fault_of_read f)
+reading_ends reading.Failed before after ends = tt
+reading_ends reading.Memory before after ends = tt
+reading_ends reading.TooLong None after ends = tt
+reading_ends reading.TooLong (Some bytes) after ends = let long = ends.0 in omega (arith, long)
 
 -- what ends a reader that has the bytes of a file left, ends the reading of the file
 pub file_ends : (given left : Option (List ℕ)) (e : ProgramFault) → IfSome given (λ bytes. left ≡ Some bytes) → EndsFile left e → EndsFile given e

@@ -5,4 +5,5 @@ mod FileLemmas
 mod PieceLemmas
 mod Prefixes
 mod RunFaults
+mod Unasked
 mod Values

@@ -1,12 +1,8 @@
 -- A text written in two parts, of which the second, or the first, may be cut off.
-use Rattle.std.proofs.Common.{◌≡◌, ℕ, ◌+◌, List, ◌++◌, Option, Some, None, Result, Ok, Err, length, take, IfErr, OnErr, sym, ap, ◌∙◌, subst, append_assoc, arith}
+use Rattle.std.proofs.Common.{◌≡◌, ℕ, ◌+◌, List, ◌++◌, Option, Some, None, Result, Ok, Err, length, take, OnErr, sym, ap, ◌∙◌, subst, append_assoc, arith}
 use Rattle.std.proofs.lemmas.List.{take-append-le, length-append}
 use Rattle.std.proofs.Math.Seq.{take-append-add}
-use Rattle.sct_engine.specs.declared.fault.ProgramFault.{ProgramFault}
-use Rattle.sct_engine.specs.declared.fault.ProgramFault.TheVariants as fault
 use Rattle.sct_engine.specs.Engine.{IsCutOff}
-use Rattle.sct_engine.specs.Fault.{failed_writes}
-use Rattle.sct_engine.specs.Stream.{EndsWriting}
 use Rattle.sct_streams.specs.Stream.{AppendsIfTold, AppendsPrefixIfTold}
 
 -- a prefix of the first part is one of both
@@ -29,24 +25,12 @@ prefix_after_whole (Some held) between after first second whole cut =
       ),
     )
 
--- the one fault of a writing is one failed write
-pub one_failed : (e : ProgramFault) (failed now : ℕ) → EndsWriting e → now ≡ failed + failed_writes e → now ≡ failed + 1
-one_failed fault.Write failed now ends counted = counted
-one_failed fault.TooLong failed now ends counted = absurd ends
-one_failed fault.Read failed now ends counted = absurd ends
-one_failed fault.Usage failed now ends counted = absurd ends
-one_failed fault.Memory failed now ends counted = absurd ends
-one_failed (fault.BadList row) failed now ends counted = absurd ends
-one_failed fault.Held failed now ends counted = absurd ends
-one_failed (fault.Refused number) failed now ends counted = absurd ends
-one_failed fault.NoWorker failed now ends counted = absurd ends
-
 -- a writing that failed has cut its text off
-pub cut_off : {T : Type 0} (result : Result T ProgramFault) (failed now : ℕ) (held held_now : Option (List ℕ)) (text : List ℕ)
-    → IfErr result EndsWriting → IfErr result (λ e. now ≡ failed + failed_writes e)
-    → OnErr result (AppendsPrefixIfTold held held_now text) → OnErr result (IsCutOff failed now held held_now (Some text))
-cut_off (Ok done) failed now held held_now text ends counted cut = tt
-cut_off (Err e) failed now held held_now text ends counted cut = record { one_failed = one_failed e failed now ends counted; prefix = cut }
+pub cut_off : {T E : Type 0} (result : Result T E) (failed now : ℕ) (held held_now : Option (List ℕ)) (text : List ℕ)
+    → OnErr result (now ≡ failed + 1) → OnErr result (AppendsPrefixIfTold held held_now text)
+    → OnErr result (IsCutOff failed now held held_now (Some text))
+cut_off (Ok done) failed now held held_now text counted cut = tt
+cut_off (Err e) failed now held held_now text counted cut = record { one_failed = counted; prefix = cut }
 
 -- what holds holds on a refusal
 pub on_err : {T E : Type 0} (result : Result T E) (P : Type 0) → P → OnErr result P

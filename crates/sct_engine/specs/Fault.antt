@@ -6,6 +6,8 @@ use Rattle.sct_reconcile.specs.declared.fault.ReconcileFault.{ReconcileFault}
 use Rattle.sct_reconcile.specs.declared.fault.ReconcileFault.TheVariants as list
 use Rattle.sct_run.specs.declared.fault.RunFault.{RunFault}
 use Rattle.sct_run.specs.declared.fault.RunFault.TheVariants as run
+use Rattle.sct_streams.specs.declared.whole.ReadFault.{ReadFault}
+use Rattle.sct_streams.specs.declared.whole.ReadFault.TheVariants as read
 
 -- the number of a fault that ends a run
 abbrev pub program_fault_number : ProgramFault → ℕ
@@ -24,10 +26,11 @@ abbrev pub failed_reads : ProgramFault → ℕ
 failed_reads Read = 1
 failed_reads _ = 0
 
--- how many writes have failed in a run that ended with this fault
-abbrev pub failed_writes : ProgramFault → ℕ
-failed_writes Write = 1
-failed_writes _ = 0
+-- the fault of the program if an input is not read whole
+abbrev pub fault_of_read : ReadFault → ProgramFault
+fault_of_read read.TooLong = TooLong
+fault_of_read read.Failed = Read
+fault_of_read read.Memory = Memory
 
 -- the fault of the program if a list is not read, or no report is made of it
 abbrev pub fault_of_list : ReconcileFault → ProgramFault

@@ -103,6 +103,14 @@ abbrev pub IsAskedBy : Result (List (List ℕ)) ProgramFault → Result Request 
 IsAskedBy (Err fault) asked = asked ≡ Err fault
 IsAskedBy (Ok words) asked = AreAsking words asked
 
+-- the answer to the words of a command line: that to the task of their request
+pub record IsAnsweredTo (gives : List ℕ → Option (List ℕ)) (words : Result (List (List ℕ)) ProgramFault) (before after : Streams) (ended : Result Ending ProgramFault) : Type 0 where
+  pub asked : Result Request ProgramFault
+  pub prepared : Result Task ProgramFault
+  pub is_asked : IsAskedBy words asked
+  pub is_prepared : IsPreparedIfAsked gives asked prepared
+  pub is_answered : IsAnsweredIfPrepared prepared before after ended
+
 -- One run. It reads the request of the words and the files that the request names, which have these bytes. It answers
 -- the request, reports its end on standard error, and returns the exit status of its end.
 pub record IsRun (gives : List ℕ → Option (List ℕ)) (words : Result (List (List ℕ)) ProgramFault) (before after : Streams) (status : ℕ) : Type 0 where

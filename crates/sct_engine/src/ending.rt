@@ -1,15 +1,13 @@
 //! The end of a run: the text on standard error, and the exit status.
-ghost use Rattle.std.specs.Prelude.{◌≡◌, ◌++◌, Some, IfErr, OnErr, OnOk};
+ghost use Rattle.std.specs.Prelude.{◌≡◌, ◌++◌, Some, OnErr, OnOk};
 ghost use Rattle.sct_engine.specs.Ending.{ending_text_of, exit_status_of, fault_line_of};
 ghost use Rattle.sct_engine.specs.Engine.{IsCutOff, IsWritten, IsWrittenOrCutOff};
-ghost use Rattle.sct_engine.specs.Stream.{EndsWriting};
 
 use crate::fault::ProgramFault;
 use crate::jobs::Done;
-use crate::transfer::write_all;
 use arrayvec::ArrayString;
 use itoa::Buffer;
-use sct_streams::Sink;
+use sct_streams::{Failed, Sink, write_all};
 
 /// The end of a run without a fault of its own.
 #[derive(Debug, Drop)]
@@ -46,28 +44,26 @@ fn fault_line(fault: &ProgramFault) -> ArrayString<64>
 }
 
 // Writes the line of a fault and the text after it.
-fn tell_fault<E: Sink>(fault: &ProgramFault, text: &str, err: &mut E) -> Result<(), ProgramFault>
+fn tell_fault<E: Sink>(fault: &ProgramFault, text: &str, err: &mut E) -> Result<(), Failed>
     ensures whole { OnOk result (IsWritten
         (E.failures err.old) (E.failures err.new) (E.held err.old) (E.held err.new)
         (Some (fault_line_of fault.now ++ text.now))) }
     ensures prefix { OnErr result (IsCutOff
         (E.failures err.old) (E.failures err.new) (E.held err.old) (E.held err.new)
         (Some (fault_line_of fault.now ++ text.now))) }
-    ensures faults { IfErr result EndsWriting }
 {
     write_all(err, fault_line(fault).as_bytes())?;
     write_all(err, text.as_bytes())
 }
 
 // Writes what standard error gets at the end of a run, after the refused lines.
-fn tell<E: Sink>(ended: &Result<Ending, ProgramFault>, err: &mut E) -> Result<(), ProgramFault>
+fn tell<E: Sink>(ended: &Result<Ending, ProgramFault>, err: &mut E) -> Result<(), Failed>
     ensures whole { OnOk result (IsWritten
         (E.failures err.old) (E.failures err.new) (E.held err.old) (E.held err.new)
         (Some (ending_text_of ended.now))) }
     ensures prefix { OnErr result (IsCutOff
         (E.failures err.old) (E.failures err.new) (E.held err.old) (E.held err.new)
         (Some (ending_text_of ended.now))) }
-    ensures faults { IfErr result EndsWriting }
 {
     match ended {
         Ok(Ending::Done(_)) | Ok(Ending::Helped) => Ok(()),

@@ -1,12 +1,13 @@
 //! The faults that end a run, each with its number.
 ghost use Rattle.std.specs.Prelude.{◌≡◌};
 ghost use Rattle.sct_engine.specs.declared.fault.ProgramFault.TheVariants as fault;
-ghost use Rattle.sct_engine.specs.Fault.{fault_of_list, fault_of_run, program_fault_number};
+ghost use Rattle.sct_engine.specs.Fault.{fault_of_list, fault_of_read, fault_of_run, program_fault_number};
 
 use sct_case::CaseFault;
 use sct_reconcile::ReconcileFault;
 use sct_run::RunFault;
 use sct_set::SetFault;
+use sct_streams::{Failed, ReadFault};
 use std::alloc::{AllocError, AllocFailed};
 use thiserror::Error;
 
@@ -82,6 +83,27 @@ impl<T: Drop> From<AllocFailed<T>> for ProgramFault {
 
     fn from(_error: AllocFailed<T>) -> ProgramFault {
         ProgramFault::Memory
+    }
+}
+
+impl From<ReadFault> for ProgramFault {
+    ghost from_gives = { λ fault e. e ≡ fault_of_read fault };
+
+    fn from(fault: ReadFault) -> ProgramFault {
+        match fault {
+            ReadFault::TooLong => ProgramFault::TooLong,
+            ReadFault::Failed => ProgramFault::Read,
+            ReadFault::Memory => ProgramFault::Memory,
+        }
+    }
+}
+
+/// A failed call of a sink is a failed write. A file that cannot be opened is `Read` (62), where it is opened.
+impl From<Failed> for ProgramFault {
+    ghost from_gives = { λ _ e. e ≡ fault.Write };
+
+    fn from(_failed: Failed) -> ProgramFault {
+        ProgramFault::Write
     }
 }
 

@@ -5,8 +5,8 @@ ghost use Rattle.sct_streams.specs.Files.{AreGiven, IsGiven};
 ghost use Rattle.sct_workers.specs.Files.{bytes_of};
 
 use crate::fault::ProgramFault;
-use crate::transfer::{MOST_BYTES, read_all};
-use sct_streams::{Files, Reading};
+use crate::transfer::MOST_BYTES;
+use sct_streams::{Files, Reading, read_all};
 use std::alloc::Global;
 use std::io;
 use std::marker::Brand;
@@ -27,7 +27,7 @@ fn read_left<R: io::Read + Drop, L: Ledger>(
     ensures faults { IfErr result (EndsFile (R.remaining reader)) }
 {
     let mut source = Reading::<R, L>::new(reader, blank);
-    read_all(alloc, &mut source, MOST_BYTES)
+    Ok(read_all(alloc, &mut source, MOST_BYTES)?)
 }
 
 /// Reads the file at a path. Errors: `Read` (62) if it cannot be opened or a read fails; `TooLong` (60) if it has more

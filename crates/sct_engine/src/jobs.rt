@@ -43,10 +43,10 @@ use crate::answers::{Answer, Question, answer_of_messages};
 use crate::fault::ProgramFault;
 use crate::release::Release;
 use crate::replays::answer_of_script;
-use crate::transfer::{MOST_BYTES, read_all, write_all, write_pieces};
+use crate::transfer::{MOST_BYTES, write_pieces};
 use sct_element::{Bic, Day};
 use sct_reconcile::List;
-use sct_streams::{Sink, Source};
+use sct_streams::{Sink, Source, read_all, write_all};
 use std::alloc::Global;
 use std::thread::Threads;
 

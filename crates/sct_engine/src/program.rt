@@ -1,45 +1,21 @@
 //! The whole program over streams of any kind: from the words of the command line to the exit status.
 ghost use Rattle.std.specs.Prelude.{◌≡◌};
-ghost use Rattle.sct_engine.specs.declared.task.Task.TheVariants as task;
-ghost use Rattle.sct_engine.specs.Run.{streams, words_told, IsAnswered, IsAnsweredIfPrepared, IsAskedBy, IsPreparedIfAsked, IsRun, Streams};
+ghost use Rattle.sct_engine.specs.Run.{streams, words_told, IsAnswered, IsAnsweredTo, IsRun, Streams};
 
 use crate::ending::{Ending, conclude};
 use crate::fault::ProgramFault;
-use crate::jobs::{Job, engine};
+use crate::jobs::engine;
 use crate::release::Release;
-use crate::request::{Request, read_request};
+use crate::request::read_request;
 use crate::settling::settle_inputs;
 use crate::task::{Task, prepare};
-use crate::transfer::{MOST_BYTES, write_all};
-use sct_streams::{Files, Reading, Sink, Source, Writing};
+use crate::transfer::MOST_BYTES;
+use sct_streams::{Files, Reading, Sink, Source, Writing, write_all};
 use std::alloc::Global;
 use std::io;
 use std::sync::Wait;
 use std::sync::ledger::{Blank, Ledger};
 use std::thread::Threads;
-
-// Runs a job on an input of at most 1 GiB.
-fn work<T: Threads + Sync, R: Source, O: Sink, E: Sink>(
-    rt: &T,
-    alloc: Global,
-    release: Release,
-    job: Job,
-    reader: &mut R,
-    out: &mut O,
-    err: &mut E,
-) -> Result<Ending, ProgramFault>
-    ensures { IsAnswered (task.Work job)
-        (streams (R.left reader.old) (R.failures reader.old) (O.held out.old) (O.failures out.old)
-        (E.held err.old) (E.failures err.old))
-        (streams (R.left reader.new) (R.failures reader.new) (O.held out.new) (O.failures out.new)
-        (E.held err.new) (E.failures err.new))
-        result }
-{
-    match engine(rt, alloc, &job, MOST_BYTES, release, reader, out, err) {
-        Ok(done) => Ok(Ending::Done(done)),
-        Err(fault) => Err(fault),
-    }
-}
 
 // Performs a task. A mistake in the command line is reported later, at the end of the run.
 fn perform<T: Threads + Wait + Sync, R: Source, O: Sink, E: Sink>(
@@ -59,11 +35,11 @@ fn perform<T: Threads + Wait + Sync, R: Source, O: Sink, E: Sink>(
         result }
 {
     match task {
-        Task::Work(job) => work(rt, alloc, release, job, reader, out, err),
-        Task::Settle(inputs) => match settle_inputs(rt, alloc, inputs, out, err) {
-            Ok(done) => Ok(Ending::Done(done)),
-            Err(fault) => Err(fault),
-        },
+        Task::Work(job) => {
+            let done = engine(rt, alloc, &job, MOST_BYTES, release, reader, out, err)?;
+            Ok(Ending::Done(done))
+        }
+        Task::Settle(inputs) => Ok(Ending::Done(settle_inputs(rt, alloc, inputs, out, err)?)),
         Task::Help(text) => {
             write_all(out, text.as_bytes())?;
             Ok(Ending::Helped)
@@ -72,54 +48,28 @@ fn perform<T: Threads + Wait + Sync, R: Source, O: Sink, E: Sink>(
     }
 }
 
-// The request of the words, or the fault by which they could not be read.
-fn ask<'a>(
-    alloc: Global,
-    words: &'a Result<Vec<String>, ProgramFault>,
-) -> Result<Request<'a>, ProgramFault>
-    ensures { IsAskedBy (words_told words.now) result }
-{
-    match words {
-        Ok(words) => read_request(alloc, words),
-        Err(fault) => Err(*fault),
-    }
-}
-
-// The task of a request with the bytes of its files, or the fault by which there is no request.
-fn make_ready<F: Files>(
-    alloc: Global,
-    files: &F,
-    asked: Result<Request<'_>, ProgramFault>,
-) -> Result<Task, ProgramFault>
-    ensures { IsPreparedIfAsked (F.gives files.now) asked.entry result }
-{
-    match asked {
-        Ok(request) => prepare(alloc, files, request),
-        Err(fault) => Err(fault),
-    }
-}
-
-// Performs a task, or passes on the fault by which there is none.
-fn perform_ready<T: Threads + Wait + Sync, R: Source, O: Sink, E: Sink>(
+// Performs what the words ask for.
+fn answer_words<T: Threads + Wait + Sync, F: Files, R: Source, O: Sink, E: Sink>(
     rt: &T,
     alloc: Global,
     release: Release,
-    ready: Result<Task, ProgramFault>,
+    files: &F,
+    words: Result<Vec<String>, ProgramFault>,
     reader: &mut R,
     out: &mut O,
     err: &mut E,
 ) -> Result<Ending, ProgramFault>
-    ensures { IsAnsweredIfPrepared ready
+    ensures { IsAnsweredTo (F.gives files.now) (words_told words)
         (streams (R.left reader.old) (R.failures reader.old) (O.held out.old) (O.failures out.old)
         (E.held err.old) (E.failures err.old))
         (streams (R.left reader.new) (R.failures reader.new) (O.held out.new) (O.failures out.new)
         (E.held err.new) (E.failures err.new))
         result }
 {
-    match ready {
-        Ok(task) => perform(rt, alloc, release, task, reader, out, err),
-        Err(fault) => Err(fault),
-    }
+    let words = words?;
+    let request = read_request(alloc, &words)?;
+    let task = prepare(alloc, files, request)?;
+    perform(rt, alloc, release, task, reader, out, err)
 }
 
 /// Runs the program: reads the words of the command line and the files that they name, and performs what they ask for.
@@ -143,9 +93,7 @@ pub fn run<T: Threads + Wait + Sync, F: Files, R: Source, O: Sink, E: Sink>(
         (E.held err.new) (E.failures err.new))
         result }
 {
-    let asked = ask(alloc, &words);
-    let ready = make_ready(alloc, files, asked);
-    let ended = perform_ready(rt, alloc, release, ready, reader, out, err);
+    let ended = answer_words(rt, alloc, release, files, words, reader, out, err);
     conclude(&ended, err)
 }
 

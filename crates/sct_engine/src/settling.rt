@@ -9,9 +9,8 @@ ghost use Rattle.sct_workers.specs.Files.{bytes_of, refused_in, told_from};
 
 use crate::fault::ProgramFault;
 use crate::jobs::Done;
-use crate::transfer::write_all;
 use sct_run::{RunAnswer, run_sites};
-use sct_streams::Sink;
+use sct_streams::{Sink, write_all};
 use sct_workers::FreeGate;
 use std::alloc::Global;
 use std::sync::Wait;

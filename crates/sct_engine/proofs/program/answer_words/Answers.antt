@@ -1,0 +1,9 @@
+-- Words that could not be read ask for nothing.
+use Rattle.std.proofs.Common.{ap}
+use Rattle.sct_engine.specs.Run.{words_told}
+use Rattle.sct_engine.proofs.Unasked.{unasked}
+use Rattle.sct_engine.proofs.program.answer_words.Goals as goal
+
+pub returns-in_err-words : goal.returns-in_err-words
+returns-in_err-words g c =
+    unasked _ (words_told c.args.words) c.in_err-words.field-0.0 _ c.from_residual.result (ap words_told c.in_err-words.was) c.from_residual.ensures.1
