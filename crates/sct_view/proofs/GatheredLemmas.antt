@@ -7,8 +7,7 @@ use Rattle.std.specs.Prelude.{if◌then◌else◌}
 use Rattle.std.specs.Arc.{arc_value}
 use Rattle.std.specs.Global.{Global}
 use Rattle.std.specs.declared.sync.Arc.{Arc}
-use Rattle.std.specs.List.{flat_map, list_any}
-use Rattle.std.proofs.lemmas.List.{append-nil, append_assoc}
+use Rattle.std.specs.List.{list_any}
 use Rattle.std.proofs.lemmas.List.Folds.{list_any-append}
 use Rattle.sct_message.specs.Ascending.{ascending}
 use Rattle.sct_message.specs.Order.{message_order, same_message}
@@ -156,13 +155,3 @@ fresh_step held f ms i m below is so_far =
           ∙ sym (fresh_more held before (arc_value m) e)
           ∙ ap (λ (ds : List Draft). fresh_of held (contents_of ds)) (sym more)
     ] refl
-
-flat_map_more : (f : Draft → List TransferKey) (ds : List Draft) (d : Draft) → flat_map f (ds ++ d ∷ []) ≡ flat_map f ds ++ f d
-flat_map_more f [] d = append-nil (f d)
-flat_map_more f (x ∷ ds) d = ap (λ ts. f x ++ ts) (flat_map_more f ds d) ∙ sym (append_assoc (f x) (flat_map f ds) (f d))
-
--- what the messages up to one more give
-pub flat_map_step : (f : Draft → List TransferKey) (ms : List (Arc Draft Global)) (i : ℕ) (m : Arc Draft Global) → i < length ms
-    → m ≡ get_or ms i m → flat_map f (messages_in (take i ms)) ++ f (arc_value m) ≡ flat_map f (messages_in (take (i + 1) ms))
-flat_map_step f ms i m below is =
-    sym (ap (flat_map f) (drafts_in-more ms i m below is) ∙ flat_map_more f (messages_in (take i ms)) (arc_value m))

@@ -25,6 +25,3 @@ key_swap s t = transfer_ties s t ∙ (eq_by_cmp_equiv transfer_total).symm s t �
 
 pub banks_apart : (p q : List ℕ) → is_text p q ≡ true → p ≡ q
 banks_apart p q e = tie_is nat_list_cmp_total (slice_cmp-IsAntisymmetric nat_cmp-IsAntisymmetric) p q (sym (texts_ties p q) ∙ e)
-
-pub bank_itself : (p : List ℕ) → is_text p p ≡ true
-bank_itself p = texts_ties p p ∙ ties_itself nat_list_cmp_total (slice_cmp-IsAntisymmetric nat_cmp-IsAntisymmetric) p

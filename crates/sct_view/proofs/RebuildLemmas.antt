@@ -1,6 +1,5 @@
 -- Tables that are built of the cases of all transfers. Proof plumbing.
 use Rattle.std.specs.FinSet as set
-use Rattle.std.specs.FinSet.{contains-empty, contains-union, same_set}
 use Rattle.std.proofs.Common.{◌≡◌, ◌∙◌, refl, sym, ap, subst, ℕ, Bool, true, false, cond, not, ◌||◌, List, [], ◌∷◌, ◌++◌, map, filter, arith}
 use Rattle.std.specs.List.{flat_map, list_any, sum_by}
 use Rattle.std.specs.List.Sorted.{IsStrictlySortedBy}
@@ -162,12 +161,6 @@ view_built s cases totals are kept small = record {
 pub kept_in_none : {Y Z : Type 0} (cases : IndexMap TransferKey Case Y) (totals : IndexMap (List ℕ) Totals Z) (ts : List TransferKey)
     → cases.entries ≡ [] → totals.entries ≡ [] → AreTotalsOver cases totals ts
 kept_in_none cases totals ts no_cases none p = no_totals_in totals none p ∙ no_totals (case_at cases) (no_case_in cases no_cases) ts p
-
--- ---- sets
-
-pub nothing_before : (a : MessageSet) → set.union set.empty a ≡ a
-nothing_before a =
-    same_set message_total message_same _ _ (λ q. contains-union message_total set.empty a q ∙ ap (λ (b : Bool). b || set.contains a q) (contains-empty message_order q))
 
 -- ---- what a table tells of a set
 

@@ -1,14 +1,12 @@
 -- A view before and after a batch. Proof plumbing.
-use Rattle.std.proofs.Common.{◌≡◌, ◌∙◌, sym, ap, subst, ℕ, true, List, map}
+use Rattle.std.proofs.Common.{◌≡◌, ◌∙◌, sym, ap, ℕ, true, List, map}
 use Rattle.std.specs.FinSet as set
-use Rattle.std.specs.Map.{lookup}
 use Rattle.indexmap.specs.IndexMap.{IndexMap}
-use Rattle.sct_element.specs.Text.{is_text}
 use Rattle.sct_message.specs.Sets.{MessageSet}
 use Rattle.sct_message.specs.Transfers.{keys_of}
 use Rattle.sct_message.specs.declared.keys.TransferKey.{TransferKey}
 use Rattle.sct_view.specs.Changes.{Change, are_among, case_after, change_in, changes_of}
-use Rattle.sct_view.specs.Kept.{AreTotalsOver, IsSmall, IsViewOf, case_at, case_of, kept_or_none, same_key, totals_at, totals_or_none}
+use Rattle.sct_view.specs.Kept.{AreTotalsOver, IsSmall, IsViewOf, case_at, case_of, totals_at}
 use Rattle.sct_view.specs.Touched.{touched_by}
 use Rattle.sct_view.specs.declared.case.Case.{Case}
 use Rattle.sct_view.specs.declared.case.Planned.{Planned}
@@ -20,18 +18,6 @@ use Rattle.sct_view.proofs.RebuildLemmas.{totals_built}
 use Rattle.sct_view.proofs.TotalsLemmas.{shares_alike, totals_by}
 
 module _ {Y Z : Type 0} (cases roomy_cases : IndexMap TransferKey Case Y) (totals roomy_totals : IndexMap (List ℕ) Totals Z) where
-  -- tables with the entries of a view are those of the view
-  pub same_view : (s later : MessageSet) → later ≡ s → IsViewOf s cases totals → roomy_cases.entries ≡ cases.entries → roomy_totals.entries ≡ totals.entries
-      → IsViewOf later roomy_cases roomy_totals
-  same_view s later is view c t =
-      let same_cases : (k : TransferKey) → case_at roomy_cases k ≡ case_at cases k = λ k. ap (λ (es : List (TransferKey × Case)). kept_or_none (lookup (same_key k) es)) c in
-      let same_totals : (p : List ℕ) → totals_at roomy_totals p ≡ totals_at totals p = λ p. ap (λ (es : List (List ℕ × Totals)). totals_or_none (lookup (is_text p) es)) t in
-      subst (λ (v : MessageSet). IsViewOf v roomy_cases roomy_totals) (sym is) (record {
-        cases_are = λ k. same_cases k ∙ view.cases_are k;
-        totals_are = λ p. same_totals p ∙ view.totals_are p;
-        small = λ k. subst IsSmall (sym (same_cases k)) (view.small k);
-      })
-
   module _ (s f later : MessageSet) (is : later ≡ set.union s f) (view : IsViewOf s cases totals)
       (same_cases : (t : TransferKey) → case_at roomy_cases t ≡ case_at cases t) (same_totals : (p : List ℕ) → totals_at roomy_totals p ≡ totals_at totals p) where
     -- before the planned cases are put in, the totals are the sums over all transfers there will be
@@ -43,9 +29,6 @@ module _ {Y Z : Type 0} (cases roomy_cases : IndexMap TransferKey Case Y) (total
         ∙ sym (totals_kept s f (case_at cases) view.cases_are p)
         ∙ sym (shares_alike (case_at cases) (case_at roomy_cases) same_cases (keys_of (set.union s f)) p)
         ∙ ap (λ (v : MessageSet). totals_by (case_at roomy_cases) (keys_of v) p) (sym is)
-
-    pub small_in_room : (t : TransferKey) → IsSmall (case_at roomy_cases t)
-    small_in_room t = subst IsSmall (sym (same_cases t)) (view.small t)
 
     module _ (planned : List Planned) (plans : map change_in planned ≡ changes_of (set.union s f) (touched_by s f)) where
       pub among_in_room : are_among (keys_of later) planned ≡ true

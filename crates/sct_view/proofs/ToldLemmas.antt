@@ -63,11 +63,6 @@ found_on_status s t =
 
 -- ---- the messages that are kept
 
--- what is kept of a transfer, part by part
-pub clean_kept : (s : MessageSet) (t : TransferKey) (case : Kept) → case ≡ case_of s t → case.clean ≡ messages_on s t
-unfolding case_of
-clean_kept s t case is = ap (λ (k : Kept). k.clean) is
-
 pub stands_kept : (s : MessageSet) (t : TransferKey) (case : Kept) → case ≡ case_of s t → case.stands ≡ status_of s t
 unfolding case_of
 stands_kept s t case is = ap (λ (k : Kept). k.stands) is
