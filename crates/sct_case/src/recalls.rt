@@ -102,7 +102,8 @@ fn make_it(txs: &[RecallTx], transfer: &TransferKey, cxl: &Id35) -> bool
 
 /// Whether a message makes the recall.
 fn makes(request: &CancellationRequest, transfer: &TransferKey, cxl: &Id35) -> bool
-    ensures { result ≡ list_any (recall_of_it cxl.now) (recalls_by transfer.now (draft.CancellationRequest request.now)) }
+    ensures { result
+        ≡ list_any (recall_of_it cxl.now) (recalls_by transfer.now (draft.CancellationRequest request.now)) }
 {
     make_it(&request.txs, transfer, cxl)
 }
