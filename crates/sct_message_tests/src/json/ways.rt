@@ -5,7 +5,7 @@ use crate::json::faults::Row;
 pub const NOT_A_TEXT: (&str, &str) = ("{", r#"{"MsgNmId":null,"#);
 
 /// Of a credit transfer: how keys and texts may be written, and keys that are nearly keys.
-pub static WAYS: [Row; 19] = [
+pub static WAYS: [Row; 20] = [
     (r#""Ccy""#, r#""\u0043c\u0079""#, "read"),
     ("EUR", r#"E\u0055R"#, "read"),
     ("EUR", r#"E\\u0055R"#, "36 Ccy 9"),
@@ -25,6 +25,7 @@ pub static WAYS: [Row; 19] = [
     (r#""Ccy":"EUR""#, r#""Ccy":"EUR","\u0043cy":"USD""#, "38 11"),
     (r#""Ccy":"EUR""#, r#""Ccy":"EUR","Ccy":978"#, "35 Ccy"),
     (r#""Ccy":"EUR","#, r#""Ccy":"EUR",,"#, "31"),
+    (r#""Ccy":"EUR","#, "\t\"Ccy\"\r\n:\n \"EUR\"\t,\r", "read"),
 ];
 
 /// What stands after an object, and the result.
