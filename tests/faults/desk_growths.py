@@ -11,7 +11,7 @@ from tests.faults import growths
 from tests.faults.growths import acceptance, instruction
 
 ALLOCATIONS = 66  # with so many first, one is refused before the message is taken
-REFUSED_ONE = 112  # with none first, one is refused after it
+REFUSED_ONE = 74  # with none first, one is refused after it
 
 # What follows the take, and what is answered to it: with ample memory, after a 50, and after a 51.
 NEXT = {
@@ -30,7 +30,7 @@ def mark_of(case, text, status):
     _, ample, after_50, after_51 = NEXT[way]
     ample = "read\ntaken 1 1 1 0\n" + ample
     if status == 0:
-        return {ample: "beside", "read\n50\n" + after_50: "50", "read\n51 1\n" + after_51: "51"}.get(text)
+        return {ample: "unharmed", "read\n50\n" + after_50: "50", "read\n51 1\n" + after_51: "51"}.get(text)
     return "beside" if status == 1 and ample.startswith(text) else None
 
 
@@ -47,11 +47,12 @@ def refusals():
     failed = list(found.values()).count(None)
     right = [case for case, mark in found.items() if mark in ("50", "51")]
     refused = [many for many, way in right if way == "publish"]
-    counts = ", ".join(f"{list(found.values()).count(mark)} {mark}" for mark in ["beside", "51", "50"])
+    counts = ", ".join(f"{list(found.values()).count(mark)} {mark}" for mark in ["beside", "unharmed", "51", "50"])
     print(f"take, allocations {REFUSED_ONE - ALLOCATIONS} to {REFUSED_ONE}: {counts}", flush=True)
     if failed or not refused:
         return len(right), failed
-    if not growths.are_whole(refused, ALLOCATIONS):
+    unharmed = [many for (many, way), mark in found.items() if (way, mark) == ("publish", "unharmed")]
+    if not growths.are_whole(refused, unharmed, ALLOCATIONS):
         harness.stop("the cases do not go from after the growths to before them")
     unlike = [many for (many, way), mark in found.items() if mark != found[many, "publish"]]
     missed = [(way, mark) for way in NEXT for mark in ("50", "51") if mark not in [it for case, it in found.items() if case[1] == way]]

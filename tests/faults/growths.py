@@ -31,9 +31,13 @@ def marks_of(number, cases, mark_of):
     return found
 
 
-def are_whole(refused, most):
-    """Whether the growths are refused one after another, and the cases go from after the last to before the first."""
-    return 0 < refused[0] and refused[-1] < most and len(refused) == refused[-1] - refused[0] + 1
+def are_whole(refused, unharmed, most):
+    """Whether the growths are refused one after another, and the cases go from after the last to before the first.
+
+    A call may do without an allocation, as where room is asked for ahead: it is then unharmed, and answers as with ample memory.
+    """
+    between = set(range(refused[0], refused[-1] + 1))
+    return 0 < refused[0] and refused[-1] < most and between <= {*refused, *unharmed}
 
 
 def end(name, right, failed):

@@ -10,8 +10,8 @@ from tests.faults import growths
 from tests.faults.growths import acceptance, instruction
 
 LINES = 70  # with so many lines first, an allocation is refused before the batch is applied
-NUMBER = 275  # with none first, one is refused after it; another number costs time and loses nothing
-MARKS = ["before", "beside", "refused", "after"]
+NUMBER = 140  # with none first, one is refused after it; another number costs time and loses nothing
+MARKS = ["before", "beside", "refused", "unharmed", "after"]
 
 OLD = """T|BANKDEFFXXX|T1|ACCEPTED
 T|BANKDEFFXXX|T2|ACCEPTED
@@ -41,7 +41,7 @@ def mark_of(_, text, status):
     if (text, status) == (REFUSED, 0):
         return "refused"
     if (text, status) == (APPLIED, 0):
-        return "after"
+        return "unharmed"
     if status == 1 and APPLIED.startswith(text):
         return {"": "before", "4 2\n": "beside"}.get(text, "after")
     return None
@@ -62,7 +62,7 @@ def refusals():
     print(f"apply, allocations {NUMBER - LINES} to {NUMBER}: {counts}", flush=True)
     if failed or not refused:
         return len(refused), failed
-    if not growths.are_whole(refused, LINES):
+    if not growths.are_whole(refused, [many for many, mark in found.items() if mark == "unharmed"], LINES):
         harness.stop("the cases do not go from after the growths to before them")
     first, last = refused[0], refused[-1]
     wanted = {first + 1: False, first + 2: True, last + 2: True, last + 3: False}
