@@ -30,7 +30,7 @@ def mark_of(case, text, status):
     _, ample, after_50, after_51 = NEXT[way]
     ample = "read\ntaken 1 1 1 0\n" + ample
     if status == 0:
-        return {ample: "unharmed", "read\n50\n" + after_50: "50", "read\n51 1\n" + after_51: "51"}.get(text)
+        return {ample: "beside", "read\n50\n" + after_50: "50", "read\n51 1\n" + after_51: "51"}.get(text)
     return "beside" if status == 1 and ample.startswith(text) else None
 
 
@@ -47,12 +47,11 @@ def refusals():
     failed = list(found.values()).count(None)
     right = [case for case, mark in found.items() if mark in ("50", "51")]
     refused = [many for many, way in right if way == "publish"]
-    counts = ", ".join(f"{list(found.values()).count(mark)} {mark}" for mark in ["beside", "unharmed", "51", "50"])
+    counts = ", ".join(f"{list(found.values()).count(mark)} {mark}" for mark in ["beside", "51", "50"])
     print(f"take, allocations {REFUSED_ONE - ALLOCATIONS} to {REFUSED_ONE}: {counts}", flush=True)
     if failed or not refused:
         return len(right), failed
-    unharmed = [many for (many, way), mark in found.items() if (way, mark) == ("publish", "unharmed")]
-    if not growths.are_whole(refused, unharmed, ALLOCATIONS):
+    if not growths.are_whole(refused, ALLOCATIONS):
         harness.stop("the cases do not go from after the growths to before them")
     unlike = [many for (many, way), mark in found.items() if mark != found[many, "publish"]]
     missed = [(way, mark) for way in NEXT for mark in ("50", "51") if mark not in [it for case, it in found.items() if case[1] == way]]

@@ -31,13 +31,13 @@ def marks_of(number, cases, mark_of):
     return found
 
 
-def are_whole(refused, unharmed, most):
+def are_whole(refused, most, spared=()):
     """Whether the growths are refused one after another, and the cases go from after the last to before the first.
 
-    A call may do without an allocation, as where room is asked for ahead: it is then unharmed, and answers as with ample memory.
+    Spared are the cases between them in which the call answered as with ample memory, though an allocation was refused.
     """
-    between = set(range(refused[0], refused[-1] + 1))
-    return 0 < refused[0] and refused[-1] < most and between <= {*refused, *unharmed}
+    between = range(refused[0], refused[-1] + 1)
+    return 0 < refused[0] and refused[-1] < most and sorted({*refused, *spared}) == list(between)
 
 
 def end(name, right, failed):

@@ -11,6 +11,7 @@ from tests.faults.growths import acceptance, instruction
 
 LINES = 70  # with so many lines first, an allocation is refused before the batch is applied
 NUMBER = 140  # with none first, one is refused after it; another number costs time and loses nothing
+SPARED = 2  # so many refused allocations between the growths leave the call as with ample memory
 MARKS = ["before", "beside", "refused", "unharmed", "after"]
 
 OLD = """T|BANKDEFFXXX|T1|ACCEPTED
@@ -62,7 +63,8 @@ def refusals():
     print(f"apply, allocations {NUMBER - LINES} to {NUMBER}: {counts}", flush=True)
     if failed or not refused:
         return len(refused), failed
-    if not growths.are_whole(refused, [many for many, mark in found.items() if mark == "unharmed"], LINES):
+    spared = [many for many in range(refused[0], refused[-1]) if found[many] == "unharmed"]
+    if len(spared) != SPARED or not growths.are_whole(refused, LINES, spared):
         harness.stop("the cases do not go from after the growths to before them")
     first, last = refused[0], refused[-1]
     wanted = {first + 1: False, first + 2: True, last + 2: True, last + 3: False}
