@@ -35,7 +35,7 @@ impl Query {
         ensures refused { IfErr result (λ refusal. (refusal ≡ fault.Closed) ⊎ (refusal ≡ fault.Memory)) }
     {
         replace_with(self, StatusOf { alloc, transfer }, |query, question| {
-            query.asked(&question)
+            query.answer(&question)
         })
     }
 
@@ -56,7 +56,7 @@ impl Query {
         ensures refused { IfErr result (λ refusal. (refusal ≡ fault.Closed) ⊎ (refusal ≡ fault.Memory)) }
     {
         replace_with(self, FindingsOf { alloc, transfer }, |query, question| {
-            query.asked(&question)
+            query.answer(&question)
         })
     }
 
@@ -73,7 +73,7 @@ impl Query {
         replace_with(
             self,
             RecallOf { recall },
-            |query, question| query.asked(&question),
+            |query, question| query.answer(&question),
         )
     }
 
@@ -90,7 +90,7 @@ impl Query {
         replace_with(
             self,
             TotalsOf { bank },
-            |query, question| query.asked(&question),
+            |query, question| query.answer(&question),
         )
     }
 }

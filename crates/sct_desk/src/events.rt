@@ -196,6 +196,7 @@ impl<J: Site, R: Wait + Drop> Held<J, R> {
         ensures want { IfErr result IsWant }
         ensures failed { IfErr result (Fails self.old self.old.core.arrivals self.new) }
     {
+        // The core is read so that the facts of this type are known: the published arrivals are no more than all.
         let _core = &self.core;
         self.publish_after(alloc, history, 0)
     }

@@ -72,7 +72,10 @@ fn hand_over(
 }
 
 // Publishes what was handed over, and returns the writer.
-fn published<R: Wait>(writer: ShownWriter, rt: &R) -> (ShownWriter, Result<(), AllocError>)
+fn publish_handed_over<R: Wait>(
+    writer: ShownWriter,
+    rt: &R,
+) -> (ShownWriter, Result<(), AllocError>)
     requires { GoesOn writer.desk.shown.value
         (handed_over writer.desk.shown.value (drop writer.behind writer.log.items)) }
     ensures ok { OnOk result.1 (result.0.desk.shown.value
@@ -96,7 +99,7 @@ fn show<R: Wait>(writer: &mut ShownWriter, rt: &R) -> Result<(), AllocError>
     ensures same { OnErr result (drop writer.new.behind writer.new.log.items
         ≡ drop writer.old.behind writer.old.log.items) }
 {
-    replace_with(writer, rt, |writer, rt| published(writer, rt))
+    replace_with(writer, rt, |writer, rt| publish_handed_over(writer, rt))
 }
 
 // The receipt of a call that published the arrivals from this position on. The last `news` of them came by the call.

@@ -55,11 +55,12 @@ impl Query {
         if receipt.site == self.site {
             self.track = self.track.longer(&receipt.track);
         }
+        // The call is made for its contract: a track's log is a list of arrivals.
         let _seen = self.track.len();
     }
 
-    /// Asks the published view. The query is returned, with what it has seen by then.
-    pub(crate) fn asked<Q: Question>(
+    /// Answers a question from the published view. The query is returned, with what it has seen by then.
+    pub(crate) fn answer<Q: Question>(
         self,
         question: &Q,
     ) -> (Query, Result<Answer<Q::Value>, DeskFault>)
@@ -76,6 +77,7 @@ impl Query {
             reader,
             track,
         } = self;
+        // The call is made for its contract: a track's log is a list of arrivals.
         let _known = track.len();
         let reading = match reader.enter_as::<Sees>() {
             Ok(reading) => reading,

@@ -55,6 +55,7 @@ impl Receipt {
         ensures last { result + self.now.count ≡ length self.now.shown + 1 }
         ensures arrivals { IsArrivals self.now.shown }
     {
+        // The call is made for its contract: a track's log is a list of arrivals.
         let _len = self.track.len();
         self.from
     }

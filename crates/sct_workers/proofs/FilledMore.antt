@@ -1,17 +1,14 @@
 -- One input and one site more. Proof plumbing.
-use Rattle.std.proofs.Common.{◌≡◌, ◌∙◌, sym, ap, subst, ℕ, ◌+◌, ◌≤◌, ◌<◌, List, [], ◌∷◌, ◌++◌, length, take, get_or, arith, append_assoc, append-nil, length-append, codes, string_bytes}
+use Rattle.std.proofs.Common.{◌≡◌, ◌∙◌, sym, ap, subst, ℕ, ◌+◌, ◌<◌, List, [], ◌∷◌, ◌++◌, length, take, get_or, arith, append_assoc, append-nil}
 use Rattle.std.specs.Prelude.{Result, Ok, Err, IfOk}
-use Rattle.std.specs.List.{flat_map}
 use Rattle.std.proofs.lemmas.List.{length-take-le, take_more}
 use Rattle.std.proofs.lemmas.Option.{slice_get-get_or}
-use Rattle.std.specs.Fmt.{decimal}
-use Rattle.sct_json.specs.declared.faults.JsonFault.{JsonFault}
-use Rattle.sct_lines.specs.Lines.{json_fault_text, refusal_line, refusals_told, set_read, told_after}
+use Rattle.sct_lines.specs.Lines.{refusals_told, set_read}
 use Rattle.sct_workers.specs.Stands.{Stands}
 use Rattle.sct_site.specs.Cores.{Core}
 use Rattle.sct_workers.specs.declared.filled.Filled.{Filled}
 use Rattle.sct_workers.specs.declared.filled.Sites.{Sites}
-use Rattle.sct_workers.specs.Files.{file_front, refused_in, told_from, told_of_file}
+use Rattle.sct_workers.specs.Files.{refused_in, told_from, told_of_file}
 use Rattle.sct_workers.specs.Filling.{AllStand, AreFilled, IsFilled}
 use Rattle.sct_workers.specs.Reported.{AnswersTo}
 

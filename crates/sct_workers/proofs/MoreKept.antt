@@ -1,5 +1,5 @@
 -- More messages, and more receipts that are kept. Proof plumbing.
-use Rattle.std.proofs.Common.{◌≡◌, ◌∙◌, ◌⊎◌, refl, sym, ap, subst, inl, inr, ℕ, zero, suc, ◌+◌, ◌<◌, Bool, true, false, ◌||◌, List, [], ◌∷◌, ◌++◌, map, length, arith}
+use Rattle.std.proofs.Common.{◌≡◌, ◌∙◌, refl, sym, ap, subst, inl, inr, ℕ, suc, ◌+◌, Bool, true, false, ◌||◌, List, [], ◌∷◌, ◌++◌, length, arith}
 use Rattle.std.specs.Prelude.{Option, None, Some}
 use Rattle.std.specs.Arc.{arc_value}
 use Rattle.std.specs.FinSet as set
@@ -30,17 +30,6 @@ none_held held m there = absurd (false≢true (sym (contains-empty message_order
 -- a receipt that may be kept where a site takes nothing
 pub keeps_any : (book : Book) (own size : ℕ) (held : MessageSet) (r : Told) → Keeps book own size (contents_of []) r → Keeps book own size held r
 keeps_any book own size held r kept = keeps_more book own size (contents_of []) held r (none_held held) kept
-
-one_held : (held : MessageSet) (m : Draft) → set.contains (contents_of []) m ≡ true → set.contains held m ≡ true
-none_held held m there = absurd (false≢true (sym (contains-empty message_order m) ∙ there))
-
--- a receipt that may be kept where a site takes nothing
-pub keeps_any : (book : Book) (own size : ℕ) (held : MessageSet) (r : Told) → Keeps book own size (contents_of []) r → Keeps book own size held r
-keeps_any book own size held r kept = keeps_more book own size (contents_of []) held r (none_held held) kept
-
-all_keep_any : (book : Book) (own size : ℕ) (held : MessageSet) (rs : List Told) → AllKeep book own size (contents_of []) rs
-    → AllKeep book own size held rs
-all_keep_any book own size held rs all = λ k d low. keeps_any book own size held _ (all k d low)
 
 one_held : (held : MessageSet) (m q : Draft) → set.contains held m ≡ true → set.contains (contents_of (m ∷ [])) q ≡ true → set.contains held q ≡ true
 one_held held m q there one =

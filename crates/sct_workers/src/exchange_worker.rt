@@ -42,7 +42,7 @@ fn is_accepted(answer: Result<Accepted, DeltaFault>) -> Result<bool, WorkFault>
 }
 
 // Hands an entry to the desk and keeps the receipt. Returns whether the entry was accepted.
-#[tactic(auto, using(crate::proofs::MoreKept::keeps_any, crate::proofs::Refusing::answer_ends))]
+#[tactic(auto, using(crate::proofs::Refusing::answer_ends))]
 fn accept_entry<J: Site + Takes, H: Wait + Drop, R: Wait>(
     rt: &R,
     alloc: Global,

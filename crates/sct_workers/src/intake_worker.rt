@@ -61,7 +61,7 @@ fn send_first_transfer<J: Site, R: Wait>(
 
 // Publishes, and sends the query worker the receipt of that and the message's first transfer. A receipt that cannot be sent
 // is kept.
-#[tactic(auto, using(crate::proofs::MoreKept::keeps_any, crate::proofs::MoreKept::shows_more))]
+#[tactic(auto, using(crate::proofs::MoreKept::shows_more))]
 fn publish_message<J: Site + Takes, H: Wait + Drop, R: Wait>(
     rt: &R,
     alloc: Global,

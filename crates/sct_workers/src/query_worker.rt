@@ -38,7 +38,6 @@ fn answer_note<J: Site, G: Gate, R: Wait>(
 
 /// Queries the transfers of the notes that arrive, until the site's intake worker has ended. Returns the receipts of the
 /// notes.
-#[tactic(auto, using(crate::proofs::MoreKept::keeps_any))]
 pub(crate) fn answer_notes<J: Site + Takes, G: Gate, R: Wait>(
     rt: &R,
     alloc: Global,

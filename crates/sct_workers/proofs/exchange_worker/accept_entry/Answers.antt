@@ -1,11 +1,15 @@
 -- What the desk answers may end the worker.
-use Rattle.std.proofs.Common.{◌∙◌, sym, subst, ap, rules}
+use Rattle.std.proofs.Common.{◌∙◌, sym, subst, ap}
 use Rattle.std.specs.Prelude.{IfErr}
 use Rattle.sct_desk.specs.Passes.{before, site_with}
 use Rattle.sct_workers.specs.Exchanging.{accepted_by}
 use Rattle.sct_workers.specs.Holds.{EndsWhere}
 use Rattle.sct_workers.proofs.Refusing.{answer_ends}
+use Rattle.sct_workers.proofs.MoreKept.{keeps_any}
 use Rattle.sct_workers.proofs.exchange_worker.accept_entry.Goals as goal
+
+pub push-requires : goal.push-requires
+push-requires g c = keeps_any g.J.Site.book g.J.Site.number g.J.Site.group g.J.Takes.messages c.in_ok-answer.receipt c.in_ok-answer.ensures.keeps
 
 pub returns-clause-ends : goal.returns-clause-ends
 returns-clause-ends g c =

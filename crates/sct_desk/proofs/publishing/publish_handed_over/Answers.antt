@@ -3,7 +3,7 @@ use Rattle.std.proofs.Common.{subst, sym}
 use Rattle.sct_desk.specs.declared.shown.Shown.{Shown}
 use Rattle.sct_desk.specs.Rules.{GoesOn}
 use Rattle.sct_desk.proofs.Showing.{publishes}
-use Rattle.sct_desk.proofs.publishing.published.Goals as goal
+use Rattle.sct_desk.proofs.publishing.publish_handed_over.Goals as goal
 
 pub publish_as-requires : goal.publish_as-requires
 publish_as-requires g c next is =

@@ -5,7 +5,7 @@ use Rattle.sct_delta.specs.Entries.{Placed}
 use Rattle.sct_history.proofs.Prefixes.{prefix_self}
 use Rattle.sct_desk.specs.Passes.{Asked}
 use Rattle.sct_desk.proofs.Showing.{enters}
-use Rattle.sct_desk.proofs.query.Query.asked.Goals as goal
+use Rattle.sct_desk.proofs.query.Query.answer.Goals as goal
 
 pub enter_as-requires : goal.enter_as-requires
 enter_as-requires g c x = enters _ _ x
