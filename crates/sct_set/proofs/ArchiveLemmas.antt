@@ -1,4 +1,4 @@
--- What an archive's table and its lines have to do with the set of its messages. Proof plumbing.
+-- What an archive's arrivals and its lines have to do with the set of its messages. Proof plumbing.
 use Rattle.std.proofs.Common.{◌≡◌, ℕ, suc, nat_eq, ◌+◌, Bool, true, false, cond, not, ◌||◌, List, [], ◌∷◌, ◌++◌, map, length, refl, sym, ap, ◌∙◌, filter, take, get_or, ◌<◌, Some, None}
 use Rattle.std.specs.FinSet as set
 use Rattle.std.specs.Arc.{arc_value}

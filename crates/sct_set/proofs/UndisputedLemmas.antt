@@ -100,7 +100,7 @@ module _ (s : Contents) (i : Identity) where
             false≢true (sym e ∙ rivals s i m q held one first.0 (not-true (is_disputed s q) first.1)))
       ] refl)
 
--- ---- a table's list of an identity
+-- ---- the list of an identity
 
 head_passes : (p : Draft → Bool) (ds rest : List Draft) (d : Draft) → filter p ds ≡ d ∷ rest → (p d ≡ true) × (list_any (same_message d) ds ≡ true)
 head_passes p [] rest d e = cc

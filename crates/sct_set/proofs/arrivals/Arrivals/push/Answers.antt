@@ -6,7 +6,7 @@ use Rattle.sct_message.specs.Keys.{identity_of}
 use Rattle.sct_message.specs.Order.{same_identity}
 use Rattle.sct_set.specs.Digest.{digest_of}
 use Rattle.sct_set.specs.Drafts.{against_in, drafts_in, finds, IsIndexBy}
-use Rattle.sct_set.proofs.table.Table.push.Goals as goal
+use Rattle.sct_set.proofs.arrivals.Arrivals.push.Goals as goal
 
 pub invariant_of-self-in_err-file_by_identity : goal.invariant_of-self-in_err-file_by_identity
 invariant_of-self-in_err-file_by_identity c =
@@ -37,7 +37,7 @@ invariant_of-self-2 c =
           subst (λ xs. IsIndexBy identity_of same_identity c.file_by_identity.new.index xs) longer
           (c.in_ok-file_by_identity.ensures.ok ds against c.self.invariant.identities);
       digests =
-          subst (λ xs. IsIndexBy digest_of nat_eq c.file_against.new.index (against_in xs)) longer
+          subst (λ xs. IsIndexBy digest_of nat_eq c.file_by_digest.new.index (against_in xs)) longer
           (c.in_default.ensures.ok ds against c.self.invariant.digests);
     }
 

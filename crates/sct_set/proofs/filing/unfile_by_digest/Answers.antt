@@ -4,7 +4,7 @@ use Rattle.sct_set.specs.Digest.{digest_of}
 use Rattle.sct_set.specs.Drafts.{against_in, IsIndexBy}
 use Rattle.sct_set.proofs.AgainstLemmas.{against_in-first, against_in-found}
 use Rattle.sct_set.proofs.IndexLemmas.{IsIndexBy-unfiled}
-use Rattle.sct_set.proofs.filing.unfile_against.Goals as goal
+use Rattle.sct_set.proofs.filing.unfile_by_digest.Goals as goal
 
 pub returns-then-against : goal.returns-then-against
 returns-then-against c ds is indexed =

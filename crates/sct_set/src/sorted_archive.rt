@@ -9,33 +9,33 @@ ghost use Rattle.sct_set.specs.Contents.{contents_of};
 ghost use Rattle.sct_set.specs.Drafts.{drafts_in};
 ghost use Rattle.sct_set.specs.Pieces.{joined};
 
+use crate::arrivals::Arrivals;
 use crate::fault::SetFault;
 use crate::pieces::{archive_pieces, identities_in_order};
 use crate::push::push_all;
-use crate::table::Table;
 use sct_message::{Identity, Message};
 use std::alloc::{AllocError, Global};
 use std::marker::Model;
 use std::sync::Arc;
 use std::thread::{Threads, join};
 
-// A table that holds each of the messages once.
-fn table_of(alloc: Global, messages: &[Arc<Message>]) -> Result<Table, AllocError>
-    ensures { IfOk result (λ table. contents_of table ≡ contents_of (drafts_in messages.now)) }
+// Each of the messages once, in the order of their arrival.
+fn arrivals_of(alloc: Global, messages: &[Arc<Message>]) -> Result<Arrivals, AllocError>
+    ensures { IfOk result (λ arrivals. contents_of arrivals ≡ contents_of (drafts_in messages.now)) }
 {
-    let mut table = Table::new(alloc);
-    push_all(&mut table, messages)?;
-    Ok(table)
+    let mut arrivals = Arrivals::new(alloc);
+    push_all(&mut arrivals, messages)?;
+    Ok(arrivals)
 }
 
 /// Messages, each held once, with their identities in order.
 #[derive(Drop)]
-pub struct Ordered {
-    table: Table,
+pub struct SortedArchive {
+    arrivals: Arrivals,
     identities: Vec<Identity>,
 }
 
-impl Model for Ordered {
+impl Model for SortedArchive {
     ghost use Rattle.std.specs.Prelude.{◌≡◌, map};
     ghost use Rattle.std.specs.FinSet as set;
     ghost use Rattle.sct_message.specs.Ascending.{ascending};
@@ -47,12 +47,12 @@ impl Model for Ordered {
 
     ghost coded = { set.code message.the_row.coded };
 
-    ghost view = { λ o. set.from_list o.table };
+    ghost view = { λ o. set.from_list o.arrivals };
 
-    ghost invariant = { λ o. o.identities.items ≡ ascending identity_order (map identity_of o.table) };
+    ghost invariant = { λ o. o.identities.items ≡ ascending identity_order (map identity_of o.arrivals) };
 }
 
-impl Ordered {
+impl SortedArchive {
     ghost use Rattle.sct_set.specs.Archive.{archive_text_of, AreReadAgain};
 
     /// The set of the messages, which may be in any order and may repeat.
@@ -66,18 +66,21 @@ impl Ordered {
     {
         let (filled, sorted) = join(
             rt,
-            || -> Result<Table, AllocError>
-                ensures { IfOk result (λ table. contents_of table ≡ contents_of (drafts_in messages.entry.now)) }
-            { table_of(alloc, messages) },
+            || -> Result<Arrivals, AllocError>
+                ensures { IfOk result (λ arrivals. contents_of arrivals ≡ contents_of (drafts_in messages.entry.now)) }
+            { arrivals_of(alloc, messages) },
             || -> Result<Vec<Identity>, AllocError>
                 requires { IsSync R.row }
                 ensures { IfOk result (λ found.
                     found.items ≡ ascending identity_order (map identity_of (drafts_in messages.entry.now))) }
             { identities_in_order(rt, alloc, messages) },
         );
-        let table = filled?;
+        let arrivals = filled?;
         let identities = sorted?;
-        Ok(Ordered { table, identities })
+        Ok(SortedArchive {
+            arrivals,
+            identities,
+        })
     }
 
     /// The archive text in pieces, one after another, written in as many threads as there are processors.
@@ -86,6 +89,6 @@ impl Ordered {
         ensures text { IfOk result (λ pieces. joined pieces.items ≡ archive_text_of self.now) }
         ensures again { IfOk result (λ pieces. AreReadAgain self.now) }
     {
-        archive_pieces(rt, &self.table, &self.identities)
+        archive_pieces(rt, &self.arrivals, &self.identities)
     }
 }

@@ -5,7 +5,7 @@ use Rattle.sct_set.specs.Digest.{digest_of}
 use Rattle.sct_set.specs.Drafts.{against_in, IsIndexBy}
 use Rattle.sct_set.proofs.AgainstLemmas.{against_in-first, against_in-found}
 use Rattle.sct_set.proofs.IndexLemmas.{on_err, IsIndexBy-filed, IsIndexBy-kept}
-use Rattle.sct_set.proofs.filing.file_against.Goals as goal
+use Rattle.sct_set.proofs.filing.file_by_digest.Goals as goal
 
 pub returns-then-not-against-clause-ok : goal.returns-then-not-against-clause-ok
 returns-then-not-against-clause-ok c ds is indexed =

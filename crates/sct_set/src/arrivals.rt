@@ -8,8 +8,8 @@ ghost use Rattle.sct_message.specs.Keys.{identity_of};
 ghost use Rattle.sct_set.specs.Drafts.{against_in, drafts_in, drafts_of, drafts_alike, finds};
 
 use crate::filing::{
-    ByDigest, ByIdentity, file_against, file_by_identity, has_identity, of_digest, of_identity,
-    unfile_against, unfile_by_identity,
+    ByDigest, ByIdentity, file_by_digest, file_by_identity, has_identity, of_digest, of_identity,
+    unfile_by_digest, unfile_by_identity,
 };
 use indexmap::IndexMap;
 use sct_message::{Identity, Message};
@@ -19,14 +19,14 @@ use std::sync::Arc;
 
 /// Messages in the order of their arrival.
 #[derive(Drop)]
-pub struct Table {
+pub struct Arrivals {
     alloc: Global,
     messages: Vec<Arc<Message>>,
     by_identity: ByIdentity,
     by_digest: ByDigest,
 }
 
-impl Model for Table {
+impl Model for Arrivals {
     ghost use Rattle.std.specs.Prelude.{List};
     ghost use Rattle.sct_message.specs.declared.draft.Draft.{Draft};
     ghost use Rattle.sct_set.specs.Drafts.{drafts_in, AreIndexes};
@@ -38,12 +38,12 @@ impl Model for Table {
     ghost invariant = { λ t. AreIndexes t.by_identity t.by_digest (drafts_in t.messages.items) };
 }
 
-impl Table {
-    /// An empty table, which grows with this allocator.
+impl Arrivals {
+    /// No messages. The list grows with this allocator.
     pub fn new(alloc: Global) -> Self
         ensures { result ≡ [] }
     {
-        Table {
+        Arrivals {
             alloc,
             messages: Vec::new(alloc),
             by_identity: IndexMap::new(alloc),
@@ -51,12 +51,12 @@ impl Table {
         }
     }
 
-    /// The allocator with which the table grows.
+    /// The allocator with which the list grows.
     pub fn allocator(&self) -> Global {
         self.alloc
     }
 
-    /// How many messages the table has.
+    /// How many messages there are.
     pub fn len(&self) -> usize
         ensures { result ≡ length self.now }
     {
@@ -78,7 +78,7 @@ impl Table {
     }
 
     /// The messages with the digest of this message, without the first message of each identity.
-    pub fn against(&self, message: &Message) -> &[Arc<Message>]
+    pub fn of_digest(&self, message: &Message) -> &[Arc<Message>]
         ensures { drafts_in result.now ≡ drafts_alike (digest_of message.now) (against_in self.now) }
     {
         of_digest(&self.by_digest, message)
@@ -93,7 +93,7 @@ impl Table {
         let against = has_identity(&self.by_identity, &message.identity());
         self.messages.reserve(1)?;
         file_by_identity(self.alloc, &mut self.by_identity, against, &message)?;
-        if let Err(refused) = file_against(self.alloc, &mut self.by_digest, against, &message) {
+        if let Err(refused) = file_by_digest(self.alloc, &mut self.by_digest, against, &message) {
             unfile_by_identity(&mut self.by_identity, &message);
             return Err(refused);
         }
@@ -110,7 +110,7 @@ impl Table {
         };
         unfile_by_identity(&mut self.by_identity, &last);
         let against = has_identity(&self.by_identity, &last.identity());
-        unfile_against(&mut self.by_digest, against, &last);
+        unfile_by_digest(&mut self.by_digest, against, &last);
     }
 
     /// Keeps the first `len` messages and removes the others.

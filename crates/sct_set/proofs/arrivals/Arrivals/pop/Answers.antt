@@ -7,7 +7,7 @@ use Rattle.sct_message.specs.Keys.{identity_of}
 use Rattle.sct_message.specs.Order.{same_identity}
 use Rattle.sct_set.specs.Digest.{digest_of}
 use Rattle.sct_set.specs.Drafts.{against_in, drafts_in, finds, IsIndexBy}
-use Rattle.sct_set.proofs.table.Table.pop.Goals as goal
+use Rattle.sct_set.proofs.arrivals.Arrivals.pop.Goals as goal
 
 pub invariant_of-self-2 : goal.invariant_of-self-2
 invariant_of-self-2 c =
@@ -20,7 +20,7 @@ invariant_of-self-2 c =
     let against = c.has_identity-against.ensures ds identities ∙ ap (λ i. finds i ds) (c.identity.ensures ∙ ap identity_of (c.deref-2.ensures ∙ sym c.deref-3.ensures)) in record {
       identities = identities;
       digests =
-          c.unfile_against.ensures ds against
+          c.unfile_by_digest.ensures ds against
           (subst (λ d. IsIndexBy digest_of nat_eq c.self.inside.by_digest (against_in (ds ++ d ∷ []))) (sym c.deref-3.ensures)
           (subst (λ xs. IsIndexBy digest_of nat_eq c.self.inside.by_digest (against_in xs)) all c.self.invariant.digests));
     }
