@@ -13,14 +13,14 @@ use Rattle.sct_message.proofs.AscendingLemmas.{ascending-sorted}
 use Rattle.sct_case.specs.declared.finding.Finding.{Finding}
 use Rattle.sct_case.specs.declared.finding.Finding.TheVariants as finding
 use Rattle.sct_case.specs.Told.{has_some, cxls, differ_among, recall_of_it, return_of_it, refusal_of_it, same_recall, same_refusal, findings_of_instruction, findings_of_recalls, findings_of}
-use Rattle.sct_case.proofs.Same.{texts_same}
+use Rattle.std.specs.FinSet.{nat_cmp-IsAntisymmetric, slice_cmp-IsAntisymmetric}
 use Rattle.sct_case.specs.Statuses.{Standing, Contradicted, Unknown, first_standing, is_unknown, standing_of, transfer_status_of}
 
 -- ---- where there is no message
 
 no_cxls : cxls [] ≡ []
 unfolding IsStrictlySortedBy
-no_cxls = ascending-sorted nat_list_cmp_total texts_same [] tt
+no_cxls = ascending-sorted nat_list_cmp_total (slice_cmp-IsAntisymmetric nat_cmp-IsAntisymmetric) [] tt
 
 no_recalls : (t : TransferKey) → findings_of_recalls t [] ≡ []
 unfolding findings_of_recalls
@@ -52,7 +52,7 @@ pub empty_of : {X : Type 0} (xs : List X) → (length xs == 0) ≡ true → xs �
 empty_of [] e = refl
 empty_of (x ∷ xs) e = absurd (false≢true (sym (some x xs) ∙ e))
 
-none_in : {X : Type 0} (xs : List X) → has_some xs ≡ false → xs ≡ []
+pub none_in : {X : Type 0} (xs : List X) → has_some xs ≡ false → xs ≡ []
 none_in xs e = empty_of xs (not-false _ e)
 
 -- whether there is anything, of a list and of what it is mapped to

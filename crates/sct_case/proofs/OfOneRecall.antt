@@ -9,13 +9,12 @@ use Rattle.std.specs.declared.cmp.Ordering.TheVariants.{Less, Equal, Greater}
 use Rattle.std.proofs.lemmas.List.{append-nil}
 use Rattle.std.proofs.lemmas.List.Elements.{filter-append, filter_agree}
 use Rattle.std.proofs.lemmas.List.Sorted.{IsNonDecreasingBy-take, searchable_from_sorted}
-use Rattle.std.specs.Cmp.Lexicographic.{nat_list_cmp_total, texts_ties}
+use Rattle.std.specs.Cmp.Lexicographic.{bytes_decides, nat_list_cmp_total, texts_ties}
 use Rattle.sct_element.specs.Text.{is_text}
 use Rattle.sct_message.specs.Order.{text_order}
 use Rattle.sct_case.specs.Inside.{IsByRecall, SayAlike, said_of}
 use Rattle.sct_case.specs.Told.{differ, differ_among, differ_from}
 use Rattle.sct_case.proofs.Judged.{some}
-use Rattle.sct_case.proofs.Same.{text_is}
 
 -- ---- the parts of a list before and after a place
 
@@ -225,7 +224,7 @@ module _ {X : Type 0} (recall : X → List ℕ) where
   module _ (xs ys : List X) (stable : IsStableBy before xs ys) (cxl : List ℕ) where
     by_one : SomePasses cxl → said_of recall cxl ys ≡ said_of recall cxl xs
     by_one (x, passes) =
-        let is = text_is (recall x) cxl passes in
+        let is = (bytes_decides (recall x) cxl).0 passes in
         filter_agree (λ m. is_text (recall m) cxl) (ties before x) (λ m. sym (ties_are cxl x m is)) ys
         ∙ stable x
         ∙ filter_agree (ties before x) (λ m. is_text (recall m) cxl) (λ m. ties_are cxl x m is) xs
