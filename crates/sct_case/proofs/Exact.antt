@@ -17,7 +17,7 @@ use Rattle.sct_case.specs.Said.{IsSaid, is_acceptance, rejections_by, recalls_by
 use Rattle.sct_case.specs.Findings.{IsFound, IsBothConfirmed, DoReasonsDiffer, DoRecallsDiffer, DoRefusalsDiffer, HasTwoReturns, HasReturnOfRejected}
 use Rattle.sct_case.specs.Told.{where_found, cxls, differ_among, is_both_confirmed, do_reasons_differ, recall_of_it, return_of_it, refusal_of_it, same_reason, same_recall, same_return, same_refusal, has_two_returns, has_return_of_rejected, findings_of}
 use Rattle.sct_case.specs.Laws.{AreApart, TellsExactly, place}
-use Rattle.sct_case.proofs.Membership.{nothing, here, only, in_map, mapped_in, in_filter, filtered_in, in_flat_map, flat_mapped_in, in_ascending, ascending_in, any-Decides, said_in, in_said, some_said-Decides, any_said-Decides, differ_said-Decides}
+use Rattle.sct_case.proofs.Membership.{both, nothing, here, only, in_map, mapped_in, in_filter, filtered_in, in_flat_map, flat_mapped_in, in_ascending, ascending_in, any-Decides, said_in, in_said, some_said-Decides, any_said-Decides, differ_said-Decides}
 use Rattle.sct_case.proofs.Same.{reason-Decides, recall-Decides, return-Decides, refusal-Decides}
 use Rattle.sct_case.proofs.Instructed.{two-Decides, amount-Decides}
 use Rattle.sct_case.proofs.InOrder.{pieces, joined_pieces}
@@ -99,37 +99,20 @@ module _ (t : TransferKey) (clean : List Draft) (asides : List Identity) (apart 
   of_map g xs f each h = let r = in_map g xs f h in subst (IsFound t clean asides) r.2 (each r.0 r.1)
 
   each_piece : (f : Finding) → AllByRecursion (λ p. Contains p f → IsFound t clean asides f) (pieces t clean asides)
-  each_piece f = (
-    of_map (λ i. finding.Identity i) asides f (λ i h. h),
-    (
-      of_where _ finding.TwoInstructions f (two-Decides clean apart),
-      (
-        of_where _ finding.BothConfirmed f (confirmed-Decides clean),
-        (
-          of_where _ finding.ReasonsDiffer f (reasons-Decides clean),
-          (
-            of_where _ finding.AmountDiffers f (amount-Decides clean t apart),
-            (
-              of_map (λ c. finding.RecallsDiffer c) _ f (λ c h. (recalls-Decides t clean c).0 (in_kept (λ m. m.cxl) (recalls_by t) clean _ c h).3),
-              (
-                of_map (λ c. finding.BothAnswers c) _ f (λ c h.
-                    let q = in_kept (λ m. m.cxl) (refusals_by t) clean _ c h in
-                    let r = (returned-Decides t clean c).0 q.3 in
-                    record { refusal = q.0; return = r.0; refused = q.1; returned = r.1; refusal_of_it = q.2; return_of_it = r.2 }),
-                (
-                  of_map (λ c. finding.RefusalsDiffer c) _ f (λ c h. (refusals-Decides t clean c).0 (in_kept (λ m. m.cxl) (refusals_by t) clean _ c h).3),
-                  (
-                    of_where _ finding.TwoReturns f (returns-Decides t clean),
-                    (of_where _ finding.ReturnOfRejected f (rejected-Decides t clean), tt),
-                  ),
-                ),
-              ),
-            ),
-          ),
-        ),
-      ),
-    ),
-  )
+  each_piece f =
+      both (of_map (λ i. finding.Identity i) asides f (λ i h. h))
+      (both (of_where _ finding.TwoInstructions f (two-Decides clean apart))
+      (both (of_where _ finding.BothConfirmed f (confirmed-Decides clean))
+      (both (of_where _ finding.ReasonsDiffer f (reasons-Decides clean))
+      (both (of_where _ finding.AmountDiffers f (amount-Decides clean t apart))
+      (both (of_map (λ c. finding.RecallsDiffer c) _ f (λ c h. (recalls-Decides t clean c).0 (in_kept (λ m. m.cxl) (recalls_by t) clean _ c h).3))
+      (both (of_map (λ c. finding.BothAnswers c) _ f (λ c h.
+      let q = in_kept (λ m. m.cxl) (refusals_by t) clean _ c h in
+      let r = (returned-Decides t clean c).0 q.3 in
+      record { refusal = q.0; return = r.0; refused = q.1; returned = r.1; refusal_of_it = q.2; return_of_it = r.2 }))
+      (both (of_map (λ c. finding.RefusalsDiffer c) _ f (λ c h. (refusals-Decides t clean c).0 (in_kept (λ m. m.cxl) (refusals_by t) clean _ c h).3))
+      (both (of_where _ finding.TwoReturns f (returns-Decides t clean))
+      (both (of_where _ finding.ReturnOfRejected f (rejected-Decides t clean)) tt)))))))))
 
   pub told_is_found : (f : Finding) → Contains (findings_of t clean asides) f → IsFound t clean asides f
   told_is_found f h =

@@ -20,7 +20,7 @@ use Rattle.sct_case.specs.declared.finding.Finding.{Finding}
 use Rattle.sct_case.specs.declared.finding.Finding.TheVariants as finding
 use Rattle.sct_case.specs.Told.{where_found, cxls, has_two_instructions, is_both_confirmed, do_reasons_differ, does_amount_differ, told_recalls, told_answers, told_refusals, has_two_returns, has_return_of_rejected, findings_of_instruction, findings_of_recalls, findings_of}
 use Rattle.sct_case.specs.Laws.{place, named_order, finding_order, TellsInOrder}
-use Rattle.sct_case.proofs.Membership.{here, in_map, later, nothing, only}
+use Rattle.sct_case.proofs.Membership.{both, here, in_map, later, nothing, only}
 
 -- ---- the pieces
 
@@ -63,16 +63,22 @@ sorted-map f R (x ∷ xs) h = (
   sorted-map f R xs h.1,
 )
 
--- the pieces are in order, each at its place, from the first place on
+-- ---- pieces that rise, each at its place
+
+record IsPiece (n : ℕ) (p : List Finding) : Type 0 where
+  pub sorted : IsStrictlySortedBy finding_order p
+  pub at : (f : Finding) → Contains p f → place f ≡ n
+
+-- the pieces are at the places from this one on
 abbrev Rise : ℕ → List (List Finding) → Type 0
 Rise n [] = Unit {0}
-Rise n (p ∷ ps) = IsStrictlySortedBy finding_order p × ((f : Finding) → Contains p f → place f ≡ n) × Rise (n + 1) ps
+Rise n (p ∷ ps) = IsPiece n p × Rise (n + 1) ps
 
 starts : (n : ℕ) (ps : List (List Finding)) → Rise n ps → (f : Finding) → Contains (flat_map (λ p. p) ps) f → n ≤ place f
 starts n [] r f h = absurd (nothing f h)
 starts n (p ∷ ps) r f h = elim (Contains-append_cases p (flat_map (λ q. q) ps) f h) as (λ _. n ≤ place f) [
-  | inl a ↦ let at = r.1 f a in omega arith
-  | inr b ↦ let from = starts (n + 1) ps r.2 f b in omega arith
+  | inl a ↦ let at = r.0.at f a in omega arith
+  | inr b ↦ let from = starts (n + 1) ps r.1 f b in omega arith
 ]
 
 less : (f g : Finding) → place f < place g → finding_order f g ≡ Less
@@ -81,62 +87,30 @@ less f g h = ap (λ r. ordering_then r (named_order f g)) (sym (nat_cmp_is (plac
 rises : (n : ℕ) (ps : List (List Finding)) → Rise n ps → IsStrictlySortedBy finding_order (flat_map (λ p. p) ps)
 unfolding IsStrictlySortedBy
 rises n [] r = tt
-rises n (p ∷ ps) r = sorted-append finding_order p (flat_map (λ q. q) ps) r.0 (rises (n + 1) ps r.2)
-    (λ f g i j. let at = r.1 f i in let from = starts (n + 1) ps r.2 g j in less f g (omega arith))
+rises n (p ∷ ps) r = sorted-append finding_order p (flat_map (λ q. q) ps) r.0.sorted (rises (n + 1) ps r.1)
+    (λ f g i j. let at = r.0.at f i in let from = starts (n + 1) ps r.1 g j in less f g (omega arith))
 
--- ---- each piece
-
-where_sorted : (b : Bool) (g : Finding) → IsStrictlySortedBy finding_order (where_found b g)
+where_piece : (b : Bool) (g : Finding) → IsPiece (place g) (where_found b g)
 unfolding IsStrictlySortedBy
-where_sorted true g = (tt, tt)
-where_sorted false g = tt
+where_piece true g = record { sorted = (tt, tt); at = λ f h. ap place (sym (only g f h)) }
+where_piece false g = record { sorted = tt; at = λ f h. absurd (nothing f h) }
 
-where_at : (b : Bool) (g f : Finding) → Contains (where_found b g) f → place f ≡ place g
-where_at true g f h = ap place (sym (only g f h))
-where_at false g f h = absurd (nothing f h)
-
-map_at : {X : Type 0} (n : ℕ) (g : X → Finding) (xs : List X) → ((x : X) → place (g x) ≡ n) → (f : Finding) → Contains (map g xs) f → place f ≡ n
-map_at n g xs at f h = let r = in_map g xs f h in ap place (sym r.2) ∙ at r.0
+map_piece : {X : Type 0} (n : ℕ) (g : X → Finding) (xs : List X) → ((x : X) → place (g x) ≡ n) → IsStrictlySortedBy (λ a b. finding_order (g a) (g b)) xs → IsPiece n (map g xs)
+map_piece n g xs at sorted = record { sorted = sorted-map g finding_order xs sorted; at = λ f h. let r = in_map g xs f h in ap place (sym r.2) ∙ at r.0 }
 
 kept_sorted : (p : List ℕ → Bool) (cs : List (List ℕ)) → IsStrictlySortedBy text_order (filter p (cxls cs))
 kept_sorted p cs = IsStrictlySortedBy-filter text_order p (cxls cs) (ascending_rises nat_list_cmp_total (slice_cmp-IsAntisymmetric nat_cmp-IsAntisymmetric) cs)
 
 pub tells_in_order : TellsInOrder
 tells_in_order t clean asides sorted =
-    subst (IsStrictlySortedBy finding_order) (joined_pieces t clean asides) (rises 1 (pieces t clean asides) (
-      sorted-map (λ i. finding.Identity i) finding_order asides sorted,
-      map_at 1 (λ i. finding.Identity i) asides (λ i. refl),
-      (
-        where_sorted _ finding.TwoInstructions,
-        where_at _ finding.TwoInstructions,
-        (
-          where_sorted _ finding.BothConfirmed,
-          where_at _ finding.BothConfirmed,
-          (
-            where_sorted _ finding.ReasonsDiffer,
-            where_at _ finding.ReasonsDiffer,
-            (
-              where_sorted _ finding.AmountDiffers,
-              where_at _ finding.AmountDiffers,
-              (
-                sorted-map (λ c. finding.RecallsDiffer c) finding_order _ (kept_sorted _ _),
-                map_at 6 (λ c. finding.RecallsDiffer c) _ (λ c. refl),
-                (
-                  sorted-map (λ c. finding.BothAnswers c) finding_order _ (kept_sorted _ _),
-                  map_at 7 (λ c. finding.BothAnswers c) _ (λ c. refl),
-                  (
-                    sorted-map (λ c. finding.RefusalsDiffer c) finding_order _ (kept_sorted _ _),
-                    map_at 8 (λ c. finding.RefusalsDiffer c) _ (λ c. refl),
-                    (
-                      where_sorted _ finding.TwoReturns,
-                      where_at _ finding.TwoReturns,
-                      (where_sorted _ finding.ReturnOfRejected, where_at _ finding.ReturnOfRejected, tt),
-                    ),
-                  ),
-                ),
-              ),
-            ),
-          ),
-        ),
-      ),
-    ))
+    subst (IsStrictlySortedBy finding_order) (joined_pieces t clean asides) (rises 1 (pieces t clean asides)
+    (both (map_piece 1 (λ i. finding.Identity i) asides (λ i. refl) sorted)
+    (both (where_piece _ finding.TwoInstructions)
+    (both (where_piece _ finding.BothConfirmed)
+    (both (where_piece _ finding.ReasonsDiffer)
+    (both (where_piece _ finding.AmountDiffers)
+    (both (map_piece 6 (λ c. finding.RecallsDiffer c) _ (λ c. refl) (kept_sorted _ _))
+    (both (map_piece 7 (λ c. finding.BothAnswers c) _ (λ c. refl) (kept_sorted _ _))
+    (both (map_piece 8 (λ c. finding.RefusalsDiffer c) _ (λ c. refl) (kept_sorted _ _))
+    (both (where_piece _ finding.TwoReturns)
+    (both (where_piece _ finding.ReturnOfRejected) tt)))))))))))

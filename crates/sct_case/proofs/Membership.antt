@@ -20,6 +20,10 @@ use Rattle.sct_case.specs.Said.{IsSaid}
 use Rattle.sct_case.specs.Told.{differ_from, differ_among, has_some}
 use Rattle.sct_case.proofs.Judged.{some}
 
+-- a proof of each
+pub both : {A B : Type 0} → A → B → A × B
+both a b = (a, b)
+
 -- ---- one of the items
 
 module _ {X : Type 0} where
