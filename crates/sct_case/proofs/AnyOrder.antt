@@ -25,10 +25,10 @@ use Rattle.sct_case.specs.Sentences.{Goes, IsStatus}
 use Rattle.sct_case.specs.RecallSentences.{RecallGoes, IsUnanswered, IsRecallStatus}
 use Rattle.sct_case.specs.AnyOrder.{AnswersInAnyOrder}
 use Rattle.sct_case.specs.Laws.{AreApart, place, named_order, finding_order}
-use Rattle.sct_case.proofs.Membership.{nothing, here, later, first_or_later}
+use Rattle.sct_case.proofs.Membership.{empty, nothing, here, later, first_or_later}
 use Rattle.sct_case.proofs.Exact.{told_is_found, found_is_told}
 use Rattle.sct_case.proofs.InOrder.{tells_in_order}
-use Rattle.sct_case.proofs.Stays.{empty, moved, still}
+use Rattle.sct_case.proofs.Stays.{moved, still}
 use Rattle.sct_case.proofs.Sentences as transfer
 use Rattle.sct_case.proofs.RecallSentences as recalls
 

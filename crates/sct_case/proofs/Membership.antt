@@ -43,6 +43,10 @@ module _ {X : Type 0} where
   pub only : (y x : X) → Contains (y ∷ []) x → y ≡ x
   only y x h = elim (first_or_later y [] x h) as (λ _. y ≡ x) [ inl e ↦ e | inr k ↦ absurd (nothing x k) ]
 
+  pub empty : (xs : List X) → ((x : X) → Contains xs x → ⊥) → xs ≡ []
+  empty [] none = refl
+  empty (x ∷ xs) none = absurd (none x (here x xs))
+
 module _ {X Y : Type 0} (f : X → Y) where
   pub in_map : (xs : List X) (y : Y) → Contains (map f xs) y → (x : X) × Contains xs x × (f x ≡ y)
   in_map xs y h =

@@ -1,5 +1,5 @@
 -- Each status is returned exactly if its sentence holds.
-use Rattle.std.proofs.Common.{◌≡◌, ◌∙◌, refl, sym, ap, subst, ℕ, Bool, true, false, List, [], ◌∷◌, map, find, Option, Some, None, option_map}
+use Rattle.std.proofs.Common.{◌≡◌, ◌∙◌, refl, sym, ap, subst, ℕ, Bool, true, false, List, [], ◌∷◌, map, Option, Some, None, option_map}
 use Rattle.std.specs.Prelude.{◌≢◌, ◌==◌, length, Contains}
 use Rattle.std.specs.Bool.{Decides}
 use Rattle.std.specs.List.{list_any, flat_map}
@@ -20,6 +20,7 @@ use Rattle.sct_case.specs.Laws.{AreApart}
 use Rattle.sct_case.proofs.Membership.{nothing, any-Decides, Picks, picks_none, picks_some, picks_like, said_picks}
 use Rattle.sct_case.proofs.Instructed.{instructed-Decides}
 use Rattle.sct_case.proofs.Judged.{contradicted, empty_of, found_of_asides, mapped_none, none_in, not_contradicted, unknown}
+use Rattle.sct_case.proofs.OfOneRecall.{first_found}
 use Rattle.sct_case.proofs.Stays.{consistent_say_one_thing}
 
 -- ---- what each part of a status tells
@@ -27,12 +28,8 @@ use Rattle.sct_case.proofs.Stays.{consistent_say_one_thing}
 empty-Decides : {X : Type 0} (xs : List X) → Decides (length xs == 0) (xs ≡ [])
 empty-Decides xs = (empty_of xs, ap (λ ys. length ys == 0))
 
-pub held-Decides : (p : Draft → Bool) (clean : List Draft) → Decides (list_any p clean) ((m : Draft) × Contains clean m × (p m ≡ true))
+held-Decides : (p : Draft → Bool) (clean : List Draft) → Decides (list_any p clean) ((m : Draft) × Contains clean m × (p m ≡ true))
 held-Decides p = any-Decides p (λ m. p m ≡ true) (λ m. (λ h. h, λ h. h))
-
-first_found : {X : Type 0} (xs : List X) → find (λ x. true) xs ≡ first xs
-first_found [] = refl
-first_found (x ∷ xs) = refl
 
 first_picks : {X Y : Type 0} (by : Draft → List X) (clean : List Draft) (f : X → Y) → Picks (option_map f (first (flat_map by clean))) (λ y. (x : X) × IsSaid by clean x × (f x ≡ y))
 first_picks by clean f =

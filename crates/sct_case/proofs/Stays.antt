@@ -28,7 +28,7 @@ use Rattle.sct_case.specs.Said.{IsSaid}
 use Rattle.sct_case.specs.Findings.{IsFound, IsSoleInstruction}
 use Rattle.sct_case.specs.Told.{findings_of}
 use Rattle.sct_case.specs.Laws.{AreApart, findings_in, ContradictionsStay, MessagesAreApart, ConsistentSayOneThing}
-use Rattle.sct_case.proofs.Membership.{nothing, here, later, in_map, mapped_in, in_filter, filtered_in, any-Decides, any_tie, ties-Decides, equal_unless, in_ascending, ascending_in}
+use Rattle.sct_case.proofs.Membership.{empty, nothing, here, later, in_map, mapped_in, in_filter, filtered_in, any-Decides, any_tie, ties-Decides, equal_unless, in_ascending, ascending_in}
 use Rattle.sct_case.proofs.Same.{reason-Decides, return-Decides, refusal-Decides}
 use Rattle.sct_case.proofs.Exact.{told_is_found, found_is_told}
 
@@ -40,7 +40,7 @@ held_in held m h = Contains-from_any (tie_is message_total message_same) m (set.
 in_held : (held : MessageSet) (m : Draft) → Contains (set.items held) m → set.contains held m ≡ true
 in_held held m h = contains-items held m ∙ any_tie message_total message_same (set.items held) m h
 
-pub message-Decides : (m n : Draft) → Decides (same_message m n) (m ≡ n)
+message-Decides : (m n : Draft) → Decides (same_message m n) (m ≡ n)
 message-Decides = ties-Decides message_total message_same
 
 contradicted-Decides : (held : MessageSet) (m : Draft) → Decides (is_contradicted held m) ((other : Draft) × Contains (set.items held) other × ((identity_of other ≡ identity_of m) × (other ≢ m)))
@@ -107,10 +107,6 @@ module _ {on larger : List Draft} (more : (m : Draft) → Contains on m → Cont
     still (finding.RefusalsDiffer c) h = record { one = h.one; other = h.other; one_made = moved h.one_made; other_made = moved h.other_made; one_of_it = h.one_of_it; other_of_it = h.other_of_it; different = h.different }
     still finding.TwoReturns h = record { one = h.one; other = h.other; one_made = moved h.one_made; other_made = moved h.other_made; different = h.different }
     still finding.ReturnOfRejected h = record { return = h.return; returned = moved h.returned; reason = h.reason; rejected = moved h.rejected }
-
-pub empty : {X : Type 0} (xs : List X) → ((x : X) → Contains xs x → ⊥) → xs ≡ []
-empty [] none = refl
-empty (x ∷ xs) none = absurd (none x (here x xs))
 
 not_found : (t : TransferKey) (clean : List Draft) (asides : List Identity) → AreApart clean → findings_of t clean asides ≡ [] → (f : Finding) → IsFound t clean asides f → ⊥
 not_found t clean asides apart none f h = nothing f (subst (λ fs. Contains fs f) none (found_is_told t clean asides apart f h))

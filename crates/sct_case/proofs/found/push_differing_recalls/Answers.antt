@@ -1,4 +1,4 @@
--- One more recall, told where it passes the test.
+-- One more recall, reported if it passes the test.
 use Rattle.std.proofs.Common.{◌∙◌, ◌++◌, ap}
 use Rattle.sct_case.specs.declared.finding.Finding.TheVariants as finding
 use Rattle.sct_case.specs.Told.{where_found, differ_among, recall_of_it, same_recall}
