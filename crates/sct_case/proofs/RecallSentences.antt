@@ -67,7 +67,7 @@ module _ (t : TransferKey) (clean : List Draft) (asides : List Identity) (c : Li
   first_contradicted [] s some = absurd (some refl)
   first_contradicted (f ∷ fs) s some = refl
 
-  contradicted : findings_of t clean asides ≢ [] → recall_status_of t clean asides c ≡ recall.Contradicted
+  pub contradicted : findings_of t clean asides ≢ [] → recall_status_of t clean asides c ≡ recall.Contradicted
   unfolding recall_status_of
   contradicted some = first_contradicted (findings_of t clean asides) _ some
 

@@ -26,7 +26,7 @@ pub enum Status {
     Pending,
 }
 
-/// The status of a recall: the first of these that holds, by the messages that [`Status`] names.
+/// The status of a recall: the first of these that holds.
 #[derive(Debug, Drop, PartialEq, Eq)]
 pub enum RecallStatus {
     /// The messages on the transfer contradict each other.
