@@ -10,6 +10,6 @@ use Rattle.sct_case.proofs.recalls.makes.Goals as goal
 pub returns : goal.returns
 returns c =
     rw (← c.request.view_is)
-    (c.make_it.ensures
+    (c.any_makes.ensures
     ∙ ap (λ (txs : List RecallTx). list_any (λ tx. list_any (recall_of_it c.args.cxl.now) (made_in c.args.transfer.now tx)) txs) c.deref.ensures.value
     ∙ any_parts (made_in c.args.transfer.now) (recall_of_it c.args.cxl.now) c.request.inside.txs.items)

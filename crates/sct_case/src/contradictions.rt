@@ -1,9 +1,9 @@
-//! The findings of a transfer: a small function for each, and all of them in the order in which they are reported.
+//! The findings of a transfer: a test for each contradiction, and all findings in the order in which they are reported.
 ghost use Rattle.std.specs.Prelude.{◌≡◌, ◌++◌, ◌&&◌, ℕ, List, Bool, IfOk, OnOk, map, not, nat_eq, nat_lt, length};
 ghost use Rattle.std.specs.List.{list_any};
-ghost use Rattle.sct_case.specs.Inside.{IsByRecall, all_found, instruction_found};
+ghost use Rattle.sct_case.specs.Inside.{all_found, instruction_found};
 ghost use Rattle.sct_case.specs.Told.{differ, has_some, names_another, same_reason, same_return, where_found};
-ghost use Rattle.sct_case.specs.Told.{both_answers, differing_recalls, differing_refusals, return_of_it};
+ghost use Rattle.sct_case.specs.Told.{both_answers, differing_recalls, differing_refusals};
 ghost use Rattle.sct_case.specs.declared.finding.Finding.TheVariants as finding;
 
 use crate::differ::{cxls, differ, differ_on, is_some_on};
@@ -60,14 +60,14 @@ impl Said {
         ensures { IfOk result (λ found. found.items ≡ instruction_found self.now asides.now) }
     {
         let mut found = contradictions(alloc, asides)?;
-        push_where(
+        push_if(
             &mut found,
             self.has_two_instructions(),
             Finding::TwoInstructions,
         )?;
-        push_where(&mut found, self.is_both_confirmed(), Finding::BothConfirmed)?;
-        push_where(&mut found, self.do_reasons_differ(), Finding::ReasonsDiffer)?;
-        push_where(
+        push_if(&mut found, self.is_both_confirmed(), Finding::BothConfirmed)?;
+        push_if(&mut found, self.do_reasons_differ(), Finding::ReasonsDiffer)?;
+        push_if(
             &mut found,
             self.does_amount_differ(),
             Finding::AmountDiffers,
@@ -75,8 +75,7 @@ impl Said {
         Ok(found)
     }
 
-    /// All findings of the transfer, in their stated order.
-    /// O(n log n) in the number of statements about recalls.
+    /// All findings of the transfer, in their stated order. O(n log n) in the number of statements.
     pub(crate) fn into_findings(
         self,
         alloc: Global,
@@ -92,8 +91,8 @@ impl Said {
         push_differing_recalls(&mut found, self.recalls, &recalled)?;
         push_both_answers(&mut found, self.returns, &refused)?;
         push_differing_refusals(&mut found, self.refusals, &refused)?;
-        push_where(&mut found, two_returns, Finding::TwoReturns)?;
-        push_where(&mut found, return_of_rejected, Finding::ReturnOfRejected)?;
+        push_if(&mut found, two_returns, Finding::TwoReturns)?;
+        push_if(&mut found, return_of_rejected, Finding::ReturnOfRejected)?;
         Ok(found)
     }
 }
@@ -126,21 +125,13 @@ fn push_differing_recalls(
 {
     let sorted = by_recall(made)?;
     for cxl in cxls {
-        push_where(
+        push_if(
             found,
             differ_on(&sorted, cxl),
             Finding::RecallsDiffer(cxl.copy()),
         )?;
     }
     Ok(())
-}
-
-/// Whether money was returned after a recall.
-fn is_returned_after(returns: &[ReturnMade], cxl: &Id35) -> bool
-    requires { IsByRecall (λ m. m.cxl) returns.now }
-    ensures { result ≡ list_any (return_of_it cxl.now) returns.now }
-{
-    is_some_on(returns, cxl)
 }
 
 /// Appends a finding for each of the refused recalls that a return answers too.
@@ -153,9 +144,9 @@ fn push_both_answers(
 {
     let sorted = by_recall(returns)?;
     for cxl in cxls {
-        push_where(
+        push_if(
             found,
-            is_returned_after(&sorted, cxl),
+            is_some_on(&sorted, cxl),
             Finding::BothAnswers(cxl.copy()),
         )?;
     }
@@ -172,7 +163,7 @@ fn push_differing_refusals(
 {
     let sorted = by_recall(made)?;
     for cxl in cxls {
-        push_where(
+        push_if(
             found,
             differ_on(&sorted, cxl),
             Finding::RefusalsDiffer(cxl.copy()),
@@ -182,7 +173,7 @@ fn push_differing_refusals(
 }
 
 /// Appends a finding if it holds.
-fn push_where(found: &mut Vec<Finding>, holds: bool, finding: Finding) -> Result<(), AllocError>
+fn push_if(found: &mut Vec<Finding>, holds: bool, finding: Finding) -> Result<(), AllocError>
     ensures { OnOk result (found.new.items ≡ found.old.items ++ where_found holds finding) }
 {
     if holds {
