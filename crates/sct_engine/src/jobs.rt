@@ -96,8 +96,8 @@ fn answer<T: Threads + Sync>(
 ) -> Result<Answer, ProgramFault>
     requires { IsListOf job.now list }
     ensures text { IfOk result (λ answer. joined answer.pieces.items ≡ job_text_of job.now input.items) }
-    ensures told { IfOk result (λ answer. string_bytes answer.told ≡ told_of job.now input.items) }
-    ensures refused { IfOk result (λ answer. answer.refused ≡ refused_of job.now input.items) }
+    ensures told { IfOk result (λ answer. answer.refusals.text ≡ told_of job.now input.items) }
+    ensures refused { IfOk result (λ answer. answer.refusals.count ≡ refused_of job.now input.items) }
     ensures taken { OnOk result (IsInputOf job.now input.items) }
     ensures faults { IfErr result (λ e. e ≢ fault.Memory
         → (e ≡ fault.Usage) × IsNoInputOf job.now input.items) }
@@ -190,12 +190,10 @@ pub fn engine<T: Threads + Sync, R: Source, O: Sink, E: Sink>(
     }
     let list = list_for(alloc, job)?;
     let input = read_all(alloc, reader, limit)?;
-    let Answer {
-        pieces,
-        told,
-        refused,
-    } = answer(rt, alloc, release, job, list, input)?;
-    write_all(err, told.as_bytes())?;
+    let Answer { pieces, refusals } = answer(rt, alloc, release, job, list, input)?;
+    write_all(err, refusals.text().as_bytes())?;
     write_pieces(out, &pieces)?;
-    Ok(Done { refused })
+    Ok(Done {
+        refused: refusals.count(),
+    })
 }

@@ -1,6 +1,6 @@
 -- The faults of runs. Read by an auditor.
-use Rattle.sct_receipts.specs.declared.fault.WorkFault.{WorkFault}
-use Rattle.sct_receipts.specs.declared.fault.WorkFault.TheVariants as work
+use Rattle.sct_workers.specs.declared.fault.WorkFault.{WorkFault}
+use Rattle.sct_workers.specs.declared.fault.WorkFault.TheVariants as work
 use Rattle.sct_run.specs.declared.fault.RunFault.{RunFault}
 use Rattle.sct_run.specs.declared.fault.RunFault.TheVariants as fault
 

@@ -5,7 +5,7 @@ use Rattle.std.specs.Prelude.{ℕ, ◌≡◌, ◌↔◌, ◌⊎◌, ◌&&◌, no
 use Rattle.std.specs.List.{Contains}
 use Rattle.sct_delta.specs.Entries.{messages_of}
 use Rattle.sct_lines.specs.Lines.{set_read}
-use Rattle.sct_receipts.specs.Faults.{IsRefusalNumber}
+use Rattle.sct_workers.specs.Faults.{IsRefusalNumber}
 use Rattle.sct_run.specs.declared.answer.RunAnswer.{RunAnswer}
 use Rattle.sct_run.specs.declared.fault.RunFault.{RunFault}
 use Rattle.sct_run.specs.declared.fault.RunFault.TheVariants as fault
@@ -50,5 +50,5 @@ pub record IsSettledAnswer (sites : Sites) (answer : RunAnswer) : Type 0 where
   pub settled : List Core
   pub are_settled : AreSettled sites.cores.items settled
   pub status : answer.status.items ≡ status_text_of (messages_of (core_in settled 0).arrivals)
-  pub told : string_bytes answer.told ≡ string_bytes sites.told
-  pub refused : answer.refused ≡ sites.refused
+  pub told : string_bytes answer.told ≡ sites.refusals.text
+  pub refused : answer.refused ≡ sites.refusals.count

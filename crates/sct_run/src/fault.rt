@@ -4,7 +4,7 @@ ghost use Rattle.sct_run.specs.Faults.{fault_of_work};
 ghost use Rattle.sct_run.specs.declared.fault.RunFault.TheVariants as fault;
 
 use sct_case::CaseFault;
-use sct_receipts::WorkFault;
+use sct_workers::WorkFault;
 use std::alloc::{AllocError, AllocFailed};
 use thiserror::Error;
 

@@ -13,9 +13,8 @@ ghost use Rattle.sct_world.specs.Settling.{core_in, AreSettled};
 use crate::answer::RunAnswer;
 use crate::fault::RunFault;
 use crate::status::status_text;
-use sct_receipts::WorkFault;
 use sct_site::SiteCore;
-use sct_workers::{Gate, Sites, fill_sites};
+use sct_workers::{Gate, Sites, WorkFault, fill_sites};
 use sct_world::settle;
 use std::alloc::Global;
 use std::sync::Wait;
@@ -101,10 +100,10 @@ fn answered<R: Threads + Sync>(
 {
     let Sites {
         mut cores,
-        told,
-        refused,
+        refusals,
     } = filled?;
     let status = settled_status(rt, alloc, &mut cores)?;
+    let (told, refused) = refusals.into_parts();
     Ok(RunAnswer {
         status,
         told,

@@ -6,7 +6,6 @@ mod inputs;
 use crate::gates::{HeldAccepts, HeldAnswers, InStep, Meeting, Shut};
 use faults::FAILED;
 use inputs::{ONE_SITE, Row, TWO_SITES, WITH_REFUSED};
-use sct_receipts::WorkFault;
 use sct_set::Archive;
 use sct_site::SiteCore;
 use sct_view::View;
@@ -62,8 +61,8 @@ fn is_filled(alloc: Global, core: &SiteCore, row: &Row) -> Option<bool> {
 // Whether there is a site for each input, and the refused lines are reported as the row says.
 fn are_told(sites: &Sites, row: &Row) -> bool {
     sites.cores.len() == row.inputs.len()
-        && sites.told.as_str() == row.told
-        && sites.refused == row.refused
+        && sites.refusals.text() == row.told
+        && sites.refusals.count() == row.refused
 }
 
 // Asserts that under the gate each site has the result of the row, and that all deltas in
