@@ -70,7 +70,7 @@ module _ (t : TransferKey) (clean : List Draft) where
 
 -- ---- what the pieces have
 
--- a recall that is named and passes the test is one of those kept, and the other way round
+-- the recalls that are kept are those that are named and pass the test
 module _ {X : Type 0} (recall : X → List ℕ) (by : Draft → List X) (clean : List Draft) (p : List ℕ → Bool) (c : List ℕ) where
   abbrev kept : List (List ℕ)
   kept = filter p (cxls (map recall (flat_map by clean)))
@@ -130,9 +130,15 @@ module _ (t : TransferKey) (clean : List Draft) (asides : List Identity) (apart 
   in_piece finding.BothConfirmed h = in_where _ finding.BothConfirmed (confirmed-Decides clean) h
   in_piece finding.ReasonsDiffer h = in_where _ finding.ReasonsDiffer (reasons-Decides clean) h
   in_piece finding.AmountDiffers h = in_where _ finding.AmountDiffers (amount-Decides clean t apart) h
-  in_piece (finding.RecallsDiffer c) h = mapped_in (λ c. finding.RecallsDiffer c) _ c (kept_in (λ m. m.cxl) (recalls_by t) clean _ c h.one h.one_made h.one_of_it ((recalls-Decides t clean c).1 h))
-  in_piece (finding.BothAnswers c) h = mapped_in (λ c. finding.BothAnswers c) _ c (kept_in (λ m. m.cxl) (refusals_by t) clean _ c h.refusal h.refused h.refusal_of_it ((returned-Decides t clean c).1 (h.return, h.returned, h.return_of_it)))
-  in_piece (finding.RefusalsDiffer c) h = mapped_in (λ c. finding.RefusalsDiffer c) _ c (kept_in (λ m. m.cxl) (refusals_by t) clean _ c h.one h.one_made h.one_of_it ((refusals-Decides t clean c).1 h))
+  in_piece (finding.RecallsDiffer c) h =
+      mapped_in (λ c. finding.RecallsDiffer c) _ c
+      (kept_in (λ m. m.cxl) (recalls_by t) clean _ c h.one h.one_made h.one_of_it ((recalls-Decides t clean c).1 h))
+  in_piece (finding.BothAnswers c) h =
+      mapped_in (λ c. finding.BothAnswers c) _ c
+      (kept_in (λ m. m.cxl) (refusals_by t) clean _ c h.refusal h.refused h.refusal_of_it ((returned-Decides t clean c).1 (h.return, h.returned, h.return_of_it)))
+  in_piece (finding.RefusalsDiffer c) h =
+      mapped_in (λ c. finding.RefusalsDiffer c) _ c
+      (kept_in (λ m. m.cxl) (refusals_by t) clean _ c h.one h.one_made h.one_of_it ((refusals-Decides t clean c).1 h))
   in_piece finding.TwoReturns h = in_where _ finding.TwoReturns (returns-Decides t clean) h
   in_piece finding.ReturnOfRejected h = in_where _ finding.ReturnOfRejected (rejected-Decides t clean) h
 

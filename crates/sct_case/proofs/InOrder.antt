@@ -69,7 +69,7 @@ record IsPiece (n : ℕ) (p : List Finding) : Type 0 where
   pub sorted : IsStrictlySortedBy finding_order p
   pub at : (f : Finding) → Contains p f → place f ≡ n
 
--- the pieces are at the places from this one on
+-- the first piece is at place n, and each later one at the next place
 abbrev Rise : ℕ → List (List Finding) → Type 0
 Rise n [] = Unit {0}
 Rise n (p ∷ ps) = IsPiece n p × Rise (n + 1) ps

@@ -20,7 +20,7 @@ use Rattle.sct_case.specs.Sentences.{IsInstructed}
 use Rattle.sct_case.specs.Laws.{AreApart}
 use Rattle.sct_case.proofs.Membership.{any_said-Decides, filtered_in, here, in_filter, later, nothing, only, some-Decides}
 
--- ---- what is said of the instruction is said by the instructions, one after the other
+-- ---- the amounts that are instructed are those of the instructions
 
 abbrev instructed_amount : Draft → InstructedAmount
 instructed_amount (CreditTransfer d) = record { amount = d.settlement_amount }

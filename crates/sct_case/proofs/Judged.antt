@@ -1,4 +1,4 @@
--- What the words on a transfer come to where there is no message, and by whether something was found.
+-- The status of a transfer without messages, and by whether something is found.
 use Rattle.std.proofs.Common.{◌≡◌, ◌∙◌, refl, sym, ap, arith, true, false, not, List, [], ◌∷◌, ◌++◌, length, map, filter}
 use Rattle.std.specs.Prelude.{◌==◌, ◌&&◌}
 use Rattle.std.specs.List.{list_any}
@@ -16,7 +16,7 @@ use Rattle.sct_case.specs.Told.{has_some, cxls, differ_among, recall_of_it, retu
 use Rattle.std.specs.FinSet.{nat_cmp-IsAntisymmetric, slice_cmp-IsAntisymmetric}
 use Rattle.sct_case.specs.Statuses.{Contradicted, Unknown, first_standing, is_unknown, standing_of, transfer_status_of}
 
--- ---- where there is no message
+-- ---- without messages
 
 no_cxls : cxls [] ≡ []
 unfolding IsStrictlySortedBy
@@ -43,7 +43,7 @@ found_of_asides t clean asides none =
     ∙ (λ i. only_identities t asides i ++ no_recalls t i)
     ∙ append-nil (map (λ i. finding.Identity i) asides))
 
--- ---- by whether something was found
+-- ---- by whether something is found
 
 pub some : {X : Type 0} (x : X) (xs : List X) → (length (x ∷ xs) == 0) ≡ false
 some x xs = ne_eqb _ _ (λ e. omega arith)
@@ -55,7 +55,7 @@ empty_of (x ∷ xs) e = absurd (false≢true (sym (some x xs) ∙ e))
 pub none_in : {X : Type 0} (xs : List X) → has_some xs ≡ false → xs ≡ []
 none_in xs e = empty_of xs (not-false _ e)
 
--- whether there is anything, of a list and of what it is mapped to
+-- whether a list has items, and what it is mapped to
 pub none_held : {X Y : Type 0} (g : X → Y) (xs : List X) → (length xs == 0) ≡ true → map g xs ≡ []
 none_held g xs e = ap (map g) (empty_of xs e)
 
@@ -69,7 +69,7 @@ unfolding transfer_status_of
 contradicted t clean asides [] f e = cc
 contradicted t clean asides (g ∷ found) f e = ap (λ (fs : List Finding). first_standing fs (is_unknown clean asides) (standing_of t clean)) f
 
--- where nothing was found, and there is a message
+-- if nothing is found, and there is a message
 pub not_contradicted : (t : TransferKey) (clean : List Draft) (asides : List Identity) (found : List Finding)
     → found ≡ findings_of t clean asides → has_some found ≡ false → has_some clean ≡ true → standing_of t clean ≡ transfer_status_of t clean asides
 unfolding transfer_status_of
@@ -77,7 +77,7 @@ not_contradicted t [] asides found f e known = cc
 not_contradicted t (m ∷ clean) asides found f e known =
     λ i. first_standing ((sym (none_in found e) ∙ f) i) (sym (some m clean) i && (length asides == 0)) (standing_of t (m ∷ clean))
 
--- where nothing was found, and there is no message
+-- if nothing is found, and there is no message
 pub mapped_none : {X Y : Type 0} (g : X → Y) (xs : List X) → map g xs ≡ [] → xs ≡ []
 mapped_none g [] e = refl
 mapped_none g (x ∷ xs) e = cc

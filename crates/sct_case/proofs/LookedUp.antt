@@ -40,16 +40,16 @@ module _ (t : TransferKey) (clean : List Draft) (asides : List Identity) where
     stands : IsStatus t clean asides s
     stands = subst (IsStatus t clean asides) (sym e) (told_holds t clean asides)
 
-    -- a recall of a transfer that stands as contradicted is contradicted
+    -- a recall of a contradicted transfer is contradicted
     pub recall_contradicted_by : IsContradictedStanding s → recall.Contradicted ≡ recall_status_of t clean asides cxl
     recall_contradicted_by is = sym (contradicted t clean asides cxl (something_found s stands is))
 
-    -- and any other stands as its messages tell
+    -- any other recall has the status that its messages give
     pub recall_clear_by : (IsContradictedStanding s → ⊥) → recall_standing_of t clean cxl ≡ recall_status_of t clean asides cxl
     unfolding recall_status_of
     recall_clear_by clear = λ i. first_recall (sym (nothing_found s stands clear) i) (recall_standing_of t clean cxl)
 
--- a status that is no contradiction tells none
+-- a status other than contradicted has no findings
 pub told_clear : (s : Status) → ((found : Vec Finding) → s ≡ status.Contradicted found → ⊥) → IsContradictedStanding (told s) → ⊥
 told_clear (status.Contradicted found) other h = other found refl
 told_clear s other h = h

@@ -20,7 +20,7 @@ use Rattle.sct_case.specs.Said.{IsSaid}
 use Rattle.sct_case.specs.Told.{differ_from, differ_among, has_some}
 use Rattle.sct_case.proofs.Judged.{some}
 
--- a proof of each
+-- a proof of a fact, and one of the facts after it
 pub both : {A B : Type 0} → A → B → A × B
 both a b = (a, b)
 
@@ -102,7 +102,7 @@ module _ {K : Type 0} {R : K → K → Ordering} (o : IsTotalOrder R) (apart : I
   pub ascending_in : (ks : List K) (q : K) → Contains ks q → Contains (ascending R ks) q
   ascending_in ks q h = Contains-from_any (tie_is o apart) q (ascending R ks) (members_ascending o apart ks q ∙ any_tie ks q h)
 
--- what differs from nothing is equal
+-- values that cannot differ are equal
 pub equal_unless : {X : Type 0} {x y : X} (b : Bool) → Decides b (x ≡ y) → (x ≢ y → ⊥) → x ≡ y
 equal_unless b d none = d.0 (true_from_ne_false b (λ e. none (not_from_Decides b d e)))
 
@@ -112,7 +112,7 @@ pub some-Decides : {X : Type 0} (xs : List X) → Decides (has_some xs) ((x : X)
 some-Decides [] = (λ h. absurd (false≢true h), λ s. absurd (nothing s.0 s.1))
 some-Decides (x ∷ xs) = (λ _. (x, here x xs), λ _. ap not (some x xs))
 
--- the first item that passes a test, or none
+-- P holds of the item that was found, or of no item if none was
 abbrev pub Finds : {X : Type 0} → (X → Type 0) → List X → Option X → Type 0
 Finds P xs None = (x : _) → Contains xs x → P x → ⊥
 Finds P xs (Some x) = Contains xs x × P x
@@ -137,7 +137,7 @@ module _ {X : Type 0} (p : X → Bool) (P : X → Type 0) (each : (x : X) → De
 
 -- ---- what messages say
 
--- the value is one that P holds of, or there is none
+-- P holds of the value in the option, or of no value if there is none
 abbrev pub Picks : {Y : Type 0} → Option Y → (Y → Type 0) → Type 0
 Picks None P = (y : _) × P y → ⊥
 Picks (Some y) P = P y
@@ -155,7 +155,7 @@ module _ {Y : Type 0} (P : Y → Type 0) where
   picks_like Q None to from p = λ s. p (s.0, from s.0 s.1)
   picks_like Q (Some y) to from p = to y p
 
--- two statements that differ, of those that P holds of
+-- P holds of two statements that differ
 pub record SaidDiffer {X : Type 0} (by : Draft → List X) (clean : List Draft) (P : X → Type 0) : Type 0 where
   pub one : X
   pub other : X

@@ -23,7 +23,7 @@ use Rattle.sct_case.specs.Laws.{AreApart}
 use Rattle.sct_case.proofs.Membership.{Picks, any_said-Decides, picks_like, picks_none, picks_some, said_picks}
 use Rattle.sct_case.proofs.Stays.{consistent_say_one_thing}
 
--- ---- what each part of a status tells
+-- ---- what decides each part of a status
 
 module _ (t : TransferKey) (clean : List Draft) (c : List ℕ) where
   named-Decides : Decides (is_named t clean c) (IsNamed t clean c)

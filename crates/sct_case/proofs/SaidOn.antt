@@ -111,7 +111,7 @@ module _ (t : TransferKey) (cxl : List ℕ) where
       || sym (list_any-append (refusal_of_it cxl) (refusals_by t m) (flat_map (refusals_by t) ms)) i
       || sym (list_any-append (request_of_it cxl) (requests_by t m) (flat_map (requests_by t) ms)) i)
 
-  -- so these four say where the recall stands
+  -- so these four give the status of the recall
   pub judged_is : (ms : List Draft)
       → judged (is_made t ms cxl) (amount_returned cxl (flat_map (returns_by t) ms)) (reason_refused cxl (flat_map (refusals_by t) ms)) (list_any (request_of_it cxl) (flat_map (requests_by t) ms))
       ≡ recall_standing_of t ms cxl

@@ -23,7 +23,7 @@ use Rattle.sct_case.proofs.Judged.{contradicted, empty_of, found_of_asides, mapp
 use Rattle.sct_case.proofs.OfOneRecall.{first_found}
 use Rattle.sct_case.proofs.Stays.{consistent_say_one_thing}
 
--- ---- what each part of a status tells
+-- ---- what decides each part of a status
 
 empty-Decides : {X : Type 0} (xs : List X) → Decides (length xs == 0) (xs ≡ [])
 empty-Decides xs = (empty_of xs, ap (λ ys. length ys == 0))
@@ -34,7 +34,8 @@ held-Decides p = any-Decides p (λ m. p m ≡ true) (λ m. (λ h. h, λ h. h))
 first_picks : {X Y : Type 0} (by : Draft → List X) (clean : List Draft) (f : X → Y) → Picks (option_map f (first (flat_map by clean))) (λ y. (x : X) × IsSaid by clean x × (f x ≡ y))
 first_picks by clean f =
     subst (λ o. Picks (option_map f o) (λ y. (x : _) × IsSaid by clean x × (f x ≡ y))) (first_found (flat_map by clean))
-    (picks_like (λ y. (x : _) × IsSaid by clean x × Unit {0} × (f x ≡ y)) (λ y. (x : _) × IsSaid by clean x × (f x ≡ y)) _ (λ y s. (s.0, s.1, s.3)) (λ y s. (s.0, s.1, tt, s.2)) (said_picks by clean (λ x. true) (λ x. Unit {0}) (λ x. (λ h. tt, λ h. refl)) f))
+    (picks_like (λ y. (x : _) × IsSaid by clean x × Unit {0} × (f x ≡ y)) (λ y. (x : _) × IsSaid by clean x × (f x ≡ y)) _
+    (λ y s. (s.0, s.1, s.3)) (λ y s. (s.0, s.1, tt, s.2)) (said_picks by clean (λ x. true) (λ x. Unit {0}) (λ x. (λ h. tt, λ h. refl)) f))
 
 rejection_picks : (clean : List Draft) → Picks (rejection_told clean) (IsRejectedFor clean)
 rejection_picks clean = picks_like (λ r. (x : RejectionReason) × IsSaid rejections_by clean x × (x.reason ≡ r)) (IsRejectedFor clean) _

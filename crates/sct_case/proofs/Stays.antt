@@ -98,15 +98,24 @@ module _ {on larger : List Draft} (more : (m : Draft) → Contains on m → Cont
       (aside : (i : Identity) → Contains asides i → Contains more_asides i) (sole : (m : Draft) → IsSoleInstruction on m → IsSoleInstruction larger m) where
     pub still : (f : Finding) → IsFound t on asides f → IsFound t larger more_asides f
     still (finding.Identity i) h = aside i h
-    still finding.TwoInstructions h = record { one = h.one; other = h.other; one_held = more h.one h.one_held; other_held = more h.other h.other_held; one_instructs = h.one_instructs; other_instructs = h.other_instructs; different = h.different }
-    still finding.BothConfirmed h = record { acceptance = h.acceptance; held = more h.acceptance h.held; accepts = h.accepts; reason = h.reason; rejected = moved h.rejected }
-    still finding.ReasonsDiffer h = record { one = h.one; other = h.other; one_given = moved h.one_given; other_given = moved h.other_given; different = h.different }
-    still finding.AmountDiffers h = record { instruction = h.instruction; sole = sole h.instruction h.sole; instructed = h.instructed; of_instruction = h.of_instruction; named = h.named; is_named = moved h.is_named; different = h.different }
-    still (finding.RecallsDiffer c) h = record { one = h.one; other = h.other; one_made = moved h.one_made; other_made = moved h.other_made; one_of_it = h.one_of_it; other_of_it = h.other_of_it; different = h.different }
-    still (finding.BothAnswers c) h = record { refusal = h.refusal; return = h.return; refused = moved h.refused; returned = moved h.returned; refusal_of_it = h.refusal_of_it; return_of_it = h.return_of_it }
-    still (finding.RefusalsDiffer c) h = record { one = h.one; other = h.other; one_made = moved h.one_made; other_made = moved h.other_made; one_of_it = h.one_of_it; other_of_it = h.other_of_it; different = h.different }
-    still finding.TwoReturns h = record { one = h.one; other = h.other; one_made = moved h.one_made; other_made = moved h.other_made; different = h.different }
-    still finding.ReturnOfRejected h = record { return = h.return; returned = moved h.returned; reason = h.reason; rejected = moved h.rejected }
+    still finding.TwoInstructions h =
+        record { one = h.one; other = h.other; one_held = more h.one h.one_held; other_held = more h.other h.other_held; one_instructs = h.one_instructs; other_instructs = h.other_instructs; different = h.different }
+    still finding.BothConfirmed h =
+        record { acceptance = h.acceptance; held = more h.acceptance h.held; accepts = h.accepts; reason = h.reason; rejected = moved h.rejected }
+    still finding.ReasonsDiffer h =
+        record { one = h.one; other = h.other; one_given = moved h.one_given; other_given = moved h.other_given; different = h.different }
+    still finding.AmountDiffers h =
+        record { instruction = h.instruction; sole = sole h.instruction h.sole; instructed = h.instructed; of_instruction = h.of_instruction; named = h.named; is_named = moved h.is_named; different = h.different }
+    still (finding.RecallsDiffer c) h =
+        record { one = h.one; other = h.other; one_made = moved h.one_made; other_made = moved h.other_made; one_of_it = h.one_of_it; other_of_it = h.other_of_it; different = h.different }
+    still (finding.BothAnswers c) h =
+        record { refusal = h.refusal; return = h.return; refused = moved h.refused; returned = moved h.returned; refusal_of_it = h.refusal_of_it; return_of_it = h.return_of_it }
+    still (finding.RefusalsDiffer c) h =
+        record { one = h.one; other = h.other; one_made = moved h.one_made; other_made = moved h.other_made; one_of_it = h.one_of_it; other_of_it = h.other_of_it; different = h.different }
+    still finding.TwoReturns h =
+        record { one = h.one; other = h.other; one_made = moved h.one_made; other_made = moved h.other_made; different = h.different }
+    still finding.ReturnOfRejected h =
+        record { return = h.return; returned = moved h.returned; reason = h.reason; rejected = moved h.rejected }
 
 not_found : (t : TransferKey) (clean : List Draft) (asides : List Identity) → AreApart clean → findings_of t clean asides ≡ [] → (f : Finding) → IsFound t clean asides f → ⊥
 not_found t clean asides apart none f h = nothing f (subst (λ fs. Contains fs f) none (found_is_told t clean asides apart f h))

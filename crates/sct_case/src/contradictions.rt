@@ -1,9 +1,9 @@
 //! The findings of a transfer: a test for each contradiction, and all findings in the order in which they are reported.
 ghost use Rattle.std.specs.Prelude.{◌≡◌, ◌++◌, ◌&&◌, ℕ, List, Bool, IfOk, OnOk, map, not, nat_eq, nat_lt, length};
 ghost use Rattle.std.specs.List.{list_any};
-ghost use Rattle.sct_case.specs.Inside.{all_found, instruction_found};
+ghost use Rattle.sct_case.specs.Inside.{IsByRecall, all_found, instruction_found};
 ghost use Rattle.sct_case.specs.Told.{differ, has_some, names_another, same_reason, same_return, where_found};
-ghost use Rattle.sct_case.specs.Told.{both_answers, differing_recalls, differing_refusals};
+ghost use Rattle.sct_case.specs.Told.{both_answers, differing_recalls, differing_refusals, return_of_it};
 ghost use Rattle.sct_case.specs.declared.finding.Finding.TheVariants as finding;
 
 use crate::differ::{cxls, differ, differ_on, is_some_on};
@@ -134,6 +134,14 @@ fn push_differing_recalls(
     Ok(())
 }
 
+/// Whether money was returned after a recall.
+fn is_returned_after(returns: &[ReturnMade], cxl: &Id35) -> bool
+    requires { IsByRecall (λ m. m.cxl) returns.now }
+    ensures { result ≡ list_any (return_of_it cxl.now) returns.now }
+{
+    is_some_on(returns, cxl)
+}
+
 /// Appends a finding for each of the refused recalls that a return answers too.
 fn push_both_answers(
     found: &mut Vec<Finding>,
@@ -146,7 +154,7 @@ fn push_both_answers(
     for cxl in cxls {
         push_if(
             found,
-            is_some_on(&sorted, cxl),
+            is_returned_after(&sorted, cxl),
             Finding::BothAnswers(cxl.copy()),
         )?;
     }

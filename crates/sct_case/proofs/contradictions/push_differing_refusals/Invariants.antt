@@ -1,4 +1,4 @@
--- So far, a finding for each of the first recalls that two refusals tell differently.
+-- So far, a finding for each of the first recalls that two messages refuse differently.
 use Rattle.std.proofs.Common.{◌≡◌, ◌++◌, map, filter, take}
 use Rattle.sct_case.specs.declared.finding.Finding.TheVariants as finding
 use Rattle.sct_case.specs.Told.{differ_among, refusal_of_it, same_refusal}

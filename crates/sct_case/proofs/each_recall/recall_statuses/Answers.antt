@@ -1,4 +1,4 @@
--- Each recall of a contradicted transfer is contradicted, and each of any other stands as its messages tell.
+-- Each recall of a contradicted transfer is contradicted, and any other has the status that its messages give.
 use Rattle.std.proofs.Common.{◌∙◌, subst, sym, map, ℕ, List}
 use Rattle.sct_message.specs.Sets.{messages_in}
 use Rattle.sct_case.specs.Statuses.{told}
