@@ -1,12 +1,11 @@
 //! The logs of one site: one log for each origin, with the vector that counts their entries.
 
-ghost use Rattle.std.specs.Prelude.{◌≡◌, ◌≢◌, ◌≤◌, ◌+◌, ℕ, [], None, true, false, length, nat_eq, not, if◌then◌else◌, OnOk, OnErr, IfOk, IfErr, IsOk, MatchOption, option_map};
+ghost use Rattle.std.specs.Prelude.{◌≡◌, ◌≢◌, ◌≤◌, ◌<◌, ◌^◌, ◌+◌, ℕ, [], None, true, false, length, nat_eq, not, if◌then◌else◌, OnOk, OnErr, IfOk, IfErr, IsOk, MatchOption, option_map};
 ghost use Rattle.std.specs.Arc.{arc_value};
 ghost use Rattle.std.specs.List.{list_all};
 ghost use Rattle.std.specs.Option.{option_copied};
 ghost use Rattle.sct_delta.specs.Entries.{entries_from, log_of, numbered, IsDelta};
 ghost use Rattle.sct_delta.specs.Vectors.{count_in};
-ghost use Rattle.sct_delta.specs.Shelves.{log_on};
 ghost use Rattle.sct_delta.specs.Refusals.{appended, first_refusal, fresh_in, has_site, is_new, message_at, refusal_at, vector_of, IsCut};
 ghost use Rattle.sct_delta.specs.Sites.{is_group};
 
@@ -18,6 +17,7 @@ use crate::sites::is_site;
 use crate::vector::Vector;
 use sct_message::Message;
 use std::alloc::Global;
+use std::marker::Model;
 use std::sync::Arc;
 
 /// The entries that one site holds. For each origin of the group these are the numbers 1 to some count.
@@ -26,16 +26,25 @@ pub struct Logs {
     group: u16,
     shelf: Shelf,
     vector: Vector,
-    ghost in_step: { (origin : ℕ) → count_in vector origin ≡ length (log_on shelf origin) },
-    ghost small: { is_group group ≡ true },
-    ghost inside: { (origin : ℕ) → has_site group origin ≡ false → log_on shelf origin ≡ [] },
+}
+
+impl Model for Logs {
+    ghost use Rattle.sct_delta.specs.Logs.{HeldLogs};
+    ghost use Rattle.sct_delta.specs.Inside.{held_logs, AreLogs};
+
+    ghost Value = { HeldLogs };
+
+    ghost view = { λ l. held_logs l.group l.shelf l.vector };
+
+    ghost invariant = { λ l. AreLogs l.group l.shelf l.vector };
 }
 
 impl Logs {
     ghost use Rattle.sct_delta.specs.declared.fault.DeltaFault.TheVariants as fault;
-    ghost use Rattle.sct_delta.specs.Logs.{log_in, room_at, HasRoom, HoldSame, KeepsNoEmpty};
+    ghost use Rattle.sct_delta.specs.Logs.{log_in, room_at, HasRoom, HoldSame, IsOfGroup, KeepsNoEmpty};
 
     /// Empty logs for a group of 1 to 1024 sites. Error: `BadSite` (44) for any other size.
+    #[tactic(auto, using(crate::proofs::LogsLemmas::log_is, crate::proofs::LogsLemmas::room_is))]
     pub fn new(alloc: Global, group: u16) -> Result<Logs, DeltaFault>
         ensures empty { IfOk result (λ logs. (origin : ℕ) → log_in logs origin ≡ []) }
         ensures group { IfOk result (λ logs. logs.group ≡ group) }
@@ -53,6 +62,7 @@ impl Logs {
     }
 
     /// The version vector: how many entries of each origin are held.
+    #[tactic(auto, using(crate::proofs::LogsLemmas::log_is, crate::proofs::LogsLemmas::room_is))]
     pub fn vector(&self) -> &Vector
         ensures { (origin : ℕ) → count_in result.now origin ≡ vector_of (log_in self.now) origin }
     {
@@ -60,6 +70,7 @@ impl Logs {
     }
 
     /// The message of an entry, whose number counts from 1. None if no such entry is held.
+    #[tactic(auto, using(crate::proofs::LogsLemmas::log_is, crate::proofs::LogsLemmas::room_is))]
     pub fn get(&self, origin: u16, n: u64) -> Option<&Arc<Message>>
         ensures { option_map arc_value (option_copied result) ≡ message_at (log_in self.now origin) n }
     {
@@ -85,6 +96,7 @@ impl Logs {
     /// A delta that the site `own` does not accept is refused as by `fits`. Further error: `Memory` (40).
     /// The numbers of each origin go on where the logs end.
     /// O(entries of the delta). A held entry is compared once.
+    #[tactic(auto, using(crate::proofs::LogsLemmas::log_is, crate::proofs::LogsLemmas::room_is))]
     pub fn fresh(&self, own: u16, delta: &Delta) -> Result<Delta, DeltaFault>
         ensures ok { IfOk result (λ fresh. fresh ≡ fresh_in (log_in self.now) delta.now) }
         ensures goes_on { IfOk result (λ fresh. (origin : ℕ) → entries_from origin fresh
@@ -93,9 +105,10 @@ impl Logs {
         ensures err { IfErr result (λ refusal. MatchOption
             (first_refusal own self.now.group (log_in self.now) delta.now)
             (refusal ≡ fault.Memory) (λ first. refusal ≡ first)) }
+        ensures inside { IsOfGroup self.now }
     {
-        self.fits(own, delta)?;
         let mut fresh = Vec::new(self.shelf.allocator());
+        self.fits(own, delta)?;
         for entry in delta.entries() {
             if self.is_new(entry) {
                 fresh.push(entry.share()?)?;
@@ -106,16 +119,19 @@ impl Logs {
 
     /// The entries numbered above `vector`, of every origin, as a delta. Error: `Memory` (40).
     /// O(entries cut), plus one look at each origin.
+    #[tactic(auto, using(crate::proofs::LogsLemmas::log_is, crate::proofs::LogsLemmas::room_is))]
     pub fn cut(&self, vector: &Vector) -> Result<Delta, DeltaFault>
         ensures cut { IfOk result (λ delta. IsCut (log_in self.now) (count_in vector.now) delta) }
         ensures shape { IfOk result (λ delta. IsDelta delta) }
         ensures err { IfErr result (λ refusal. refusal ≡ fault.Memory) }
+        ensures inside { IsOfGroup self.now }
     {
         let entries = self.shelf.above(vector)?;
         Ok(Delta::of_shape(entries))
     }
 
     // How many entries of the origin are held.
+    #[tactic(auto, using(crate::proofs::LogsLemmas::log_is, crate::proofs::LogsLemmas::room_is))]
     pub(crate) fn count(&self, origin: u16) -> u64
         ensures { result ≡ vector_of (log_in self.now) origin }
     {
@@ -130,11 +146,13 @@ impl Logs {
     }
 
     // Makes room for `places` more messages of an origin, whether or not the group has it.
+    #[tactic(auto, using(crate::proofs::LogsLemmas::log_is, crate::proofs::LogsLemmas::room_is))]
     pub(crate) fn room_for(&mut self, origin: u16, places: usize) -> Result<(), DeltaFault>
         ensures group { self.new.group ≡ self.old.group }
         ensures same { HoldSame self.new self.old }
         ensures keeps { (k : ℕ) → room_at self.old k ≤ room_at self.new k }
         ensures ok { OnOk result (places ≤ room_at self.new origin) }
+        ensures few { OnOk result (places < 2 ^ 63) }
         ensures err { IfErr result (λ refusal. refusal ≡ fault.Memory) }
         ensures there { places ≤ room_at self.old origin → 1 ≤ places → IsOk result }
     {
@@ -145,6 +163,7 @@ impl Logs {
 
     /// Drops the logs and counts of origins that hold no message, with the room in them.
     /// It does not allocate. O(origins).
+    #[tactic(auto, using(crate::proofs::LogsLemmas::log_is, crate::proofs::LogsLemmas::room_is))]
     pub fn drop_empty(&mut self)
         ensures group { self.new.group ≡ self.old.group }
         ensures same { HoldSame self.new self.old }
@@ -205,6 +224,7 @@ impl Logs {
     }
 
     // Appends a message as the next entry of its origin, a site of the group.
+    #[tactic(auto, using(crate::proofs::LogsLemmas::log_is, crate::proofs::LogsLemmas::room_is))]
     pub(crate) fn append(&mut self, origin: u16, message: Arc<Message>) -> Result<u64, DeltaFault>
         requires { has_site self.old.group origin ≡ true }
         ensures group { self.new.group ≡ self.old.group }
