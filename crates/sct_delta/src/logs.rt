@@ -39,12 +39,12 @@ impl Model for Logs {
     ghost invariant = { λ l. AreLogs l.group l.shelf l.vector };
 }
 
+#[tactic(auto, using(crate::proofs::LogsLemmas::log_is, crate::proofs::LogsLemmas::room_is))]
 impl Logs {
     ghost use Rattle.sct_delta.specs.declared.fault.DeltaFault.TheVariants as fault;
     ghost use Rattle.sct_delta.specs.Logs.{log_in, room_at, HasRoom, HoldSame, IsOfGroup, KeepsNoEmpty};
 
     /// Empty logs for a group of 1 to 1024 sites. Error: `BadSite` (44) for any other size.
-    #[tactic(auto, using(crate::proofs::LogsLemmas::log_is, crate::proofs::LogsLemmas::room_is))]
     pub fn new(alloc: Global, group: u16) -> Result<Logs, DeltaFault>
         ensures empty { IfOk result (λ logs. (origin : ℕ) → log_in logs origin ≡ []) }
         ensures group { IfOk result (λ logs. logs.group ≡ group) }
@@ -61,16 +61,14 @@ impl Logs {
         })
     }
 
-    /// The version vector: how many entries of each origin are held.
-    #[tactic(auto, using(crate::proofs::LogsLemmas::log_is, crate::proofs::LogsLemmas::room_is))]
+    /// The version vector: how many entries of each origin are held. O(1).
     pub fn vector(&self) -> &Vector
         ensures { (origin : ℕ) → count_in result.now origin ≡ vector_of (log_in self.now) origin }
     {
         &self.vector
     }
 
-    /// The message of an entry, whose number counts from 1. None if no such entry is held.
-    #[tactic(auto, using(crate::proofs::LogsLemmas::log_is, crate::proofs::LogsLemmas::room_is))]
+    /// The message of an entry, whose number counts from 1. None if no such entry is held. O(log origins).
     pub fn get(&self, origin: u16, n: u64) -> Option<&Arc<Message>>
         ensures { option_map arc_value (option_copied result) ≡ message_at (log_in self.now origin) n }
     {
@@ -96,7 +94,6 @@ impl Logs {
     /// A delta that the site `own` does not accept is refused as by `fits`. Further error: `Memory` (40).
     /// The numbers of each origin go on where the logs end.
     /// O(entries of the delta). A held entry is compared once.
-    #[tactic(auto, using(crate::proofs::LogsLemmas::log_is, crate::proofs::LogsLemmas::room_is))]
     pub fn fresh(&self, own: u16, delta: &Delta) -> Result<Delta, DeltaFault>
         ensures ok { IfOk result (λ fresh. fresh ≡ fresh_in (log_in self.now) delta.now) }
         ensures goes_on { IfOk result (λ fresh. (origin : ℕ) → entries_from origin fresh
@@ -111,7 +108,7 @@ impl Logs {
         self.fits(own, delta)?;
         for entry in delta.entries() {
             if self.is_new(entry) {
-                fresh.push(entry.share()?)?;
+                fresh.push(entry.clone()?)?;
             }
         }
         Ok(Delta::of_shape(fresh))
@@ -119,7 +116,6 @@ impl Logs {
 
     /// The entries numbered above `vector`, of every origin, as a delta. Error: `Memory` (40).
     /// O(entries cut), plus one look at each origin.
-    #[tactic(auto, using(crate::proofs::LogsLemmas::log_is, crate::proofs::LogsLemmas::room_is))]
     pub fn cut(&self, vector: &Vector) -> Result<Delta, DeltaFault>
         ensures cut { IfOk result (λ delta. IsCut (log_in self.now) (count_in vector.now) delta) }
         ensures shape { IfOk result (λ delta. IsDelta delta) }
@@ -131,7 +127,6 @@ impl Logs {
     }
 
     // How many entries of the origin are held.
-    #[tactic(auto, using(crate::proofs::LogsLemmas::log_is, crate::proofs::LogsLemmas::room_is))]
     pub(crate) fn count(&self, origin: u16) -> u64
         ensures { result ≡ vector_of (log_in self.now) origin }
     {
@@ -146,7 +141,6 @@ impl Logs {
     }
 
     // Makes room for `places` more messages of an origin, whether or not the group has it.
-    #[tactic(auto, using(crate::proofs::LogsLemmas::log_is, crate::proofs::LogsLemmas::room_is))]
     pub(crate) fn room_for(&mut self, origin: u16, places: usize) -> Result<(), DeltaFault>
         ensures group { self.new.group ≡ self.old.group }
         ensures same { HoldSame self.new self.old }
@@ -163,7 +157,6 @@ impl Logs {
 
     /// Drops the logs and counts of origins that hold no message, with the room in them.
     /// It does not allocate. O(origins).
-    #[tactic(auto, using(crate::proofs::LogsLemmas::log_is, crate::proofs::LogsLemmas::room_is))]
     pub fn drop_empty(&mut self)
         ensures group { self.new.group ≡ self.old.group }
         ensures same { HoldSame self.new self.old }
@@ -177,7 +170,7 @@ impl Logs {
     /// allocate. The entries held stay as they are.
     /// Errors: `BadSite` (44) if the group does not have the origin; `Memory` (40), and the logs then keep
     /// nothing for an origin that holds no message.
-    /// The room is kept until a `push`, or until `drop_empty` if nothing is pushed.
+    /// The room is kept until a `push`, or until `drop_empty` if nothing is pushed. O(log origins).
     pub fn room(&mut self, origin: u16) -> Result<(), DeltaFault>
         ensures group { self.new.group ≡ self.old.group }
         ensures same { HoldSame self.new self.old }
@@ -199,7 +192,7 @@ impl Logs {
     /// Appends a message as the next entry of its origin. Returns the number of that entry. It does not
     /// allocate right after `room` of the origin.
     /// Errors: `BadSite` (44) if the group does not have the origin; `Memory` (40), and the logs then keep nothing for
-    /// an origin that holds no message. The entries held are then unchanged.
+    /// an origin that holds no message. The entries held are then unchanged. O(log origins).
     pub fn push(&mut self, origin: u16, message: Arc<Message>) -> Result<u64, DeltaFault>
         ensures group { self.new.group ≡ self.old.group }
         ensures answer { IfOk result (λ n. n ≡ vector_of (log_in self.old) origin + 1) }
@@ -224,7 +217,6 @@ impl Logs {
     }
 
     // Appends a message as the next entry of its origin, a site of the group.
-    #[tactic(auto, using(crate::proofs::LogsLemmas::log_is, crate::proofs::LogsLemmas::room_is))]
     pub(crate) fn append(&mut self, origin: u16, message: Arc<Message>) -> Result<u64, DeltaFault>
         requires { has_site self.old.group origin ≡ true }
         ensures group { self.new.group ≡ self.old.group }
