@@ -1,5 +1,5 @@
 -- Which entries lists and logs hold. It serves the laws of logs, and the sites and worlds above.
-use Rattle.std.proofs.Common.{◌≡◌, ◌∙◌, refl, ap, sym, ℕ, ◌+◌, ◌-◌, Bool, true, false, cond, ◌&&◌, ◌||◌, List, [], ◌∷◌, drop, arith, nat_eq, nat_lt, None, zero, suc}
+use Rattle.std.proofs.Common.{◌≡◌, ◌∙◌, refl, ap, sym, ℕ, ◌+◌, ◌-◌, Bool, true, false, cond, ◌&&◌, ◌||◌, List, [], ◌∷◌, drop, arith, nat_eq, nat_lt, Option, Some, None, zero, suc}
 use Rattle.std.specs.List.{list_any, slice_get}
 use Rattle.std.proofs.Math.Bool.{and-false, and-true, or-false, or-true}
 use Rattle.std.proofs.lemmas.Bool.{and_parts, eqb-true, false≢true, or_parts}
@@ -26,6 +26,10 @@ same_draft = tie_is message_total message_same
 pub draft_itself : (a : Draft) → same_message a a ≡ true
 draft_itself = ties_itself message_total message_same
 
+pub some_there : (m : Draft) (x : Option Draft) → is_same_as m x ≡ true → x ≡ Some m
+some_there m None e = absurd (false≢true e)
+some_there m (Some d) e = ap (λ (a : Draft). Some a) (same_draft d m e)
+
 pub one_entry : (a b : Placed) → same_entry a b ≡ true → a ≡ b
 one_entry a b e =
     let first : (nat_eq a.origin b.origin ≡ true) × ((nat_eq a.n b.n && same_message a.message b.message) ≡ true) = and_parts _ _ e in
@@ -47,7 +51,7 @@ none_passes p (x ∷ es) none e among =
 pub passes_none : (p : Placed → Bool) (es : List Placed) → ((e : Placed) → holds es e ≡ true → p e ≡ false) → list_any p es ≡ false
 passes_none p [] none = refl
 passes_none p (x ∷ es) none =
-    (λ i. none x (ap (λ (b : Bool). b || holds es x) (entry_itself x)) i || passes_none p es (λ e among. none e (ap (λ (b : Bool). same_entry x e || b) among ∙ or_true (same_entry x e))) i)
+    (λ i. none x (ap (λ (b : Bool). b || holds es x) (entry_itself x)) i || passes_none p es (λ e among. none e (ap (λ (b : Bool). same_entry x e || b) among ∙ or-true (same_entry x e))) i)
 
 -- ---- entries of one origin
 

@@ -3,6 +3,11 @@ use Rattle.std.proofs.Common.{◌≡◌, ◌∙◌, refl, ap, sym, Bool, true, f
 use Rattle.std.specs.List.{list_all, list_any, AllByRecursion}
 use Rattle.std.proofs.lemmas.Bool.{and_parts, or_parts}
 
+pub implied : (a b : Bool) → (b ≡ true → a ≡ true) → (a && b) ≡ b
+implied true b also = refl
+implied false true also = also refl
+implied false false also = refl
+
 module _ {X : Type 0} where
   through : (p : X → Bool) (b : Bool) (x : X) (ys : List X)
       → filter p (cond b (x ∷ ys) ys) ≡ cond b (cond (p x) (x ∷ filter p ys) (filter p ys)) (filter p ys)

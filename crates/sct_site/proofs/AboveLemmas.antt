@@ -17,7 +17,7 @@ use Rattle.sct_delta.specs.Entries.{Placed, is_from, entries_from, log_of, numbe
 use Rattle.sct_delta.specs.Refusals.{IsCut}
 use Rattle.sct_delta.proofs.EntryLemmas.{same_number}
 use Rattle.sct_delta.proofs.JoinLemmas.{above_count}
-use Rattle.sct_delta.proofs.TestLemmas.{filter_agree, filter_comm}
+use Rattle.sct_delta.proofs.TestLemmas.{filter_agree, filter_comm, implied}
 use Rattle.sct_site.specs.Cores.{logs_of, entry_order, is_above, entries_above}
 
 -- ---- the order of entries
@@ -58,11 +58,6 @@ rises_as_entries [] rises = tt
 rises_as_entries (d ∷ ds) rises = (all_less d ds rises.0, rises_as_entries ds rises.1)
 
 -- ---- an entry stands in a list where it stands among the entries of its origin
-
-implied : (a b : Bool) → (b ≡ true → a ≡ true) → (a && b) ≡ b
-implied true b h = refl
-implied false true h = h refl
-implied false false h = refl
 
 pub any_of_origin : (q : Placed) (es : List Placed) → list_any (eq_by_cmp entry_order q) (entries_from q.origin es) ≡ list_any (eq_by_cmp entry_order q) es
 any_of_origin q es =
