@@ -41,33 +41,16 @@ among_picked p q = any-filter_same (same_message q) p (p q) (λ m e. ap p (sym (
 
 -- ---- the messages on a transfer
 
-module _ (a b : MessageSet) (t : TransferKey) where
-  abbrev disputed : Draft → Bool
-  disputed = λ m. is_contradicted a m || is_contradicted b m
-
-  clean_is : (ms clean : List Draft) → ms ≡ filter (is_on t) (in_order (set.union a b)) → clean ≡ filter (λ m. not (disputed m)) ms → clean ≡ messages_on (set.union a b) t
-  clean_is ms clean all c =
-      c
-      ∙ ap (filter (λ m. not (disputed m))) all
-      ∙ filter_swap (λ m. not (disputed m)) (is_on t) (in_order (set.union a b))
-      ∙ ap (λ (p : Draft → Bool). filter (is_on t) (filter p (in_order (set.union a b)))) (λ n m. not (sym (contradicted_in_union a b m) n))
-
-  contradicted_is : (ms contradicted : List Draft) → ms ≡ filter (is_on t) (in_order (set.union a b)) → contradicted ≡ filter disputed ms → contradicted ≡ contradicted_on (set.union a b) t
-  contradicted_is ms contradicted all c =
-      c
-      ∙ ap (filter disputed) all
-      ∙ filter_swap disputed (is_on t) (in_order (set.union a b))
-      ∙ ap (λ (p : Draft → Bool). filter (is_on t) (filter p (in_order (set.union a b)))) (λ n m. sym (contradicted_in_union a b m) n)
-
-  -- a case that was evaluated from all messages on a transfer is what is to be kept of it
-  pub evaluated : (ms clean contradicted : List Draft) (asides : List Identity) (stands : Standing)
-      → ms ≡ filter (is_on t) (in_order (set.union a b)) → clean ≡ filter (λ m. not (disputed m)) ms → contradicted ≡ filter disputed ms
-      → asides ≡ ascending identity_order (map identity_of contradicted) → stands ≡ transfer_status_of t clean asides
-      → record { clean = clean; contradicted = contradicted; stands = stands } ≡ case_of (set.union a b) t
-  unfolding case_of status_of
-  evaluated ms clean contradicted asides stands all c d i s =
-      let first = clean_is ms clean all c in
-      let second = contradicted_is ms contradicted all d in
-      let third : asides ≡ asides_of (set.union a b) t = i ∙ ap (λ (xs : List Draft). ascending identity_order (map identity_of xs)) second in
-      let last : stands ≡ transfer_status_of t (messages_on (set.union a b) t) (asides_of (set.union a b) t) = s ∙ (λ n. transfer_status_of t (first n) (third n)) in
-      λ n. record { clean = first n; contradicted = second n; stands = last n }
+-- a case that was evaluated from all messages on a transfer is what is to be kept of it
+pub evaluated : (s : MessageSet) (t : TransferKey) (ms clean contradicted : List Draft) (asides : List Identity) (stands : Standing)
+    → ms ≡ filter (is_on t) (in_order s) → clean ≡ filter (λ m. not (is_contradicted s m)) ms → contradicted ≡ filter (is_contradicted s) ms
+    → asides ≡ ascending identity_order (map identity_of contradicted) → stands ≡ transfer_status_of t clean asides
+    → record { clean = clean; contradicted = contradicted; stands = stands } ≡ case_of s t
+unfolding case_of status_of
+evaluated s t ms clean contradicted asides stands all c d i e =
+    let parted = λ (p : Draft → Bool). ap (filter p) all ∙ filter_swap p (is_on t) (in_order s) in
+    let first : clean ≡ messages_on s t = c ∙ parted (λ m. not (is_contradicted s m)) in
+    let second : contradicted ≡ contradicted_on s t = d ∙ parted (is_contradicted s) in
+    let third : asides ≡ asides_of s t = i ∙ ap (λ (xs : List Draft). ascending identity_order (map identity_of xs)) second in
+    let last : stands ≡ transfer_status_of t (messages_on s t) (asides_of s t) = e ∙ (λ n. transfer_status_of t (first n) (third n)) in
+    λ n. record { clean = first n; contradicted = second n; stands = last n }

@@ -6,7 +6,6 @@ pub mod ChangeLemmas
 pub mod CommitLemmas
 pub mod EvaluationLemmas
 pub mod FewLemmas
-pub mod FewerLemmas
 pub mod FiledLemmas
 pub mod GatheredLemmas
 pub mod KeyLemmas
@@ -14,13 +13,11 @@ pub mod LawLemmas
 pub mod ListedLemmas
 pub mod NamedLemmas
 pub mod PartLemmas
-pub mod PlannedLemmas
 pub mod ReadyLemmas
 pub mod RebuildLemmas
 pub mod SetKeys
 pub mod SlotLemmas
 pub mod StandingLemmas
-pub mod StepLemmas
 pub mod SumLemmas
 pub mod TableLemmas
 pub mod ToldLemmas

@@ -1,7 +1,6 @@
 //! The archive and the tables of a view, built from all messages: in one thread, or in as many as there are processors.
 
 ghost use Rattle.std.specs.Prelude.{◌≡◌, ◌<◌, map, IfOk};
-ghost use Rattle.std.specs.FinSet as set;
 ghost use Rattle.std.specs.List.{flat_map};
 ghost use Rattle.std.specs.Thread.{IsSync};
 ghost use Rattle.sct_message.specs.Ascending.{ascending};
@@ -9,15 +8,16 @@ ghost use Rattle.sct_message.specs.Keys.{transfers_of};
 ghost use Rattle.sct_message.specs.Order.{transfer_order};
 ghost use Rattle.sct_message.specs.Sets.{messages_in};
 ghost use Rattle.sct_message.specs.Transfers.{keys_of};
+ghost use Rattle.sct_message.specs.declared.keys.TransferKey.{TransferKey as TransferOf};
 ghost use Rattle.sct_set.specs.Contents.{contents_of};
-ghost use Rattle.sct_view.specs.Changes.{change_in, changes_of};
+ghost use Rattle.sct_view.specs.Changes.{case_after, change_in, changes_of};
 ghost use Rattle.sct_view.specs.Filed.{IsFiled, IsFiledBy};
-ghost use Rattle.sct_view.specs.Kept.{case_of, IsViewOf};
+ghost use Rattle.sct_view.specs.Kept.{case_at, case_of, no_messages, AreCasesOf};
 
 use crate::case::Planned;
 use crate::evaluation::evaluate;
 use crate::filed::{by_transfer, on_transfer, transfers, transfers_in_parts};
-use crate::filling::{Tables, fill};
+use crate::tables::Tables;
 use indexmap::IndexMap;
 use sct_case::CaseFault;
 use sct_message::{Message, TransferKey};
@@ -33,24 +33,14 @@ const WORTH_A_THREAD: usize = 256;
 fn planned_on(
     alloc: Global,
     archive: &Archive,
-    nothing: &Archive,
     index: &IndexMap<TransferKey, Vec<Arc<Message>>>,
     transfer: &TransferKey,
 ) -> Result<Planned, CaseFault>
-    requires nothing { nothing.now ≡ set.empty }
-    requires filed { IsFiled archive.now index.now }
+    requires { IsFiled archive.now index.now }
     ensures { IfOk result (λ planned. change_in planned ≡ (transfer.now, case_of archive.now transfer.now)) }
 {
-    let mut evaluations = 0;
     let messages = on_transfer(index, transfer);
-    let case = evaluate(
-        alloc,
-        archive,
-        nothing,
-        transfer,
-        messages,
-        &mut evaluations,
-    )?;
+    let case = evaluate(alloc, archive, None, transfer, messages)?;
     Ok(Planned {
         transfer: transfer.copy(),
         case,
@@ -67,10 +57,9 @@ fn planned_in_turn(
     requires { IsFiled archive.now index.now }
     ensures { IfOk result (λ planned. map change_in planned.items ≡ changes_of archive.now transfers.now) }
 {
-    let nothing = Archive::new(alloc);
     let mut planned = Vec::with_capacity(alloc, transfers.len())?;
     for transfer in transfers {
-        planned.push(planned_on(alloc, archive, &nothing, index, transfer)?)?;
+        planned.push(planned_on(alloc, archive, index, transfer)?)?;
     }
     Ok(planned)
 }
@@ -229,30 +218,14 @@ fn evaluate_all<R: Threads + Sync>(
     )
 }
 
-// The tables with the planned cases of all transfers of an archive.
-fn tables_of_planned(
-    alloc: Global,
-    archive: &Archive,
-    planned: Vec<Planned>,
-) -> Result<Tables, CaseFault>
-    requires { map change_in planned.items ≡ changes_of archive.now (keys_of archive.now) }
-    ensures { IfOk result (λ tables. IsViewOf archive.now tables.cases tables.totals) }
-{
-    let cases = IndexMap::with_capacity(alloc, planned.len())?;
-    let totals = IndexMap::new(alloc);
-    let mut tables = Tables { cases, totals };
-    fill(archive, &mut tables, planned)?;
-    Ok(tables)
-}
-
 /// The tables of an archive, built in one thread. Each transfer is evaluated once.
 pub(crate) fn tables_of(alloc: Global, archive: &Archive) -> Result<Tables, CaseFault>
-    ensures { IfOk result (λ tables. IsViewOf archive.now tables.cases tables.totals) }
+    ensures { IfOk result (λ tables. AreCasesOf archive.now tables.cases) }
 {
     let index = by_transfer(alloc, archive.messages())?;
     let transfers = transfers(alloc, archive.messages())?;
     let planned = planned_in_turn(alloc, archive, &index, &transfers)?;
-    tables_of_planned(alloc, archive, planned)
+    Tables::of(alloc, planned)
 }
 
 // The tables of an archive. `sorted` has the archive's messages by transfer, and is
@@ -265,16 +238,16 @@ fn tables_in_parts<R: Threads + Sync>(
 ) -> Result<Tables, CaseFault>
     requires filed { IsFiled archive.now sorted.index }
     requires transfers { sorted.transfers.items ≡ keys_of archive.now }
-    ensures { IfOk result (λ tables. IsViewOf archive.now tables.cases tables.totals) }
+    ensures { IfOk result (λ tables. AreCasesOf archive.now tables.cases) }
 {
     let planned = evaluate_all(rt, alloc, archive, &sorted)?;
     let ((), tables) = join(
         rt,
         move || -> () { drop(sorted) },
         move || -> Result<Tables, CaseFault>
-            requires { map change_in planned.items ≡ changes_of archive.now (keys_of archive.now) }
-            ensures { IfOk result (λ tables. IsViewOf archive.entry.now tables.cases tables.totals) }
-        { tables_of_planned(alloc, archive, planned) },
+            ensures { IfOk result (λ tables. (t : TransferOf) → case_at tables.cases t
+                ≡ case_after (map change_in planned.items) (λ t. no_messages) t) }
+        { Tables::of(alloc, planned) },
     );
     tables
 }
@@ -294,7 +267,7 @@ pub(crate) fn filled_in_parts<R: Threads + Sync>(
     messages: &[Arc<Message>],
 ) -> Result<Filled, CaseFault>
     ensures held { IfOk result (λ filled. filled.archive ≡ contents_of (messages_in messages.now)) }
-    ensures kept { IfOk result (λ filled. IsViewOf filled.archive filled.tables.cases filled.tables.totals) }
+    ensures kept { IfOk result (λ filled. AreCasesOf filled.archive filled.tables.cases) }
 {
     let Gathered { archive, sorted } = gather(rt, alloc, messages)?;
     let tables = tables_in_parts(rt, alloc, &archive, sorted)?;

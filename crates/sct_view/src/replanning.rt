@@ -85,26 +85,16 @@ impl View {
         fresh: &Archive,
         transfer: &TransferKey,
         messages: &[Arc<Message>],
-        evaluations: &mut u64,
     ) -> Result<Planned, CaseFault>
-        requires messages { ascending message_order
+        requires { ascending message_order
             ((case_of self.now transfer.now).clean
             ++ (case_of self.now transfer.now).contradicted ++ messages_in messages.now)
             ≡ filter (is_on transfer.now) (in_order (set.union self.now fresh.now)) }
-        requires room { evaluations.old + 1 < 2 ^ 64 }
-        ensures planned { IfOk result (λ planned. change_in planned
+        ensures { IfOk result (λ planned. change_in planned
             ≡ (transfer.now, case_of (set.union self.now fresh.now) transfer.now)) }
-        ensures counted { OnOk result (evaluations.new ≡ evaluations.old + 1) }
     {
         let gathered = self.gather(transfer, messages)?;
-        let case = evaluate(
-            self.alloc,
-            &self.archive,
-            fresh,
-            transfer,
-            &gathered,
-            evaluations,
-        )?;
+        let case = evaluate(self.alloc, &self.archive, Some(fresh), transfer, &gathered)?;
         Ok(Planned {
             transfer: transfer.copy(),
             case,
@@ -128,7 +118,8 @@ impl View {
         let mut planned = Vec::new(self.alloc);
         for transfer in touched {
             let messages = on_transfer(&index, transfer);
-            planned.push(self.evaluate_anew(fresh, transfer, messages, evaluations)?)?;
+            planned.push(self.evaluate_anew(fresh, transfer, messages)?)?;
+            *evaluations += 1;
         }
         Ok(planned)
     }
