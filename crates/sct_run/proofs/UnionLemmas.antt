@@ -3,17 +3,17 @@ use Rattle.std.proofs.Common.{◌≡◌, ◌∙◌, refl, sym, ap, subst, inl, i
 use Rattle.std.specs.FinSet as set
 use Rattle.std.specs.FinSet.{contains-empty, contains-union}
 use Rattle.std.specs.List.{list_any, slice_index_or, Contains}
-use Rattle.std.proofs.lemmas.Bool.{false≢true}
+use Rattle.std.proofs.lemmas.Bool.{false≢true, or_cases}
 use Rattle.std.proofs.lemmas.Bool.Decides.{nat_tests}
+use Rattle.std.proofs.Math.Bool.{or-true}
 use Rattle.sct_message.specs.declared.draft.Draft.{Draft}
 use Rattle.sct_message.specs.Order.{message_order, same_message}
 use Rattle.sct_message.specs.OrderLaws.{message_total}
 use Rattle.sct_set.proofs.ContentsLemmas.{contains-contents_of, same_contents, same_is, same_itself}
 use Rattle.sct_delta.specs.Entries.{Placed, entries_from, holds, messages_of, same_entry}
 use Rattle.sct_delta.specs.Refusals.{has_site}
-use Rattle.sct_delta.proofs.HeldLemmas.{holds_from}
+use Rattle.sct_delta.proofs.HeldLemmas.{holds_from, entry_itself, one_entry}
 use Rattle.sct_site.specs.Cores.{Core}
-use Rattle.sct_world.proofs.HeldLemmas.{either, entry_itself, or_true, same_entry_is}
 use Rattle.sct_world.proofs.KeptLemmas.{HolderOf, some_place}
 use Rattle.sct_lines.specs.Lines.{set_read}
 use Rattle.sct_world.specs.Settling.{AreSettled, core_in, held_by_some}
@@ -33,7 +33,7 @@ pub record IsMessageOf (entries : List Placed) (message : Draft) : Type 0 where
 message_in : (es : List Placed) (m : Draft) → list_any (λ d. same_message d m) (map (λ e. e.message) es) ≡ true → IsMessageOf es m
 message_in [] m is = absurd (false≢true is)
 message_in (x ∷ es) m is =
-    elim (either (same_message x.message m) (list_any (λ d. same_message d m) (map (λ e. e.message) es)) is) as (λ c. IsMessageOf (x ∷ es) m) [
+    elim (or_cases (same_message x.message m) (list_any (λ d. same_message d m) (map (λ e. e.message) es)) is) as (λ c. IsMessageOf (x ∷ es) m) [
       | inl here ↦ record {
         entry = x;
         held = ap (λ (b : Bool). b || holds es x) (entry_itself x);
@@ -43,7 +43,7 @@ message_in (x ∷ es) m is =
           let rest : IsMessageOf es m = message_in es m later in
           record {
             entry = rest.entry;
-            held = ap (λ (b : Bool). same_entry x rest.entry || b) rest.held ∙ or_true (same_entry x rest.entry);
+            held = ap (λ (b : Bool). same_entry x rest.entry || b) rest.held ∙ or-true (same_entry x rest.entry);
             is = rest.is;
           }
     ]
@@ -54,13 +54,13 @@ message_held es m is = message_in es m (sym (contains-contents_of (map (λ e. e.
 in_messages : (es : List Placed) (e : Placed) → holds es e ≡ true → list_any (λ d. same_message d e.message) (map (λ x. x.message) es) ≡ true
 in_messages [] e held = absurd (false≢true held)
 in_messages (x ∷ es) e held =
-    elim (either (same_entry x e) (holds es e) held) as (λ c. (same_message x.message e.message || list_any (λ d. same_message d e.message) (map (λ y. y.message) es)) ≡ true) [
+    elim (or_cases (same_entry x e) (holds es e) held) as (λ c. (same_message x.message e.message || list_any (λ d. same_message d e.message) (map (λ y. y.message) es)) ≡ true) [
       | inl here ↦
-          let same : x ≡ e = same_entry_is x e here in
+          let same : x ≡ e = one_entry x e here in
           ap (λ (b : Bool). b || list_any (λ d. same_message d e.message) (map (λ y. y.message) es))
           (ap (λ (y : Placed). same_message y.message e.message) same ∙ same_itself e.message)
       | inr later ↦
-          ap (λ (b : Bool). same_message x.message e.message || b) (in_messages es e later) ∙ or_true (same_message x.message e.message)
+          ap (λ (b : Bool). same_message x.message e.message || b) (in_messages es e later) ∙ or-true (same_message x.message e.message)
     ]
 
 pub held_message : (es : List Placed) (e : Placed) → holds es e ≡ true → set.contains (messages_of es) e.message ≡ true
@@ -94,7 +94,7 @@ read_at (input ∷ inputs) zero m there read = has_all input inputs m ∙ ap (λ
 read_at (input ∷ inputs) (suc place) m there read =
     has_all input inputs m
     ∙ ap (λ (b : Bool). set.contains (set_read input) m || b) (read_at inputs place m (omega (arith, there)) read)
-    ∙ or_true (set.contains (set_read input) m)
+    ∙ or-true (set.contains (set_read input) m)
 
 -- the number of a site of a group
 record IsNumber (size number : ℕ) : Type 0 where
@@ -140,7 +140,7 @@ read_is_held : (number size : ℕ) (cores : List Core) (inputs : List (List ℕ)
 read_is_held number size cores [] all m read = absurd (false≢true (sym (contains-empty message_order m) ∙ read))
 read_is_held number size [] (input ∷ inputs) all m read = absurd all
 read_is_held number size (core ∷ cores) (input ∷ inputs) all m read =
-    elim (either (set.contains (set_read input) m) (set.contains (set_of_all inputs) m) (sym (has_all input inputs m) ∙ read)) as (λ c. IsHeldBySome (core ∷ cores) m) [
+    elim (or_cases (set.contains (set_read input) m) (set.contains (set_of_all inputs) m) (sym (has_all input inputs m) ∙ read)) as (λ c. IsHeldBySome (core ∷ cores) m) [
       | inl here ↦
           let one : IsMessageOf core.arrivals m = message_held core.arrivals m (all.0.holds_all m here) in
           record {
@@ -152,7 +152,7 @@ read_is_held number size (core ∷ cores) (input ∷ inputs) all m read =
           let rest : IsHeldBySome cores m = read_is_held (number + 1) size cores inputs all.1 m later in
           record {
             entry = rest.entry;
-            held = ap (λ (b : Bool). holds core.arrivals rest.entry || b) rest.held ∙ or_true (holds core.arrivals rest.entry);
+            held = ap (λ (b : Bool). holds core.arrivals rest.entry || b) rest.held ∙ or-true (holds core.arrivals rest.entry);
             is = rest.is;
           }
     ]
@@ -187,7 +187,7 @@ record IsReadFrom (inputs : List (List ℕ)) (message : Draft) : Type 0 where
 read_from : (inputs : List (List ℕ)) (m : Draft) → set.contains (set_of_all inputs) m ≡ true → IsReadFrom inputs m
 read_from [] m read = absurd (false≢true (sym (contains-empty message_order m) ∙ read))
 read_from (input ∷ inputs) m read =
-    elim (either (set.contains (set_read input) m) (set.contains (set_of_all inputs) m) (sym (has_all input inputs m) ∙ read)) as (λ c. IsReadFrom (input ∷ inputs) m) [
+    elim (or_cases (set.contains (set_read input) m) (set.contains (set_of_all inputs) m) (sym (has_all input inputs m) ∙ read)) as (λ c. IsReadFrom (input ∷ inputs) m) [
       | inl here ↦ record { input = input; there = (0, omega arith, refl); read = here }
       | inr later ↦
           let rest : IsReadFrom inputs m = read_from inputs m later in
@@ -207,7 +207,7 @@ from_place (first ∷ inputs) zero input m below is read =
 from_place (first ∷ inputs) (suc k) input m below is read =
     has_all first inputs m
     ∙ ap (λ (b : Bool). set.contains (set_read first) m || b) (from_place inputs k input m (omega (arith, below)) is read)
-    ∙ or_true (set.contains (set_read first) m)
+    ∙ or-true (set.contains (set_read first) m)
 
 moved : (some others : List (List ℕ)) → ((input : List ℕ) → Contains some input → Contains others input) → (m : Draft)
     → set.contains (set_of_all some) m ≡ true → set.contains (set_of_all others) m ≡ true

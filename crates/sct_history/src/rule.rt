@@ -4,9 +4,9 @@ use logbook::{Gain, Plain, Play, Rule};
 use sct_delta::Entry;
 
 /// The rule: the word that threads share is the length of the history.
-pub struct Law;
+pub struct HistoryRule;
 
-impl Rule<Entry, u64> for Law {
+impl Rule<Entry, u64> for HistoryRule {
     ghost use Rattle.std.specs.Prelude.{[]};
     ghost use base.Fml.{ftrue};
     ghost use Rattle.sct_history.specs.Rules.{IsKept};
@@ -24,26 +24,26 @@ impl Rule<Entry, u64> for Law {
     ghost moves = { λ ask before after answer. Unit {0} };
 }
 
-/// The trade of callers: nothing.
-pub(crate) struct Nothing;
+/// What a caller trades with the history: nothing.
+pub(crate) struct NoTrade;
 
-impl Gain<Entry, u64> for Nothing {
+impl Gain<Entry, u64> for NoTrade {
     ghost use base.Fml.{ftrue};
 
     ghost after = { λ names about answer. ftrue };
 }
 
 /// The step that adds an arrival.
-pub(crate) struct Add;
+pub(crate) struct Append;
 
-impl Play<Entry, u64> for Add {
+impl Play<Entry, u64> for Append {
     ghost use Rattle.sct_history.specs.Rules.{Adds};
 
     ghost then = { Adds };
 }
 
 /// The input of the step: the arrival.
-impl Plain<Entry, Entry, u64> for Add {
+impl Plain<Entry, Entry, u64> for Append {
     ghost use Rattle.std.specs.Prelude.{None};
 
     ghost ask = { λ entry. entry };
