@@ -1,6 +1,6 @@
 -- The one message of a list that passes a test, found among shared messages. Proof plumbing.
 use Rattle.std.specs.Prelude.{◌≢◌}
-use Rattle.std.proofs.Common.{◌≡◌, ◌∙◌, refl, sym, ap, ℕ, Bool, true, List, [], ◌∷◌, length, map, filter, find, Some, None, option_map, arith}
+use Rattle.std.proofs.Common.{◌≡◌, ◌∙◌, refl, sym, ap, ℕ, Bool, true, List, [], ◌∷◌, length, map, filter, find, None, option_map, arith}
 use Rattle.std.specs.List.{count_by}
 use Rattle.std.proofs.lemmas.List.Sums.{length-filter}
 use Rattle.sct_message.specs.Transfers.{sole}

@@ -1,9 +1,9 @@
 -- The transfers that a batch touches, found message by message, and that they are few. Proof plumbing.
-use Rattle.std.proofs.Common.{◌≡◌, ℕ, ◌+◌, ◌*◌, ◌≤◌, Bool, true, false, cond, not, ◌&&◌, ◌||◌, List, [], ◌∷◌, ◌++◌, length, refl, sym, ap, ◌∙◌, filter, arith, length-append}
+use Rattle.std.proofs.Common.{◌≡◌, ℕ, ◌*◌, ◌≤◌, Bool, true, false, not, ◌&&◌, ◌||◌, List, [], ◌∷◌, ◌++◌, length, refl, sym, ap, ◌∙◌, filter, arith, length-append}
 use Rattle.std.proofs.Math.Nat.{mul_comm, mul-le-mul_right}
 use Rattle.std.specs.Arc.{arc_value}
 use Rattle.std.specs.FinSet as set
-use Rattle.std.specs.FinSet.{contains-difference, contains-from_list, contains-items, len-empty, len-insert}
+use Rattle.std.specs.FinSet.{contains-from_list, contains-items, len-empty, members}
 use Rattle.std.specs.Global.{Global}
 use Rattle.std.specs.Cmp.{eq_by_cmp_equiv}
 use Rattle.std.specs.List.{flat_map, list_any}
@@ -108,8 +108,7 @@ module _ (s : MessageSet) (ns : List Draft) (apart : (m : Draft) → set.contain
         ∙ ap (λ b. list_any (λ n. at n) ns || b)
         (any_swap (λ n m. meets n m && at m) ns (set.items s)
         ∙ any_alike (λ m. list_any (λ n. meets n m && at m) ns) (λ m. is_newly_contradicted s (contents_of ns) m && at m) (set.items s) one_of_them)
-        ∙ grind (arith, list_any-append (same_transfer q) (flat_map transfers_of fresh) (flat_map transfers_of newly), any_flat_map (same_transfer q) transfers_of fresh, any_items (λ n. at n) ns,
-        any_flat_map (same_transfer q) transfers_of newly, list_any-filter (λ m. at m) (is_newly_contradicted s (contents_of ns)) (set.items s))
+        ∙ grind (arith, list_any-append (same_transfer q), any_flat_map (same_transfer q) transfers_of, any_items (λ n. at n) ns, list_any-filter (λ m. at m) (is_newly_contradicted s (contents_of ns)) (set.items s))
 
   -- the transfers touched are those that the fresh messages touch, one by one
   touched_list : ascending transfer_order (flat_map (touched_by_one s) ns) ≡ touched_by s (contents_of ns)
@@ -196,17 +195,12 @@ few_of_one most s n own held =
 
 length_is : (ds : List Draft) → AreApart same_message ds → set.len (contents_of ds) ≡ length ds
 length_is [] apart = len-empty message_order
-length_is (d ∷ ds) apart =
-    let absent : set.contains (contents_of ds) d ≡ false = contains-from_list message_total ds d ∙ apart.0 in
-    let more = len-insert message_total (contents_of ds) d ∙ ap (λ b. cond b (set.len (contents_of ds)) (set.len (contents_of ds) + 1)) absent in
-    omega (arith, length_is ds apart.1, more)
+length_is (d ∷ ds) apart = grind (arith, members, message_total, apart.0, length_is ds apart.1)
 
 -- the messages of a set in order are its messages
 pub contents_in_order : (s : MessageSet) → contents_of (in_order s) ≡ s
 contents_in_order s = same_contents _ _ (λ m.
-    contains-from_list message_total (in_order s) m
-    ∙ members_ascending message_total message_same (set.items s) m
-    ∙ sym (contains-items s m))
+    grind (arith, members, message_total, members_ascending message_total message_same (set.items s) m, contains-items s m))
 
 pub length_in_order : (s : MessageSet) → length (in_order s) ≡ set.len s
 length_in_order s = sym (length_is (in_order s) (in_order_apart s)) ∙ ap (λ (t : MessageSet). set.len t) (contents_in_order s)
@@ -215,7 +209,7 @@ length_in_order s = sym (length_is (in_order s) (in_order_apart s)) ∙ ap (λ (
 
 -- a fresh message is of the batch, and not held
 fresh_parts : (held batch : MessageSet) (m : Draft) → set.contains (fresh_of held batch) m ≡ true → (set.contains batch m ≡ true) × (set.contains held m ≡ false)
-fresh_parts held batch m h = grind (arith, contains-difference message_total batch held m)
+fresh_parts held batch m h = grind (arith, members, message_total)
 
 pub fresh_apart : (held batch : MessageSet) (m : Draft) → set.contains (fresh_of held batch) m ≡ true → set.contains held m ≡ false
 fresh_apart held batch m h = (fresh_parts held batch m h).1

@@ -1,18 +1,17 @@
 -- The messages of a transfer gathered from what was kept and what is fresh, and which messages of a batch are fresh.
 -- Proof plumbing.
-use Rattle.std.proofs.Common.{◌≡◌, ℕ, ◌+◌, ◌<◌, Bool, true, false, not, ◌&&◌, ◌||◌, List, [], ◌∷◌, ◌++◌, length, take, get_or, refl, sym, ap, ◌∙◌, filter, arith}
+use Rattle.std.proofs.Common.{◌≡◌, ℕ, ◌+◌, ◌<◌, true, false, List, [], ◌∷◌, ◌++◌, length, take, get_or, refl, sym, ap, ◌∙◌, filter, arith}
 use Rattle.std.specs.FinSet as set
-use Rattle.std.specs.FinSet.{contains-difference, contains-empty, contains-from_list, contains-insert, contains-items, contains-union}
+use Rattle.std.specs.FinSet.{contains-items, members}
 use Rattle.std.specs.Prelude.{if◌then◌else◌}
 use Rattle.std.specs.Arc.{arc_value}
 use Rattle.std.specs.Global.{Global}
 use Rattle.std.specs.declared.sync.Arc.{Arc}
-use Rattle.std.specs.List.{list_any}
 use Rattle.std.proofs.lemmas.List.Folds.{list_any-append}
 use Rattle.sct_message.specs.Ascending.{ascending}
 use Rattle.sct_message.specs.Order.{message_order, same_message}
 use Rattle.sct_message.specs.OrderLaws.{message_total, message_same}
-use Rattle.sct_message.specs.Sets.{MessageSet, clean_messages, contradicted_messages, in_order, is_contradicted, messages_in}
+use Rattle.sct_message.specs.Sets.{MessageSet, in_order, is_contradicted, messages_in}
 use Rattle.sct_message.specs.Transfers.{is_on, messages_on}
 use Rattle.sct_message.specs.declared.draft.Draft.{Draft}
 use Rattle.sct_message.specs.declared.keys.TransferKey.{TransferKey}
@@ -20,7 +19,7 @@ use Rattle.sct_message.proofs.AscendingLemmas.{ascending-filter, ascending-same,
 use Rattle.sct_message.proofs.Members.{tie_is}
 use Rattle.sct_set.specs.Contents.{contents_of}
 use Rattle.sct_set.proofs.ArchiveLemmas.{drafts_in-more}
-use Rattle.sct_set.proofs.ContentsLemmas.{contents-push, same_contents}
+use Rattle.sct_set.proofs.ContentsLemmas.{same_contents}
 use Rattle.sct_view.specs.Changes.{Change, case_after}
 use Rattle.sct_view.specs.Filed.{HasThose}
 use Rattle.sct_view.specs.Kept.{contradicted_on}
@@ -37,18 +36,16 @@ pub gathered_those : (s : MessageSet) (ns : List Draft) (t : TransferKey) (on_it
 gathered_those s ns t on_it those =
     let all = set.union s (contents_of ns) in
     ascending-same message_total message_same (messages_on s t ++ contradicted_on s t ++ on_it) (filter (is_on t) (set.items all)) (λ q.
-    grind (arith, those q, among_picked (is_on t) q ns, among_picked (is_on t) q (set.items all), among_picked (is_on t) q (clean_messages s), among_picked (is_on t) q (contradicted_messages s),
-    list_any-append (same_message q) (messages_on s t ++ contradicted_on s t) on_it, list_any-append (same_message q) (messages_on s t) (contradicted_on s t),
-    split (same_message q) (is_contradicted s) (in_order s), members_ascending message_total message_same (set.items s) q, contains-items s q,
-    contains-from_list message_total ns q, contains-union message_total s (contents_of ns) q, contains-items all q))
+    let parts = split (same_message q) (is_contradicted s) (in_order s) in
+    let held = members_ascending message_total message_same (set.items s) q in
+    grind (arith, members, message_total, those q, parts, held, contains-items s q, contains-items all q, among_picked (is_on t) q, list_any-append (same_message q)))
     ∙ ascending-filter message_total message_same (is_on t) (set.items all)
 
 -- ---- the fresh messages of a batch
 
 -- no message is fresh in an empty batch
 pub fresh_none : (held : MessageSet) → fresh_of held (contents_of []) ≡ set.empty
-fresh_none held = same_contents _ _ (λ d.
-    grind (arith, contains-difference message_total (contents_of []) held d, contains-empty message_order d))
+fresh_none held = same_contents _ _ (λ d. grind (arith, members, message_total))
 
 -- one message more in the batch is fresh where it is not held
 fresh_push : (held : MessageSet) (ds : List Draft) (m : Draft) → (if set.contains held m then fresh_of held (contents_of ds) else set.insert (fresh_of held (contents_of ds)) m)
@@ -57,12 +54,8 @@ fresh_push held ds m =
     let before = fresh_of held (contents_of ds) in
     let same = λ (d : Draft) (e : same_message d m ≡ true). ap (set.contains held) (tie_is message_total message_same d m e) in
     elim (set.contains held m) as (λ b. set.contains held m ≡ b → (if b then before else set.insert before m) ≡ fresh_of held (contents_of (ds ++ m ∷ []))) [
-      | true ↦ λ is. same_contents _ _ (λ d.
-          grind (arith, is, same d, contains-difference message_total (contents_of ds) held d, contains-difference message_total (contents_of (ds ++ m ∷ [])) held d,
-          ap (λ (s : MessageSet). set.contains s d) (contents-push ds m), contains-insert message_total (contents_of ds) m d))
-      | false ↦ λ is. same_contents _ _ (λ d.
-          grind (arith, is, same d, contains-difference message_total (contents_of ds) held d, contains-difference message_total (contents_of (ds ++ m ∷ [])) held d,
-          ap (λ (s : MessageSet). set.contains s d) (contents-push ds m), contains-insert message_total (contents_of ds) m d, contains-insert message_total before m d))
+      | true ↦ λ is. same_contents _ _ (λ d. grind (arith, members, message_total, is, same d, list_any-append (same_message d) ds (m ∷ [])))
+      | false ↦ λ is. same_contents _ _ (λ d. grind (arith, members, message_total, is, same d, list_any-append (same_message d) ds (m ∷ [])))
     ] refl
 
 -- ---- changes

@@ -1,7 +1,6 @@
 -- The laws of the answers. Proof plumbing.
 use Rattle.std.proofs.Common.{◌≡◌, ℕ, ◌+◌, Bool, true, false, List, length, refl, sym, ap, ◌∙◌, filter, Option, Some, arith, rules}
-use Rattle.std.specs.FinSet as set
-use Rattle.std.specs.FinSet.{contains-union}
+use Rattle.std.specs.FinSet.{members}
 use Rattle.std.specs.Prelude.{if◌then◌else◌}
 use Rattle.std.specs.List.{list_any, sum_by}
 use Rattle.std.specs.Cmp.{eq_by_cmp_equiv}
@@ -40,9 +39,7 @@ equal_texts = record {
 }
 
 pub any_order : OrderOfBatchesDoesNotMatter
-any_order held one other =
-    same_contents _ _ (λ d.
-    grind (arith, contains-union message_total (set.union held one) other d, contains-union message_total held one d, contains-union message_total (set.union held other) one d, contains-union message_total held other d))
+any_order held one other = same_contents _ _ (λ d. grind (arith, members, message_total))
 
 -- ---- a number summed over all banks
 
@@ -146,10 +143,13 @@ money_is_conserved = record {
 
 counted_over : (f : TransferKey → Totals) (ts : List TransferKey) → counted_in (totals_over f ts) ≡ sum_by (λ t. counted_in (f t)) ts
 counted_over f ts =
-    omega (arith, sum_both (λ t. (f t).sent) (λ t. (f t).rejected) ts,
-    sum_both (λ t. (f t).sent + (f t).rejected) (λ t. (f t).waiting) ts,
-    sum_both (λ t. (f t).sent + (f t).rejected + (f t).waiting) (λ t. (f t).missing) ts,
-    sum_both (λ t. (f t).sent + (f t).rejected + (f t).waiting + (f t).missing) (λ t. (f t).contradicted) ts)
+    omega (
+      arith,
+      sum_both (λ t. (f t).sent) (λ t. (f t).rejected) ts,
+      sum_both (λ t. (f t).sent + (f t).rejected) (λ t. (f t).waiting) ts,
+      sum_both (λ t. (f t).sent + (f t).rejected + (f t).waiting) (λ t. (f t).missing) ts,
+      sum_both (λ t. (f t).sent + (f t).rejected + (f t).waiting + (f t).missing) (λ t. (f t).contradicted) ts,
+    )
 
 share_counted : (bank : List ℕ) (t : TransferKey) (stands : Standing) (instruction : Option Draft) → is_known stands ≡ true
     → counted_in (share bank t stands instruction) ≡ (if is_originator bank t then 1 else 0)

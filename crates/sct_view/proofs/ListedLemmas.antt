@@ -1,13 +1,12 @@
 -- What is listed out of the tables of a view is what is listed of the set. Proof plumbing.
 use Rattle.std.specs.FinSet as set
-use Rattle.std.proofs.Common.{◌≡◌, ◌∙◌, refl, sym, ap, subst, ℕ, ◌==◌, ◌&&◌, Bool, true, false, not, Option, Some, None, is_some, List, length, arith}
+use Rattle.std.proofs.Common.{◌≡◌, ◌∙◌, refl, sym, ap, subst, ℕ, ◌==◌, ◌&&◌, Bool, false, not, Option, Some, None, is_some, List, length, arith}
 use Rattle.std.specs.Option.{option_map_or}
 use Rattle.std.specs.List.{list_any, IsDistinct}
 use Rattle.std.specs.Cmp.{IsEquivalence}
 use Rattle.std.specs.Cmp.Lexicographic.{nat_list_cmp_total, nat_list_eq_equiv, texts_ties}
 use Rattle.std.specs.List.Sorted.{IsStrictlySortedBy}
 use Rattle.std.specs.Map.{keys_of, lookup}
-use Rattle.std.specs.Ordering.{eq_by_cmp}
 use Rattle.std.proofs.lemmas.Cmp.{eq_by_cmp_equiv}
 use Rattle.std.proofs.lemmas.List.{length-map}
 use Rattle.std.proofs.lemmas.List.Kept.{IsStrictlySortedBy-filter}
@@ -17,7 +16,7 @@ use Rattle.std.specs.Arc.{arc_value}
 use Rattle.indexmap.specs.IndexMap.{IndexMap, get, IsUnique}
 use Rattle.sct_element.specs.Text.{is_text}
 use Rattle.sct_message.specs.Ascending.{ascending}
-use Rattle.sct_message.specs.Order.{transfer_order, same_transfer, text_order}
+use Rattle.sct_message.specs.Order.{transfer_order, text_order}
 use Rattle.sct_message.specs.OrderLaws.{message_total, message_same, transfer_total, transfers_same}
 use Rattle.sct_message.specs.Sets.{MessageSet, clean_messages, contradicted_messages, in_order, is_contradicted}
 use Rattle.sct_message.specs.Transfers.{is_on, keys_of as keys_held}
@@ -36,8 +35,7 @@ use Rattle.sct_view.proofs.StandingLemmas.{some_left, split}
 -- ---- the entries of a map that pass a test
 
 filtered : {V : Type 0} (p : V → Bool) (o : Option V) → is_some (option_filter p o) ≡ option_map_or p o false
-filtered p None = refl
-filtered p (Some v) = grind arith
+filtered p o = grind arith
 
 -- a key is among them exactly where what the map has of it passes
 found_passing : {K V : Type 0} {E : K → K → Bool} (p : V → Bool) → IsEquivalence E → (q : K) (es : List (K × V)) → IsDistinct E (keys_of es)
@@ -78,8 +76,7 @@ keys_listed s cases unique are =
 -- ---- banks
 
 something_at : (o : Option Totals) → option_map_or is_something o false ≡ is_something (totals_or_none o)
-something_at None = refl
-something_at (Some totals) = refl
+something_at o = grind arith
 
 banks_rise : (s : MessageSet) → IsStrictlySortedBy text_order (banks_of s)
 unfolding banks_of

@@ -1,5 +1,5 @@
 -- Where the transfers of a set stand: none is unknown, and one that was accepted has one instruction. Proof plumbing.
-use Rattle.std.proofs.Common.{◌≡◌, ℕ, Bool, true, false, not, ◌||◌, List, [], ◌∷◌, length, map, refl, sym, ◌∙◌, Option, Some, filter, arith, length-append}
+use Rattle.std.proofs.Common.{◌≡◌, Bool, true, false, not, ◌||◌, List, [], ◌∷◌, length, map, refl, sym, ◌∙◌, Option, Some, filter, arith, length-append}
 use Rattle.std.specs.FinSet as set
 use Rattle.std.specs.Prelude.{◌==◌, nat_lt}
 use Rattle.std.specs.List.{flat_map, list_all, list_any}

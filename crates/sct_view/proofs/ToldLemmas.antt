@@ -1,5 +1,5 @@
 -- What is told of a transfer by what is kept of it is what is told of it in the set. Proof plumbing.
-use Rattle.std.proofs.Common.{◌≡◌, ◌∙◌, refl, sym, ap, ℕ, Bool, true, false, not, Option, List, [], ◌∷◌, ◌++◌, filter, append-nil, append_assoc, arith}
+use Rattle.std.proofs.Common.{◌≡◌, ◌∙◌, refl, sym, ap, ℕ, Bool, false, not, Option, List, [], ◌∷◌, ◌++◌, filter, append-nil, append_assoc, arith}
 use Rattle.std.specs.List.{list_any, flat_map}
 use Rattle.std.specs.List.Sorted.{IsStrictlySortedBy}
 use Rattle.std.specs.Ordering.{eq_by_cmp}
@@ -58,9 +58,7 @@ given_where f p none (x ∷ xs) = grind (arith, none x, given_where f p none xs)
 -- of two parts of a list, what is named in them is what is named in the list
 both_name : {X Y : Type 0} (f : X → List Y) (c : X → Bool) (q : Y → Bool) (xs : List X)
     → list_any q (flat_map f (filter (λ x. not (c x)) xs) ++ flat_map f (filter c xs)) ≡ list_any q (flat_map f xs)
-both_name f c q xs =
-    let clean = filter (λ x. not (c x)) xs in
-    grind (arith, list_any-append q (flat_map f clean) (flat_map f (filter c xs)), any_flat_map q f clean, any_flat_map q f (filter c xs), any_flat_map q f xs, split (λ x. list_any q (f x)) c xs)
+both_name f c q xs = grind (arith, list_any-append q, any_flat_map q f, split (λ x. list_any q (f x)) c xs)
 
 -- the recalls that the messages kept of a transfer name are those that the messages of the set name
 pub recalls_kept : (s : MessageSet) (t : TransferKey) (case : Kept) → case ≡ case_of s t → recalls_in t case ≡ recalls_of s t

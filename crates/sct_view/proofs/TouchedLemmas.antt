@@ -1,7 +1,7 @@
 -- Transfers that a batch does not touch. Proof plumbing.
-use Rattle.std.proofs.Common.{◌≡◌, ℕ, Bool, true, false, not, ◌&&◌, ◌||◌, List, [], ◌∷◌, ◌++◌, map, refl, sym, ap, subst, ◌∙◌, filter, arith}
+use Rattle.std.proofs.Common.{◌≡◌, Bool, true, false, not, ◌&&◌, List, [], ◌∷◌, ◌++◌, map, refl, sym, ap, subst, ◌∙◌, filter, arith}
 use Rattle.std.specs.FinSet as set
-use Rattle.std.specs.FinSet.{contains-difference, contains-items, contains-union}
+use Rattle.std.specs.FinSet.{contains-items, members}
 use Rattle.std.specs.List.{flat_map, list_any}
 use Rattle.std.proofs.lemmas.Bool.{and_from, false_from_ne_true, false≢true, or_parts}
 use Rattle.std.proofs.lemmas.List.Folds.{list_any-append}
@@ -19,10 +19,10 @@ use Rattle.sct_message.proofs.Members.{list_any-filter, list_any-found, tie_is}
 use Rattle.sct_case.specs.Statuses.{recall_status_of, transfer_status_of}
 use Rattle.sct_case.specs.Told.{findings_of}
 use Rattle.sct_set.proofs.ContentsLemmas.{same_contents}
-use Rattle.sct_view.specs.Answers.{found_on, recall_of, recalls_of, status_of}
+use Rattle.sct_view.specs.Answers.{found_on, recall_of, status_of}
 use Rattle.sct_view.specs.Kept.{case_of, contradicted_on}
 use Rattle.sct_view.specs.Listed.{recalls_in}
-use Rattle.sct_view.specs.Totals.{share, share_of}
+use Rattle.sct_view.specs.Totals.{share}
 use Rattle.sct_view.specs.Touched.{IsToldAlike, UntouchedTransfersStay, fresh_of, is_newly_contradicted, touched_by}
 use Rattle.sct_view.proofs.EvaluationLemmas.{among_picked, contradicted_in_union}
 use Rattle.sct_view.proofs.PartLemmas.{any_flat_map}
@@ -83,7 +83,7 @@ module _ (s f : MessageSet) (t : TransferKey) (untouched : IsUntouched s f t) wh
   parted_alike a =
       filter_filter (is_on t) (λ m. a (is_contradicted (set.union s f) m)) (in_order (set.union s f))
       ∙ picked_alike (set.union s f) s (λ m. a (is_contradicted (set.union s f) m) && is_on t m) (λ m. a (is_contradicted s m) && is_on t m)
-      (λ m. grind (arith, contains-union message_total s f m, untouched.not_fresh m, untouched.not_newly m, contradicted_in_union s f m))
+      (λ m. grind (arith, members, message_total, untouched.not_fresh m, untouched.not_newly m, contradicted_in_union s f m))
       ∙ sym (filter_filter (is_on t) (λ m. a (is_contradicted s m)) (in_order s))
 
   same_messages : messages_on (set.union s f) t ≡ messages_on s t
@@ -124,8 +124,7 @@ module _ (s f : MessageSet) (t : TransferKey) (untouched : IsUntouched s f t) wh
 
 -- to join the fresh messages of a batch is to join the batch
 pub union-fresh : (held batch : MessageSet) → set.union held (fresh_of held batch) ≡ set.union held batch
-union-fresh held batch = same_contents _ _ (λ d.
-    grind (arith, contains-union message_total held (fresh_of held batch) d, contains-difference message_total batch held d, contains-union message_total held batch d))
+union-fresh held batch = same_contents _ _ (λ d. grind (arith, members, message_total))
 
 pub untouched_stay : UntouchedTransfersStay
 untouched_stay held batch t away =
