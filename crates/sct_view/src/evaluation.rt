@@ -9,8 +9,8 @@ ghost use Rattle.sct_message.specs.Transfers.{is_on};
 ghost use Rattle.sct_view.specs.Changes.{with_fresh};
 ghost use Rattle.sct_view.specs.Kept.{case_of, kept_in};
 
+use crate::by_transfer::{identities, in_order};
 use crate::case::Case;
-use crate::filed::{identities, in_order};
 use sct_case::{CaseFault, transfer_status};
 use sct_message::{Message, TransferKey};
 use sct_set::Archive;

@@ -2,16 +2,15 @@
 //! findings, and the totals of each bank.
 #![tactic(auto)]
 
+mod batch;
+mod build;
+mod by_transfer;
 mod case;
 mod euros;
 mod evaluation;
-mod filed;
-mod found;
+mod findings;
 pub mod laws;
 mod listed;
-mod parts;
-mod plan;
-mod replanning;
 mod status_parts;
 mod status_text;
 mod tables;

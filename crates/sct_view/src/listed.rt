@@ -9,7 +9,7 @@ ghost use Rattle.sct_view.specs.Kept.{kept_in, instruction_in};
 ghost use Rattle.sct_view.specs.Listed.{cxls_in, recalls_in};
 
 use crate::case::Case;
-use crate::found::{findings_in, push_beside};
+use crate::findings::{findings_in, push_beside};
 use crate::view::View;
 use sct_case::{CaseFault, Finding};
 use sct_element::{Bic, Id35};

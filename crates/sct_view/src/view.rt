@@ -13,9 +13,9 @@ ghost use Rattle.sct_view.specs.Kept.{case_of, kept_or_none};
 ghost use Rattle.sct_view.specs.Totals.{totals_of};
 ghost use Rattle.sct_view.specs.Touched.{AreOnAtMost, touched_in};
 
+use crate::batch::Replanned;
+use crate::build::{filled_in_parts, tables_of};
 use crate::case::Case;
-use crate::parts::{filled_in_parts, tables_of};
-use crate::replanning::Replanned;
 use crate::tables::{Tables, make_room};
 use crate::totals::Totals;
 use sct_case::{CaseFault, RecallStatus, Status, recall_status_by};
