@@ -26,18 +26,21 @@ ghost use Rattle.sct_engine.specs.Engine.{
   refused_of,
   told_of,
   told_text_if_told,
-  IsBadLimit,
+  AreCutOff,
   EndsListing,
-  IsCutOff,
+  IsBadLimit,
+  IsDone,
   IsInputOf,
   IsListOf,
   IsNoInputOf,
+  IsPastLimit,
+  IsReadWhole,
   IsRefusedInput,
-  IsWritten,
   StandsOnList,
 };
 ghost use Rattle.sct_engine.specs.Fault.{failed_reads};
-ghost use Rattle.sct_streams.specs.Stream.{HasTakenIfTold};
+ghost use Rattle.sct_engine.specs.Stream.{streams};
+ghost use Rattle.sct_streams.specs.Stream.{HasTakenIfTold, IsWritten};
 
 use crate::answers::{Answer, Question, answer_of_messages};
 use crate::fault::ProgramFault;
@@ -144,45 +147,30 @@ pub fn engine<T: Threads + Sync, R: Source, O: Sink, E: Sink>(
     out: &mut O,
     err: &mut E,
 ) -> Result<Done, ProgramFault>
-    // The whole of an input within the limit was read, and each stream got its text.
-    ensures input { OnOk result (IfSome (R.left reader.old)
-        (λ input. (length input ≤ limit) × (R.left reader.new ≡ Some []))) }
-    ensures told { OnOk result (IsWritten
-        (E.failures err.old) (E.failures err.new) (E.held err.old) (E.held err.new)
-        (told_text_if_told job.now (R.left reader.old))) }
-    ensures text { OnOk result (IsWritten
-        (O.failures out.old) (O.failures out.new) (O.held out.old) (O.held out.new)
-        (job_text_if_told job.now (R.left reader.old))) }
-    ensures refused { IfOk result (λ done. IfSome (R.left reader.old)
-        (λ input. done.refused ≡ refused_of job.now input)) }
+    ensures done { IfOk result (λ done. IsDone job.now limit
+        (streams (R.state reader.old) (O.state out.old) (E.state err.old))
+        (streams (R.state reader.new) (O.state out.new) (E.state err.new))
+        done.refused) }
 
     // The cases of each fault.
-    ensures limit { IsBadLimit limit → result ≡ Err fault.Usage }
+    ensures limit { IsBadLimit limit → (result ≡ Err fault.Usage) × (reader.new ≡ reader.old) }
     ensures usage { result ≡ Err fault.Usage
-        → IsBadLimit limit ⊎ IsRefusedInput job.now limit (R.left reader.old) (R.left reader.new) }
+        → IsBadLimit limit ⊎ IsRefusedInput job.now limit (R.state reader.old) (R.state reader.new) }
     ensures list { StandsOnList (bad_row_of job.now) result }
-    ensures taken { OnOk result (IfSome (R.left reader.old) (IsInputOf job.now)) }
-    ensures too_long { result ≡ Err fault.TooLong → IfSome (R.left reader.old) (λ input. limit < length input) }
-    ensures passed { result ≡ Err fault.TooLong
-        → HasTakenIfTold (R.left reader.old) (R.left reader.new) (limit + 1) }
-    ensures cut_input { result ≡ Err fault.Read
-        → (n : ℕ) × ((n ≤ limit) × HasTakenIfTold (R.left reader.old) (R.left reader.new) n) }
-    ensures reads { OnOk result (R.failures reader.new ≡ R.failures reader.old) }
-    ensures failed_read { IfErr result (λ e. R.failures reader.new ≡ R.failures reader.old + failed_reads e) }
-    ensures cut_off { result ≡ Err fault.Write
-        → (IsCutOff (E.failures err.old) (E.failures err.new) (E.held err.old) (E.held err.new)
-        (told_text_if_told job.now (R.left reader.old)) × (out.new ≡ out.old))
-        ⊎ (IsWritten (E.failures err.old) (E.failures err.new) (E.held err.old) (E.held err.new)
-        (told_text_if_told job.now (R.left reader.old))
-        × IsCutOff (O.failures out.old) (O.failures out.new) (O.held out.old) (O.held out.new)
-        (job_text_if_told job.now (R.left reader.old))) }
-
-    ensures whole { result ≡ Err fault.Write → IfSome (R.left reader.old)
-        (λ input. (length input ≤ limit) × (R.left reader.new ≡ Some [])) }
-
-    // The streams after the other faults.
-    ensures unread { IsBadLimit limit → reader.new ≡ reader.old }
     ensures unlisted { (row : ℕ) → result ≡ Err (fault.BadList row) → reader.new ≡ reader.old }
+    ensures too_long { result ≡ Err fault.TooLong
+        → IsPastLimit limit (R.state reader.old) (R.state reader.new) }
+    ensures cut_input { result ≡ Err fault.Read
+        → (n : ℕ) × ((n ≤ limit) × HasTakenIfTold (R.state reader.old).left (R.state reader.new).left n) }
+    ensures failed_read { IfErr result (λ e. (R.state reader.new).failures
+        ≡ (R.state reader.old).failures + failed_reads e) }
+    ensures whole { result ≡ Err fault.Write → IsReadWhole limit (R.state reader.old) (R.state reader.new) }
+    ensures cut_off { result ≡ Err fault.Write
+        → AreCutOff (E.state err.old) (E.state err.new) (O.state out.old) (O.state out.new)
+        (told_text_if_told job.now (R.state reader.old).left)
+        (job_text_if_told job.now (R.state reader.old).left) }
+    ensures order { result ≡ Err fault.Write → (out.new ≡ out.old)
+        ⊎ IsWritten (E.state err.old) (E.state err.new) (told_text_if_told job.now (R.state reader.old).left) }
     ensures unwritten { IfErr result (λ e. e ≢ fault.Write → (out.new ≡ out.old) × (err.new ≡ err.old)) }
 {
     if limit == 0 || limit > MOST_BYTES {
