@@ -1,5 +1,5 @@
 -- The texts that the engine writes for an input, and how a run of it ends. Read by an auditor.
-use Rattle.std.specs.Prelude.{ℕ, ◌≡◌, ◌+◌, ◌<◌, ◌≤◌, ◌⊎◌, List, [], length, Option, Some, None, IfSome, IsSome, Result, Ok, Err}
+use Rattle.std.specs.Prelude.{ℕ, ◌≡◌, ◌+◌, ◌<◌, ◌≤◌, ◌⊎◌, List, [], length, Option, Some, None, IfSome, IsSome, Result, Ok, Err, string_bytes}
 use Rattle.std.specs.Option.{option_map}
 use Rattle.sct_engine.specs.declared.jobs.Job.{Job}
 use Rattle.sct_engine.specs.declared.fault.ProgramFault.{ProgramFault}
@@ -10,6 +10,7 @@ use Rattle.sct_reconcile.specs.declared.fault.ReconcileFault.{ReconcileFault}
 use Rattle.sct_reconcile.specs.declared.fault.ReconcileFault.TheVariants.{BadList}
 use Rattle.sct_reconcile.specs.declared.rows.ListedRow.{ListedRow}
 use Rattle.sct_engine.specs.declared.jobs.Job.TheVariants as job
+use Rattle.sct_engine.specs.declared.answers.Answer.{Answer}
 use Rattle.sct_engine.specs.declared.answers.Question.{Question}
 use Rattle.sct_engine.specs.declared.answers.Question.TheVariants as question
 use Rattle.sct_lines.specs.Lines.{refusals_told, set_read, told_text_of}
@@ -17,6 +18,7 @@ use Rattle.sct_view.specs.StatusText.{status_text_of}
 use Rattle.sct_view.specs.TotalsText.{totals_text_of}
 use Rattle.sct_set.specs.Archive.{archive_text_of}
 use Rattle.sct_set.specs.Contents.{Contents}
+use Rattle.sct_set.specs.Pieces.{joined}
 use Rattle.sct_script.specs.Replays.{replay_of}
 use Rattle.sct_script.specs.Scripts as script
 use Rattle.sct_script.specs.Scripts.{sites_told}
@@ -84,18 +86,6 @@ StandsOnList row (Err fault.Usage) = Unit {0}
 StandsOnList row (Err fault.Memory) = Unit {0}
 StandsOnList row _ = row ≡ None
 
--- the rows of the list that was read for a job, if the job compares with a list
-abbrev pub IsListOf : Job → Option (List ListedRow) → Type 0
-IsListOf (job.Report bank day list) (Some rows) = list_of list.items ≡ Ok rows
-IsListOf (job.Report bank day list) None = ⊥
-IsListOf _ rows = Unit {0}
-
--- the faults that may end a run while its list is read
-abbrev pub EndsListing : ProgramFault → Type 0
-EndsListing (fault.BadList row) = Unit {0}
-EndsListing fault.Memory = Unit {0}
-EndsListing _ = ⊥
-
 -- ---- inputs that a job does not take: a replay takes only a script
 
 abbrev pub IsInputOf : Job → List ℕ → Type 0
@@ -118,6 +108,13 @@ abbrev pub IsBadLimit : ℕ → Type 0
 IsBadLimit limit = (limit ≡ 0) ⊎ (1073741824 < limit)
 
 -- ---- how a run ends
+
+-- the answer of the job to the input, which the job takes: its text, the lines that report the refused ones, and their number
+pub record IsAnswerTo (work : Job) (answer : Answer) (input : List ℕ) : Type 0 where
+  pub taken : IsInputOf work input
+  pub told : string_bytes answer.told ≡ told_of work input
+  pub text : joined answer.pieces.items ≡ job_text_of work input
+  pub count : answer.refused ≡ refused_of work input
 
 -- an input within the limit was read whole, if it is known
 abbrev pub IsReadWhole : ℕ → Input → Input → Type 0

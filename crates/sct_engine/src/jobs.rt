@@ -1,38 +1,14 @@
 //! One run of a job: an input is read whole, and then its refused lines are reported and its text is written.
-ghost use Rattle.std.specs.Prelude.{
-  ◌≡◌,
-  ◌≢◌,
-  ◌+◌,
-  ◌<◌,
-  ◌≤◌,
-  ◌⊎◌,
-  ℕ,
-  [],
-  Some,
-  Err,
-  length,
-  string_bytes,
-  IfOk,
-  IfErr,
-  IfSome,
-  OnOk,
-};
-ghost use Rattle.sct_set.specs.Pieces.{joined};
+ghost use Rattle.std.specs.Prelude.{◌≡◌, ◌≢◌, ◌+◌, ◌≤◌, ◌⊎◌, ℕ, Err, IfOk, IfErr, IfSome, OnOk};
 ghost use Rattle.sct_engine.specs.declared.fault.ProgramFault.TheVariants as fault;
 ghost use Rattle.sct_engine.specs.Engine.{
   bad_row_of,
   job_text_if_told,
-  job_text_of,
-  refused_of,
-  told_of,
   told_text_if_told,
   AreCutOff,
-  EndsListing,
+  IsAnswerTo,
   IsBadLimit,
   IsDone,
-  IsInputOf,
-  IsListOf,
-  IsNoInputOf,
   IsPastLimit,
   IsReadWhole,
   IsRefusedInput,
@@ -75,51 +51,54 @@ pub struct Done {
     pub refused: u64,
 }
 
-// The list that a job compares with, if it compares with one. Errors: `BadList` (48), `Memory` (65).
-fn list_for(alloc: Global, job: &Job) -> Result<Option<List>, ProgramFault>
-    ensures read { IfOk result (IsListOf job.now) }
-    ensures list { StandsOnList (bad_row_of job.now) result }
-    ensures faults { IfErr result EndsListing }
-{
-    match job {
-        Job::Report { list, .. } => Ok(Some(List::read(alloc, list)?)),
-        _ => Ok(None),
-    }
-}
-
-// The answer of a job to an input, with the list that it compares with. Errors: `Usage` (64) if the
-// job does not take the input; `Memory` (65).
-fn answer<T: Threads + Sync>(
+// The answer of a job to an input, which is read whole after the list of `report` is read. Errors: those of [`engine`],
+// but no write fails.
+fn answer<T: Threads + Sync, R: Source>(
     rt: &T,
     alloc: Global,
     release: Release,
     job: &Job,
-    list: Option<List>,
-    input: Vec<u8>,
+    limit: u64,
+    reader: &mut R,
 ) -> Result<Answer, ProgramFault>
-    requires { IsListOf job.now list }
-    ensures text { IfOk result (λ answer. joined answer.pieces.items ≡ job_text_of job.now input.items) }
-    ensures told { IfOk result (λ answer. string_bytes answer.told ≡ told_of job.now input.items) }
-    ensures refused { IfOk result (λ answer. answer.refused ≡ refused_of job.now input.items) }
-    ensures taken { OnOk result (IsInputOf job.now input.items) }
-    ensures faults { IfErr result (λ e. e ≢ fault.Memory
-        → (e ≡ fault.Usage) × IsNoInputOf job.now input.items) }
+    ensures answered { IfOk result (λ answer. IfSome (R.state reader.old).left (IsAnswerTo job.now answer)) }
+    ensures read { OnOk result (IsReadWhole limit (R.state reader.old) (R.state reader.new)) }
+    ensures reads { OnOk result ((R.state reader.new).failures ≡ (R.state reader.old).failures) }
+    ensures usage { result ≡ Err fault.Usage
+        → IsRefusedInput job.now limit (R.state reader.old) (R.state reader.new) }
+    ensures list { StandsOnList (bad_row_of job.now) result }
+    ensures unlisted { (row : ℕ) → result ≡ Err (fault.BadList row) → reader.new ≡ reader.old }
+    ensures too_long { result ≡ Err fault.TooLong
+        → IsPastLimit limit (R.state reader.old) (R.state reader.new) }
+    ensures cut_input { result ≡ Err fault.Read
+        → (n : ℕ) × ((n ≤ limit) × HasTakenIfTold (R.state reader.old).left (R.state reader.new).left n) }
+    ensures failed_read { IfErr result (λ e. (R.state reader.new).failures
+        ≡ (R.state reader.old).failures + failed_reads e) }
+    ensures unwritten { result ≢ Err fault.Write }
 {
-    match (job, list) {
-        (Job::Status, _) => answer_of_messages(rt, alloc, release, Question::Status, input),
-        (Job::Archive, _) => answer_of_messages(rt, alloc, release, Question::Archive, input),
-        (Job::Totals, _) => answer_of_messages(rt, alloc, release, Question::Totals, input),
-        (Job::Replay, _) => answer_of_script(alloc, release, &input),
-        (Job::Report { bank, day, .. }, Some(list)) => {
-            answer_of_messages(
-                rt,
-                alloc,
-                release,
-                Question::Report { bank, day, list },
-                input,
-            )
+    match job {
+        Job::Status => {
+            let input = read_all(alloc, reader, limit)?;
+            answer_of_messages(rt, alloc, release, Question::Status, input)
         }
-        (Job::Report { .. }, None) => unreachable!(),
+        Job::Archive => {
+            let input = read_all(alloc, reader, limit)?;
+            answer_of_messages(rt, alloc, release, Question::Archive, input)
+        }
+        Job::Totals => {
+            let input = read_all(alloc, reader, limit)?;
+            answer_of_messages(rt, alloc, release, Question::Totals, input)
+        }
+        Job::Report { bank, day, list } => {
+            let list = List::read(alloc, list)?;
+            let input = read_all(alloc, reader, limit)?;
+            let question = Question::Report { bank, day, list };
+            answer_of_messages(rt, alloc, release, question, input)
+        }
+        Job::Replay => {
+            let input = read_all(alloc, reader, limit)?;
+            answer_of_script(alloc, release, &input)
+        }
     }
 }
 
@@ -176,13 +155,11 @@ pub fn engine<T: Threads + Sync, R: Source, O: Sink, E: Sink>(
     if limit == 0 || limit > MOST_BYTES {
         return Err(ProgramFault::Usage);
     }
-    let list = list_for(alloc, job)?;
-    let input = read_all(alloc, reader, limit)?;
     let Answer {
         pieces,
         told,
         refused,
-    } = answer(rt, alloc, release, job, list, input)?;
+    } = answer(rt, alloc, release, job, limit, reader)?;
     write_all(err, told.as_bytes())?;
     write_pieces(out, &pieces)?;
     Ok(Done { refused })
