@@ -1,5 +1,5 @@
 -- The texts that the engine writes for an input, and how a run of it ends. Read by an auditor.
-use Rattle.std.specs.Prelude.{ℕ, ◌≡◌, ◌+◌, ◌<◌, ◌≤◌, ◌⊎◌, List, [], length, Option, Some, None, IfSome, IsSome, Result, Ok, Err, string_bytes}
+use Rattle.std.specs.Prelude.{ℕ, ◌≡◌, ◌+◌, ◌<◌, ◌≤◌, ◌⊎◌, List, [], length, Option, Some, None, IfSome, IsSome, Result, Ok, Err}
 use Rattle.std.specs.Option.{option_map}
 use Rattle.sct_engine.specs.declared.jobs.Job.{Job}
 use Rattle.sct_engine.specs.declared.fault.ProgramFault.{ProgramFault}
@@ -112,9 +112,9 @@ IsBadLimit limit = (limit ≡ 0) ⊎ (1073741824 < limit)
 -- the answer of the job to the input, which the job takes: its text, the lines that report the refused ones, and their number
 pub record IsAnswerTo (work : Job) (answer : Answer) (input : List ℕ) : Type 0 where
   pub taken : IsInputOf work input
-  pub told : string_bytes answer.told ≡ told_of work input
+  pub told : answer.refusals.text ≡ told_of work input
   pub text : joined answer.pieces.items ≡ job_text_of work input
-  pub count : answer.refused ≡ refused_of work input
+  pub count : answer.refusals.count ≡ refused_of work input
 
 -- an input within the limit was read whole, if it is known
 abbrev pub IsReadWhole : ℕ → Input → Input → Type 0

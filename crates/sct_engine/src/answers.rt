@@ -1,6 +1,6 @@
 //! The answer of a job about the messages of an input: the status text, the archive text,
 //! the totals text, or the report on a list.
-ghost use Rattle.std.specs.Prelude.{◌≡◌, length, string_bytes, IfErr, IfOk};
+ghost use Rattle.std.specs.Prelude.{◌≡◌, length, IfErr, IfOk};
 ghost use Rattle.sct_lines.specs.Lines.{refusals_told, set_read, told_text_of};
 ghost use Rattle.sct_message.specs.Sets.{messages_in};
 ghost use Rattle.sct_reconcile.specs.Reports.{report_of, report_text_of};
@@ -15,7 +15,7 @@ use crate::fault::ProgramFault;
 use crate::holding::archive_pieces;
 use crate::release::Release;
 use sct_element::{Bic, Day};
-use sct_lines::{Intake, read_lines};
+use sct_lines::{Intake, Refusals, read_lines};
 use sct_message::Message;
 use sct_reconcile::{List, reconcile};
 use sct_view::View;
@@ -110,12 +110,11 @@ pub enum Question<'a> {
     },
 }
 
-/// The answer to an input: a text in pieces, the text of the refused lines, and their number.
+/// The answer to an input: a text in pieces, and the refused lines.
 #[derive(Drop)]
 pub struct Answer {
     pub pieces: Vec<Vec<u8>>,
-    pub told: String,
-    pub refused: u64,
+    pub refusals: Refusals,
 }
 
 /// A text as one piece. Error: `Memory` (65).
@@ -164,21 +163,13 @@ pub fn answer_of_messages<T: Threads + Sync>(
 ) -> Result<Answer, ProgramFault>
     ensures text { IfOk result (λ answer. joined answer.pieces.items
         ≡ asked_text_of question.entry (set_read input.items)) }
-    ensures told { IfOk result (λ answer. string_bytes answer.told ≡ told_text_of (refusals_told input.items)) }
-    ensures refused { IfOk result (λ answer. answer.refused ≡ length (refusals_told input.items)) }
+    ensures told { IfOk result (λ answer. answer.refusals.text ≡ told_text_of (refusals_told input.items)) }
+    ensures refused { IfOk result (λ answer. answer.refusals.count ≡ length (refusals_told input.items)) }
     ensures memory { IfErr result (λ e. e ≡ fault.Memory) }
 {
-    let Intake {
-        messages,
-        told,
-        refused,
-    } = read_lines(rt, alloc, &input)?;
+    let Intake { messages, refusals } = read_lines(rt, alloc, &input)?;
     drop(input);
     let pieces = asked_pieces(rt, alloc, release, &question, messages)?;
     release.let_go(question);
-    Ok(Answer {
-        pieces,
-        told,
-        refused,
-    })
+    Ok(Answer { pieces, refusals })
 }

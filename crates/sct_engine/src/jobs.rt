@@ -155,12 +155,10 @@ pub fn engine<T: Threads + Sync, R: Source, O: Sink, E: Sink>(
     if limit == 0 || limit > MOST_BYTES {
         return Err(ProgramFault::Usage);
     }
-    let Answer {
-        pieces,
-        told,
-        refused,
-    } = answer(rt, alloc, release, job, limit, reader)?;
-    write_all(err, told.as_bytes())?;
+    let Answer { pieces, refusals } = answer(rt, alloc, release, job, limit, reader)?;
+    write_all(err, refusals.text().as_bytes())?;
     write_pieces(out, &pieces)?;
-    Ok(Done { refused })
+    Ok(Done {
+        refused: refusals.count(),
+    })
 }

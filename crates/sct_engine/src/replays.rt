@@ -1,5 +1,5 @@
 //! The answer to a script.
-ghost use Rattle.std.specs.Prelude.{◌≡◌, ◌≢◌, None, Some, true, length, string_bytes, IfErr, IfOk, IsSome, OnOk};
+ghost use Rattle.std.specs.Prelude.{◌≡◌, ◌≢◌, None, Some, true, length, IfErr, IfOk, IsSome, OnOk};
 ghost use Rattle.sct_script.specs.Replays.{replay_of, replay_text};
 ghost use Rattle.sct_script.specs.Scripts.{happenings_told, refusals_told, sites_told, told_text_of};
 ghost use Rattle.sct_set.specs.Pieces.{joined};
@@ -18,8 +18,8 @@ fn script_of(alloc: Global, input: &[u8]) -> Result<Script, ProgramFault>
     ensures sites { IfOk result (λ script. sites_told input.now ≡ Some script.sites) }
     ensures size { IfOk result (λ script. is_size script.sites ≡ true) }
     ensures events { IfOk result (λ script. happenings_of script.events.items ≡ happenings_told input.now) }
-    ensures told { IfOk result (λ script. string_bytes script.told ≡ told_text_of (refusals_told input.now)) }
-    ensures refused { IfOk result (λ script. script.refused ≡ length (refusals_told input.now)) }
+    ensures told { IfOk result (λ script. script.refusals.text ≡ told_text_of (refusals_told input.now)) }
+    ensures refused { IfOk result (λ script. script.refusals.count ≡ length (refusals_told input.now)) }
     ensures faults { IfErr result (λ e. e ≢ fault.Memory → (e ≡ fault.Usage) × (sites_told input.now ≡ None)) }
 {
     match read_script(alloc, input) {
@@ -51,8 +51,8 @@ pub fn answer_of_script(
     input: &[u8],
 ) -> Result<Answer, ProgramFault>
     ensures text { IfOk result (λ answer. joined answer.pieces.items ≡ replay_of input.now) }
-    ensures told { IfOk result (λ answer. string_bytes answer.told ≡ told_text_of (refusals_told input.now)) }
-    ensures refused { IfOk result (λ answer. answer.refused ≡ length (refusals_told input.now)) }
+    ensures told { IfOk result (λ answer. answer.refusals.text ≡ told_text_of (refusals_told input.now)) }
+    ensures refused { IfOk result (λ answer. answer.refusals.count ≡ length (refusals_told input.now)) }
     ensures script { OnOk result (IsSome (sites_told input.now)) }
     ensures faults { IfErr result (λ e. e ≢ fault.Memory → (e ≡ fault.Usage) × (sites_told input.now ≡ None)) }
 {
@@ -61,14 +61,9 @@ pub fn answer_of_script(
     let pieces = one_piece(alloc, text)?;
     let Script {
         events,
-        told,
-        refused,
+        refusals,
         ..
     } = script;
     release.let_go(events);
-    Ok(Answer {
-        pieces,
-        told,
-        refused,
-    })
+    Ok(Answer { pieces, refusals })
 }

@@ -1,6 +1,6 @@
 -- Lines of a text, one after another. Proof plumbing.
 use Rattle.std.proofs.Common.{ℕ, ◌≡◌, ◌+◌, ◌<◌, ◌++◌, ◌∷◌, [], List, Bool, true, false, cond, Option, Some, None, Result, Ok, Err, ◌==◌, not, length, take, drop, refl, sym, ap, ◌∙◌, rules, arith, add-one, take_all, append_assoc, length-append}
-use Rattle.std.specs.List.{position_from}
+use Rattle.std.specs.List.{flat_map, position_from}
 use Rattle.std.proofs.Math.Seq.{drop-length}
 use Rattle.std.specs.Arc.{arc_value}
 use Rattle.std.specs.Global.{Global}
@@ -12,7 +12,8 @@ use Rattle.sct_message.specs.declared.draft.Draft.{Draft}
 use Rattle.sct_message.specs.Sets.{messages_in}
 use Rattle.sct_json.specs.declared.faults.JsonFault.{JsonFault}
 use Rattle.sct_json.specs.Reading.{message_in}
-use Rattle.sct_lines.specs.Lines.{is_blank, lines_of, numbered_from, messages_among, refusals_among, told_after, told_text_of, refusal_line}
+use Rattle.sct_lines.specs.Lines.{is_blank, json_fault_text, lines_of, numbered_from, messages_among, refusals_among, told_after, told_text_of, refusal_line}
+use Rattle.sct_lines.specs.Refused.{reporting_line}
 
 -- a byte is a line feed
 abbrev pub is_feed : ℕ → Bool
@@ -114,9 +115,9 @@ pub told_none : (front : List ℕ) → told_after front [] ≡ []
 unfolding told_after
 told_none front = refl
 
-pub told_one : (front : List ℕ) (number : ℕ) (fault : JsonFault) → told_after front ((number, fault) ∷ []) ≡ front ++ refusal_line (number, fault)
-unfolding told_after
-told_one front number fault = append-nil (front ++ refusal_line (number, fault))
+pub told_one : (front : List ℕ) (number : ℕ) (fault : JsonFault) → told_after front ((number, fault) ∷ []) ≡ front ++ reporting_line number (json_fault_text fault)
+unfolding told_after refusal_line
+told_one front number fault = append-nil (front ++ reporting_line number (json_fault_text fault))
 
 -- with nothing in front
 pub told_plainly : (refusals : List (ℕ × JsonFault)) → told_after [] refusals ≡ told_text_of refusals
@@ -143,6 +144,17 @@ message_behind messages shared number line message written read same =
     ∙ ap (λ (m : Draft). messages_in messages ++ m ∷ []) same
     ∙ ap (λ (ms : List Draft). messages_in messages ++ ms) (sym (ap messages_among (written_line number line written) ∙ message_line number line message read))
 
+-- the line that reports a refused line, after those before it
+pub refusal_behind : (told after front : List ℕ) (number : ℕ) (line : List ℕ) (fault : JsonFault) → is_blank line ≡ false → message_in line ≡ Err fault
+    → after ≡ told ++ front ++ reporting_line number (json_fault_text fault)
+    → after ≡ told ++ told_after front (refusals_among (numbered_from number (line ∷ [])))
+refusal_behind told after front number line fault written refused is =
+    is ∙ append_assoc told front (reporting_line number (json_fault_text fault))
+    ∙ ap (λ (more : List ℕ). told ++ more)
+    (sym (ap (λ ls. told_after front (refusals_among ls)) (written_line number line written)
+    ∙ ap (told_after front) (refused_line number line fault refused)
+    ∙ told_one front number fault))
+
 -- ---- the first line, and then the others
 
 pub numbered-cons : (number : ℕ) (line : List ℕ) (lines : List (List ℕ)) → numbered_from number (line ∷ lines) ≡ numbered_from number (line ∷ []) ++ numbered_from (number + 1) lines
@@ -155,59 +167,65 @@ pub numbered_none : (number : ℕ) → numbered_from number [] ≡ []
 unfolding numbered_from
 numbered_none number = refl
 
-pub messages-append : (some more : List (ℕ × List ℕ)) → messages_among (some ++ more) ≡ messages_among some ++ messages_among more
-unfolding messages_among
-messages-append some more = filter_map-append _ some more
-
-pub refusals-append : (some more : List (ℕ × List ℕ)) → refusals_among (some ++ more) ≡ refusals_among some ++ refusals_among more
-unfolding refusals_among
-refusals-append some more = filter_map-append _ some more
-
-pub told-append : (front : List ℕ) (some more : List (ℕ × JsonFault)) → told_after front (some ++ more) ≡ told_after front some ++ told_after front more
-unfolding told_after
-told-append front some more = flat_map-append (λ refusal. front ++ refusal_line refusal) some more
-
--- the lines of what is left are the first line and those of what stands after it
+-- the lines of a text, the first of which has a number
 abbrev pub lines_left : ℕ → List ℕ → List (ℕ × List ℕ)
 lines_left number text = numbered_from number (lines_of text)
 
-lines_left-cons : (number : ℕ) (line rest text : List ℕ) → lines_of text ≡ line ∷ lines_of rest → lines_left number text ≡ numbered_from number (line ∷ []) ++ lines_left (number + 1) rest
+pub lines_left-cons : (number : ℕ) (line rest text : List ℕ) → lines_of text ≡ line ∷ lines_of rest → lines_left number text ≡ numbered_from number (line ∷ []) ++ lines_left (number + 1) rest
 lines_left-cons number line rest text first = rw first (numbered-cons number line (lines_of rest))
 
-lines_left_none : (number : ℕ) (text : List ℕ) → text ≡ [] → lines_left number text ≡ []
+pub lines_left_none : (number : ℕ) (text : List ℕ) → text ≡ [] → lines_left number text ≡ []
 lines_left_none number text none = rw (none, lines_of_none, numbered_none) refl
 
-pub messages_step : (before after all : List Draft) (number : ℕ) (line rest text : List ℕ) → lines_of text ≡ line ∷ lines_of rest → before ++ messages_among (lines_left number text) ≡ all → after ≡ before ++ messages_among (numbered_from number (line ∷ [])) → after ++ messages_among (lines_left (number + 1) rest) ≡ all
-messages_step before after all number line rest text first whole now =
-    rw (now, append_assoc, ← messages-append (numbered_from number (line ∷ [])) (lines_left (number + 1) rest), ← lines_left-cons number line rest text first) whole
+-- ---- what is found on lines, one after another
 
-pub told_step : (front before after all : List ℕ) (number : ℕ) (line rest text : List ℕ) → lines_of text ≡ line ∷ lines_of rest → before ++ told_after front (refusals_among (lines_left number text)) ≡ all → after ≡ before ++ told_after front (refusals_among (numbered_from number (line ∷ []))) → after ++ told_after front (refusals_among (lines_left (number + 1) rest)) ≡ all
-told_step front before after all number line rest text first whole now =
-    rw (now, append_assoc, ← told-append front (refusals_among (numbered_from number (line ∷ []))) (refusals_among (lines_left (number + 1) rest)), ← refusals-append (numbered_from number (line ∷ [])) (lines_left (number + 1) rest), ← lines_left-cons number line rest text first) whole
+-- what is found on some lines and then on more is what is found on all of them
+pub record IsByLine {X : Type 0} (found : List (ℕ × List ℕ) → List X) : Type 0 where
+  pub none : found [] ≡ []
+  pub append : (some more : List (ℕ × List ℕ)) → found (some ++ more) ≡ found some ++ found more
 
-pub refused_step : (before after all number : ℕ) (line rest text : List ℕ) → lines_of text ≡ line ∷ lines_of rest → before + length (refusals_among (lines_left number text)) ≡ all → after ≡ before + length (refusals_among (numbered_from number (line ∷ []))) → after + length (refusals_among (lines_left (number + 1) rest)) ≡ all
-refused_step before after all number line rest text first whole now =
-    let both : length (refusals_among (lines_left number text)) ≡ length (refusals_among (numbered_from number (line ∷ []))) + length (refusals_among (lines_left (number + 1) rest)) =
-    rw (lines_left-cons number line rest text first, refusals-append) (length-append (refusals_among (numbered_from number (line ∷ []))) (refusals_among (lines_left (number + 1) rest))) in
+pub messages_by_line : IsByLine messages_among
+unfolding messages_among
+messages_by_line = record { none = refl; append = λ some more. filter_map-append _ some more }
+
+pub refusals_by_line : IsByLine refusals_among
+unfolding refusals_among
+refusals_by_line = record { none = refl; append = λ some more. filter_map-append _ some more }
+
+-- the text of what is found
+pub text_by_line : {X : Type 0} (found : List (ℕ × List ℕ) → List X) (text_of : X → List ℕ) → IsByLine found → IsByLine (λ lines. flat_map text_of (found lines))
+text_by_line found text_of by = record {
+  none = rw by.none refl;
+  append = λ some more. rw (by.append some more) (flat_map-append text_of (found some) (found more));
+}
+
+pub told_by_line : (front : List ℕ) → IsByLine (λ lines. told_after front (refusals_among lines))
+unfolding told_after
+told_by_line front = text_by_line refusals_among (λ refusal. front ++ refusal_line refusal) refusals_by_line
+
+-- one line more is read, of those that are left
+pub step : {X : Type 0} (found : List (ℕ × List ℕ) → List X) → IsByLine found → (before after all : List X) (number : ℕ) (line rest text : List ℕ)
+    → lines_of text ≡ line ∷ lines_of rest → before ++ found (lines_left number text) ≡ all
+    → after ≡ before ++ found (numbered_from number (line ∷ [])) → after ++ found (lines_left (number + 1) rest) ≡ all
+step found by before after all number line rest text first whole now =
+    rw (now, append_assoc, ← by.append (numbered_from number (line ∷ [])) (lines_left (number + 1) rest), ← lines_left-cons number line rest text first) whole
+
+-- no lines are left
+pub end : {X : Type 0} (found : List (ℕ × List ℕ) → List X) → IsByLine found → (so_far all : List X) (number : ℕ) (text : List ℕ)
+    → text ≡ [] → so_far ++ found (lines_left number text) ≡ all → so_far ≡ all
+end found by so_far all number text none whole = rw (lines_left_none number text none, by.none, append-nil) at whole
+
+-- the same of how much is found
+pub count_step : {X : Type 0} (found : List (ℕ × List ℕ) → List X) → IsByLine found → (before after all number : ℕ) (line rest text : List ℕ)
+    → lines_of text ≡ line ∷ lines_of rest → before + length (found (lines_left number text)) ≡ all
+    → after ≡ before + length (found (numbered_from number (line ∷ []))) → after + length (found (lines_left (number + 1) rest)) ≡ all
+count_step found by before after all number line rest text first whole now =
+    let both : length (found (lines_left number text)) ≡ length (found (numbered_from number (line ∷ []))) + length (found (lines_left (number + 1) rest)) =
+    rw (lines_left-cons number line rest text first, by.append) (length-append (found (numbered_from number (line ∷ []))) (found (lines_left (number + 1) rest))) in
     omega (arith, both)
 
-pub messages_end : (so_far all : List Draft) (number : ℕ) (text : List ℕ) → text ≡ [] → so_far ++ messages_among (lines_left number text) ≡ all → so_far ≡ all
-messages_end so_far all number text none whole = rw (lines_left_none number text none, messages_of_none, append-nil) at whole
-
-pub told_end : (front so_far all : List ℕ) (number : ℕ) (text : List ℕ) → text ≡ [] → so_far ++ told_after front (refusals_among (lines_left number text)) ≡ all → so_far ≡ all
-told_end front so_far all number text none whole = rw (lines_left_none number text none, refusals_of_none, told_none front, append-nil) at whole
-
-pub refused_end : (so_far all number : ℕ) (text : List ℕ) → text ≡ [] → so_far + length (refusals_among (lines_left number text)) ≡ all → so_far ≡ all
-refused_end so_far all number text none whole =
-    let nothing : length (refusals_among (lines_left number text)) ≡ 0 = rw (lines_left_none number text none, refusals_of_none) refl in
+pub count_end : {X : Type 0} (found : List (ℕ × List ℕ) → List X) → IsByLine found → (so_far all number : ℕ) (text : List ℕ)
+    → text ≡ [] → so_far + length (found (lines_left number text)) ≡ all → so_far ≡ all
+count_end found by so_far all number text none whole =
+    let nothing : length (found (lines_left number text)) ≡ 0 = rw (lines_left_none number text none, by.none) refl in
     omega (arith, nothing, whole)
-
--- a refusal behind the others, with its text in front, where it is why its line is none
-pub refusal_behind : (told between after front : List ℕ) (number : ℕ) (line : List ℕ) (fault : JsonFault)
-    → is_blank line ≡ false → message_in line ≡ Err fault → between ≡ told ++ front → after ≡ between ++ refusal_line (number, fault)
-    → after ≡ told ++ told_after front (refusals_among (numbered_from number (line ∷ [])))
-refusal_behind told between after front number line fault written refused first second =
-    second
-    ∙ ap (λ (t : List ℕ). t ++ refusal_line (number, fault)) first
-    ∙ append_assoc told front (refusal_line (number, fault))
-    ∙ ap (λ (t : List ℕ). told ++ t) (sym (ap (λ ls. told_after front (refusals_among ls)) (written_line number line written) ∙ ap (told_after front) (refused_line number line fault refused) ∙ told_one front number fault))

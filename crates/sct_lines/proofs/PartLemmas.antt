@@ -1,13 +1,13 @@
 -- A text cut behind a line feed, and what is read of its two parts. Proof plumbing.
-use Rattle.std.proofs.Common.{ℕ, ◌≡◌, ◌+◌, ◌<◌, ◌≤◌, suc, zero, ◌++◌, ◌∷◌, [], List, true, false, cond, ◌==◌, length, take, drop, get_or, filter, string_bytes, refl, sym, ap, ◌∙◌, arith, add-one, append_assoc, length-append}
+use Rattle.std.proofs.Common.{ℕ, ◌≡◌, ◌+◌, ◌<◌, suc, zero, ◌++◌, ◌∷◌, [], List, true, false, cond, ◌==◌, length, take, drop, get_or, filter, refl, sym, ap, ◌∙◌, arith, add-one, append_assoc, length-append}
 use Rattle.std.proofs.lemmas.List.Sums.{length-filter}
 use Rattle.memchr.specs.Find.{is_byte, places}
 use Rattle.memchr.proofs.lemmas.CallerLemmas.{length-places}
 use Rattle.sct_message.specs.Sets.{messages_in}
 use Rattle.sct_lines.specs.declared.intake.Intake.{Intake}
-use Rattle.sct_lines.specs.Lines.{lines_of, numbered_from, onto_first}
+use Rattle.sct_lines.specs.Lines.{lines_of, numbered_from, onto_first, refusals_among}
 use Rattle.sct_lines.specs.Parts.{refusals_after, IsReadAfter}
-use Rattle.sct_lines.proofs.LineLemmas.{is_feed, messages-append, numbered-cons, numbered_none, refusals-append, told-append}
+use Rattle.sct_lines.proofs.LineLemmas.{is_feed, messages_by_line, numbered-cons, numbered_none, refusals_by_line, told_by_line}
 
 -- as many places have a line feed as there are line feeds
 pub feeds_counted : (text found : List ℕ) → found ≡ places (is_byte 10) text → length found ≡ length (filter is_feed text)
@@ -89,26 +89,18 @@ numbered-append first (line ∷ lines) more =
 pub read_in_two : (shown : List ℕ) (before : ℕ) (text front back : List ℕ) (first second both : Intake) → lines_of text ≡ lines_of front ++ lines_of back
     → IsReadAfter shown before front first → IsReadAfter shown (before + length (lines_of front)) back second
     → messages_in both.messages.items ≡ messages_in first.messages.items ++ messages_in second.messages.items
-    → string_bytes both.told ≡ string_bytes first.told ++ string_bytes second.told
-    → both.refused ≡ first.refused + second.refused
-    → length front + length back ≡ length text
+    → both.refusals.text ≡ first.refusals.text ++ second.refusals.text
+    → both.refusals.count ≡ first.refusals.count + second.refusals.count
     → IsReadAfter shown before text both
-read_in_two shown before text front back first second both lines one two messages told refused whole =
+read_in_two shown before text front back first second both lines one two messages told refused =
+    let some = numbered_from (before + 1) (lines_of front) in
+    let more = numbered_from (before + length (lines_of front) + 1) (lines_of back) in
     let next : before + length (lines_of front) + 1 ≡ before + 1 + length (lines_of front) = omega arith in
-    let numbered : numbered_from (before + 1) (lines_of text) ≡ numbered_from (before + 1) (lines_of front) ++ numbered_from (before + length (lines_of front) + 1) (lines_of back) =
-    rw (lines, next) (numbered-append (before + 1) (lines_of front) (lines_of back)) in
-    let refusals : refusals_after before text ≡ refusals_after before front ++ refusals_after (before + length (lines_of front)) back =
-    rw numbered (refusals-append (numbered_from (before + 1) (lines_of front)) (numbered_from (before + length (lines_of front) + 1) (lines_of back))) in
-    let few : both.refused ≤ length text = omega (arith, one.few, two.few, refused, whole) in
-    let count : length (refusals_after before text) ≡ length (refusals_after before front) + length (refusals_after (before + length (lines_of front)) back) =
-    rw refusals (length-append (refusals_after before front) (refusals_after (before + length (lines_of front)) back)) in
+    let numbered : numbered_from (before + 1) (lines_of text) ≡ some ++ more = rw (lines, next) (numbered-append (before + 1) (lines_of front) (lines_of back)) in
+    let count : length (refusals_after before text) ≡ length (refusals_among some) + length (refusals_among more) =
+    rw (numbered, refusals_by_line.append some more) (length-append (refusals_among some) (refusals_among more)) in
     record {
-      messages =
-          messages ∙ rw (one.messages, two.messages, numbered)
-          (sym (messages-append (numbered_from (before + 1) (lines_of front)) (numbered_from (before + length (lines_of front) + 1) (lines_of back))));
-      told =
-          told ∙ rw (one.told, two.told, refusals)
-          (sym (told-append shown (refusals_after before front) (refusals_after (before + length (lines_of front)) back)));
+      messages = messages ∙ rw (one.messages, two.messages, numbered) (sym (messages_by_line.append some more));
+      told = told ∙ rw (one.told, two.told, numbered) (sym ((told_by_line shown).append some more));
       refused = omega (arith, refused, one.refused, two.refused, count);
-      few = few;
     }

@@ -2,3 +2,4 @@
 pub mod LineLaws
 pub mod Lines
 pub mod Parts
+pub mod Refused

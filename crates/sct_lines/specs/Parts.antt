@@ -1,5 +1,5 @@
--- A part of an input, before which so many lines stand. Serves proofs.
-use Rattle.std.specs.Prelude.{ℕ, ◌≡◌, ◌+◌, ◌≤◌, List, length, string_bytes}
+-- A part of an input, with the number of the lines before it. Serves proofs.
+use Rattle.std.specs.Prelude.{ℕ, ◌≡◌, ◌+◌, List, length}
 use Rattle.sct_json.specs.declared.faults.JsonFault.{JsonFault}
 use Rattle.sct_message.specs.declared.draft.Draft.{Draft}
 use Rattle.sct_message.specs.Sets.{messages_in}
@@ -14,9 +14,8 @@ messages_after before part = messages_among (numbered_from (before + 1) (lines_o
 abbrev pub refusals_after : ℕ → List ℕ → List (ℕ × JsonFault)
 refusals_after before part = refusals_among (numbered_from (before + 1) (lines_of part))
 
--- what is read of the part, where each line that tells a refused one has a text in front
+-- what is read of the part, if a text is written before each line that reports a refused one
 pub record IsReadAfter (front : List ℕ) (before : ℕ) (part : List ℕ) (intake : Intake) : Type 0 where
   pub messages : messages_in intake.messages.items ≡ messages_after before part
-  pub told : string_bytes intake.told ≡ told_after front (refusals_after before part)
-  pub refused : intake.refused ≡ length (refusals_after before part)
-  pub few : intake.refused ≤ length part
+  pub told : intake.refusals.text ≡ told_after front (refusals_after before part)
+  pub refused : intake.refusals.count ≡ length (refusals_after before part)

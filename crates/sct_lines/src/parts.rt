@@ -1,5 +1,5 @@
 //! An input read in parts, each in a thread of its own where one can be made.
-ghost use Rattle.std.specs.Prelude.{◌≡◌, ◌+◌, ◌<◌, ◌≤◌, ◌++◌, ◌==◌, ◌^◌, [], filter, length, slice_index, IfOk, IfSome, string_bytes};
+ghost use Rattle.std.specs.Prelude.{◌≡◌, ◌+◌, ◌<◌, ◌≤◌, ◌++◌, ◌==◌, ◌^◌, [], filter, length, slice_index, IfOk, IfSome};
 ghost use Rattle.std.specs.Thread.{IsSync};
 ghost use Rattle.sct_lines.specs.Lines.{lines_of, messages_read, refusals_told, told_text_of};
 ghost use Rattle.sct_lines.specs.Parts.{IsReadAfter};
@@ -133,8 +133,8 @@ pub fn read_lines_by_halves<R: Threads + Sync>(
     halvings: u32,
 ) -> Result<Intake, AllocError>
     ensures messages { IfOk result (λ intake. messages_in intake.messages.items ≡ messages_read input.now) }
-    ensures told { IfOk result (λ intake. string_bytes intake.told ≡ told_text_of (refusals_told input.now)) }
-    ensures refused { IfOk result (λ intake. intake.refused ≡ length (refusals_told input.now)) }
+    ensures told { IfOk result (λ intake. intake.refusals.text ≡ told_text_of (refusals_told input.now)) }
+    ensures refused { IfOk result (λ intake. intake.refusals.count ≡ length (refusals_told input.now)) }
 {
     let shortage = Shortage::none();
     read_by_halves(rt, alloc, 0, input, halvings.min(MOST_HALVINGS), &shortage)
@@ -148,8 +148,8 @@ pub fn read_lines<R: Threads + Sync>(
     input: &[u8],
 ) -> Result<Intake, AllocError>
     ensures messages { IfOk result (λ intake. messages_in intake.messages.items ≡ messages_read input.now) }
-    ensures told { IfOk result (λ intake. string_bytes intake.told ≡ told_text_of (refusals_told input.now)) }
-    ensures refused { IfOk result (λ intake. intake.refused ≡ length (refusals_told input.now)) }
+    ensures told { IfOk result (λ intake. intake.refusals.text ≡ told_text_of (refusals_told input.now)) }
+    ensures refused { IfOk result (λ intake. intake.refusals.count ≡ length (refusals_told input.now)) }
 {
     read_lines_by_halves(rt, alloc, input, halvings(rt, input))
 }

@@ -43,10 +43,11 @@ fn tells_why_a_line_is_refused(rt: HostRuntime) -> Result<(), AllocError> {
 #[test]
 fn tells_a_refused_line_by_its_number(rt: HostRuntime) -> Result<(), AllocError> {
     let alloc = rt.alloc();
-    let mut text = String::from_str(alloc, "before\n")?;
-    push_refusal(alloc, &mut text, 1073741824, &JsonFault::NotJson)?;
-    push_refusal(alloc, &mut text, 7, &JsonFault::Memory)?;
-    assert_eq!(rt; text.as_str(), "before\nline 1073741824: 31\nline 7: 30\n");
+    let mut refusals = Refusals::none(alloc);
+    refusals.push(alloc, "", 1073741824, &JsonFault::NotJson)?;
+    refusals.push(alloc, "file 3 ", 7, &JsonFault::Memory)?;
+    assert_eq!(rt; refusals.text(), "line 1073741824: 31\nfile 3 line 7: 30\n");
+    assert_eq!(rt; refusals.count(), 2);
     Ok(())
 }
 
@@ -67,8 +68,8 @@ fn fits(alloc: Global, intake: &Intake, row: &Input) -> bool {
         return false;
     };
     messages.as_slice() == row.messages
-        && intake.told.as_str() == row.told
-        && intake.refused == row.refused
+        && intake.refusals.text() == row.told
+        && intake.refusals.count() == row.refused
 }
 
 fn reads_as(rt: &(impl Threads + Sync), alloc: Global, row: &Input) -> bool {
@@ -146,7 +147,8 @@ fn told_behind(
     feeds: usize,
 ) -> Result<String, AllocError> {
     let input = behind(alloc, b'\n', feeds, b"foo")?;
-    Ok(read_lines(rt, alloc, &input)?.told)
+    let (text, _) = read_lines(rt, alloc, &input)?.refusals.into_parts();
+    Ok(text)
 }
 
 #[test]
@@ -166,9 +168,9 @@ fn counts_on_from_part_to_part(rt: HostRuntime) -> Result<(), AllocError> {
 fn puts_a_text_in_front_of_what_is_told(rt: HostRuntime) -> Result<(), AllocError> {
     let intake = read_lines_after(rt.alloc(), "file 2 ", b"foo\n\n[]\n")?;
     assert_eq!(rt;
-        intake.told.as_str(),
+        intake.refusals.text(),
         "file 2 line 1: 31\nfile 2 line 3: 32\n"
     );
-    assert_eq!(rt; intake.refused, 2);
+    assert_eq!(rt; intake.refusals.count(), 2);
     Ok(())
 }

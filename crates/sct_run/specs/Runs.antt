@@ -50,5 +50,5 @@ pub record IsSettledAnswer (sites : Sites) (answer : RunAnswer) : Type 0 where
   pub settled : List Core
   pub are_settled : AreSettled sites.cores.items settled
   pub status : answer.status.items ≡ status_text_of (messages_of (core_in settled 0).arrivals)
-  pub told : string_bytes answer.told ≡ string_bytes sites.told
-  pub refused : answer.refused ≡ sites.refused
+  pub told : string_bytes answer.told ≡ sites.refusals.text
+  pub refused : answer.refused ≡ sites.refusals.count

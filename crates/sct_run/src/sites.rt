@@ -101,10 +101,10 @@ fn answered<R: Threads + Sync>(
 {
     let Sites {
         mut cores,
-        told,
-        refused,
+        refusals,
     } = filled?;
     let status = settled_status(rt, alloc, &mut cores)?;
+    let (told, refused) = refusals.into_parts();
     Ok(RunAnswer {
         status,
         told,

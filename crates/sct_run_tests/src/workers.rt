@@ -62,8 +62,8 @@ fn is_filled(alloc: Global, core: &SiteCore, row: &Row) -> Option<bool> {
 // Whether there is a site for each input, and the refused lines are reported as the row says.
 fn are_told(sites: &Sites, row: &Row) -> bool {
     sites.cores.len() == row.inputs.len()
-        && sites.told.as_str() == row.told
-        && sites.refused == row.refused
+        && sites.refusals.text() == row.told
+        && sites.refusals.count() == row.refused
 }
 
 // Asserts that under the gate each site has the result of the row, and that all deltas in

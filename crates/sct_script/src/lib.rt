@@ -9,9 +9,9 @@ mod event;
 mod fault;
 mod fields;
 mod outcomes;
+mod refusal_text;
 mod replays;
 mod script;
-mod told;
 mod vectors;
 
 pub use fault::{LineFault, ScriptFault};

@@ -1,5 +1,5 @@
 //! A script: its number of sites, its events, and its refused lines.
-ghost use Rattle.std.specs.Prelude.{◌≡◌, ◌≢◌, ◌+◌, ◌<◌, ◌≤◌, ◌++◌, ◌∷◌, [], ◌^◌, ◌-◌, None, Some, length, true, option_and_then, string_bytes, IfErr, IfOk, IfSome, MatchOption, OnOk};
+ghost use Rattle.std.specs.Prelude.{◌≡◌, ◌≢◌, ◌+◌, ◌<◌, ◌≤◌, ◌++◌, ◌∷◌, [], ◌^◌, None, Some, length, true, option_and_then, IfErr, IfOk, IfSome, MatchOption, OnOk};
 ghost use Rattle.sct_lines.specs.Lines.{lines_of, numbered_from};
 ghost use Rattle.sct_world.specs.Happenings.{happenings_of};
 ghost use Rattle.sct_world.specs.States.{is_size};
@@ -19,20 +19,17 @@ ghost use Rattle.sct_script.specs.Scripts.{
 use crate::event::read_event;
 use crate::fault::ScriptFault;
 use crate::fields::behind;
-use crate::told::push_refusal;
 use sct_delta::{MOST_SITES, number_of};
-use sct_lines::{first_line, is_blank_line};
+use sct_lines::{Refusals, first_line, is_blank_line};
 use sct_world::Event;
 use std::alloc::{AllocError, Global};
 
-/// A script as it was read: the number of its sites, the events in their order, the text
-/// of the refused lines, and their number.
+/// A script as it was read: the number of its sites, the events in their order, and the refused lines.
 #[derive(Drop)]
 pub struct Script {
     pub sites: u16,
     pub events: Vec<Event>,
-    pub told: String,
-    pub refused: u64,
+    pub refusals: Refusals,
 }
 
 // The number of sites, or none if a world cannot have this number.
@@ -58,7 +55,7 @@ fn size_of(line: &[u8]) -> Option<u16>
 }
 
 // The first line that is not blank: its number, the line, and the text after it. None if there is none.
-fn first_told(input: &[u8]) -> Option<(u64, &[u8], &[u8])>
+fn first_written_line(input: &[u8]) -> Option<(u64, &[u8], &[u8])>
     ensures lines { MatchOption result (script_lines input.now ≡ [])
         (λ first. script_lines input.now
         ≡ (first.0, first.1.now) ∷ numbered_from (first.0 + 1) (lines_of first.2.now)) }
@@ -81,40 +78,34 @@ impl Script {
     fn new(alloc: Global, sites: u16) -> Script
         ensures sites { result.sites ≡ sites }
         ensures events { happenings_of result.events.items ≡ [] }
-        ensures told { string_bytes result.told ≡ [] }
-        ensures refused { result.refused ≡ 0 }
+        ensures told { result.refusals.text ≡ [] }
+        ensures refused { result.refusals.count ≡ 0 }
     {
         Script {
             sites,
             events: Vec::new(alloc),
-            told: String::new(alloc),
-            refused: 0,
+            refusals: Refusals::none(alloc),
         }
     }
 
     // Adds one line: its event, or its refusal. A blank line adds nothing.
     #[tactic(auto, using(crate::proofs::ScriptLemmas::one_line))]
     fn take(&mut self, alloc: Global, number: u64, line: &[u8]) -> Result<(), AllocError>
-        requires { self.old.refused < 2 ^ 64 - 1 }
         ensures sites { self.new.sites ≡ self.old.sites }
         ensures events { OnOk result (happenings_of self.new.events.items
             ≡ happenings_of self.old.events.items ++ happenings_among (numbered_from number (line.now ∷ []))) }
-        ensures told { OnOk result (string_bytes self.new.told
-            ≡ string_bytes self.old.told
+        ensures told { OnOk result (self.new.refusals.text
+            ≡ self.old.refusals.text
             ++ told_text_of (refusals_among (numbered_from number (line.now ∷ [])))) }
-        ensures refused { OnOk result (self.new.refused
-            ≡ self.old.refused + length (refusals_among (numbered_from number (line.now ∷ [])))) }
-        ensures one { OnOk result (self.new.refused ≤ self.old.refused + 1) }
+        ensures refused { OnOk result (self.new.refusals.count
+            ≡ self.old.refusals.count + length (refusals_among (numbered_from number (line.now ∷ [])))) }
     {
         if is_blank_line(line) {
             return Ok(());
         }
         match read_event(alloc, line)? {
             Ok(event) => self.events.push(event)?,
-            Err(fault) => {
-                push_refusal(alloc, &mut self.told, number, &fault)?;
-                self.refused += 1;
-            }
+            Err(fault) => self.refusals.push(alloc, "", number, &fault)?,
         }
         Ok(())
     }
@@ -126,9 +117,9 @@ fn read_lines(alloc: Global, sites: u16, before: u64, text: &[u8]) -> Result<Scr
     ensures sites { IfOk result (λ script. script.sites ≡ sites) }
     ensures events { IfOk result (λ script. happenings_of script.events.items
         ≡ happenings_among (numbered_from (before + 1) (lines_of text.now))) }
-    ensures told { IfOk result (λ script. string_bytes script.told
+    ensures told { IfOk result (λ script. script.refusals.text
         ≡ told_text_of (refusals_among (numbered_from (before + 1) (lines_of text.now)))) }
-    ensures refused { IfOk result (λ script. script.refused
+    ensures refused { IfOk result (λ script. script.refusals.count
         ≡ length (refusals_among (numbered_from (before + 1) (lines_of text.now)))) }
 {
     let mut script = Script::new(alloc, sites);
@@ -151,12 +142,12 @@ pub fn read_script(alloc: Global, input: &[u8]) -> Result<Script, ScriptFault>
     ensures sites { IfOk result (λ script. sites_told input.now ≡ Some script.sites) }
     ensures size { IfOk result (λ script. is_size script.sites ≡ true) }
     ensures events { IfOk result (λ script. happenings_of script.events.items ≡ happenings_told input.now) }
-    ensures told { IfOk result (λ script. string_bytes script.told ≡ told_text_of (refusals_told input.now)) }
-    ensures refused { IfOk result (λ script. script.refused ≡ length (refusals_told input.now)) }
+    ensures told { IfOk result (λ script. script.refusals.text ≡ told_text_of (refusals_told input.now)) }
+    ensures refused { IfOk result (λ script. script.refusals.count ≡ length (refusals_told input.now)) }
     ensures no_script { IfErr result (λ e. e ≢ fault.Memory
         → (e ≡ fault.NoScript) × (sites_told input.now ≡ None)) }
 {
-    let Some((number, line, rest)) = first_told(input) else {
+    let Some((number, line, rest)) = first_written_line(input) else {
         return Err(ScriptFault::NoScript);
     };
     let Some(sites) = size_of(line) else {

@@ -12,7 +12,9 @@ fn is_refused(alloc: Global, row: &Refused) -> bool {
     let Ok(script) = read_script(alloc, row.script) else {
         return false;
     };
-    script.told.as_bytes() == row.told && script.refused == row.refused && script.events.is_empty()
+    script.refusals.text().as_bytes() == row.told
+        && script.refusals.count() == row.refused
+        && script.events.is_empty()
 }
 
 #[test]
@@ -27,7 +29,7 @@ fn is_taken(alloc: Global, row: &Taken) -> bool {
     let Ok(script) = read_script(alloc, row.script) else {
         return false;
     };
-    script.sites == row.sites && script.events.len() == row.events && script.refused == 0
+    script.sites == row.sites && script.events.len() == row.events && script.refusals.count() == 0
 }
 
 #[test]

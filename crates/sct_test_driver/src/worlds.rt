@@ -20,7 +20,7 @@ fn answer(alloc: Global, input: &[u8]) -> Result<Vec<u8>> {
     match read_script(alloc, input) {
         Ok(script) => {
             let text = replay(alloc, script.sites, &script.events)?;
-            parted(alloc, script.told.as_bytes(), &text)
+            parted(alloc, script.refusals.text().as_bytes(), &text)
         }
         Err(ScriptFault::NoScript) => parted(alloc, b"fault 64\n", b""),
         Err(fault) => Err(fault.into()),

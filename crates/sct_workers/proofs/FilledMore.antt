@@ -32,39 +32,6 @@ refused_push : (inputs : List (List ℕ)) (input : List ℕ) → refused_in (inp
 refused_push [] input = omega arith
 refused_push (first ∷ inputs) input = let rest = refused_push inputs input in omega (arith, rest)
 
--- a line tells each refusal, so there are no more of them than bytes that tell them
-told_at_length : (front : List ℕ) (refusals : List (ℕ × JsonFault)) → length refusals ≤ length (told_after front refusals)
-unfolding told_after refusal_line
-told_at_length front [] = omega arith
-told_at_length front (refusal ∷ refusals) =
-    let rest = told_at_length front refusals in
-    let line : List ℕ = codes "line " ++ decimal refusal.0 ++ codes ": " ++ json_fault_text refusal.1 ++ 10 ∷ [] in
-    let both = length-append (front ++ line) (flat_map (λ r. front ++ (codes "line " ++ decimal r.0 ++ codes ": " ++ json_fault_text r.1 ++ 10 ∷ [])) refusals) in
-    let one = length-append front line in
-    omega (arith, rest, both, one)
-
-few_in : (file : ℕ) (inputs : List (List ℕ)) → refused_in inputs ≤ length (told_from file inputs)
-few_in file [] = omega arith
-few_in file (input ∷ inputs) =
-    let here = told_at_length (file_front file) (refusals_told input) in
-    let rest = few_in (file + 1) inputs in
-    let both = length-append (told_of_file file input) (told_from (file + 1) inputs) in
-    omega (arith, here, rest, both)
-
-pub few_filled : (number size : ℕ) (input : List ℕ) (one : Filled) → IsFilled number size input one → one.refused ≤ length (string_bytes one.told)
-few_filled number size input one filled =
-    let here = told_at_length (file_front number) (refusals_told input) in
-    let told : length (string_bytes one.told) ≡ length (told_of_file number input) = ap length filled.told in
-    let refused = filled.refused in
-    omega (arith, here, told, refused)
-
-pub few_of_all : (size : ℕ) (inputs : List (List ℕ)) (sites : Sites) → AreFilled size inputs sites → sites.refused ≤ length (string_bytes sites.told)
-few_of_all size inputs sites filled =
-    let here = few_in 1 inputs in
-    let told : length (string_bytes sites.told) ≡ length (told_from 1 inputs) = ap length filled.told in
-    let refused = filled.refused in
-    omega (arith, here, told, refused)
-
 -- ---- one site more
 
 stand_push : (number size : ℕ) (inputs : List (List ℕ)) (cores : List Core) (input : List ℕ) (core : Core) → AllStand number size inputs cores
@@ -77,7 +44,7 @@ stand_push number size (i ∷ inputs) (c ∷ cores) input core all one =
 stand_push number size [] (c ∷ cores) input core all one = absurd all
 stand_push number size (i ∷ inputs) [] input core all one = absurd all
 
-pub none_filled : (size : ℕ) (sites : Sites) → sites.cores.items ≡ [] → string_bytes sites.told ≡ [] → sites.refused ≡ 0 → AreFilled size [] sites
+pub none_filled : (size : ℕ) (sites : Sites) → sites.cores.items ≡ [] → sites.refusals.text ≡ [] → sites.refusals.count ≡ 0 → AreFilled size [] sites
 none_filled size sites cores told refused = record {
   stand = subst (AllStand 1 size []) (sym cores) tt;
   told = told;
@@ -86,7 +53,7 @@ none_filled size sites cores told refused = record {
 
 pub one_more : (size : ℕ) (inputs : List (List ℕ)) (input : List ℕ) (before after : Sites) (one : Filled) → AreFilled size inputs before
     → IsFilled (length inputs + 1) size input one → after.cores.items ≡ before.cores.items ++ one.core ∷ []
-    → string_bytes after.told ≡ string_bytes before.told ++ string_bytes one.told → after.refused ≡ before.refused + one.refused
+    → after.refusals.text ≡ before.refusals.text ++ one.refusals.text → after.refusals.count ≡ before.refusals.count + one.refusals.count
     → AreFilled size (inputs ++ input ∷ []) after
 one_more size inputs input before after one all filled cores told refused =
     let at : length inputs + 1 ≡ 1 + length inputs = omega arith in
@@ -111,7 +78,7 @@ filled_at inputs size place one low answers = answers (get_or inputs place []) (
 -- the sites so far were filled from the inputs up to a place, and the next one from the input there
 pub site_more : (inputs : List (List ℕ)) (size place : ℕ) (before after : Sites) (one : Filled) → place < length inputs → AnswersTo size inputs place (Ok one)
     → AreFilled size (take place inputs) before → after.cores.items ≡ before.cores.items ++ one.core ∷ []
-    → string_bytes after.told ≡ string_bytes before.told ++ string_bytes one.told → after.refused ≡ before.refused + one.refused
+    → after.refusals.text ≡ before.refusals.text ++ one.refusals.text → after.refusals.count ≡ before.refusals.count + one.refusals.count
     → AreFilled size (take (place + 1) inputs) after
 site_more inputs size place before after one low answers all cores told refused =
     let input = get_or inputs place [] in

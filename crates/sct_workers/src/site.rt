@@ -113,11 +113,11 @@ fn front_of(alloc: Global, number: u16) -> Result<String, AllocError>
     format!(in alloc; "file {number} ")
 }
 
-// The messages of an input, with the text of its refused lines and their number.
+// The messages of an input, and its refused lines.
 fn read(alloc: Global, number: u16, input: &[u8]) -> Result<Intake, AllocError>
     ensures messages { IfOk result (λ intake. messages_in intake.messages.items ≡ messages_read input.now) }
-    ensures told { IfOk result (λ intake. string_bytes intake.told ≡ told_of_file number input.now) }
-    ensures refused { IfOk result (λ intake. intake.refused ≡ length (refusals_told input.now)) }
+    ensures told { IfOk result (λ intake. intake.refusals.text ≡ told_of_file number input.now) }
+    ensures refused { IfOk result (λ intake. intake.refusals.count ≡ length (refusals_told input.now)) }
 {
     let front = front_of(alloc, number)?;
     read_lines_after(alloc, front.as_str(), input)
@@ -140,18 +140,10 @@ pub(crate) fn fill<G: Gate + Sync, R: Threads + Wait + Sync>(
     let Ok(read) = read(alloc, number, input) else {
         return Err(SiteFault::Working(WorkFault::Memory));
     };
-    let Intake {
-        messages,
-        told,
-        refused,
-    } = read;
+    let Intake { messages, refusals } = read;
     let (history, track) = History::open();
     let core = worked::<Brand, G, R>(
         rt, alloc, gate, history, track, number, group, &messages, post,
     )?;
-    Ok(Filled {
-        core,
-        told,
-        refused,
-    })
+    Ok(Filled { core, refusals })
 }

@@ -1,5 +1,5 @@
 -- What was read of the lines so far, followed by what the others are, is what the part is.
-use Rattle.std.proofs.Common.{◌≡◌, ◌+◌, ◌≤◌, ◌++◌, length, string_bytes}
+use Rattle.std.proofs.Common.{◌≡◌, ◌+◌, ◌≤◌, ◌++◌, length}
 use Rattle.sct_message.specs.Sets.{messages_in}
 use Rattle.sct_lines.specs.Lines.{told_after}
 use Rattle.sct_lines.specs.Parts.{messages_after, refusals_after}
@@ -8,10 +8,9 @@ use Rattle.sct_lines.proofs.intake.read_part.Given as goal
 abbrev pub invariant-loop-line : goal.invariant-loop-line
 invariant-loop-line l = record {
   counted : l.number + length l.rest ≤ l.before + length l.part;
-  fewer : l.before + l.intake.refused ≤ l.number;
   messages : messages_in l.intake.messages.items ++ messages_after l.number l.rest ≡ messages_after l.before l.part;
-  told : string_bytes l.intake.told ++ told_after l.front (refusals_after l.number l.rest) ≡ told_after l.front (refusals_after l.before l.part);
-  refused : l.intake.refused + length (refusals_after l.number l.rest) ≡ length (refusals_after l.before l.part);
+  told : l.intake.refusals.text ++ told_after l.front (refusals_after l.number l.rest) ≡ told_after l.front (refusals_after l.before l.part);
+  refused : l.intake.refusals.count + length (refusals_after l.number l.rest) ≡ length (refusals_after l.before l.part);
 }
 
 abbrev pub decreases-loop-line : goal.decreases-loop-line

@@ -9,4 +9,4 @@ returns g t c =
     let second = rw c.in_ok-second.was at c.join-first.ensures.second in
     let lines = ap (λ n. c.args.before + n) (c.count_by_halves.ensures.count ∙ sym c.in-Some.ensures.feeds) in
     let added = c.in_ok-append.ensures in
-    read_in_two [] c.args.before c.args.part.now _ _ _ _ _ c.in-Some.ensures.lines first (rw lines at second) added.messages added.told added.refused c.in-Some.ensures.whole
+    read_in_two [] c.args.before c.args.part.now _ _ _ _ _ c.in-Some.ensures.lines first (rw lines at second) added.messages added.told added.refused

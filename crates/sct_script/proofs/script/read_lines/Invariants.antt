@@ -1,18 +1,17 @@
 -- What was read of the lines so far, followed by what the others are, is what all of them are.
-use Rattle.std.proofs.Common.{◌≡◌, ◌+◌, ◌≤◌, ◌++◌, length, string_bytes}
+use Rattle.std.proofs.Common.{◌≡◌, ◌+◌, ◌≤◌, ◌++◌, length}
 use Rattle.sct_world.specs.Happenings.{happenings_of}
 use Rattle.sct_script.specs.Scripts.{happenings_among, refusals_among, told_text_of}
-use Rattle.sct_script.proofs.ScriptLemmas.{lines_left}
+use Rattle.sct_lines.proofs.LineLemmas.{lines_left}
 use Rattle.sct_script.proofs.script.read_lines.Given as goal
 
 abbrev pub invariant-loop-line : goal.invariant-loop-line
 invariant-loop-line l = record {
   counted : l.number + length l.rest ≤ l.before + length l.text;
-  fewer : l.script.refused ≤ l.number;
   sites : l.script.sites ≡ l.sites;
   events : happenings_of l.script.events.items ++ happenings_among (lines_left (l.number + 1) l.rest) ≡ happenings_among (lines_left (l.before + 1) l.text);
-  told : string_bytes l.script.told ++ told_text_of (refusals_among (lines_left (l.number + 1) l.rest)) ≡ told_text_of (refusals_among (lines_left (l.before + 1) l.text));
-  refused : l.script.refused + length (refusals_among (lines_left (l.number + 1) l.rest)) ≡ length (refusals_among (lines_left (l.before + 1) l.text));
+  told : l.script.refusals.text ++ told_text_of (refusals_among (lines_left (l.number + 1) l.rest)) ≡ told_text_of (refusals_among (lines_left (l.before + 1) l.text));
+  refused : l.script.refusals.count + length (refusals_among (lines_left (l.number + 1) l.rest)) ≡ length (refusals_among (lines_left (l.before + 1) l.text));
 }
 
 abbrev pub decreases-loop-line : goal.decreases-loop-line

@@ -7,7 +7,7 @@ use Rattle.std.proofs.lemmas.List.{length-map}
 use Rattle.sct_workers.specs.Files.{bytes_of}
 use Rattle.sct_workers.specs.Filling.{AreFilled}
 use Rattle.sct_workers.specs.Reported.{AnswersTo}
-use Rattle.sct_workers.proofs.FilledMore.{few_filled, few_of_all, filled_at, site_more}
+use Rattle.sct_workers.proofs.FilledMore.{site_more}
 use Rattle.sct_workers.proofs.Places.{get_behind}
 use Rattle.sct_workers.proofs.reporting.all_of.Goals as goal
 
@@ -17,22 +17,6 @@ unreachable-requires c =
     let all = ap (λ rest. c.loop-answer.yielded ++ rest) (sym step) ∙ c.loop-answer.invariant.rest in
     let here = get_behind c.loop-answer.yielded c.in-Some.answer (into_iter_items c.next.new.self) c.args.answers.items all in
     false≢true (subst IsOk c.in_default.is (c.requires.none (length c.loop-answer.yielded) c.in-Some.answer here))
-
-pub with-requires-clause-few : goal.with-requires-clause-few
-with-requires-clause-few c = few_of_all _ _ c.loop-answer.sites c.loop-answer.invariant.filled
-
-pub with-requires-clause-few_more : goal.with-requires-clause-few_more
-with-requires-clause-few_more c =
-    let step : into_iter_items c.loop-answer.answer-iterator ≡ c.in-Some.answer ∷ into_iter_items c.next.new.self = search rules in
-    let all = ap (λ rest. c.loop-answer.yielded ++ rest) (sym step) ∙ c.loop-answer.invariant.rest in
-    let here = get_behind c.loop-answer.yielded c.in-Some.answer (into_iter_items c.next.new.self) c.args.answers.items all in
-    let answers = subst (AnswersTo (length c.args.inputs.now) (bytes_of c.args.inputs.now) (length c.loop-answer.yielded)) c.in-Ok.is
-    (c.requires.filled (length c.loop-answer.yielded) c.in-Some.answer here) in
-    let counted = ap length all in
-    let longer = length-append c.loop-answer.yielded (c.in-Some.answer ∷ into_iter_items c.next.new.self) in
-    let mapped = length-map c.args.inputs.now (λ input. input.items) in
-    let low : length c.loop-answer.yielded < length (bytes_of c.args.inputs.now) = omega (arith, counted, longer, mapped, c.requires.len) in
-    few_filled _ _ _ c.in-Ok.site (filled_at (bytes_of c.args.inputs.now) (length c.args.inputs.now) (length c.loop-answer.yielded) c.in-Ok.site low answers)
 
 pub loop-answer-preserved : goal.loop-answer-preserved
 loop-answer-preserved c =

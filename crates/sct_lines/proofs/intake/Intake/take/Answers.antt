@@ -1,4 +1,4 @@
--- A message more is the one that its line is read as, and a refusal more the one that it is refused by.
+-- A message more is the one that its line is read as, and a refusal more is the one by which its line is refused.
 use Rattle.std.proofs.Common.{◌∙◌, ap, sym}
 use Rattle.sct_message.specs.Sets.{messages_in}
 use Rattle.sct_lines.proofs.LineLemmas.{message_behind, refusal_behind}
@@ -10,8 +10,7 @@ returns-in_ok-push-in-Ok-clause-messages c =
     ∙ message_behind c.args.self.now.messages.items c.in_ok-new-in-Ok.field-0 c.args.number c.args.line.now c.in-Ok.message
     (sym c.is_blank_line.ensures ∙ c.if-is_blank_line.false) (c.in_ok-message.ensures ∙ c.in-Ok.is) c.in_ok-new-in-Ok.ensures.ok
 
-pub returns-in_ok-push_refusal-in-Err-clause-told : goal.returns-in_ok-push_refusal-in-Err-clause-told
-returns-in_ok-push_refusal-in-Err-clause-told c =
-    refusal_behind _ _ _ c.args.front.now c.args.number c.args.line.now c.in-Err.fault
-    (sym c.is_blank_line.ensures ∙ c.if-is_blank_line.false) (c.in_ok-message.ensures ∙ c.in-Err.is)
-    c.in_ok-push_str-in-Err.ensures.bytes c.in_ok-push_refusal-in-Err.ensures
+pub returns-in_ok-push-in-Err-clause-told : goal.returns-in_ok-push-in-Err-clause-told
+returns-in_ok-push-in-Err-clause-told c =
+    refusal_behind _ _ c.args.front.now c.args.number c.args.line.now c.in-Err.fault
+    (sym c.is_blank_line.ensures ∙ c.if-is_blank_line.false) (c.in_ok-message.ensures ∙ c.in-Err.is) c.in_ok-push-in-Err.ensures.text

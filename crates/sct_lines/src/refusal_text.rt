@@ -1,9 +1,10 @@
-//! How a refused line is told.
+//! The text of the reason why a line is refused.
 ghost use Rattle.std.specs.Prelude.{◌≡◌, ◌++◌, IfOk, string_bytes};
 ghost use Rattle.serde_json.specs.Data.{string};
 ghost use Rattle.serde_json.specs.Written.{compact_text};
-ghost use Rattle.sct_lines.specs.Lines.{key_fault_text, json_fault_text, refusal_line};
+ghost use Rattle.sct_lines.specs.Lines.{key_fault_text, json_fault_text};
 
+use crate::refusals::Reason;
 use sct_json::{ExtraKey, JsonFault, KeyFault};
 use serde_json::Value;
 use std::alloc::{AllocError, Global};
@@ -17,7 +18,8 @@ fn quoted(alloc: Global, key: &ExtraKey) -> Result<String, AllocError>
     Value::String(key).to_string(alloc)
 }
 
-/// Adds why an element of a list is refused: the number of the fault and its arguments, parted by spaces.
+/// Appends why an element of a list is refused: the number of the fault and its arguments, with a space between each
+/// two.
 #[tactic(auto, unfolding(crate::specs::Lines::key_fault_text))]
 fn push_key_fault(alloc: Global, text: &mut String, fault: &KeyFault) -> Result<(), AllocError>
     ensures { IfOk result (λ _. string_bytes text.new ≡ string_bytes text.old ++ key_fault_text fault.now) }
@@ -33,8 +35,8 @@ fn push_key_fault(alloc: Global, text: &mut String, fault: &KeyFault) -> Result<
     }
 }
 
-/// Adds why a line is refused: the number of the fault and its arguments, parted by spaces. A fault of an element of a
-/// list stands behind the element's place.
+/// Appends why a line is refused: the number of the fault and its arguments, with a space between each two. The fault of
+/// an element of a list follows the element's place.
 #[tactic(auto, unfolding(crate::specs::Lines::json_fault_text))]
 pub fn push_json_fault(
     alloc: Global,
@@ -64,18 +66,10 @@ pub fn push_json_fault(
     }
 }
 
-/// Adds the line that tells a refused line by its number, with its line feed.
-#[tactic(auto, unfolding(crate::specs::Lines::refusal_line))]
-pub fn push_refusal(
-    alloc: Global,
-    text: &mut String,
-    number: u64,
-    fault: &JsonFault,
-) -> Result<(), AllocError>
-    ensures { IfOk result (λ _. string_bytes text.new
-        ≡ string_bytes text.old ++ refusal_line (number, fault.now)) }
-{
-    write!(text, "line {number}: ")?;
-    push_json_fault(alloc, text, fault)?;
-    text.push('\n')
+impl Reason for JsonFault {
+    ghost reason_text = { json_fault_text };
+
+    fn push_text(&self, alloc: Global, text: &mut String) -> Result<(), AllocError> {
+        push_json_fault(alloc, text, self)
+    }
 }

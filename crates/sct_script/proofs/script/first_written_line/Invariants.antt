@@ -1,8 +1,8 @@
 -- Blank lines alone stand before what is left.
 use Rattle.std.proofs.Common.{◌≡◌, ◌+◌, ◌≤◌, length}
 use Rattle.sct_script.specs.Scripts.{script_lines}
-use Rattle.sct_script.proofs.ScriptLemmas.{lines_left}
-use Rattle.sct_script.proofs.script.first_told.Given as goal
+use Rattle.sct_lines.proofs.LineLemmas.{lines_left}
+use Rattle.sct_script.proofs.script.first_written_line.Given as goal
 
 abbrev pub invariant-loop-line : goal.invariant-loop-line
 invariant-loop-line l = record {

@@ -1,7 +1,8 @@
 -- Blank lines are skipped, and the first other one is the first line.
 use Rattle.std.proofs.Common.{◌+◌, arith, sym, ◌∙◌}
-use Rattle.sct_script.proofs.ScriptLemmas.{lines_left_none, not_skipped, skipped}
-use Rattle.sct_script.proofs.script.first_told.Goals as goal
+use Rattle.sct_lines.proofs.LineLemmas.{lines_left_none}
+use Rattle.sct_script.proofs.ScriptLemmas.{not_skipped, skipped}
+use Rattle.sct_script.proofs.script.first_written_line.Goals as goal
 
 pub returns-then-not-is_blank_line-clause-lines : goal.returns-then-not-is_blank_line-clause-lines
 returns-then-not-is_blank_line-clause-lines c =
