@@ -13,7 +13,7 @@ use Rattle.sct_engine.specs.Stream.{Streams}
 use Rattle.sct_engine.specs.Tasks.{bad_row_in, out_text_of, refusals_text_of, IsEndingOf, IsPrepared, LeavesInput}
 use Rattle.sct_engine.specs.declared.task.Task.{Task}
 use Rattle.sct_engine.specs.declared.task.Task.TheVariants as task
-use Rattle.sct_run.specs.Runs.{are_sites}
+use Rattle.sct_engine.specs.Runs.{are_sites}
 use Rattle.sct_streams.specs.Stream.{HasTakenIfTold, Input, IsWritten, IsWrittenOrCutOff}
 
 -- the words of a command line as texts, or the fault by which they could not be read

@@ -7,11 +7,12 @@ ghost use Rattle.clap.specs.Words.{all_of, found_of, rows_of, subcommand_rows_of
 ghost use Rattle.clap.specs.Values.{kind_of};
 ghost use Rattle.sct_engine.specs.CommandLine.{AnswersKind, AreAsking, CommandsAskForTheirOrders};
 ghost use Rattle.clap.specs.declared.error.kind.ErrorKind.TheVariants as kind;
-ghost use Rattle.sct_engine.specs.Request.{job_named, is_mistake, order_named, are_sites, report_ordered, report_with, sites_from, AsksForNoOrder, IsOrdered};
+ghost use Rattle.sct_engine.specs.Request.{job_named, is_mistake, order_named, report_ordered, report_with, sites_from, AsksForNoOrder, IsOrdered};
 
 use crate::commands::command;
 use crate::fault::ProgramFault;
 use crate::jobs::Job;
+use crate::runs::are_sites;
 use clap::error::ErrorKind;
 use clap::{ArgMatches, Error};
 use sct_element::{Bic, Day, read_bic, read_day};
@@ -87,8 +88,6 @@ fn answer_of<'a>(alloc: Global, error: &Error) -> Result<Request<'a>, ProgramFau
     }
 }
 
-const MOST_FILES: usize = 16;
-
 // The job of a command's name.
 fn job_named(name: &str) -> Option<Job>
     ensures { result ≡ job_named name.now }
@@ -111,13 +110,6 @@ fn report_of<'a>(given: &ArgMatches<'a>) -> Option<Reconciliation<'a>>
     let day = read_day(given.get_str("DAY")?).ok()?;
     let list = given.get_str("LIST")?;
     Some(Reconciliation { bank, day, list })
-}
-
-// Whether this number of files can be run.
-fn are_sites(count: usize) -> bool
-    ensures { result ≡ are_sites count }
-{
-    count > 0 && count <= MOST_FILES
 }
 
 // The request of `run` with these files. Error: `Usage` (64) if there are more than 16.

@@ -1,6 +1,6 @@
 //! Several inputs with one answer: each fills a site of its own, and the sites are settled.
 ghost use Rattle.std.specs.Prelude.{◌≡◌, ◌≢◌, ◌⊎◌, Err, Some, false, length, IfErr, IfOk, OnOk};
-ghost use Rattle.sct_run.specs.Runs.{are_sites, set_of_all};
+ghost use Rattle.sct_engine.specs.Runs.{are_sites, set_of_all};
 ghost use Rattle.sct_engine.specs.declared.fault.ProgramFault.TheVariants as fault;
 ghost use Rattle.sct_engine.specs.Engine.{AreCutOff};
 ghost use Rattle.sct_engine.specs.Tasks.{EndsSettling};
@@ -10,7 +10,7 @@ ghost use Rattle.sct_workers.specs.Files.{bytes_of, refused_in, told_from};
 
 use crate::fault::ProgramFault;
 use crate::jobs::Done;
-use sct_run::{RunAnswer, run_sites};
+use crate::runs::{RunAnswer, run_sites};
 use sct_streams::{Sink, write_all};
 use sct_workers::FreeGate;
 use std::alloc::Global;

@@ -2,7 +2,7 @@
 use Rattle.std.proofs.Common.{◌≡◌, subst, IfOk}
 use Rattle.sct_set.specs.Contents.{Contents}
 use Rattle.sct_view.specs.StatusText.{status_text_of}
-use Rattle.sct_run.proofs.status.status_text.Goals as goal
+use Rattle.sct_engine.proofs.runs.status_text.Goals as goal
 
 pub returns-clause-text : goal.returns-clause-text
 returns-clause-text g c =

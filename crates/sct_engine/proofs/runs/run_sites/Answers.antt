@@ -5,9 +5,9 @@ use Rattle.std.proofs.lemmas.List.{length-map}
 use Rattle.sct_view.specs.StatusText.{status_text_of}
 use Rattle.sct_workers.specs.Files.{bytes_of, refused_in, told_from}
 use Rattle.sct_workers.proofs.FilledMore.{ok_so}
-use Rattle.sct_run.specs.Runs.{set_of_all}
-use Rattle.sct_run.proofs.AnswerLemmas.{IsAnswerOf, answer_ends, answer_is}
-use Rattle.sct_run.proofs.sites.run_sites.Goals as goal
+use Rattle.sct_engine.specs.Runs.{set_of_all}
+use Rattle.sct_engine.proofs.AnswerLemmas.{IsAnswerOf, answer_ends, answer_is}
+use Rattle.sct_engine.proofs.runs.run_sites.Goals as goal
 
 pub returns-clause-status : goal.returns-clause-status
 returns-clause-status g c =
