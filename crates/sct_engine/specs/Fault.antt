@@ -6,6 +6,8 @@ use Rattle.sct_receipts.specs.declared.fault.WorkFault.{WorkFault}
 use Rattle.sct_receipts.specs.declared.fault.WorkFault.TheVariants as work
 use Rattle.sct_reconcile.specs.declared.fault.ReconcileFault.{ReconcileFault}
 use Rattle.sct_reconcile.specs.declared.fault.ReconcileFault.TheVariants as list
+use Rattle.sct_script.specs.declared.fault.ScriptFault.{ScriptFault}
+use Rattle.sct_script.specs.declared.fault.ScriptFault.TheVariants as script
 use Rattle.sct_streams.specs.declared.whole.ReadFault.{ReadFault}
 use Rattle.sct_streams.specs.declared.whole.ReadFault.TheVariants as read
 
@@ -36,6 +38,11 @@ fault_of_read read.Memory = Memory
 abbrev pub fault_of_list : ReconcileFault → ProgramFault
 fault_of_list (list.BadList row) = BadList row
 fault_of_list list.Memory = Memory
+
+-- the fault of the program if an input is not read as a script
+abbrev pub fault_of_script : ScriptFault → ProgramFault
+fault_of_script script.NoScript = Usage
+fault_of_script script.Memory = Memory
 
 -- the fault of the program, by the fault that ended the work at one of its sites
 abbrev pub fault_of_work : WorkFault → ProgramFault

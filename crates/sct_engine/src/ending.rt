@@ -44,7 +44,7 @@ fn fault_line(fault: &ProgramFault) -> ArrayString<64>
 }
 
 // Writes the line of a fault and the text after it.
-fn tell_fault<E: Sink>(fault: &ProgramFault, text: &str, err: &mut E) -> Result<(), Failed>
+fn write_fault<E: Sink>(fault: &ProgramFault, text: &str, err: &mut E) -> Result<(), Failed>
     ensures whole { OnOk result (IsWritten (E.state err.old) (E.state err.new)
         (Some (fault_line_of fault.now ++ text.now))) }
     ensures prefix { OnErr result (IsCutOff (E.state err.old) (E.state err.new)
@@ -55,7 +55,7 @@ fn tell_fault<E: Sink>(fault: &ProgramFault, text: &str, err: &mut E) -> Result<
 }
 
 // Writes what standard error gets at the end of a run, after the refused lines.
-fn tell<E: Sink>(ended: &Result<Ending, ProgramFault>, err: &mut E) -> Result<(), Failed>
+fn write_ending<E: Sink>(ended: &Result<Ending, ProgramFault>, err: &mut E) -> Result<(), Failed>
     ensures whole { OnOk result (IsWritten (E.state err.old) (E.state err.new)
         (Some (ending_text_of ended.now))) }
     ensures prefix { OnErr result (IsCutOff (E.state err.old) (E.state err.new)
@@ -63,8 +63,8 @@ fn tell<E: Sink>(ended: &Result<Ending, ProgramFault>, err: &mut E) -> Result<()
 {
     match ended {
         Ok(Ending::Done(_)) | Ok(Ending::Helped) => Ok(()),
-        Ok(Ending::Mistaken(text)) => tell_fault(&ProgramFault::Usage, text.as_str(), err),
-        Err(fault) => tell_fault(fault, "", err),
+        Ok(Ending::Mistaken(text)) => write_fault(&ProgramFault::Usage, text.as_str(), err),
+        Err(fault) => write_fault(fault, "", err),
     }
 }
 
@@ -89,6 +89,6 @@ pub fn conclude<E: Sink>(ended: &Result<Ending, ProgramFault>, err: &mut E) -> u
     ensures told { IsWrittenOrCutOff (E.state err.old) (E.state err.new)
         (Some (ending_text_of ended.now)) }
 {
-    let _ = tell(ended, err);
+    let _ = write_ending(ended, err);
     exit_status(ended)
 }

@@ -1,11 +1,12 @@
 //! The faults that end a run, each with its number.
 ghost use Rattle.std.specs.Prelude.{◌≡◌};
 ghost use Rattle.sct_engine.specs.declared.fault.ProgramFault.TheVariants as fault;
-ghost use Rattle.sct_engine.specs.Fault.{fault_of_list, fault_of_read, fault_of_work, program_fault_number};
+ghost use Rattle.sct_engine.specs.Fault.{fault_of_list, fault_of_read, fault_of_script, fault_of_work, program_fault_number};
 
 use sct_case::CaseFault;
 use sct_receipts::WorkFault;
 use sct_reconcile::ReconcileFault;
+use sct_script::ScriptFault;
 use sct_set::SetFault;
 use sct_streams::{Failed, ReadFault};
 use std::alloc::{AllocError, AllocFailed};
@@ -117,6 +118,17 @@ impl From<ReconcileFault> for ProgramFault {
         match fault {
             ReconcileFault::BadList(row) => ProgramFault::BadList(row),
             ReconcileFault::Memory => ProgramFault::Memory,
+        }
+    }
+}
+
+impl From<ScriptFault> for ProgramFault {
+    ghost from_gives = { λ fault e. e ≡ fault_of_script fault };
+
+    fn from(fault: ScriptFault) -> ProgramFault {
+        match fault {
+            ScriptFault::NoScript => ProgramFault::Usage,
+            ScriptFault::Memory => ProgramFault::Memory,
         }
     }
 }

@@ -69,7 +69,7 @@ pub fn read_words(alloc: Global, words: io::Result<Args>) -> Result<Vec<String>,
 }
 
 // The request if clap reports an error in place of matches: help, or a mistake.
-fn answer_of<'a>(alloc: Global, error: &Error) -> Result<Request<'a>, ProgramFault>
+fn request_of_error<'a>(alloc: Global, error: &Error) -> Result<Request<'a>, ProgramFault>
     ensures no_order { IfOk result AsksForNoOrder }
     ensures mistake { IfOk result (λ r. IsTrue (is_mistake r)
         ↔ ((kind_of error.now ≢ kind.DisplayHelp) × (kind_of error.now ≢ kind.DisplayVersion))) }
@@ -132,7 +132,7 @@ fn files_of<'b, 'a>(given: &'b ArgMatches<'a>) -> Option<&'b [&'a str]>
 }
 
 // The request of a command with its arguments.
-fn asked_with<'a>(
+fn request_of_command<'a>(
     alloc: Global,
     name: &str,
     given: &ArgMatches<'a>,
@@ -156,12 +156,12 @@ fn asked_with<'a>(
 }
 
 // The request of the matches that clap found.
-fn asked_by<'a>(alloc: Global, matches: &ArgMatches<'a>) -> Result<Request<'a>, ProgramFault>
+fn request_of_matches<'a>(alloc: Global, matches: &ArgMatches<'a>) -> Result<Request<'a>, ProgramFault>
     ensures { IsOrdered
         (option_and_then (λ found. order_named found.0 found.1) (subcommand_rows_of matches.now)) result }
 {
     match matches.subcommand() {
-        Some((name, given)) => asked_with(alloc, name, given),
+        Some((name, given)) => request_of_command(alloc, name, given),
         None => Err(ProgramFault::Usage),
     }
 }
@@ -178,7 +178,7 @@ pub fn read_request<'a>(alloc: Global, words: &'a [String]) -> Result<Request<'a
     ensures faults { IfErr result EndsAsking }
 {
     match command(alloc)?.try_get_matches_from(words) {
-        Ok(matches) => asked_by(alloc, &matches),
-        Err(error) => answer_of(alloc, &error),
+        Ok(matches) => request_of_matches(alloc, &matches),
+        Err(error) => request_of_error(alloc, &error),
     }
 }

@@ -42,9 +42,9 @@ pub fn are_sites(count: usize) -> bool
     count > 0 && count <= MOST_SITES
 }
 
-// The sites of the inputs, each filled by workers of its own.
+// Fills a site from each input, by workers of its own. At least one site is filled.
 #[tactic(auto, using(crate::proofs::RunLemmas::few_enough, crate::proofs::RunLemmas::some_cores))]
-fn filled<G: Gate + Sync, R: Threads + Wait + Sync>(
+fn fill<G: Gate + Sync, R: Threads + Wait + Sync>(
     rt: &R,
     alloc: Global,
     gate: &G,
@@ -70,19 +70,7 @@ fn settle_all(alloc: Global, cores: &mut [SiteCore]) -> Result<(), ProgramFault>
     }
 }
 
-// The view of the messages of an archive, built in as many threads as there are processors.
-fn view_of<R: Threads + Sync>(
-    rt: &R,
-    alloc: Global,
-    archive: &Archive,
-) -> Result<View, ProgramFault>
-    ensures held { IfOk result (λ view. view ≡ archive.now) }
-    ensures memory { IfErr result (λ e. e ≡ fault.Memory) }
-{
-    Ok(View::of_messages(rt, alloc, archive.messages())?)
-}
-
-// The status text of an archive. Error: `Memory` (65).
+// The status text of an archive. Its view is built in as many threads as there are processors. Error: `Memory` (65).
 fn status_text<R: Threads + Sync>(
     rt: &R,
     alloc: Global,
@@ -91,7 +79,7 @@ fn status_text<R: Threads + Sync>(
     ensures text { IfOk result (λ text. text.items ≡ status_text_of archive.now) }
     ensures memory { IfErr result (λ e. e ≡ fault.Memory) }
 {
-    let view = view_of(rt, alloc, archive)?;
+    let view = View::of_messages(rt, alloc, archive.messages())?;
     Ok(view.status_text()?)
 }
 
@@ -111,8 +99,9 @@ fn settled_status<R: Threads + Sync>(
     status_text(rt, alloc, cores[0].archive())
 }
 
-// The answer of a run, by the result of filling its sites. They are settled only if all of them were filled.
-fn answered<R: Threads + Sync>(
+// Settles the sites if all of them were filled, and returns the answer of the run. Otherwise it returns the fault of
+// filling them.
+fn settle_filled<R: Threads + Sync>(
     rt: &R,
     alloc: Global,
     filled: Result<Sites, WorkFault>,
@@ -169,11 +158,12 @@ pub fn run_sites<G: Gate + Sync, R: Threads + Wait + Sync>(
     ensures ends { IfErr result (RunEndsWhere (G.may_hold gate.now)) }
     ensures any_order { NoOrderMatters }
 {
+    // for the clause `any_order`
     no_order_matters();
     if !are_sites(inputs.len()) {
         return Err(ProgramFault::Usage);
     }
-    let sites = filled(rt, alloc, gate, &inputs);
+    let sites = fill(rt, alloc, gate, &inputs);
     drop(inputs);
-    answered(rt, alloc, sites)
+    settle_filled(rt, alloc, sites)
 }

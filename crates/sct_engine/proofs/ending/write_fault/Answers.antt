@@ -3,7 +3,7 @@ use Rattle.std.proofs.Common.{◌≡◌, Some, subst, rules}
 use Rattle.sct_engine.specs.Ending.{fault_line_of}
 use Rattle.sct_streams.specs.Stream.{IsCutOff, IsWritten}
 use Rattle.sct_engine.proofs.Prefixes.{first_cut_off, second_cut_off, on_err, on_err_map}
-use Rattle.sct_engine.proofs.ending.tell_fault.Goals as goal
+use Rattle.sct_engine.proofs.ending.write_fault.Goals as goal
 
 pub returns-in_err-write_all-clause-prefix : goal.returns-in_err-write_all-clause-prefix
 returns-in_err-write_all-clause-prefix g c =
