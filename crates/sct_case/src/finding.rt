@@ -1,7 +1,9 @@
 //! The ways in which the messages on a transfer contradict each other.
+ghost use Rattle.std.specs.Prelude.{◌≡◌, IfOk};
 
 use sct_element::Id35;
 use sct_message::Identity;
+use std::alloc::{AllocError, Global};
 
 /// A contradiction among the messages on a transfer. The variants are in the order in which findings are reported.
 /// A recall is named by its identification.
@@ -27,4 +29,35 @@ pub enum Finding {
     TwoReturns,
     /// Money was returned for a transfer that was rejected.
     ReturnOfRejected,
+}
+
+impl Finding {
+    /// A copy. It does not allocate.
+    pub fn copy(&self) -> Finding
+        ensures { result ≡ self.now }
+    {
+        match self {
+            Finding::Identity(identity) => Finding::Identity(identity.copy()),
+            Finding::TwoInstructions => Finding::TwoInstructions,
+            Finding::BothConfirmed => Finding::BothConfirmed,
+            Finding::ReasonsDiffer => Finding::ReasonsDiffer,
+            Finding::AmountDiffers => Finding::AmountDiffers,
+            Finding::RecallsDiffer(cxl) => Finding::RecallsDiffer(cxl.copy()),
+            Finding::BothAnswers(cxl) => Finding::BothAnswers(cxl.copy()),
+            Finding::RefusalsDiffer(cxl) => Finding::RefusalsDiffer(cxl.copy()),
+            Finding::TwoReturns => Finding::TwoReturns,
+            Finding::ReturnOfRejected => Finding::ReturnOfRejected,
+        }
+    }
+}
+
+/// Copies of the findings, in their order. The only error is that it is out of memory. O(findings).
+pub fn copy_findings(alloc: Global, findings: &[Finding]) -> Result<Vec<Finding>, AllocError>
+    ensures { IfOk result (λ copies. copies.items ≡ findings.now) }
+{
+    let mut copies = Vec::new(alloc);
+    for finding in findings {
+        copies.push(finding.copy())?;
+    }
+    Ok(copies)
 }

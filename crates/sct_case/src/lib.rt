@@ -17,6 +17,6 @@ mod status;
 pub use cases::{findings, recall_status, transfer_status};
 pub use each_recall::recall_statuses;
 pub use fault::CaseFault;
-pub use finding::Finding;
+pub use finding::{Finding, copy_findings};
 pub use recalls::recall_status_by;
 pub use status::{RecallStatus, Status};

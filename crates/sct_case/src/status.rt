@@ -1,8 +1,11 @@
 //! The status of a transfer, and the status of a recall.
+ghost use Rattle.std.specs.Prelude.{◌≡◌, IfOk};
+ghost use Rattle.sct_case.specs.Statuses.{told};
 
-use crate::finding::Finding;
+use crate::finding::{Finding, copy_findings};
 use sct_element::Amount;
 use sct_reason::Reason;
+use std::alloc::{AllocError, Global};
 
 /// The status of a transfer: the first of these that holds.
 #[derive(Debug, Drop, PartialEq, Eq)]
@@ -23,6 +26,24 @@ pub enum Status {
     Investigated,
     /// It was instructed, and nothing is known beyond that.
     Pending,
+}
+
+impl Status {
+    /// A copy. The only error is that it is out of memory. O(findings).
+    pub fn copy(&self, alloc: Global) -> Result<Status, AllocError>
+        ensures { IfOk result (λ copy. told copy ≡ told self.now) }
+    {
+        match self {
+            Status::Contradicted(found) => Ok(Status::Contradicted(copy_findings(alloc, found)?)),
+            Status::Unknown => Ok(Status::Unknown),
+            Status::Missing => Ok(Status::Missing),
+            Status::Rejected(reason) => Ok(Status::Rejected(reason.copy())),
+            Status::Returned(amount) => Ok(Status::Returned(*amount)),
+            Status::Accepted => Ok(Status::Accepted),
+            Status::Investigated => Ok(Status::Investigated),
+            Status::Pending => Ok(Status::Pending),
+        }
+    }
 }
 
 /// The status of a recall: the first of these that holds.

@@ -4,7 +4,6 @@
 
 mod asking;
 mod closing;
-mod copies;
 mod desk;
 mod events;
 mod fault;

@@ -1,10 +1,9 @@
 //! Publishes the pending arrivals.
 
 ghost use Rattle.std.specs.FinSet as set;
-ghost use Rattle.std.specs.Prelude.{◌≡◌, ◌+◌, ◌<◌, ◌≤◌, List, [], length, map, take, drop, IfOk, IfErr, MatchBool, OnOk, OnErr};
+ghost use Rattle.std.specs.Prelude.{◌≡◌, ◌+◌, ◌<◌, ◌≤◌, List, [], length, take, drop, IfOk, IfErr, MatchBool, OnOk, OnErr};
 ghost use mathlib.Core.List.{IsPrefix};
 ghost use Rattle.sct_delta.specs.Entries.{IsArrivals, messages_of};
-ghost use Rattle.sct_message.specs.Sets.{messages_in};
 ghost use Rattle.sct_desk.specs.Locked.{IsShown, unpublished};
 ghost use Rattle.sct_desk.specs.Passes.{IsOf, ReportsRange};
 ghost use Rattle.sct_desk.specs.Rules.{GoesOn, handed_over};
@@ -16,22 +15,10 @@ use crate::rule::{Sees, ShownWriter};
 use crate::shown::Batch;
 use crate::site::Site;
 use core::mem::replace_with;
-use sct_delta::Entry;
+use sct_delta::{Entry, messages_in};
 use sct_history::{History, Track};
-use sct_message::Message;
 use std::alloc::{AllocError, Global};
-use std::sync::{Arc, Wait};
-
-// The messages of the entries, in their order, shared.
-fn messages_of(alloc: Global, entries: &[Entry]) -> Result<Vec<Arc<Message>>, AllocError>
-    ensures { IfOk result (λ messages. messages_in messages.items ≡ map (λ entry. entry.message) entries.now) }
-{
-    let mut messages = Vec::new(alloc);
-    for entry in entries {
-        messages.push(entry.message.clone()?)?;
-    }
-    Ok(messages)
-}
+use std::sync::Wait;
 
 // Adds the arrivals that the history lacks. It fails if the history has other arrivals,
 // which nobody adds without the lock.
@@ -73,7 +60,7 @@ fn hand_over(
     ensures err { OnErr result (drop writer.new.behind writer.new.log.items
         ≡ drop writer.old.behind writer.old.log.items) }
 {
-    let messages = messages_of(alloc, &arrivals[handed..])?;
+    let messages = messages_in(alloc, &arrivals[handed..])?;
     let batch = Batch {
         messages,
         track: track.again(),

@@ -1,13 +1,14 @@
 //! The questions of a query to the published view.
 
 ghost use Rattle.std.specs.Prelude.{◌≡◌, IfOk, OnErr};
+ghost use Rattle.sct_case.specs.Statuses.{told};
+ghost use Rattle.sct_view.specs.Listed.{found_in};
 
-use crate::copies::{copied_status, findings_of};
-use sct_case::{CaseFault, Finding, RecallStatus, Status};
+use sct_case::{CaseFault, Finding, RecallStatus, Status, copy_findings};
 use sct_element::Bic;
 use sct_message::{RecallKey, TransferKey};
 use sct_view::{Totals, View};
-use std::alloc::Global;
+use std::alloc::{AllocError, Global};
 
 /// A question that each set of messages answers.
 pub(crate) trait Question {
@@ -44,7 +45,17 @@ impl Question for StatusOf<'_> {
     ghost may_want = { Unit {0} };
 
     fn ask(&self, view: &View) -> Result<Status, CaseFault> {
-        Ok(copied_status(self.alloc, view.status(self.transfer))?)
+        Ok(view.status(self.transfer).copy(self.alloc)?)
+    }
+}
+
+// Copies of the findings that a status holds; empty for a status other than contradicted.
+fn findings_of(alloc: Global, status: &Status) -> Result<Vec<Finding>, AllocError>
+    ensures { IfOk result (λ found. found.items ≡ found_in (told status.now)) }
+{
+    match status {
+        Status::Contradicted(found) => copy_findings(alloc, found),
+        _ => Ok(Vec::new(alloc)),
     }
 }
 

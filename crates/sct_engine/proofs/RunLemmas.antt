@@ -5,9 +5,9 @@ use Rattle.std.proofs.lemmas.Bool.Decides.{nat_tests}
 use Rattle.sct_site.specs.Cores.{Core}
 use Rattle.sct_delta.specs.declared.fault.DeltaFault.{DeltaFault}
 use Rattle.sct_delta.specs.declared.fault.DeltaFault.TheVariants as delta
-use Rattle.sct_receipts.specs.Faults.{fault_of_delta}
-use Rattle.sct_receipts.specs.declared.fault.WorkFault.{WorkFault}
-use Rattle.sct_receipts.specs.declared.fault.WorkFault.TheVariants as work
+use Rattle.sct_workers.specs.Faults.{fault_of_delta}
+use Rattle.sct_workers.specs.declared.fault.WorkFault.{WorkFault}
+use Rattle.sct_workers.specs.declared.fault.WorkFault.TheVariants as work
 use Rattle.sct_workers.specs.Filling.{AllStand, AreFilled}
 use Rattle.sct_workers.specs.Holds.{EndsWhere}
 use Rattle.sct_workers.specs.declared.filled.Sites.{Sites}

@@ -17,7 +17,7 @@ use Rattle.sct_world.proofs.HeldLemmas.{either, entry_itself, or_true, same_entr
 use Rattle.sct_world.proofs.KeptLemmas.{HolderOf, some_place}
 use Rattle.sct_lines.specs.Lines.{set_read}
 use Rattle.sct_world.specs.Settling.{AreSettled, core_in, held_by_some}
-use Rattle.sct_receipts.specs.Stands.{Stands}
+use Rattle.sct_workers.specs.Stands.{Stands}
 use Rattle.sct_workers.specs.Filling.{AllStand}
 use Rattle.sct_engine.specs.Runs.{set_of_all, NoOrderMatters}
 use Rattle.sct_engine.proofs.RunLemmas.{as_many}

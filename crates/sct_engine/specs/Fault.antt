@@ -2,14 +2,14 @@
 use Rattle.std.specs.Prelude.{ℕ}
 use Rattle.sct_engine.specs.declared.fault.ProgramFault.{ProgramFault}
 use Rattle.sct_engine.specs.declared.fault.ProgramFault.TheVariants.{BadList, TooLong, Held, Read, Write, Usage, Memory, Refused, NoWorker}
-use Rattle.sct_receipts.specs.declared.fault.WorkFault.{WorkFault}
-use Rattle.sct_receipts.specs.declared.fault.WorkFault.TheVariants as work
 use Rattle.sct_reconcile.specs.declared.fault.ReconcileFault.{ReconcileFault}
 use Rattle.sct_reconcile.specs.declared.fault.ReconcileFault.TheVariants as list
 use Rattle.sct_script.specs.declared.fault.ScriptFault.{ScriptFault}
 use Rattle.sct_script.specs.declared.fault.ScriptFault.TheVariants as script
 use Rattle.sct_streams.specs.declared.whole.ReadFault.{ReadFault}
 use Rattle.sct_streams.specs.declared.whole.ReadFault.TheVariants as read
+use Rattle.sct_workers.specs.declared.fault.WorkFault.{WorkFault}
+use Rattle.sct_workers.specs.declared.fault.WorkFault.TheVariants as work
 
 -- the number of a fault that ends a run
 abbrev pub program_fault_number : ProgramFault → ℕ

@@ -5,7 +5,7 @@ use Rattle.std.specs.Prelude.{ℕ, ◌≡◌, ◌↔◌, ◌⊎◌, ◌&&◌, no
 use Rattle.std.specs.List.{Contains}
 use Rattle.sct_delta.specs.Entries.{messages_of}
 use Rattle.sct_lines.specs.Lines.{set_read}
-use Rattle.sct_receipts.specs.Faults.{IsRefusalNumber}
+use Rattle.sct_workers.specs.Faults.{IsRefusalNumber}
 use Rattle.sct_engine.specs.declared.fault.ProgramFault.{ProgramFault}
 use Rattle.sct_engine.specs.declared.fault.ProgramFault.TheVariants as fault
 use Rattle.sct_engine.specs.declared.runs.RunAnswer.{RunAnswer}

@@ -1,7 +1,7 @@
 -- The task of a run after the files that the command line names are read, and the texts that
 -- the run then writes. Read by an auditor.
 use Rattle.std.specs.Prelude.{ℕ, ◌≡◌, List, [], map, Option, Some, None, IfSome, Result, Ok, Err, string_bytes}
-use Rattle.sct_receipts.specs.Faults.{IsRefusalNumber}
+use Rattle.sct_workers.specs.Faults.{IsRefusalNumber}
 use Rattle.sct_engine.specs.Runs.{set_of_all}
 use Rattle.sct_view.specs.StatusText.{status_text_of}
 use Rattle.sct_workers.specs.Files.{bytes_of, refused_in, told_from}

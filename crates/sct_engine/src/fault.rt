@@ -4,11 +4,11 @@ ghost use Rattle.sct_engine.specs.declared.fault.ProgramFault.TheVariants as fau
 ghost use Rattle.sct_engine.specs.Fault.{fault_of_list, fault_of_read, fault_of_script, fault_of_work, program_fault_number};
 
 use sct_case::CaseFault;
-use sct_receipts::WorkFault;
 use sct_reconcile::ReconcileFault;
 use sct_script::ScriptFault;
 use sct_set::SetFault;
 use sct_streams::{Failed, ReadFault};
+use sct_workers::WorkFault;
 use std::alloc::{AllocError, AllocFailed};
 use thiserror::Error;
 

@@ -12,11 +12,10 @@ ghost use Rattle.sct_workers.specs.Holds.{EndsWhere};
 ghost use Rattle.sct_world.specs.Settling.{core_in, AreSettled};
 
 use crate::fault::ProgramFault;
-use sct_receipts::WorkFault;
 use sct_set::Archive;
 use sct_site::SiteCore;
 use sct_view::View;
-use sct_workers::{Gate, Sites, fill_sites};
+use sct_workers::{Gate, Sites, WorkFault, fill_sites};
 use sct_world::settle;
 use std::alloc::Global;
 use std::sync::Wait;

@@ -6,13 +6,13 @@ ghost use Rattle.sct_lines.specs.Lines.{is_blank, lines_of};
 
 use memchr::memchr;
 
-/// The lines of a text are what stands between its line feeds, and nothing of it is lost.
+/// A law: the lines of a text are what is between its line feeds, and nothing of the text is lost.
 pub fn lines_tile_the_text()
     ensures whole { LinesMakeTheText }
     ensures parted { NoLineHasAFeed }
 {}
 
-// Where the first line feed stands.
+// The place of the first line feed.
 pub(crate) fn line_feed(bytes: &[u8]) -> Option<usize>
     ensures first { result ≡ position_from (λ byte. byte == 10) 0 bytes.now }
     ensures within { IfSome result (λ at. at < length bytes.now) }
@@ -37,8 +37,8 @@ fn front_line(text: &[u8]) -> (&[u8], &[u8])
     }
 }
 
-/// The first line of a text, without its line feed, and what comes after that. There is none where the text is empty,
-/// and only there.
+/// The first line of a text, without its line feed, and the text after that. None exactly if the text is empty.
+/// O(line).
 pub fn first_line(text: &[u8]) -> Option<(&[u8], &[u8])>
     ensures lines { IfSome result (λ parts. lines_of text.now ≡ parts.0.now ∷ lines_of parts.1.now) }
     ensures shorter { IfSome result (λ parts. length parts.1.now < length text.now) }
@@ -50,7 +50,7 @@ pub fn first_line(text: &[u8]) -> Option<(&[u8], &[u8])>
     Some(front_line(text))
 }
 
-/// Whether a line is of spaces, tabs and carriage returns alone.
+/// Whether a line has no bytes but spaces, tabs and carriage returns. An empty line is blank.
 #[tactic(auto, unfolding(crate::specs::Lines::is_blank))]
 pub fn is_blank_line(line: &[u8]) -> bool
     ensures { result ≡ is_blank line.now }

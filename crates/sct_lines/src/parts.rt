@@ -15,7 +15,7 @@ use std::thread::{Threads, available_parallelism, join};
 // An input of fewer bytes is read in one part.
 const WORTH_A_THREAD: usize = 65_536;
 
-// An input is cut in halves at most so often.
+// The most halvings of an input.
 const MOST_HALVINGS: u32 = 16;
 
 // How many line feeds a text has.
@@ -27,7 +27,7 @@ fn count_feeds(text: &[u8]) -> u64
     memchr_iter(b'\n', text).count() as u64
 }
 
-// The same, counted by halves of halves.
+// How many line feeds a text has. Its halves, and the halves of these, are counted in threads of their own.
 #[cycle(counting)]
 fn count_by_halves<R: Threads + Sync>(rt: &R, text: &[u8], halvings: u32) -> u64
     ensures count { result ≡ length (filter (λ byte. byte == 10) text.now) }
@@ -53,17 +53,17 @@ fn count_by_halves<R: Threads + Sync>(rt: &R, text: &[u8], halvings: u32) -> u64
     first + second
 }
 
-// The first line feed from a place on.
+// The place of the first line feed that is not before `place`.
 fn feed_from(text: &[u8], place: usize) -> Option<usize>
     requires { place ≤ length text.now }
     ensures within { IfSome result (λ at. at < length text.now) }
     ensures feed { IfSome result (λ at. slice_index text.now at ≡ 10) }
 {
-    let (_, behind) = text.split_at(place);
-    Some(place + line_feed(behind)?)
+    let (_, rest) = text.split_at(place);
+    Some(place + line_feed(rest)?)
 }
 
-// A text in two, cut behind the first line feed from a place on.
+// A text in two parts. The first ends with the first line feed that is not before `place`.
 pub(crate) fn cut_from(text: &[u8], place: usize) -> Option<(&[u8], &[u8])>
     requires { place ≤ length text.now }
     ensures lines { IfSome result (λ parts. lines_of text.now ≡ lines_of parts.0.now ++ lines_of parts.1.now) }
@@ -75,8 +75,8 @@ pub(crate) fn cut_from(text: &[u8], place: usize) -> Option<(&[u8], &[u8])>
     Some(text.split_at(at + 1))
 }
 
-// Reads a part of an input, before which so many lines stand, by halves of halves. A half that is out of memory ends the
-// others.
+// Reads a part of an input, which follows `before` lines. Its halves, and the halves of these, are read in threads of their
+// own. If one of them is out of memory, the others end early.
 #[cycle(halves)]
 fn read_by_halves<R: Threads + Sync>(
     rt: &R,
@@ -95,7 +95,7 @@ fn read_by_halves<R: Threads + Sync>(
     let Some((front, back)) = cut_from(part, part.len() / 2) else {
         return read_part(alloc, "", before, part, shortage);
     };
-    let behind = before + count_by_halves(rt, front, halvings);
+    let before_back = before + count_by_halves(rt, front, halvings);
     let (first, second) = join(
         rt,
         || -> Result<Intake, AllocError>
@@ -103,16 +103,16 @@ fn read_by_halves<R: Threads + Sync>(
             ensures { IfOk result (IsReadAfter [] before front.entry.now) }
         { shortage.noted(read_by_halves(rt, alloc, before, front, halvings - 1, shortage)) },
         || -> Result<Intake, AllocError>
-            requires { IsSync R.row × (0 < halvings) × (behind + length back.now < 2 ^ 64) }
-            ensures { IfOk result (IsReadAfter [] behind back.entry.now) }
-        { shortage.noted(read_by_halves(rt, alloc, behind, back, halvings - 1, shortage)) },
+            requires { IsSync R.row × (0 < halvings) × (before_back + length back.now < 2 ^ 64) }
+            ensures { IfOk result (IsReadAfter [] before_back back.entry.now) }
+        { shortage.noted(read_by_halves(rt, alloc, before_back, back, halvings - 1, shortage)) },
     );
     let mut intake = first?;
     intake.append(second?)?;
     Ok(intake)
 }
 
-// How often an input is cut in halves: for two parts a processor.
+// How many halvings give two parts for each processor.
 fn halvings<R: Threads>(rt: &R, input: &[u8]) -> u32 {
     if input.len() < WORTH_A_THREAD {
         return 0;
@@ -140,8 +140,8 @@ pub fn read_lines_by_halves<R: Threads + Sync>(
     read_by_halves(rt, alloc, 0, input, halvings.min(MOST_HALVINGS), &shortage)
 }
 
-/// Goes over the lines of an input once, which count from 1, in as many threads as there are processors. Only want of
-/// memory is an error: where no thread can be made, one does the work of several.
+/// Reads the lines of an input, which count from 1, in as many threads as there are processors. The only error is that it
+/// is out of memory: if no thread can be made, one does the work of several. O(input).
 pub fn read_lines<R: Threads + Sync>(
     rt: &R,
     alloc: Global,

@@ -6,7 +6,6 @@ mod inputs;
 use crate::gates::{HeldAccepts, HeldAnswers, InStep, Meeting, Shut};
 use faults::FAILED;
 use inputs::{ONE_SITE, Row, TWO_SITES, WITH_REFUSED};
-use sct_receipts::WorkFault;
 use sct_set::Archive;
 use sct_site::SiteCore;
 use sct_view::View;

@@ -3,7 +3,7 @@ ghost use Rattle.std.specs.Prelude.{◌≡◌, IfOk};
 ghost use Rattle.sct_script.specs.Events.{cut_in, hand_in, happening_in, take_in, told_by};
 
 use crate::fault::LineFault;
-use crate::fields::{behind, site_before_space, site_of};
+use crate::fields::{after_prefix, site_before_space, site_of};
 use crate::vectors::vector_of;
 use sct_delta::number_before_space;
 use sct_lines::read_line;
@@ -57,13 +57,13 @@ fn read_hand(text: &[u8]) -> Result<Event, LineFault>
 pub fn read_event(alloc: Global, line: &[u8]) -> Result<Result<Event, LineFault>, AllocError>
     ensures { IfOk result (λ read. told_by read ≡ happening_in line.now) }
 {
-    if let Some(text) = behind(line, b"take ") {
+    if let Some(text) = after_prefix(line, b"take ") {
         return read_take(alloc, text);
     }
-    if let Some(text) = behind(line, b"cut ") {
+    if let Some(text) = after_prefix(line, b"cut ") {
         return read_cut(alloc, text);
     }
-    if let Some(text) = behind(line, b"hand ") {
+    if let Some(text) = after_prefix(line, b"hand ") {
         return Ok(read_hand(text));
     }
     Ok(Err(LineFault::NoEvent))

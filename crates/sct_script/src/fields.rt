@@ -33,7 +33,7 @@ pub fn site_before_space(text: &[u8]) -> Option<(u16, &[u8])>
 }
 
 /// `line` without the prefix `word`, or none if it does not begin with the word.
-pub fn behind<'a>(line: &'a [u8], word: &[u8]) -> Option<&'a [u8]>
+pub fn after_prefix<'a>(line: &'a [u8], word: &[u8]) -> Option<&'a [u8]>
     ensures { option_map (λ rest. rest.now) result ≡ after_prefix word.now line.now }
 {
     line.strip_prefix(word)

@@ -18,7 +18,7 @@ ghost use Rattle.sct_script.specs.Scripts.{
 
 use crate::event::read_event;
 use crate::fault::ScriptFault;
-use crate::fields::behind;
+use crate::fields::after_prefix;
 use sct_delta::{MOST_SITES, number_of};
 use sct_lines::{Refusals, first_line, is_blank_line};
 use sct_world::Event;
@@ -49,7 +49,7 @@ fn size_of(line: &[u8]) -> Option<u16>
     ensures size { result ≡ size_in line.now }
     ensures right { IfSome result (λ sites. is_size sites ≡ true) }
 {
-    let number = behind(line, b"sites ")?;
+    let number = after_prefix(line, b"sites ")?;
     let number = number_of(number)?;
     size_named(number)
 }

@@ -3,7 +3,7 @@
 use anyhow::{Result, bail};
 use sct_delta::{Delta, DeltaFault, Entry, Vector, number_before_space, write_delta};
 use sct_json::read_message;
-use sct_script::{behind, push_delta_fault, site_before_space, site_of};
+use sct_script::{after_prefix, push_delta_fault, site_before_space, site_of};
 use sct_site::SiteCore;
 use sct_world::settle;
 use std::alloc::Global;
@@ -105,13 +105,13 @@ impl GroupTrial {
 
     // Does what a line says, unless it is `settle`.
     fn tell(&mut self, line: &[u8]) -> Result<()> {
-        if let Some(text) = behind(line, b"site ") {
+        if let Some(text) = after_prefix(line, b"site ") {
             return self.open(text);
         }
-        if let Some(text) = behind(line, b"take ") {
+        if let Some(text) = after_prefix(line, b"take ") {
             return self.take(text);
         }
-        if let Some(text) = behind(line, b"hold ") {
+        if let Some(text) = after_prefix(line, b"hold ") {
             return self.hold(text);
         }
         bail!("no line of a group")

@@ -17,24 +17,6 @@ pub(crate) fn findings_in(status: &Status) -> &[Finding]
     }
 }
 
-// A copy of a finding. It does not allocate.
-fn copied(finding: &Finding) -> Finding
-    ensures { result ≡ finding.now }
-{
-    match finding {
-        Finding::Identity(identity) => Finding::Identity(identity.copy()),
-        Finding::TwoInstructions => Finding::TwoInstructions,
-        Finding::BothConfirmed => Finding::BothConfirmed,
-        Finding::ReasonsDiffer => Finding::ReasonsDiffer,
-        Finding::AmountDiffers => Finding::AmountDiffers,
-        Finding::RecallsDiffer(cxl) => Finding::RecallsDiffer(cxl.copy()),
-        Finding::BothAnswers(cxl) => Finding::BothAnswers(cxl.copy()),
-        Finding::RefusalsDiffer(cxl) => Finding::RefusalsDiffer(cxl.copy()),
-        Finding::TwoReturns => Finding::TwoReturns,
-        Finding::ReturnOfRejected => Finding::ReturnOfRejected,
-    }
-}
-
 /// Appends the findings of a transfer, each with the transfer's key.
 pub(crate) fn push_beside(
     found: &mut Vec<(TransferKey, Finding)>,
@@ -44,7 +26,7 @@ pub(crate) fn push_beside(
     ensures { OnOk result (found.new.items ≡ found.old.items ++ beside transfer.now findings.now) }
 {
     for finding in findings {
-        found.push((transfer.copy(), copied(finding)))?;
+        found.push((transfer.copy(), finding.copy()))?;
     }
     Ok(())
 }

@@ -7,7 +7,7 @@ use Rattle.std.proofs.lemmas.Option.{slice_get-get_or}
 use Rattle.std.specs.Fmt.{decimal}
 use Rattle.sct_json.specs.declared.faults.JsonFault.{JsonFault}
 use Rattle.sct_lines.specs.Lines.{json_fault_text, refusal_line, refusals_told, set_read, told_after}
-use Rattle.sct_receipts.specs.Stands.{Stands}
+use Rattle.sct_workers.specs.Stands.{Stands}
 use Rattle.sct_site.specs.Cores.{Core}
 use Rattle.sct_workers.specs.declared.filled.Filled.{Filled}
 use Rattle.sct_workers.specs.declared.filled.Sites.{Sites}

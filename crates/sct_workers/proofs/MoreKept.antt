@@ -7,8 +7,7 @@ use Rattle.std.specs.FinSet.{contains-empty}
 use Rattle.std.specs.Global.{Global}
 use Rattle.std.specs.List.{list_any, slice_get}
 use Rattle.std.specs.declared.sync.Arc.{Arc}
-use Rattle.std.proofs.lemmas.Bool.{false≢true}
-use Rattle.std.proofs.lemmas.List.Elements.{All-append}
+use Rattle.std.proofs.lemmas.Bool.{cases_lt, false≢true, or_cases, or_right}
 use Rattle.std.proofs.lemmas.List.Folds.{list_any-append}
 use Rattle.std.proofs.lemmas.Map.Keys.{any_passes_from_place}
 use Rattle.std.proofs.lemmas.Option.{slice_get_within}
@@ -18,15 +17,21 @@ use Rattle.sct_message.specs.Order.{message_order, same_message}
 use Rattle.sct_message.specs.Sets.{MessageSet, messages_in}
 use Rattle.sct_set.specs.Contents.{contents_of}
 use Rattle.sct_set.proofs.ContentsLemmas.{contains-contents_of, same_is, same_itself}
-use Rattle.sct_delta.proofs.HeldLemmas.{or_true}
 use Rattle.sct_desk.specs.Passes.{Told}
-use Rattle.sct_receipts.specs.Kept.{AllKeep, AllShown, Keeps, is_shown, shows}
-use Rattle.sct_receipts.proofs.KeepLemmas.{keeps_more}
+use Rattle.sct_workers.specs.Kept.{AllShown, Keeps, is_shown, shows}
+use Rattle.sct_workers.proofs.KeepLemmas.{keeps_more}
 use Rattle.sct_workers.specs.Shown.{ShownTo, ShowsMore}
 
 -- ---- receipts where a site takes more messages
 
 none_held : (held : MessageSet) (m : Draft) → set.contains (contents_of []) m ≡ true → set.contains held m ≡ true
+none_held held m there = absurd (false≢true (sym (contains-empty message_order m) ∙ there))
+
+-- a receipt that may be kept where a site takes nothing
+pub keeps_any : (book : Book) (own size : ℕ) (held : MessageSet) (r : Told) → Keeps book own size (contents_of []) r → Keeps book own size held r
+keeps_any book own size held r kept = keeps_more book own size (contents_of []) held r (none_held held) kept
+
+one_held : (held : MessageSet) (m : Draft) → set.contains (contents_of []) m ≡ true → set.contains held m ≡ true
 none_held held m there = absurd (false≢true (sym (contains-empty message_order m) ∙ there))
 
 -- a receipt that may be kept where a site takes nothing
@@ -54,19 +59,9 @@ pub shows_more : (rs more : List Told) → ShowsMore rs (rs ++ more)
 shows_more rs more m shown = list_any-append (shows m) rs more ∙ ap (λ (b : Bool). b || list_any (shows m) more) shown
 
 pub shown_last : (rs : List Told) (r : Told) (m : Draft) → shows m r ≡ true → is_shown (rs ++ r ∷ []) m ≡ true
-shown_last rs r m here = list_any-append (shows m) rs (r ∷ []) ∙ ap (λ (b : Bool). is_shown rs m || (b || false)) here ∙ or_true (is_shown rs m)
+shown_last rs r m here = list_any-append (shows m) rs (r ∷ []) ∙ ap (λ (b : Bool). is_shown rs m || (b || false)) here ∙ or_right (is_shown rs m) true refl
 
 -- ---- one message after the other
-
-up_to : (n at : ℕ) → at < n + 1 → (at < n) ⊎ (at ≡ n)
-up_to zero zero low = inr refl
-up_to zero (suc at) low = absurd (omega (arith, low))
-up_to (suc n) zero low = inl (omega arith)
-up_to (suc n) (suc at) low =
-    elim (up_to n at (omega (arith, low))) as (λ c. (suc at < suc n) ⊎ (suc at ≡ suc n)) [
-      | inl less ↦ inl (omega (arith, less))
-      | inr same ↦ inr (ap suc same)
-    ]
 
 same_place : (ms : List (Arc Draft Global)) (at n : ℕ) (x y : Arc Draft Global) → at ≡ n → slice_get ms n ≡ Some x → slice_get ms at ≡ Some y
     → Some x ≡ Some y
@@ -80,51 +75,42 @@ pub shown_to_next : (ms : List (Arc Draft Global)) (n : ℕ) (before after : Lis
     → ShowsMore before after → slice_get ms n ≡ Some x → is_shown after (arc_value x) ≡ true → ShownTo (n + 1) ms after
 unfolding value_or
 shown_to_next ms n before after x so_far more here shown at y low there =
-    elim (up_to n at low) as (λ c. is_shown after (arc_value y) ≡ true) [
+    elim (cases_lt at n) as (λ c. is_shown after (arc_value y) ≡ true) [
       | inl less ↦ more (arc_value y) (so_far at y less there)
-      | inr same ↦
+      | inr past ↦
+          let same : at ≡ n = omega (arith, low, past) in
           let is : arc_value x ≡ arc_value y = ap (value_or (arc_value x)) (same_place ms at n x y same here there) in
           subst (λ (m : Draft). is_shown after m ≡ true) is shown
     ]
-
-split_any : (a b : Bool) → (a || b) ≡ true → (a ≡ true) ⊎ (b ≡ true)
-split_any true b is = inl refl
-split_any false b is = inr is
 
 each_held : (ms : List (Arc Draft Global)) (m : Draft) → list_any (λ d. same_message d m) (messages_in ms) ≡ true
     → (P : Draft → Type 0) → ((at : ℕ) (x : Arc Draft Global) → slice_get ms at ≡ Some x → P (arc_value x)) → P m
 each_held [] m is P each = absurd (false≢true is)
 each_held (x ∷ ms) m is P each =
-    elim (split_any (same_message (arc_value x) m) (list_any (λ d. same_message d m) (messages_in ms)) is) as (λ c. P m) [
+    elim (or_cases (same_message (arc_value x) m) (list_any (λ d. same_message d m) (messages_in ms)) is) as (λ c. P m) [
       | inl here ↦ subst P (same_is (arc_value x) m here) (each 0 x refl)
       | inr later ↦ each_held ms m later P (λ at y there. each (suc at) y there)
     ]
 
 -- receipts that show each message of a list show all of its set
-pub all_shown : (ms : List (Arc Draft Global)) (rs : List Told) → ShownTo (length ms) ms rs → AllShown (contents_of (messages_in ms)) rs
-all_shown ms rs each m held =
-    each_held ms m (sym (contains-contents_of (messages_in ms) m) ∙ held) (λ d. is_shown rs d ≡ true)
-    (λ at x there. each at x (slice_get_within ms at x there) there)
+pub all_shown : (held : MessageSet) (ms : List (Arc Draft Global)) (rs : List Told) → held ≡ contents_of (messages_in ms) → ShownTo (length ms) ms rs
+    → AllShown held rs
+all_shown held ms rs is each m there =
+    each_held ms m (sym (contains-contents_of (messages_in ms) m) ∙ ap (λ (s : MessageSet). set.contains s m) (sym is) ∙ there) (λ d. is_shown rs d ≡ true)
+    (λ at x here. each at x (slice_get_within ms at x here) here)
 
 any_of_values : (p : Draft → Bool) (ms : List (Arc Draft Global)) → list_any p (messages_in ms) ≡ list_any (λ x. p (arc_value x)) ms
 any_of_values p [] = refl
 any_of_values p (x ∷ ms) = ap (λ (b : Bool). p (arc_value x) || b) (any_of_values p ms)
 
 -- a message at some place is of the set
-pub among : (ms : List (Arc Draft Global)) (at : ℕ) (x : Arc Draft Global) → slice_get ms at ≡ Some x
-    → set.contains (contents_of (messages_in ms)) (arc_value x) ≡ true
-among ms at x here =
-    contains-contents_of (messages_in ms) (arc_value x)
+pub among : (held : MessageSet) (ms : List (Arc Draft Global)) (at : ℕ) (x : Arc Draft Global) → held ≡ contents_of (messages_in ms)
+    → slice_get ms at ≡ Some x → set.contains held (arc_value x) ≡ true
+among held ms at x is here =
+    ap (λ (s : MessageSet). set.contains s (arc_value x)) is
+    ∙ contains-contents_of (messages_in ms) (arc_value x)
     ∙ any_of_values (λ d. same_message d (arc_value x)) ms
     ∙ any_passes_from_place (λ y. same_message (arc_value y) (arc_value x)) ms at x here (same_itself (arc_value x))
-
--- ---- all receipts of a site
-
--- receipts of a worker beside those of one by which no own entry came
-pub all_keep_both : (book : Book) (own size : ℕ) (held : MessageSet) (rs more : List Told) → AllKeep book own size held rs
-    → AllKeep book own size (contents_of []) more → AllKeep book own size held (rs ++ more)
-all_keep_both book own size held rs more all others =
-    All-append (Keeps book own size held) rs more all (all_keep_any book own size held more others)
 
 -- what receipts show, they show beside others too
 pub all_shown_more : (held : MessageSet) (rs more : List Told) → AllShown held rs → AllShown held (rs ++ more)

@@ -2,21 +2,13 @@
 use Rattle.std.proofs.Common.{◌≡◌, ◌∙◌, ◌⊎◌, refl, sym, ap, subst, inl, inr, ℕ, zero, suc, ◌+◌, ◌<◌, List, [], ◌∷◌, ◌++◌, map, length, arith, append-nil}
 use Rattle.std.specs.Prelude.{Option, None, Some}
 use Rattle.std.specs.List.{slice_get}
-use Rattle.std.proofs.lemmas.Option.{slice_get_within}
+use Rattle.std.proofs.lemmas.Option.{same_Some, slice_get_within}
 use Rattle.sct_workers.specs.Each.{AtEach}
-
-or_first : {X : Type 0} → X → Option X → X
-or_first x None = x
-or_first x (Some y) = y
-
-pub same_some : {X : Type 0} (x y : X) → Some x ≡ Some y → x ≡ y
-unfolding or_first
-same_some x y is = ap (or_first x) is
 
 -- what stands at a place of a list with one element more
 pub get_pushed : {X : Type 0} (xs : List X) (y : X) (at : ℕ) (x : X) → slice_get (xs ++ y ∷ []) at ≡ Some x
     → (slice_get xs at ≡ Some x) ⊎ ((at ≡ length xs) × (y ≡ x))
-get_pushed [] y zero x is = inr (refl, same_some y x is)
+get_pushed [] y zero x is = inr (refl, same_Some y x is)
 get_pushed [] y (suc at) x is = inl is
 get_pushed (z ∷ xs) y zero x is = inl is
 get_pushed (z ∷ xs) y (suc at) x is =
@@ -36,7 +28,7 @@ each_pushed {X} P xs ys y is each one =
 pub get_mapped : {X Y : Type 0} (f : X → Y) (xs : List X) (at : ℕ) (x : X) → slice_get xs at ≡ Some x → slice_get (map f xs) at ≡ Some (f x)
 get_mapped f [] zero x is = absurd (omega (arith, slice_get_within [] zero x is))
 get_mapped f [] (suc at) x is = absurd (omega (arith, slice_get_within [] (suc at) x is))
-get_mapped f (y ∷ xs) zero x is = ap Some (ap f (same_some y x is))
+get_mapped f (y ∷ xs) zero x is = ap Some (ap f (same_Some y x is))
 get_mapped f (y ∷ xs) (suc at) x is = get_mapped f xs at x is
 
 get_middle : {X : Type 0} (xs : List X) (y : X) (ys : List X) → slice_get (xs ++ y ∷ ys) (length xs) ≡ Some y
@@ -54,7 +46,7 @@ same_by_places f [] [] many each = refl
 same_by_places f [] (y ∷ ys) many each = absurd (omega (arith, many))
 same_by_places f (x ∷ xs) [] many each = absurd (omega (arith, many))
 same_by_places f (x ∷ xs) (y ∷ ys) many each =
-    let first : f x ≡ y = sym (same_some y (f x) (each 0 x refl)) in
+    let first : f x ≡ y = sym (same_Some y (f x) (each 0 x refl)) in
     let rest = same_by_places f xs ys (omega (arith, many)) (λ at z there. each (suc at) z there) in
     (λ i. first i ∷ rest i)
 

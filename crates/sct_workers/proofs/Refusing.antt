@@ -15,7 +15,7 @@ use Rattle.sct_delta.specs.declared.fault.DeltaFault.TheVariants as delta
 use Rattle.sct_desk.specs.Locked.{answer_for, answer_to}
 use Rattle.sct_site.specs.Cores.{Core, is_repeat, took_by}
 use Rattle.sct_site.specs.declared.answers.Took.TheVariants as took
-use Rattle.sct_receipts.specs.Faults.{fault_of_delta}
+use Rattle.sct_workers.specs.Faults.{fault_of_delta}
 use Rattle.sct_workers.specs.declared.gate.Point.{Point}
 use Rattle.sct_workers.specs.Exchanging.{IsNumbered, accepted_by}
 use Rattle.sct_workers.specs.Holds.{EndsWhere}

@@ -2,16 +2,20 @@
 use Rattle.std.proofs.Common.{◌≡◌, ◌∙◌, ◌⊎◌, refl, sym, ap, subst, inl, inr, ℕ, zero, suc, ◌+◌, ◌<◌, ◌≤◌, true, false, List, [], ◌∷◌, ◌++◌, length, arith}
 use Rattle.std.specs.Prelude.{Option, None, Some, Result, Ok, Err, IfErr, IfOk, IsOk, OnOk, is_ok}
 use Rattle.std.specs.List.{slice_get}
-use Rattle.std.proofs.lemmas.Bool.{false≢true}
-use Rattle.std.proofs.lemmas.Option.{slice_get_within}
-use Rattle.sct_receipts.specs.declared.fault.WorkFault.{WorkFault}
+use Rattle.std.proofs.lemmas.Bool.{cases_lt, false≢true}
+use Rattle.std.proofs.lemmas.Option.{same_Some, slice_get_within}
+use Rattle.sct_workers.specs.declared.fault.WorkFault.{WorkFault}
 use Rattle.sct_workers.specs.declared.fault.SiteFault.{SiteFault}
 use Rattle.sct_workers.specs.declared.filled.Filled.{Filled}
 use Rattle.sct_workers.specs.Each.{AtEach}
 use Rattle.sct_workers.specs.Filling.{IsFilled}
-use Rattle.sct_workers.specs.Holds.{ComesFirst, rank_of, site_rank_of}
+use Rattle.sct_workers.specs.declared.fault.SiteFault.TheVariants as site
+use Rattle.sct_workers.specs.declared.fault.WorkFault.TheVariants as fault
+use Rattle.sct_workers.specs.declared.gate.Point.{Point}
+use Rattle.sct_workers.specs.Holds.{ComesFirst, EndsWhere, SiteEndsWhere, rank_of, reason_of, site_rank_of}
 use Rattle.sct_workers.specs.Reported.{AnswersTo, IsReported, NoneFails, Reports}
-use Rattle.sct_workers.proofs.Places.{each_pushed, get_behind, same_some}
+use Rattle.sct_workers.proofs.Holding.{site_ends}
+use Rattle.sct_workers.proofs.Places.{each_pushed, get_behind}
 
 -- ---- results that are no faults
 
@@ -120,23 +124,14 @@ reports_next before fault next low is =
           (λ at one there past. above fault next one low (is.least at one there)) (λ past. absurd (omega (arith, past)));
     }
 
-in_order : (a b : ℕ) → (a ≤ b) ⊎ (b < a)
-in_order zero b = inl (omega arith)
-in_order (suc a) zero = inr (omega arith)
-in_order (suc a) (suc b) =
-    elim (in_order a b) as (λ c. (suc a ≤ suc b) ⊎ (suc b < suc a)) [
-      | inl low ↦ inl (omega (arith, low))
-      | inr high ↦ inr (omega (arith, high))
-    ]
-
 -- the next site failed beside what was reported
 pub reports_one : (before : List (Result Filled SiteFault)) (fault next reported : SiteFault) → (reported ≡ fault) ⊎ (reported ≡ next)
     → site_rank_of reported ≤ site_rank_of next → (site_rank_of fault ≤ site_rank_of next → reported ≡ fault)
     → IsReported before fault → IsReported (before ++ Err next ∷ []) reported
 reports_one before fault next reported one least earlier is =
-    elim (in_order (site_rank_of fault) (site_rank_of next)) as (λ c. IsReported (before ++ Err next ∷ []) reported) [
-      | inl low ↦ subst (λ (f : SiteFault). IsReported (before ++ Err next ∷ []) f) (sym (earlier low)) (reports_still before fault next low is)
-      | inr high ↦
+    elim (cases_lt (site_rank_of next) (site_rank_of fault)) as (λ c. IsReported (before ++ Err next ∷ []) reported) [
+      | inr low ↦ subst (λ (f : SiteFault). IsReported (before ++ Err next ∷ []) f) (sym (earlier low)) (reports_still before fault next low is)
+      | inl high ↦
           elim one as (λ c. IsReported (before ++ Err next ∷ []) reported) [
             | inl first ↦ absurd (omega (arith, high, least, ap site_rank_of first))
             | inr second ↦ subst (λ (f : SiteFault). IsReported (before ++ Err next ∷ []) f) (sym second) (reports_next before fault next high is)
@@ -167,10 +162,12 @@ reports_when_next before so_far one first next reported some is either least ear
 pub answers_to : (size : ℕ) (inputs : List (List ℕ)) (place number group : ℕ) (input : List ℕ) (answer : Result Filled SiteFault) → number ≡ place + 1
     → group ≡ size → slice_get inputs place ≡ Some input → IfOk answer (IsFilled number group input) → AnswersTo size inputs place answer
 answers_to size inputs place number group input answer at same here filled other there =
-    subst (λ (i : List ℕ). IfOk answer (IsFilled (place + 1) size i)) (same_some input other (sym here ∙ there))
+    subst (λ (i : List ℕ). IfOk answer (IsFilled (place + 1) size i)) (same_Some input other (sym here ∙ there))
     (subst (λ (n : ℕ). IfOk answer (IsFilled n size input)) at (subst (λ (n : ℕ). IfOk answer (IsFilled number n input)) same filled))
 
--- what holds of each site's fault holds of the one that is reported
-pub reported_holds : (P : SiteFault → Type 0) (answers : List (Result Filled SiteFault)) (fault : SiteFault) → AtEach (λ place answer. IfErr answer P) answers
-    → IsReported answers fault → P fault
-reported_holds P answers fault each is = each is.site (Err fault) is.its
+-- the fault that is reported of several sites, as a worker's
+pub reported_ends : (may : Point → Type 0) (answers : List (Result Filled SiteFault)) (reported : SiteFault)
+    → AtEach (λ place answer. IfErr answer (SiteEndsWhere may)) answers
+    → IsReported answers reported ⊎ (NoneFails answers × (reported ≡ site.Working fault.Memory)) → EndsWhere may (reason_of reported)
+reported_ends may answers reported each (inl is) = site_ends may reported (each is.site (Err reported) is.its)
+reported_ends may answers reported each (inr memory) = subst (λ (f : SiteFault). EndsWhere may (reason_of f)) (sym memory.1) tt

@@ -10,8 +10,8 @@ use Rattle.sct_site.specs.declared.answers.Took.{Took}
 use Rattle.sct_site.specs.declared.answers.Took.TheVariants as took
 use Rattle.sct_desk.specs.Locked.{answer_to}
 use Rattle.sct_desk.specs.Passes.{Told, before, site_with}
-use Rattle.sct_receipts.specs.Faults.{fault_of_delta}
-use Rattle.sct_receipts.specs.declared.fault.WorkFault.{WorkFault}
+use Rattle.sct_workers.specs.Faults.{fault_of_delta}
+use Rattle.sct_workers.specs.declared.fault.WorkFault.{WorkFault}
 
 -- ---- what is sent
 

@@ -1,7 +1,7 @@
 -- Sites that workers filled from inputs. Read by an auditor. Runs use these words.
 use Rattle.std.specs.Prelude.{ℕ, ◌≡◌, ◌+◌, List, [], ◌∷◌, length}
 use Rattle.sct_lines.specs.Lines.{refusals_told, set_read}
-use Rattle.sct_receipts.specs.Stands.{Stands}
+use Rattle.sct_workers.specs.Stands.{Stands}
 use Rattle.sct_site.specs.Cores.{Core}
 use Rattle.sct_workers.specs.declared.filled.Filled.{Filled}
 use Rattle.sct_workers.specs.declared.filled.Sites.{Sites}

@@ -1,9 +1,9 @@
 -- How workers end: the points at which a gate may have held them, the numbers with which calls are refused, and which
 -- of several faults is reported. Read by an auditor.
 use Rattle.std.specs.Prelude.{ℕ, ◌+◌, ◌≤◌, Result, IfErr}
-use Rattle.sct_receipts.specs.declared.fault.WorkFault.{WorkFault}
-use Rattle.sct_receipts.specs.declared.fault.WorkFault.TheVariants as fault
-use Rattle.sct_receipts.specs.Faults.{IsNotClosed, IsRefusalNumber}
+use Rattle.sct_workers.specs.declared.fault.WorkFault.{WorkFault}
+use Rattle.sct_workers.specs.declared.fault.WorkFault.TheVariants as fault
+use Rattle.sct_workers.specs.Faults.{IsNotClosed, IsRefusalNumber}
 use Rattle.sct_workers.specs.declared.fault.SiteFault.{SiteFault}
 use Rattle.sct_workers.specs.declared.fault.SiteFault.TheVariants as site
 use Rattle.sct_workers.specs.declared.gate.Point.{Point}

@@ -6,7 +6,7 @@ use Rattle.std.specs.Global.{Global}
 use Rattle.std.specs.declared.sync.Arc.{Arc}
 use Rattle.sct_message.specs.declared.draft.Draft.{Draft}
 use Rattle.sct_desk.specs.Passes.{Told}
-use Rattle.sct_receipts.specs.Kept.{is_shown}
+use Rattle.sct_workers.specs.Kept.{is_shown}
 
 -- the receipts show each of the first `count` messages
 abbrev pub ShownTo : ℕ → List (Arc Draft Global) → List Told → Type 0

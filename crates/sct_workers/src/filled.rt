@@ -1,10 +1,10 @@
 //! Sites that were filled from inputs.
 
 ghost use Rattle.std.specs.Prelude.{◌≡◌, ◌+◌, ◌++◌, ◌∷◌, [], IfErr, IfOk};
-ghost use Rattle.sct_receipts.specs.declared.fault.WorkFault.TheVariants as fault;
+ghost use Rattle.sct_workers.specs.declared.fault.WorkFault.TheVariants as fault;
 
+use crate::fault::WorkFault;
 use sct_lines::Refusals;
-use sct_receipts::WorkFault;
 use sct_site::SiteCore;
 use std::alloc::Global;
 

@@ -3,7 +3,7 @@
 ghost use Rattle.std.specs.Prelude.{IfErr};
 ghost use Rattle.sct_workers.specs.Holds.{EndsWhere};
 
-use sct_receipts::WorkFault;
+use crate::fault::WorkFault;
 use std::sync::Wait;
 
 /// A point that a worker passes. Sites are numbered from 1.

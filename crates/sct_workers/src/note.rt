@@ -1,7 +1,7 @@
 //! The note that an intake worker sends to the query worker of its site.
 
 ghost use Rattle.std.specs.Prelude.{◌≡◌, []};
-ghost use Rattle.sct_receipts.specs.Kept.{Keeps};
+ghost use Rattle.sct_workers.specs.Kept.{Keeps};
 ghost use Rattle.sct_set.specs.Contents.{contents_of};
 
 use sct_desk::{Receipt, Site};

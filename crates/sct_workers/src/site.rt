@@ -5,23 +5,24 @@ ghost use Rattle.std.specs.Prelude.{◌≡◌, [], Err, length, IfErr, IfOk, IfS
 ghost use Rattle.sct_desk.specs.Openings.{IsNewQuery};
 ghost use Rattle.sct_lines.specs.Lines.{messages_read, refusals_told};
 ghost use Rattle.sct_message.specs.Sets.{messages_in};
-ghost use Rattle.sct_receipts.specs.Kept.{AllKeep, AllShown};
-ghost use Rattle.sct_receipts.specs.Stands.{Stands};
 ghost use Rattle.sct_set.specs.Contents.{contents_of};
 ghost use Rattle.sct_workers.specs.Files.{file_front, told_of_file};
 ghost use Rattle.sct_workers.specs.Filling.{IsFilled};
 ghost use Rattle.sct_workers.specs.Holds.{EndsWhere, IsClosingFault, SiteEndsWhere};
+ghost use Rattle.sct_workers.specs.Kept.{AllShown};
+ghost use Rattle.sct_workers.specs.Stands.{Stands};
 ghost use Rattle.sct_workers.specs.declared.fault.SiteFault.TheVariants as site;
 
-use crate::fault::SiteFault;
+use crate::fault::{SiteFault, WorkFault};
 use crate::filled::Filled;
 use crate::gate::Gate;
-use crate::workers::{Post, workers};
-use sct_desk::{Desk, DeskFault, Query, Receipt, Site};
+use crate::kept::Kept;
+use crate::takes::Takes;
+use crate::workers::{Channels, run_workers};
+use sct_desk::{Desk, DeskFault, Query, Site};
 use sct_history::{History, Track};
 use sct_lines::{Intake, read_lines_after};
 use sct_message::Message;
-use sct_receipts::{WorkFault, closed};
 use sct_site::SiteCore;
 use std::alloc::{AllocError, Global};
 use std::marker::Brand;
@@ -29,7 +30,7 @@ use std::sync::{Arc, Wait};
 use std::thread::Threads;
 
 // One of the queries of a desk.
-fn one_of<J: Site>(mut queries: Vec<Query>) -> Option<Query>
+fn pop_query<J: Site>(mut queries: Vec<Query>) -> Option<Query>
     requires { All (IsNewQuery J.book J.number) queries.items }
     ensures { IfSome result (IsNewQuery J.book J.number) }
 {
@@ -38,7 +39,7 @@ fn one_of<J: Site>(mut queries: Vec<Query>) -> Option<Query>
 
 // Opens the desk of a site with its one query.
 #[tactic(auto, using(crate::proofs::Holding::desk_ends))]
-fn opened<'a, J: Site, R: Wait>(
+fn open_desk<'a, J: Site, R: Wait>(
     rt: &'a R,
     alloc: Global,
     history: History,
@@ -53,38 +54,31 @@ fn opened<'a, J: Site, R: Wait>(
     ensures ends { IfErr result (EndsWhere (λ point. ⊥)) }
 {
     let (desk, queries) = Desk::<J, &'a R>::open(rt, alloc, history, track, number, group, 1)?;
-    match one_of::<J>(queries) {
+    match pop_query::<J>(queries) {
         Some(query) => Ok((desk, query)),
         None => Err(WorkFault::from(DeskFault::NoPlace)),
     }
 }
 
-// The core of a site, by the answer of its workers. A fault of theirs is reported before a refusal to close the desk.
-fn closed_after<J: Site, H: Wait + Drop, G: Gate>(
-    gate: &G,
+// Closes the desk of a site with the receipts of its workers, if none of them failed.
+fn close_desk<J: Site + Takes, H: Wait + Drop>(
     desk: Desk<J, H>,
-    messages: &[Arc<Message>],
-    kept: Result<Vec<Receipt>, WorkFault>,
+    kept: Result<Kept<J>, WorkFault>,
 ) -> Result<SiteCore, SiteFault>
-    requires kept { IfOk kept (λ kept. AllKeep J.book J.number J.group
-        (contents_of (messages_in messages.now)) kept.items) }
-    requires shown { IfOk kept (λ kept. AllShown (contents_of (messages_in messages.now)) kept.items) }
-    requires ends { IfErr kept (EndsWhere (G.may_hold gate.now)) }
-    ensures core { IfOk result (Stands J.number J.group (contents_of (messages_in messages.now))) }
-    ensures ends { IfErr result (SiteEndsWhere (G.may_hold gate.now)) }
+    requires { IfOk kept (λ kept. AllShown J.messages kept.receipts.items) }
+    ensures core { IfOk result (Stands J.number J.group J.messages) }
     ensures working { IfErr kept (λ reason. result ≡ Err (site.Working reason)) }
     ensures closing { OnOk kept (IfErr result IsClosingFault) }
 {
-    let receipts = kept?;
-    match closed(desk, messages, receipts) {
+    match kept?.close(desk) {
         Ok(core) => Ok(core),
         Err(fault) => Err(SiteFault::Closing(fault)),
     }
 }
 
 // Runs the workers of a site on its messages, and closes its desk.
-#[tactic(auto, using(crate::proofs::Holding::no_gate))]
-fn worked<J: Site + Send + Sync, G: Gate + Sync, R: Threads + Wait + Sync>(
+#[tactic(auto, using(crate::proofs::Holding::no_gate, crate::proofs::Holding::closed_ends))]
+fn run_site<J: Site + Takes + Send + Sync, G: Gate + Sync, R: Threads + Wait + Sync>(
     rt: &R,
     alloc: Global,
     gate: &G,
@@ -93,17 +87,18 @@ fn worked<J: Site + Send + Sync, G: Gate + Sync, R: Threads + Wait + Sync>(
     number: u16,
     group: u16,
     messages: &[Arc<Message>],
-    post: Post,
+    channels: Channels,
 ) -> Result<SiteCore, SiteFault>
     requires history { history ≡ J.book }
     requires track { (track.book ≡ J.book) × (track.log ≡ []) }
     requires site { (number ≡ J.number) × (group ≡ J.group) }
-    ensures core { IfOk result (Stands J.number J.group (contents_of (messages_in messages.now))) }
+    requires messages { J.messages ≡ contents_of (messages_in messages.now) }
+    ensures core { IfOk result (Stands J.number J.group J.messages) }
     ensures ends { IfErr result (SiteEndsWhere (G.may_hold gate.now)) }
 {
-    let (desk, query) = opened::<J, R>(rt, alloc, history, track, number, group)?;
-    let kept = workers(rt, alloc, gate, &desk, query, number, messages, post);
-    closed_after(gate, desk, messages, kept)
+    let (desk, query) = open_desk::<J, R>(rt, alloc, history, track, number, group)?;
+    let kept = run_workers(rt, alloc, gate, &desk, query, number, messages, channels);
+    close_desk(desk, kept)
 }
 
 // The text before each line that reports a refused line of the input of this number, such as `file 2 `.
@@ -114,7 +109,7 @@ fn front_of(alloc: Global, number: u16) -> Result<String, AllocError>
 }
 
 // The messages of an input, and its refused lines.
-fn read(alloc: Global, number: u16, input: &[u8]) -> Result<Intake, AllocError>
+fn read_input(alloc: Global, number: u16, input: &[u8]) -> Result<Intake, AllocError>
     ensures messages { IfOk result (λ intake. messages_in intake.messages.items ≡ messages_read input.now) }
     ensures told { IfOk result (λ intake. intake.refusals.text ≡ told_of_file number input.now) }
     ensures refused { IfOk result (λ intake. intake.refusals.count ≡ length (refusals_told input.now)) }
@@ -125,25 +120,25 @@ fn read(alloc: Global, number: u16, input: &[u8]) -> Result<Intake, AllocError>
 
 /// Fills the site of this number in the group from its input. The input is read in this
 /// thread, before the desk is opened.
-pub(crate) fn fill<G: Gate + Sync, R: Threads + Wait + Sync>(
+pub(crate) fn fill_site<G: Gate + Sync, R: Threads + Wait + Sync>(
     rt: &R,
     alloc: Global,
     gate: &G,
     number: u16,
     group: u16,
     input: &[u8],
-    post: Post,
+    channels: Channels,
 ) -> Result<Filled, SiteFault>
     ensures filled { IfOk result (IsFilled number group input.now) }
     ensures ends { IfErr result (SiteEndsWhere (G.may_hold gate.now)) }
 {
-    let Ok(read) = read(alloc, number, input) else {
+    let Ok(intake) = read_input(alloc, number, input) else {
         return Err(SiteFault::Working(WorkFault::Memory));
     };
-    let Intake { messages, refusals } = read;
+    let Intake { messages, refusals } = intake;
     let (history, track) = History::open();
-    let core = worked::<Brand, G, R>(
-        rt, alloc, gate, history, track, number, group, &messages, post,
+    let core = run_site::<Brand, G, R>(
+        rt, alloc, gate, history, track, number, group, &messages, channels,
     )?;
     Ok(Filled { core, refusals })
 }

@@ -1,7 +1,6 @@
 //! Sites that failed, and the fault that is reported of them.
 
-use sct_receipts::WorkFault;
-use sct_workers::SiteFault;
+use sct_workers::{SiteFault, WorkFault};
 
 pub(crate) struct Failed {
     pub(crate) sites: &'static [SiteFault],

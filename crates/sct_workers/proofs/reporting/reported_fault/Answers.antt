@@ -9,7 +9,7 @@ use Rattle.sct_workers.proofs.reporting.reported_fault.Goals as goal
 
 pub loop-answer-preserved : goal.loop-answer-preserved
 loop-answer-preserved c =
-    subst (λ (answers : List (Result Filled SiteFault)). Reports answers c.later-reported.result)
+    subst (λ (answers : List (Result Filled SiteFault)). Reports answers c.report_next-reported.result)
     (sym (take_more c.args.answers.now c.loop-answer.answer-index c.answer-item.result c.loop-answer-test.true
     ∙ ap (λ one. take c.loop-answer.answer-index c.args.answers.now ++ one ∷ []) (sym c.answer-item.is)))
-    (c.later-reported.ensures (take c.loop-answer.answer-index c.args.answers.now) c.loop-answer.invariant)
+    (c.report_next-reported.ensures (take c.loop-answer.answer-index c.args.answers.now) c.loop-answer.invariant)

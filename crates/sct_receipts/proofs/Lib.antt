@@ -1,3 +1,0 @@
--- The lemmas of kept receipts.
-pub mod KeepLemmas
-pub mod StandLemmas

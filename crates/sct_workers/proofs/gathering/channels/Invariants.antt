@@ -1,6 +1,0 @@
--- As many ends as channels.
-use Rattle.std.proofs.Common.{◌≡◌}
-use Rattle.sct_workers.proofs.gathering.channels.Given as goal
-
-abbrev pub invariant-loop : goal.invariant-loop
-invariant-loop l = l.inboxes.len ≡ l.counter

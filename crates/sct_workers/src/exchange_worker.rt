@@ -1,0 +1,82 @@
+//! The worker that accepts the entries of other sites.
+
+ghost use Rattle.std.specs.Prelude.{◌≡◌, [], ◌∷◌, IfErr, IfOk};
+ghost use Rattle.sct_workers.specs.Exchanging.{accepted_by, IsHandedOver};
+ghost use Rattle.sct_workers.specs.Holds.{EndsWhere};
+
+use crate::fault::WorkFault;
+use crate::gate::{Gate, Point, pass};
+use crate::kept::Kept;
+use crate::new_entry::NewEntry;
+use crate::receipts::accept_for_receipt;
+use crate::takes::Takes;
+use crossbeam_channel::Receiver;
+use sct_delta::{Delta, DeltaFault};
+use sct_desk::{Desk, Site};
+use sct_site::Accepted;
+use std::alloc::Global;
+use std::sync::Wait;
+
+// The delta of one entry.
+fn delta_of(alloc: Global, entry: NewEntry) -> Result<Delta, WorkFault>
+    ensures entries { IfOk result (λ delta. delta ≡ entry.entry ∷ []) }
+    ensures ends { IfErr result (EndsWhere (λ point. ⊥)) }
+{
+    let mut entries = Vec::new(alloc);
+    entries.push(entry.into_entry())?;
+    match Delta::of(entries) {
+        Ok(delta) => Ok(delta),
+        Err(refusal) => Err(WorkFault::from(refusal)),
+    }
+}
+
+// Whether an entry was accepted, by the answer to its delta. A missing entry before it is not a fault.
+fn is_accepted(answer: Result<Accepted, DeltaFault>) -> Result<bool, WorkFault>
+    ensures { result ≡ accepted_by answer }
+{
+    match answer {
+        Ok(_) => Ok(true),
+        Err(DeltaFault::Gap { .. }) => Ok(false),
+        Err(refusal) => Err(WorkFault::from(refusal)),
+    }
+}
+
+// Hands an entry to the desk and keeps the receipt. Returns whether the entry was accepted.
+#[tactic(auto, using(crate::proofs::MoreKept::keeps_any, crate::proofs::Refusing::answer_ends))]
+fn accept_entry<J: Site + Takes, H: Wait + Drop, R: Wait>(
+    rt: &R,
+    alloc: Global,
+    desk: &Desk<J, H>,
+    entry: NewEntry,
+    kept: &mut Kept<J>,
+) -> Result<bool, WorkFault>
+    ensures handed { IfOk result (IsHandedOver J.number J.group entry.entry
+        kept.old.receipts.items kept.new.receipts.items) }
+    ensures ends { IfErr result (EndsWhere (λ point. ⊥)) }
+{
+    let delta = delta_of(alloc, entry)?;
+    let (answer, receipt) = accept_for_receipt(rt, alloc, desk, &delta)?;
+    kept.push(receipt)?;
+    is_accepted(answer)
+}
+
+/// Accepts the entries that arrive, until the intake workers of all other sites have ended. Returns the receipts.
+#[tactic(auto, using(crate::proofs::Holding::no_gate))]
+pub(crate) fn accept_entries<J: Site + Takes, H: Wait + Drop, G: Gate, R: Wait>(
+    rt: &R,
+    alloc: Global,
+    gate: &G,
+    desk: &Desk<J, H>,
+    site: u16,
+    inbox: Receiver<NewEntry>,
+) -> Result<Kept<J>, WorkFault>
+    ensures { IfErr result (EndsWhere (G.may_hold gate.now)) }
+{
+    let mut kept = Kept::none(alloc);
+    for entry in inbox.iter(rt) {
+        if accept_entry(rt, alloc, desk, entry, &mut kept)? {
+            pass(rt, gate, Point::Accepted { site })?;
+        }
+    }
+    Ok(kept)
+}

@@ -1,0 +1,127 @@
+//! The worker that takes a site's messages.
+
+ghost use Rattle.std.specs.Arc.{arc_value};
+ghost use Rattle.std.specs.FinSet as set;
+ghost use Rattle.std.specs.Prelude.{◌≡◌, [], true, IfErr, IfOk, IfSome, OnOk};
+ghost use Rattle.sct_message.specs.Sets.{messages_in};
+ghost use Rattle.sct_workers.specs.Kept.{AllShown, is_shown, Keeps};
+ghost use Rattle.sct_workers.specs.declared.fault.WorkFault.TheVariants as fault;
+ghost use Rattle.sct_set.specs.Contents.{contents_of};
+ghost use Rattle.sct_workers.specs.Exchanging.{IsNumbered};
+ghost use Rattle.sct_workers.specs.Holds.{EndsWhere};
+ghost use Rattle.sct_workers.specs.Shown.{ShowsMore};
+
+use crate::fault::WorkFault;
+use crate::gate::{Gate, Point, pass};
+use crate::kept::Kept;
+use crate::receipts::{publish_for_receipt, take_for_receipt};
+use crate::senders::Senders;
+use crate::takes::Takes;
+use sct_desk::{Desk, Receipt, Site};
+use sct_message::Message;
+use sct_site::Took;
+use std::alloc::Global;
+use std::sync::{Arc, Wait};
+
+// Takes one of the site's messages, and keeps the receipt.
+#[tactic(auto, using(crate::proofs::MoreKept::shown_last, crate::proofs::MoreKept::shows_more, crate::proofs::Refusing::takes_number))]
+fn take_message<J: Site + Takes, H: Wait + Drop, R: Wait>(
+    rt: &R,
+    alloc: Global,
+    desk: &Desk<J, H>,
+    message: &Arc<Message>,
+    kept: &mut Kept<J>,
+) -> Result<Took, WorkFault>
+    requires { set.contains J.messages (arc_value message.now) ≡ true }
+    ensures shown { OnOk result (is_shown kept.new.receipts.items (arc_value message.now) ≡ true) }
+    ensures more { OnOk result (ShowsMore kept.old.receipts.items kept.new.receipts.items) }
+    ensures numbered { IfOk result IsNumbered }
+    ensures memory { IfErr result (λ e. e ≡ fault.Memory) }
+{
+    let (took, receipt) = take_for_receipt(rt, alloc, desk, message.clone()?)?;
+    kept.push(receipt)?;
+    Ok(took)
+}
+
+// Sends the query worker a receipt and the message's first transfer. Returns the receipt if it cannot be sent.
+fn send_first_transfer<J: Site, R: Wait>(
+    rt: &R,
+    senders: &Senders<J>,
+    receipt: Receipt,
+    message: &Message,
+) -> Option<Receipt>
+    requires { Keeps J.book J.number J.group (contents_of []) receipt }
+    ensures { IfSome result (Keeps J.book J.number J.group (contents_of [])) }
+{
+    match message.transfer(0) {
+        Some(transfer) => senders.send_note(rt, receipt, transfer),
+        None => Some(receipt),
+    }
+}
+
+// Publishes, and sends the query worker the receipt of that and the message's first transfer. A receipt that cannot be sent
+// is kept.
+#[tactic(auto, using(crate::proofs::MoreKept::keeps_any, crate::proofs::MoreKept::shows_more))]
+fn publish_message<J: Site + Takes, H: Wait + Drop, R: Wait>(
+    rt: &R,
+    alloc: Global,
+    desk: &Desk<J, H>,
+    message: &Message,
+    senders: &Senders<J>,
+    kept: &mut Kept<J>,
+) -> Result<(), WorkFault>
+    ensures more { OnOk result (ShowsMore kept.old.receipts.items kept.new.receipts.items) }
+    ensures memory { IfErr result (λ e. e ≡ fault.Memory) }
+{
+    let receipt = publish_for_receipt(rt, alloc, desk)?;
+    if let Some(back) = send_first_transfer(rt, senders, receipt, message) {
+        kept.push(back)?;
+    }
+    Ok(())
+}
+
+// Takes one of the site's messages, publishes it, and sends a new entry to the other sites.
+fn take_and_send<J: Site + Takes, H: Wait + Drop, R: Wait>(
+    rt: &R,
+    alloc: Global,
+    desk: &Desk<J, H>,
+    site: u16,
+    message: &Arc<Message>,
+    senders: &Senders<J>,
+    kept: &mut Kept<J>,
+) -> Result<(), WorkFault>
+    requires { set.contains J.messages (arc_value message.now) ≡ true }
+    ensures shown { OnOk result (is_shown kept.new.receipts.items (arc_value message.now) ≡ true) }
+    ensures more { OnOk result (ShowsMore kept.old.receipts.items kept.new.receipts.items) }
+    ensures memory { IfErr result (λ e. e ≡ fault.Memory) }
+{
+    let took = take_message(rt, alloc, desk, message, kept)?;
+    publish_message(rt, alloc, desk, message, senders, kept)?;
+    senders.send_entry(rt, site, &took, message);
+    Ok(())
+}
+
+/// Takes the messages of a site in their order. Returns the receipts, which show all of them.
+#[tactic(auto, using(crate::proofs::MoreKept::all_shown))]
+pub(crate) fn take_messages<J: Site + Takes, H: Wait + Drop, G: Gate, R: Wait>(
+    rt: &R,
+    alloc: Global,
+    gate: &G,
+    desk: &Desk<J, H>,
+    site: u16,
+    messages: &[Arc<Message>],
+    senders: Senders<J>,
+) -> Result<Kept<J>, WorkFault>
+    requires { J.messages ≡ contents_of (messages_in messages.now) }
+    ensures shown { IfOk result (λ kept. AllShown J.messages kept.receipts.items) }
+    ensures ends { IfErr result (EndsWhere (G.may_hold gate.now)) }
+{
+    let mut kept = Kept::none(alloc);
+    let mut k = 0;
+    for message in messages {
+        k += 1;
+        pass(rt, gate, Point::Take { site, k })?;
+        take_and_send(rt, alloc, desk, site, message, &senders, &mut kept)?;
+    }
+    Ok(kept)
+}

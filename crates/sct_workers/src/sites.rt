@@ -1,0 +1,234 @@
+//! All sites of a run.
+
+ghost use Rattle.std.specs.Prelude.{◌≡◌, ◌<◌, ◌≤◌, ◌+◌, ◌++◌, ◌∷◌, [], Some, IfErr, IfOk, length, vec_capacity, vec_len};
+ghost use Rattle.std.specs.List.{slice_get};
+ghost use Rattle.sct_workers.specs.declared.fault.WorkFault.TheVariants as fault;
+ghost use Rattle.sct_workers.specs.Each.{AtEach};
+ghost use Rattle.sct_workers.specs.Files.{bytes_of};
+ghost use Rattle.sct_workers.specs.Filling.{AreFilled, IsFilled};
+ghost use Rattle.sct_workers.specs.Holds.{EndsWhere, SiteEndsWhere};
+ghost use Rattle.sct_workers.specs.Reported.{AnswersTo};
+
+use crate::fault::{SiteFault, WorkFault};
+use crate::filled::{Filled, Sites};
+use crate::gate::Gate;
+use crate::new_entry::NewEntry;
+use crate::reporting::collect_sites;
+use crate::site::fill_site;
+use crate::workers::Channels;
+use crossbeam_channel::{Receiver, Sender};
+use std::alloc::{AllocError, Global};
+use std::sync::Wait;
+use std::thread;
+use std::thread::{Promise, PromisedHandle, Scope, Threads};
+
+// Copies of all senders, except the one at this place.
+fn other_senders(
+    alloc: Global,
+    senders: &[Sender<NewEntry>],
+    own: usize,
+) -> Result<Vec<Sender<NewEntry>>, AllocError> {
+    let mut others = Vec::new(alloc);
+    for (place, sender) in senders.iter().enumerate() {
+        if place != own {
+            others.push(sender.clone()?)?;
+        }
+    }
+    Ok(others)
+}
+
+// `count` channels: the ends to send to, and the ends to receive from.
+fn open_channels(
+    alloc: Global,
+    count: usize,
+) -> Result<(Vec<Sender<NewEntry>>, Vec<Receiver<NewEntry>>), AllocError>
+    ensures { IfOk result (λ ends. vec_len ends.1 ≡ count) }
+{
+    let mut senders = Vec::new(alloc);
+    let mut inboxes = Vec::new(alloc);
+    for _ in 0..count {
+        let (sender, inbox) = crossbeam_channel::unbounded(alloc)?;
+        senders.push(sender)?;
+        inboxes.push(inbox)?;
+    }
+    Ok((senders, inboxes))
+}
+
+// The channel ends of `count` sites, each with senders to all others.
+fn channels_of_sites(alloc: Global, count: usize) -> Result<Vec<Channels>, AllocError>
+    ensures { IfOk result (λ all. vec_len all ≡ count) }
+{
+    let (senders, inboxes) = open_channels(alloc, count)?;
+    let mut all = Vec::new(alloc);
+    for inbox in inboxes {
+        let others = other_senders(alloc, &senders, all.len())?;
+        all.push(Channels { inbox, others })?;
+    }
+    Ok(all)
+}
+
+/// The promise of a site's thread: the site was filled from the input. A worker was held only at a point at which the
+/// gate may hold it. A call was refused only with the number of a refusal.
+#[derive(Drop)]
+pub(crate) struct Fills<'a, G: Gate> {
+    gate: &'a G,
+    number: u16,
+    group: u16,
+    input: &'a [u8],
+}
+
+impl<'a, G: Gate> Promise<Result<Filled, SiteFault>> for Fills<'a, G> {
+    ghost kept_by = { λ p r.
+        IfOk r (IsFilled p.number p.group p.input.now) × IfErr r (SiteEndsWhere (G.may_hold p.gate.now)) };
+}
+
+type Child<'a, G> = PromisedHandle<Result<Filled, SiteFault>, Fills<'a, G>>;
+
+// Starts a site. Error: `NoWorker` (67) if no thread can be started for it.
+fn start_site<'s, E, G: Gate + Sync, R: Threads + Wait + Sync>(
+    rt: &'s R,
+    alloc: Global,
+    gate: &'s G,
+    scope: &Scope<'s, E>,
+    number: u16,
+    group: u16,
+    input: &'s [u8],
+    channels: Channels,
+) -> Result<Child<'s, G>, WorkFault>
+    ensures gate { IfOk result (λ child. child.promise.gate.now ≡ gate.now) }
+    ensures site { IfOk result (λ child. (child.promise.number ≡ number) × (child.promise.group ≡ group)) }
+    ensures input { IfOk result (λ child. child.promise.input.now ≡ input.now) }
+    ensures none { IfErr result (λ e. e ≡ fault.NoWorker) }
+{
+    let started = scope.spawn_with(
+        Fills {
+            gate,
+            number,
+            group,
+            input,
+        },
+        move || -> Result<Filled, SiteFault>
+            ensures { IfOk result (IsFilled number group input.entry.now)
+                × IfErr result (SiteEndsWhere (G.may_hold gate.entry.now)) }
+        { fill_site(rt, alloc, gate, number, group, input, channels) },
+    );
+    match started {
+        Ok(child) => Ok(child),
+        Err(_) => Err(WorkFault::NoWorker),
+    }
+}
+
+// The list with one more element, for which there is room. It does not allocate.
+fn push_within_room<T: Drop>(list: Vec<T>, one: T) -> Vec<T>
+    requires { length list.items < vec_capacity list }
+    ensures items { result.items ≡ list.items ++ one ∷ [] }
+    ensures room { vec_capacity list ≤ vec_capacity result }
+{
+    let mut all = list;
+    let Ok(()) = all.push(one) else {
+        unreachable!()
+    };
+    all
+}
+
+// Starts one site for each input, numbered from 1. Error: `NoWorker` (67) if a thread cannot be started.
+fn start_sites<'s, E, G: Gate + Sync, R: Threads + Wait + Sync>(
+    rt: &'s R,
+    alloc: Global,
+    gate: &'s G,
+    scope: &Scope<'s, E>,
+    inputs: &'s [Vec<u8>],
+    channels: Vec<Channels>,
+    room: Vec<Child<'s, G>>,
+) -> Result<Vec<Child<'s, G>>, WorkFault>
+    requires few { length inputs.now ≤ 64 }
+    requires channels { vec_len channels ≡ length inputs.now }
+    requires room { (room.items ≡ []) × (length inputs.now ≤ vec_capacity room) }
+    ensures len { IfOk result (λ children. length children.items ≡ length inputs.now) }
+    ensures sites { IfOk result (λ children.
+        AtEach (λ at child. (child.promise.number ≡ at + 1)
+        × (child.promise.group ≡ length inputs.now)) children.items) }
+    ensures inputs { IfOk result (λ children.
+        AtEach (λ at child. slice_get (bytes_of inputs.now) at ≡ Some child.promise.input.now) children.items) }
+    ensures gate { IfOk result
+        (λ children. AtEach (λ at child. child.promise.gate.now ≡ gate.now) children.items) }
+    ensures none { IfErr result (λ e. e ≡ fault.NoWorker) }
+{
+    let group = inputs.len() as u16;
+    let mut channels = channels;
+    let mut children = room;
+    let mut number = 0;
+    for input in inputs {
+        let Some(own) = channels.pop() else {
+            unreachable!()
+        };
+        number += 1;
+        let child = start_site(rt, alloc, gate, scope, number, group, input, own)?;
+        children = push_within_room(children, child);
+    }
+    Ok(children)
+}
+
+// Waits for all sites, in the order of their inputs, and collects their answers.
+fn join_sites<'s, G: Gate, R: Threads>(
+    rt: &R,
+    gate: &G,
+    inputs: &[Vec<u8>],
+    children: Vec<Child<'s, G>>,
+    room: Vec<Result<Filled, SiteFault>>,
+) -> Vec<Result<Filled, SiteFault>>
+    requires len { length children.items ≡ length inputs.now }
+    requires sites { AtEach
+        (λ at child. (child.promise.number ≡ at + 1) × (child.promise.group ≡ length inputs.now)) children.items }
+    requires inputs { AtEach
+        (λ at child. slice_get (bytes_of inputs.now) at ≡ Some child.promise.input.now) children.items }
+    requires gate { AtEach (λ at child. child.promise.gate.now ≡ gate.now) children.items }
+    requires room { (room.items ≡ []) × (length inputs.now ≤ vec_capacity room) }
+    ensures len { length result.items ≡ length inputs.now }
+    ensures filled { AtEach (AnswersTo (length inputs.now) (bytes_of inputs.now)) result.items }
+    ensures ends { AtEach (λ place answer. IfErr answer (SiteEndsWhere (G.may_hold gate.now))) result.items }
+{
+    let mut answers = room;
+    for child in children {
+        answers = push_within_room(answers, child.join(rt));
+    }
+    answers
+}
+
+/// Fills one site from each input, numbered from 1, each on threads of its own. The workers of the sites
+/// exchange what they take. Whatever came through the channels, each core holds all messages of its
+/// input, and its own entries have only these.
+/// Each line that reports a refused line of an input begins with the number of the input, as in `file 2 line 1: 31`.
+///
+/// The call returns after all workers have ended. Errors of workers come first, in this order: `NoWorker` (67),
+/// `Memory` (65), `Held` (61), and `Refused` (66) with the least number. If no worker failed, the first site whose desk
+/// is not closed is reported: `Refused` (66) with 53 or 54.
+#[tactic(auto, using(crate::proofs::Holding::no_gate, crate::proofs::ReportLemmas::reported_ends))]
+pub fn fill_sites<G: Gate + Sync, R: Threads + Wait + Sync>(
+    rt: &R,
+    alloc: Global,
+    gate: &G,
+    inputs: &[Vec<u8>],
+) -> Result<Sites, WorkFault>
+    requires { length inputs.now ≤ 64 }
+    ensures filled { IfOk result (AreFilled (length inputs.now) (bytes_of inputs.now)) }
+    ensures ends { IfErr result (EndsWhere (G.may_hold gate.now)) }
+{
+    let channels = channels_of_sites(alloc, inputs.len())?;
+    let answers = Vec::with_capacity(alloc, inputs.len())?;
+    thread::scope(
+        thread::scope_env(),
+        rt,
+        move |scope| -> Result<Sites, WorkFault>
+            requires { (length inputs.now ≤ 64) × (vec_len channels ≡ length inputs.now)
+                × ((answers.items ≡ []) × (length inputs.now ≤ vec_capacity answers)) }
+            ensures { IfOk result (AreFilled (length inputs.entry.now) (bytes_of inputs.entry.now))
+                × IfErr result (EndsWhere (G.may_hold gate.entry.now)) }
+        {
+            let children = Vec::with_capacity(alloc, inputs.len())?;
+            let children = start_sites(rt, alloc, gate, scope, inputs, channels, children)?;
+            let answers = join_sites(rt, gate, inputs, children, answers);
+            Ok(collect_sites(alloc, inputs, answers)?)
+        },
+    )
+}
