@@ -156,7 +156,10 @@ fn request_of_command<'a>(
 }
 
 // The request of the matches that clap found.
-fn request_of_matches<'a>(alloc: Global, matches: &ArgMatches<'a>) -> Result<Request<'a>, ProgramFault>
+fn request_of_matches<'a>(
+    alloc: Global,
+    matches: &ArgMatches<'a>,
+) -> Result<Request<'a>, ProgramFault>
     ensures { IsOrdered
         (option_and_then (λ found. order_named found.0 found.1) (subcommand_rows_of matches.now)) result }
 {
