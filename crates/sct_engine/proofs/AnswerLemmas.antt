@@ -1,5 +1,5 @@
 -- The answer of a run, by what its sites came to. Proof plumbing.
-use Rattle.std.proofs.Common.{◌≡◌, ◌≢◌, ◌<◌, ◌∙◌, sym, ap, subst, ℕ, List, length, arith}
+use Rattle.std.proofs.Common.{◌≡◌, ◌≢◌, ◌<◌, ◌∙◌, sym, ap, subst, ℕ, List, length}
 use Rattle.std.specs.Prelude.{Result, Ok, Err, IfErr, IfOk, OnOk, string_bytes}
 use Rattle.sct_workers.specs.declared.fault.WorkFault.{WorkFault}
 use Rattle.sct_view.specs.StatusText.{status_text_of}

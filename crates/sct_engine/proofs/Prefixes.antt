@@ -1,5 +1,5 @@
 -- A text written in two parts, of which the second, or the first, may be cut off. Proof plumbing.
-use Rattle.std.proofs.Common.{◌≡◌, ℕ, ◌+◌, List, ◌++◌, Option, Some, None, Result, Ok, Err, length, take, OnErr, sym, ap, ◌∙◌, subst, append_assoc, arith}
+use Rattle.std.proofs.Common.{ℕ, ◌+◌, List, ◌++◌, Option, Some, None, Result, Ok, Err, length, take, OnErr, sym, ap, ◌∙◌, subst, append_assoc, arith}
 use Rattle.std.proofs.lemmas.List.{take-append-le, length-append}
 use Rattle.std.proofs.Math.Seq.{take-append-add}
 use Rattle.sct_streams.specs.Stream.{AppendsIfTold, AppendsPrefixIfTold, IsCutOff, IsWritten, Output}

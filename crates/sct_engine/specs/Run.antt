@@ -1,5 +1,5 @@
 -- One run of the program: its request, its answer and its report. Read by an auditor.
-use Rattle.std.specs.Prelude.{ℕ, ◌≡◌, ◌≢◌, ◌+◌, ◌≤◌, ◌⊎◌, false, List, length, map, Option, Some, Result, Ok, Err, IfOk, IfErr, OnOk, Vec, String, string_bytes}
+use Rattle.std.specs.Prelude.{ℕ, ◌≡◌, ◌≢◌, ◌+◌, ◌≤◌, false, List, length, map, Option, Some, Result, Ok, Err, IfOk, IfErr, OnOk, Vec, String, string_bytes}
 use Rattle.std.specs.declared.alloc.Global.{Global}
 use Rattle.sct_engine.specs.declared.ending.Ending.{Ending}
 use Rattle.sct_engine.specs.declared.fault.ProgramFault.{ProgramFault}

@@ -2,7 +2,6 @@
 ghost use Rattle.std.specs.Prelude.{◌≡◌};
 ghost use Rattle.sct_engine.specs.Run.{words_told, IsAnswered, IsAnsweredTo, IsRun};
 ghost use Rattle.sct_engine.specs.Stream.{streams, Streams};
-ghost use Rattle.sct_streams.specs.Stream.{Input, Output};
 
 use crate::ending::{Ending, conclude};
 use crate::fault::ProgramFault;

@@ -1,6 +1,6 @@
 //! A run of several inputs: each input fills a site of its own, the sites are settled, and the answer is the status text of
 //! all their messages.
-ghost use Rattle.std.specs.Prelude.{◌≡◌, ◌≢◌, ◌↔◌, ◌<◌, ◌≤◌, ◌+◌, ◌++◌, ◌∷◌, [], false, true, Err, length, IfErr, IfOk, OnOk, string_bytes};
+ghost use Rattle.std.specs.Prelude.{◌≡◌, ◌↔◌, ◌<◌, false, true, Err, length, IfErr, IfOk, OnOk, string_bytes};
 ghost use Rattle.sct_delta.specs.Entries.{messages_of};
 ghost use Rattle.sct_engine.specs.Fault.{fault_of_work};
 ghost use Rattle.sct_engine.specs.Runs.{are_sites, set_of_all, IsSettledAnswer, IsSettlingFault, NoOrderMatters, RunEndsWhere};
@@ -133,6 +133,7 @@ fn no_order_matters()
 /// The answer is the status text of all messages that are read from the inputs. It does not depend on the order of the
 /// inputs, on the schedule of the threads, or on what came through their channels.
 /// Each line that reports a refused line begins with the number of its input, as in `file 2 line 1: 31`.
+/// Settling hands every entry to every site, so its time grows with the number of messages times the number of sites.
 ///
 /// Error: `Usage` (64) exactly if there are not 1 to 16 inputs. Every other error is returned after
 /// all workers have ended, the first of these:

@@ -1,5 +1,5 @@
 //! Streams that the program reads from.
-ghost use Rattle.std.specs.Prelude.{◌≡◌, ◌+◌, ◌≤◌, ℕ, List, Option, None, length, IfOk, IfSome, OnOk, OnErr};
+ghost use Rattle.std.specs.Prelude.{◌≡◌, ◌+◌, ◌≤◌, length, IfOk, IfSome, OnOk, OnErr};
 ghost use Rattle.sct_streams.specs.Stream.{Gives, HasTakenIfTold, Input};
 
 use crate::failures::Failures;

@@ -42,7 +42,7 @@ fn read_most<R: Source>(source: &mut R, piece: &mut [u8], most: usize) -> Result
     source.read(&mut piece[..most])
 }
 
-/// Reads all bytes up to the end. `limit` is the greatest number of bytes.
+/// Reads all bytes up to the end. `limit` is the greatest number of bytes. Takes time in proportion to the bytes read.
 /// Errors: `TooLong` if there are more bytes, after one byte past the limit was read; `Failed` if a read fails;
 /// `Memory`. The bytes read so far are then lost.
 pub fn read_all<R: Source>(alloc: Global, source: &mut R, limit: u64) -> Result<Vec<u8>, ReadFault>
@@ -70,8 +70,8 @@ pub fn read_all<R: Source>(alloc: Global, source: &mut R, limit: u64) -> Result<
     Err(ReadFault::TooLong)
 }
 
-/// Writes all of the bytes. Error: `Failed` if a write fails; a prefix of the bytes was
-/// then written. An empty text makes no call.
+/// Writes all of the bytes, by as many writes as the sink needs. Error: `Failed` if a write fails; a prefix of the bytes
+/// was then written. An empty text makes no call.
 #[tactic(auto, using(crate::proofs::Fronts::one_write_more))]
 pub fn write_all<K: Sink>(sink: &mut K, bytes: &[u8]) -> Result<(), Failed>
     ensures all { OnOk result (IsWritten (K.state sink.old) (K.state sink.new) (Some bytes.now)) }
