@@ -76,30 +76,21 @@ fn answer<T: Threads + Sync, R: Source>(
         ≡ (R.state reader.old).failures + failed_reads e) }
     ensures unwritten { result ≢ Err fault.Write }
 {
-    match job {
-        Job::Status => {
-            let input = read_all(alloc, reader, limit)?;
-            answer_of_messages(rt, alloc, release, Question::Status, input)
-        }
-        Job::Archive => {
-            let input = read_all(alloc, reader, limit)?;
-            answer_of_messages(rt, alloc, release, Question::Archive, input)
-        }
-        Job::Totals => {
-            let input = read_all(alloc, reader, limit)?;
-            answer_of_messages(rt, alloc, release, Question::Totals, input)
-        }
+    let question = match job {
+        Job::Status => Question::Status,
+        Job::Archive => Question::Archive,
+        Job::Totals => Question::Totals,
         Job::Report { bank, day, list } => {
             let list = List::read(alloc, list)?;
-            let input = read_all(alloc, reader, limit)?;
-            let question = Question::Report { bank, day, list };
-            answer_of_messages(rt, alloc, release, question, input)
+            Question::Report { bank, day, list }
         }
         Job::Replay => {
             let input = read_all(alloc, reader, limit)?;
-            answer_of_script(alloc, release, &input)
+            return answer_of_script(alloc, release, &input);
         }
-    }
+    };
+    let input = read_all(alloc, reader, limit)?;
+    answer_of_messages(rt, alloc, release, question, input)
 }
 
 /// Runs a job: reads its list, if it has one, then the whole input. It then writes the refused lines to `err` and the
