@@ -10,7 +10,6 @@ use Rattle.sct_reconcile.specs.declared.fault.ReconcileFault.{ReconcileFault}
 use Rattle.sct_reconcile.specs.declared.fault.ReconcileFault.TheVariants.{BadList}
 use Rattle.sct_reconcile.specs.declared.rows.ListedRow.{ListedRow}
 use Rattle.sct_engine.specs.declared.jobs.Job.TheVariants as job
-use Rattle.sct_engine.specs.declared.answers.Answer.{Answer}
 use Rattle.sct_engine.specs.declared.answers.Question.{Question}
 use Rattle.sct_engine.specs.declared.answers.Question.TheVariants as question
 use Rattle.sct_lines.specs.Lines.{refusals_told, set_read, told_text_of}
@@ -18,7 +17,6 @@ use Rattle.sct_view.specs.StatusText.{status_text_of}
 use Rattle.sct_view.specs.TotalsText.{totals_text_of}
 use Rattle.sct_set.specs.Archive.{archive_text_of}
 use Rattle.sct_set.specs.Contents.{Contents}
-use Rattle.sct_set.specs.Pieces.{joined}
 use Rattle.sct_script.specs.Replays.{replay_of}
 use Rattle.sct_script.specs.Scripts as script
 use Rattle.sct_script.specs.Scripts.{sites_told}
@@ -108,13 +106,6 @@ abbrev pub IsBadLimit : ℕ → Type 0
 IsBadLimit limit = (limit ≡ 0) ⊎ (1073741824 < limit)
 
 -- ---- how a run ends
-
--- the answer of the job to the input, which the job takes: its text, the lines that report the refused ones, and their number
-pub record IsAnswerTo (work : Job) (answer : Answer) (input : List ℕ) : Type 0 where
-  pub taken : IsInputOf work input
-  pub told : answer.refusals.text ≡ told_of work input
-  pub text : joined answer.pieces.items ≡ job_text_of work input
-  pub count : answer.refusals.count ≡ refused_of work input
 
 -- an input within the limit was read whole, if it is known
 abbrev pub IsReadWhole : ℕ → Input → Input → Type 0

@@ -6,7 +6,6 @@ ghost use Rattle.sct_engine.specs.Engine.{
   job_text_if_told,
   told_text_if_told,
   AreCutOff,
-  IsAnswerTo,
   IsBadLimit,
   IsDone,
   IsPastLimit,
@@ -49,48 +48,6 @@ pub enum Job {
 pub struct Done {
     /// How many lines were refused.
     pub refused: u64,
-}
-
-// The answer of a job to an input, which is read whole after the list of `report` is read. Errors: those of [`engine`],
-// but no write fails.
-fn answer<T: Threads + Sync, R: Source>(
-    rt: &T,
-    alloc: Global,
-    release: Release,
-    job: &Job,
-    limit: u64,
-    reader: &mut R,
-) -> Result<Answer, ProgramFault>
-    ensures answered { IfOk result (λ answer. IfSome (R.state reader.old).left (IsAnswerTo job.now answer)) }
-    ensures read { OnOk result (IsReadWhole limit (R.state reader.old) (R.state reader.new)) }
-    ensures reads { OnOk result ((R.state reader.new).failures ≡ (R.state reader.old).failures) }
-    ensures usage { result ≡ Err fault.Usage
-        → IsRefusedInput job.now limit (R.state reader.old) (R.state reader.new) }
-    ensures list { StandsOnList (bad_row_of job.now) result }
-    ensures unlisted { (row : ℕ) → result ≡ Err (fault.BadList row) → reader.new ≡ reader.old }
-    ensures too_long { result ≡ Err fault.TooLong
-        → IsPastLimit limit (R.state reader.old) (R.state reader.new) }
-    ensures cut_input { result ≡ Err fault.Read
-        → (n : ℕ) × ((n ≤ limit) × HasTakenIfTold (R.state reader.old).left (R.state reader.new).left n) }
-    ensures failed_read { IfErr result (λ e. (R.state reader.new).failures
-        ≡ (R.state reader.old).failures + failed_reads e) }
-    ensures unwritten { result ≢ Err fault.Write }
-{
-    let question = match job {
-        Job::Status => Question::Status,
-        Job::Archive => Question::Archive,
-        Job::Totals => Question::Totals,
-        Job::Report { bank, day, list } => {
-            let list = List::read(alloc, list)?;
-            Question::Report { bank, day, list }
-        }
-        Job::Replay => {
-            let input = read_all(alloc, reader, limit)?;
-            return answer_of_script(alloc, release, &input);
-        }
-    };
-    let input = read_all(alloc, reader, limit)?;
-    answer_of_messages(rt, alloc, release, question, input)
 }
 
 /// Runs a job: reads its list, if it has one, then the whole input. It then writes the refused lines to `err` and the
@@ -146,7 +103,22 @@ pub fn engine<T: Threads + Sync, R: Source, O: Sink, E: Sink>(
     if limit == 0 || limit > MOST_BYTES {
         return Err(ProgramFault::Usage);
     }
-    let Answer { pieces, refusals } = answer(rt, alloc, release, job, limit, reader)?;
+    let question = match job {
+        Job::Status => Some(Question::Status),
+        Job::Archive => Some(Question::Archive),
+        Job::Totals => Some(Question::Totals),
+        Job::Report { bank, day, list } => {
+            let list = List::read(alloc, list)?;
+            Some(Question::Report { bank, day, list })
+        }
+        // a replay asks nothing about messages: its input is a script
+        Job::Replay => None,
+    };
+    let input = read_all(alloc, reader, limit)?;
+    let Answer { pieces, refusals } = match question {
+        Some(question) => answer_of_messages(rt, alloc, release, question, input)?,
+        None => answer_of_script(alloc, release, &input)?,
+    };
     write_all(err, refusals.text().as_bytes())?;
     write_pieces(out, &pieces)?;
     Ok(Done {
