@@ -35,6 +35,7 @@ pub fn archive_pieces<T: Threads + Sync>(
         GivesBack (contents_of (messages_in messages.items)) (joined pieces.items)) }
     ensures memory { IfErr result (λ e. e ≡ fault.Memory) }
 {
+    // for the clause `again`
     the_archive_text_gives_the_set_back();
     let ordered = SortedArchive::of(rt, alloc, &messages)?;
     let pieces = ordered.text_in_pieces(rt)?;

@@ -2,8 +2,8 @@
 use Rattle.std.proofs.Common.{◌≡◌, arith, length}
 use Rattle.std.proofs.lemmas.List.{length-map}
 use Rattle.sct_workers.specs.Files.{bytes_of}
-use Rattle.sct_run.proofs.RunLemmas.{some_cores}
-use Rattle.sct_run.proofs.sites.filled.Goals as goal
+use Rattle.sct_engine.proofs.RunLemmas.{some_cores}
+use Rattle.sct_engine.proofs.runs.fill.Goals as goal
 
 pub returns-clause-some : goal.returns-clause-some
 returns-clause-some g c =

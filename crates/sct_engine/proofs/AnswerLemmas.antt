@@ -1,5 +1,5 @@
 -- The answer of a run, by what its sites came to. Proof plumbing.
-use Rattle.std.proofs.Common.{◌≡◌, ◌≢◌, ◌<◌, ◌∙◌, sym, ap, subst, ℕ, List, length, arith}
+use Rattle.std.proofs.Common.{◌≡◌, ◌≢◌, ◌<◌, ◌∙◌, sym, ap, subst, ℕ, List, length}
 use Rattle.std.specs.Prelude.{Result, Ok, Err, IfErr, IfOk, OnOk, string_bytes}
 use Rattle.sct_workers.specs.declared.fault.WorkFault.{WorkFault}
 use Rattle.sct_view.specs.StatusText.{status_text_of}
@@ -8,13 +8,13 @@ use Rattle.sct_workers.specs.Filling.{AreFilled}
 use Rattle.sct_workers.specs.Holds.{EndsWhere}
 use Rattle.sct_workers.specs.declared.filled.Sites.{Sites}
 use Rattle.sct_workers.specs.declared.gate.Point.{Point}
-use Rattle.sct_run.specs.Faults.{fault_of_work}
-use Rattle.sct_run.specs.Runs.{set_of_all, IsSettledAnswer, IsSettlingFault, RunEndsWhere}
-use Rattle.sct_run.specs.declared.answer.RunAnswer.{RunAnswer}
-use Rattle.sct_run.specs.declared.fault.RunFault.{RunFault}
-use Rattle.sct_run.specs.declared.fault.RunFault.TheVariants as fault
-use Rattle.sct_run.proofs.RunLemmas.{no_usage, run_ends, settling_ends}
-use Rattle.sct_run.proofs.UnionLemmas.{union_is}
+use Rattle.sct_engine.specs.Fault.{fault_of_work}
+use Rattle.sct_engine.specs.Runs.{set_of_all, IsSettledAnswer, IsSettlingFault, RunEndsWhere}
+use Rattle.sct_engine.specs.declared.runs.RunAnswer.{RunAnswer}
+use Rattle.sct_engine.specs.declared.fault.ProgramFault.{ProgramFault}
+use Rattle.sct_engine.specs.declared.fault.ProgramFault.TheVariants as fault
+use Rattle.sct_engine.proofs.RunLemmas.{no_usage, run_ends, settling_ends}
+use Rattle.sct_engine.proofs.UnionLemmas.{union_is}
 
 -- what a run over these inputs answers
 pub record IsAnswerOf (inputs : List (List ℕ)) (answer : RunAnswer) : Type 0 where
@@ -30,7 +30,7 @@ settled_is inputs sites answer filled some is = record {
   refused = is.refused ∙ filled.refused;
 }
 
-pub answer_is : (size : ℕ) (inputs : List (List ℕ)) (filled : Result Sites WorkFault) (result : Result RunAnswer RunFault) → size ≡ length inputs
+pub answer_is : (size : ℕ) (inputs : List (List ℕ)) (filled : Result Sites WorkFault) (result : Result RunAnswer ProgramFault) → size ≡ length inputs
     → IfOk filled (AreFilled size inputs) → IfOk filled (λ sites. 0 < length sites.cores.items)
     → IfErr filled (λ reason. result ≡ Err (fault_of_work reason)) → IfOk result (λ answer. IfOk filled (λ sites. IsSettledAnswer sites answer))
     → IfOk result (IsAnswerOf inputs)
@@ -40,28 +40,32 @@ answer_is size inputs (Ok sites) (Err e) same stand some first settled = tt
 answer_is size inputs (Err reason) (Ok answer) same stand some first settled = absurd cc
 answer_is size inputs (Err reason) (Err e) same stand some first settled = tt
 
-abbrev Is : Result RunAnswer RunFault → Result RunAnswer RunFault → Type 0
+abbrev Is : Result RunAnswer ProgramFault → Result RunAnswer ProgramFault → Type 0
 Is some other = some ≡ other
 
-no_settling_usage : (f : RunFault) → IsSettlingFault f → Is (Err f) (Err fault.Usage) → ⊥
+no_settling_usage : (f : ProgramFault) → IsSettlingFault f → Is (Err f) (Err fault.Usage) → ⊥
 no_settling_usage fault.Usage is usage = absurd is
 no_settling_usage fault.Held is usage = cc
 no_settling_usage fault.Memory is usage = cc
 no_settling_usage (fault.Refused number) is usage = cc
 no_settling_usage fault.NoWorker is usage = cc
+no_settling_usage (fault.BadList row) is usage = cc
+no_settling_usage fault.TooLong is usage = cc
+no_settling_usage fault.Read is usage = cc
+no_settling_usage fault.Write is usage = cc
 
-is_usage : (e : RunFault) → Is (Err e) (Err fault.Usage) → e ≡ fault.Usage
+is_usage : (e : ProgramFault) → Is (Err e) (Err fault.Usage) → e ≡ fault.Usage
 is_usage e is = cc
 
-pub never_usage : (filled : Result Sites WorkFault) (result : Result RunAnswer RunFault) → IfErr filled (λ reason. result ≡ Err (fault_of_work reason))
+pub never_usage : (filled : Result Sites WorkFault) (result : Result RunAnswer ProgramFault) → IfErr filled (λ reason. result ≡ Err (fault_of_work reason))
     → OnOk filled (IfErr result IsSettlingFault) → result ≢ Err fault.Usage
 never_usage (Ok sites) (Ok answer) first then usage = cc
 never_usage (Ok sites) (Err e) first then usage = no_settling_usage e then usage
 never_usage (Err reason) result first then usage = no_usage reason (is_usage (fault_of_work reason) (sym first ∙ usage))
 
-pub answer_ends : (may : Point → Type 0) (filled : Result Sites WorkFault) (result : Result RunAnswer RunFault) → IfErr filled (EndsWhere may)
+pub answer_ends : (may : Point → Type 0) (filled : Result Sites WorkFault) (result : Result RunAnswer ProgramFault) → IfErr filled (EndsWhere may)
     → IfErr filled (λ reason. result ≡ Err (fault_of_work reason)) → OnOk filled (IfErr result IsSettlingFault) → IfErr result (RunEndsWhere may)
 answer_ends may (Ok sites) (Ok answer) ends first then = tt
 answer_ends may (Ok sites) (Err e) ends first then = settling_ends may e then
 answer_ends may (Err reason) result ends first then =
-    subst (λ (r : Result RunAnswer RunFault). IfErr r (RunEndsWhere may)) (sym first) (run_ends may reason ends)
+    subst (λ (r : Result RunAnswer ProgramFault). IfErr r (RunEndsWhere may)) (sym first) (run_ends may reason ends)

@@ -6,9 +6,9 @@ use Rattle.std.specs.List.{Contains}
 use Rattle.sct_delta.specs.Entries.{messages_of}
 use Rattle.sct_lines.specs.Lines.{set_read}
 use Rattle.sct_workers.specs.Faults.{IsRefusalNumber}
-use Rattle.sct_run.specs.declared.answer.RunAnswer.{RunAnswer}
-use Rattle.sct_run.specs.declared.fault.RunFault.{RunFault}
-use Rattle.sct_run.specs.declared.fault.RunFault.TheVariants as fault
+use Rattle.sct_engine.specs.declared.fault.ProgramFault.{ProgramFault}
+use Rattle.sct_engine.specs.declared.fault.ProgramFault.TheVariants as fault
+use Rattle.sct_engine.specs.declared.runs.RunAnswer.{RunAnswer}
 use Rattle.sct_set.specs.Contents.{Contents}
 use Rattle.sct_site.specs.Cores.{Core}
 use Rattle.sct_view.specs.StatusText.{status_text_of}
@@ -26,11 +26,14 @@ set_of_all [] = set.empty
 set_of_all (input ∷ inputs) = set.union (set_read input) (set_of_all inputs)
 
 -- a run is held (61) only if there is a point at which its gate may hold a worker; a call is
--- refused (66) with the number of a refusal
-abbrev pub RunEndsWhere : (Point → Type 0) → RunFault → Type 0
+-- refused (66) with the number of a refusal. The other faults are 64, 65 and 67.
+abbrev pub RunEndsWhere : (Point → Type 0) → ProgramFault → Type 0
 RunEndsWhere may fault.Held = (point : Point) × may point
 RunEndsWhere may (fault.Refused number) = IsRefusalNumber number
-RunEndsWhere may other = Unit {0}
+RunEndsWhere may fault.Usage = Unit {0}
+RunEndsWhere may fault.Memory = Unit {0}
+RunEndsWhere may fault.NoWorker = Unit {0}
+RunEndsWhere may other = ⊥
 
 -- two lists of inputs that have the same inputs, in any order and any number of times, have the same set
 abbrev pub NoOrderMatters : Type 0
@@ -40,7 +43,7 @@ NoOrderMatters = (some others : List (List ℕ)) → ((input : List ℕ) → Con
 -- ---- settling
 
 -- The fault of a run whose sites were all filled: out of memory, or a refusal to settle them, with 42, 43 or 44.
-abbrev pub IsSettlingFault : RunFault → Type 0
+abbrev pub IsSettlingFault : ProgramFault → Type 0
 IsSettlingFault fault.Memory = Unit {0}
 IsSettlingFault (fault.Refused number) = (number ≡ 42) ⊎ ((number ≡ 43) ⊎ (number ≡ 44))
 IsSettlingFault other = ⊥

@@ -14,10 +14,10 @@ use Rattle.sct_workers.specs.declared.filled.Sites.{Sites}
 use Rattle.sct_workers.specs.declared.gate.Point.{Point}
 use Rattle.sct_workers.proofs.Holding.{delta_ends}
 use Rattle.sct_world.specs.Settling.{are_one_group, IsWhy}
-use Rattle.sct_run.specs.Faults.{fault_of_work}
-use Rattle.sct_run.specs.Runs.{are_sites, IsSettlingFault, RunEndsWhere}
-use Rattle.sct_run.specs.declared.fault.RunFault.{RunFault}
-use Rattle.sct_run.specs.declared.fault.RunFault.TheVariants as fault
+use Rattle.sct_engine.specs.Fault.{fault_of_work}
+use Rattle.sct_engine.specs.Runs.{are_sites, IsSettlingFault, RunEndsWhere}
+use Rattle.sct_engine.specs.declared.fault.ProgramFault.{ProgramFault}
+use Rattle.sct_engine.specs.declared.fault.ProgramFault.TheVariants as fault
 
 -- ---- some sites
 
@@ -73,7 +73,7 @@ at_number : (may : Point → Type 0) (number other : ℕ) → number ≡ other �
 at_number may number other is ends = subst (λ (n : ℕ). RunEndsWhere may (fault.Refused n)) (sym is) ends
 
 -- a fault of settling may end a run
-pub settling_ends : (may : Point → Type 0) (f : RunFault) → IsSettlingFault f → RunEndsWhere may f
+pub settling_ends : (may : Point → Type 0) (f : ProgramFault) → IsSettlingFault f → RunEndsWhere may f
 settling_ends may fault.Usage is = tt
 settling_ends may fault.Held is = absurd is
 settling_ends may fault.Memory is = tt
@@ -81,6 +81,10 @@ settling_ends may (fault.Refused number) (inl fork) = at_number may number 42 fo
 settling_ends may (fault.Refused number) (inr (inl ahead)) = at_number may number 43 ahead (delta_ends may (delta.OwnAhead 0) tt)
 settling_ends may (fault.Refused number) (inr (inr site)) = at_number may number 44 site (delta_ends may delta.BadSite tt)
 settling_ends may fault.NoWorker is = tt
+settling_ends may (fault.BadList row) is = absurd is
+settling_ends may fault.TooLong is = absurd is
+settling_ends may fault.Read is = absurd is
+settling_ends may fault.Write is = absurd is
 
 -- filled sites of a run are some
 pub some_cores : (size : ℕ) (inputs : List (List ℕ)) (filled : Result Sites WorkFault) → are_sites size ≡ true → size ≡ length inputs

@@ -19,8 +19,8 @@ use Rattle.sct_lines.specs.Lines.{set_read}
 use Rattle.sct_world.specs.Settling.{AreSettled, core_in, held_by_some}
 use Rattle.sct_workers.specs.Stands.{Stands}
 use Rattle.sct_workers.specs.Filling.{AllStand}
-use Rattle.sct_run.specs.Runs.{set_of_all, NoOrderMatters}
-use Rattle.sct_run.proofs.RunLemmas.{as_many}
+use Rattle.sct_engine.specs.Runs.{set_of_all, NoOrderMatters}
+use Rattle.sct_engine.proofs.RunLemmas.{as_many}
 
 -- ---- entries and their messages
 
