@@ -40,13 +40,7 @@ impl<J: Site> Senders<J> {
 
     // Sends the entry of a message that the site took to the other sites. A repeat has no entry. An entry that cannot
     // be sent is left out, which is not a fault.
-    pub(crate) fn send_entry<R: Wait>(
-        &self,
-        rt: &R,
-        site: u16,
-        took: &Took,
-        message: &Arc<Message>,
-    )
+    pub(crate) fn send_entry<R: Wait>(&self, rt: &R, site: u16, took: &Took, message: &Arc<Message>)
         requires { IsNumbered took.now }
     {
         for sender in &self.entries {
