@@ -177,12 +177,6 @@ written_is_form entries few delta all =
 
 -- ---- the text, part by part
 
-pub origin_spelled : (origin first count : ℕ) → codes "origin " ++ (decimal origin ++ 32 ∷ (decimal first ++ 32 ∷ (decimal count ++ 10 ∷ []))) ≡ ended (origin_line origin first count)
-origin_spelled origin first count =
-    ap (λ (t : List ℕ). codes "origin " ++ t)
-    (ap (λ (t : List ℕ). decimal origin ++ 32 ∷ t) (sym (append_assoc (decimal first) (32 ∷ decimal count) (10 ∷ [])))
-    ∙ sym (append_assoc (decimal origin) (32 ∷ (decimal first ++ 32 ∷ decimal count)) (10 ∷ [])))
-
 pub whole_written : (head with_lines whole end : List ℕ) (entries : List Placed) → head ≡ ended groups_head → with_lines ≡ head ++ flat_map ended (lines_after 0 entries) → end ≡ ended (end_line (length entries)) → whole ≡ with_lines ++ end → whole ≡ written_delta entries
 unfolding written_delta
 whole_written head with_lines whole end entries first middle last all =

@@ -15,7 +15,8 @@ use Rattle.sct_delta.specs.declared.fault.DeltaFault.{DeltaFault}
 use Rattle.sct_delta.specs.declared.fault.DeltaFault.TheVariants as fault
 use Rattle.sct_delta.proofs.EntryLemmas.{numbered-append, log_is, run_is, not_zero}
 use Rattle.sct_delta.proofs.HeldLemmas.{one_entry, holds_from, held_as_run}
-use Rattle.sct_delta.proofs.TestLemmas.{all_kept, filter_comm, filter_none, none_also, none_kept}
+use Rattle.sct_message.proofs.Tests.{none_kept as filter_none}
+use Rattle.sct_delta.proofs.TestLemmas.{all_kept, filter_comm, none_also, none_kept}
 
 -- ---- a delta is refused for nothing
 

@@ -11,28 +11,30 @@ use Rattle.sct_delta.specs.Entries.{Placed, entries_from, log_of, numbered, hold
 use Rattle.sct_delta.specs.Refusals.{message_at, is_same_as, is_other_than, is_held, is_ahead, is_past, is_fork, firsts_after, vector_of, fresh_in, joined}
 use Rattle.sct_delta.specs.Laws.{IsThere, AreEntrySet, CutsWhatIsAbove, CutsNothingForItself, JoinsBothSides, KeepsWhatWasHeld, JoinsOnce, CatchesUp, NameAlike, JoinsInAnyOrder, Held}
 use Rattle.sct_delta.proofs.EntryLemmas.{same_number, not_zero}
-use Rattle.sct_delta.proofs.HeldLemmas.{none_passes, passes_none, same_draft, draft_itself, cut_holds, some_there}
+use Rattle.sct_delta.proofs.HeldLemmas.{none_passes, passes_none, cut_holds, some_there}
+use Rattle.sct_message.proofs.SameValues.{message_is, message_itself}
+use Rattle.sct_message.proofs.Tests.{or_swap}
 use Rattle.sct_delta.proofs.JoinLemmas.{IsPassed, passed, unrefused, joins}
 
 -- ---- one message at a place
 
 agree : (x : Option Draft) (a b : Draft) → is_same_as a x ≡ true → is_same_as b x ≡ true → a ≡ b
 agree None a b e f = absurd (false≢true e)
-agree (Some d) a b e f = sym (same_draft d a e) ∙ same_draft d b f
+agree (Some d) a b e f = sym (message_is d a e) ∙ message_is d b f
 
 agree_unless : (x : Option Draft) (a b : Draft) → is_same_as a x ≡ true → is_other_than b x ≡ false → a ≡ b
 agree_unless None a b e f = absurd (false≢true e)
-agree_unless (Some d) a b e f = sym (same_draft d a e) ∙ same_draft d b (not-false (same_message d b) f)
+agree_unless (Some d) a b e f = sym (message_is d a e) ∙ message_is d b (not-false (same_message d b) f)
 
 no_other : (x : Option Draft) (b : Draft) → ((a : Draft) → is_same_as a x ≡ true → a ≡ b) → is_other_than b x ≡ false
 no_other None b same = refl
-no_other (Some d) b same = (λ i. not (same_message (same d (draft_itself d) i) b)) ∙ ap not (draft_itself b)
+no_other (Some d) b same = (λ i. not (same_message (same d (message_itself d) i) b)) ∙ ap not (message_itself b)
 
 same_option : (x y : Option Draft) → ((a : Draft) → is_same_as a x ≡ is_same_as a y) → x ≡ y
 same_option None None same = refl
-same_option None (Some d) same = absurd (false≢true (same d ∙ draft_itself d))
-same_option (Some d) None same = absurd (false≢true (sym (same d) ∙ draft_itself d))
-same_option (Some d) (Some e) same = ap (λ (m : Draft). Some m) (sym (same_draft e d (sym (same d) ∙ draft_itself d)))
+same_option None (Some d) same = absurd (false≢true (same d ∙ message_itself d))
+same_option (Some d) None same = absurd (false≢true (sym (same d) ∙ message_itself d))
+same_option (Some d) (Some e) same = ap (λ (m : Draft). Some m) (sym (message_is e d (sym (same d) ∙ message_itself d)))
 
 same_list : (xs ys : List Draft) → ((i : ℕ) → slice_get xs i ≡ slice_get ys i) → xs ≡ ys
 same_list [] [] same = refl
@@ -81,7 +83,7 @@ stands_at log o n above inside =
     let s = standing (log o) (n - 1) (omega (arith, above, inside)) in
     record {
       message = s.message;
-      is_held = (λ i. is_same_as s.message (cond (not_zero n above i) None (slice_get (log o) (n - 1)))) ∙ ap (is_same_as s.message) s.stands ∙ draft_itself s.message;
+      is_held = (λ i. is_same_as s.message (cond (not_zero n above i) None (slice_get (log o) (n - 1)))) ∙ ap (is_same_as s.message) s.stands ∙ message_itself s.message;
     }
 
 pub entry_set : AreEntrySet
@@ -122,7 +124,7 @@ stays_at : (a b : List Draft) (n : ℕ) (m : Draft) → is_same_as m (message_at
 stays_at a b n m e =
     elim (nat_eq n 0) as (λ z. is_same_as m (cond z None (slice_get a (n - 1))) ≡ true → is_same_as m (cond z None (slice_get (a ++ b) (n - 1))) ≡ true) [
       | true ↦ λ f. f
-      | false ↦ λ f. ap (is_same_as m) (longer a b (n - 1) m (some_there m (slice_get a (n - 1)) f)) ∙ draft_itself m
+      | false ↦ λ f. ap (is_same_as m) (longer a b (n - 1) m (some_there m (slice_get a (n - 1)) f)) ∙ message_itself m
     ] e
 
 pub keeps : KeepsWhatWasHeld
@@ -187,13 +189,6 @@ or_again : (a b : Bool) → ((a || b) || b) ≡ (a || b)
 or_again true b = refl
 or_again false true = refl
 or_again false false = refl
-
-or_swap : (a b c : Bool) → ((a || b) || c) ≡ ((a || c) || b)
-or_swap true b c = refl
-or_swap false true true = refl
-or_swap false true false = refl
-or_swap false false true = refl
-or_swap false false false = refl
 
 pub joins_once : JoinsOnce
 joins_once own group log delta shape none =

@@ -3,11 +3,6 @@ use Rattle.std.proofs.Common.{◌≡◌, ◌∙◌, refl, ap, sym, Bool, true, f
 use Rattle.std.specs.List.{list_all, list_any, AllByRecursion}
 use Rattle.std.proofs.lemmas.Bool.{and_parts, or_parts}
 
-pub implied : (a b : Bool) → (b ≡ true → a ≡ true) → (a && b) ≡ b
-implied true b also = refl
-implied false true also = also refl
-implied false false also = refl
-
 module _ {X : Type 0} where
   through : (p : X → Bool) (b : Bool) (x : X) (ys : List X)
       → filter p (cond b (x ∷ ys) ys) ≡ cond b (cond (p x) (x ∷ filter p ys) (filter p ys)) (filter p ys)
@@ -32,12 +27,6 @@ module _ {X : Type 0} where
   pub filter_agree : (p q : X → Bool) (xs : List X) → AllByRecursion (λ x. p x ≡ q x) xs → filter p xs ≡ filter q xs
   filter_agree p q [] agree = refl
   filter_agree p q (x ∷ xs) agree = λ i. cond (agree.0 i) (x ∷ filter_agree p q xs agree.1 i) (filter_agree p q xs agree.1 i)
-
-  pub filter_none : (p : X → Bool) (xs : List X) → list_any p xs ≡ false → filter p xs ≡ []
-  filter_none p [] none = refl
-  filter_none p (x ∷ xs) none =
-      let parts : (p x ≡ false) × (list_any p xs ≡ false) = or_parts (p x) (list_any p xs) none in
-      λ i. cond (parts.0 i) (x ∷ filter_none p xs parts.1 i) (filter_none p xs parts.1 i)
 
   pub none_kept : (p q : X → Bool) (xs : List X) → list_any p xs ≡ false → list_any p (filter q xs) ≡ false
   none_kept p q [] none = refl

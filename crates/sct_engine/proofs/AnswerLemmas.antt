@@ -43,26 +43,6 @@ answer_is size inputs (Err reason) (Err e) same stand some first settled = tt
 abbrev Is : Result RunAnswer ProgramFault → Result RunAnswer ProgramFault → Type 0
 Is some other = some ≡ other
 
-no_settling_usage : (f : ProgramFault) → IsSettlingFault f → Is (Err f) (Err fault.Usage) → ⊥
-no_settling_usage fault.Usage is usage = absurd is
-no_settling_usage fault.Held is usage = cc
-no_settling_usage fault.Memory is usage = cc
-no_settling_usage (fault.Refused number) is usage = cc
-no_settling_usage fault.NoWorker is usage = cc
-no_settling_usage (fault.BadList row) is usage = cc
-no_settling_usage fault.TooLong is usage = cc
-no_settling_usage fault.Read is usage = cc
-no_settling_usage fault.Write is usage = cc
-
-is_usage : (e : ProgramFault) → Is (Err e) (Err fault.Usage) → e ≡ fault.Usage
-is_usage e is = cc
-
-pub never_usage : (filled : Result Sites WorkFault) (result : Result RunAnswer ProgramFault) → IfErr filled (λ reason. result ≡ Err (fault_of_work reason))
-    → OnOk filled (IfErr result IsSettlingFault) → result ≢ Err fault.Usage
-never_usage (Ok sites) (Ok answer) first then usage = cc
-never_usage (Ok sites) (Err e) first then usage = no_settling_usage e then usage
-never_usage (Err reason) result first then usage = no_usage reason (is_usage (fault_of_work reason) (sym first ∙ usage))
-
 pub answer_ends : (may : Point → Type 0) (filled : Result Sites WorkFault) (result : Result RunAnswer ProgramFault) → IfErr filled (EndsWhere may)
     → IfErr filled (λ reason. result ≡ Err (fault_of_work reason)) → OnOk filled (IfErr result IsSettlingFault) → IfErr result (RunEndsWhere may)
 answer_ends may (Ok sites) (Ok answer) ends first then = tt

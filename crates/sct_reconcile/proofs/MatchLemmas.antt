@@ -86,13 +86,10 @@ not_uninstructed word.Accepted u m = refl
 not_uninstructed word.Investigated u m = refl
 not_uninstructed word.Pending u m = refl
 
-same_amounts : (cents : ℕ) → nat_eq cents cents ≡ true
-same_amounts cents = eq-eqb cents cents refl
-
 one_matched : (listed : Listed) (told : StatusWord) → is_contradicted told ≡ false → is_uninstructed told ≡ false
     → agrees listed.status told ≡ true → verdict_of (listed ∷ []) told (Some listed.amount) ≡ verdict.Matched
 unfolding verdict_of
-one_matched listed told a b e = rw (a, b, same_amounts listed.amount, e) refl
+one_matched listed told a b e = rw (a, b, eq-eqb listed.amount listed.amount refl, e) refl
 
 pub is_matched : (listed : List Listed) (told : StatusWord) (amount : Option ℕ) → IsMatch listed told amount → verdict_of listed told amount ≡ verdict.Matched
 is_matched listed told amount m =

@@ -12,18 +12,10 @@ use Rattle.sct_set.proofs.ContentsLemmas.{same_contents, same_itself, union-none
 use Rattle.sct_view.specs.Touched.{AreOnAtMost, fresh_of, touched_by}
 use Rattle.sct_view.proofs.FewLemmas.{batches_touch_few, contents_in_order, fresh_apart, held_where, in_order_apart, length_in_order}
 use Rattle.sct_view.proofs.SumLemmas.{AreApart}
-use Rattle.sct_view.proofs.TouchedLemmas.{union-fresh}
+use Rattle.std.proofs.lemmas.Bool.{or_right}
+use Rattle.sct_message.proofs.Tests.{or_later}
 
 -- ---- how many messages there are
-
-or_later : (a b c : Bool) → (a || (b || c)) ≡ (b || (a || c))
-or_later true true c = refl
-or_later true false c = refl
-or_later false b c = refl
-
-or_true : (a : Bool) → (a || true) ≡ true
-or_true true = refl
-or_true false = refl
 
 -- one message more on the one side is one more in both
 union-cons : (s : MessageSet) (m : Draft) (ms : List Draft) → set.union s (contents_of (m ∷ ms)) ≡ set.insert (set.union s (contents_of ms)) m
@@ -41,7 +33,7 @@ joined_length s [] apart absent =
     let e : set.len (set.union s (contents_of [])) ≡ set.len s = ap (λ (t : MessageSet). set.len t) (union-none s) in omega arith
 joined_length s (m ∷ ms) apart absent =
     let rest : set.len (set.union s (contents_of ms)) ≡ set.len s + length ms =
-    joined_length s ms apart.1 (λ n among. absent n (ap (λ b. same_message n m || b) among ∙ or_true (same_message n m))) in
+    joined_length s ms apart.1 (λ n among. absent n (ap (λ b. same_message n m || b) among ∙ or_right (same_message n m) true refl)) in
     let away : set.contains (set.union s (contents_of ms)) m ≡ false =
     contains-union message_total s (contents_of ms) m
     ∙ (λ i. absent m (ap (λ b. b || list_any (same_message m) ms) (same_itself m)) i || (contains-from_list message_total ms m ∙ apart.0) i) in
@@ -72,9 +64,3 @@ few_applied s f b touched fresh is counted len before later =
     let all : touched ≡ length (touched_by s (fresh_of s b)) = counted ∙ ap (λ (g : MessageSet). length (touched_by s g)) is in
     let new : fresh ≡ set.len (fresh_of s b) = len ∙ ap (λ (g : MessageSet). set.len g) is in
     omega arith
-
-pub joined : (s b : MessageSet) → set.union s (fresh_of s b) ≡ set.union s b
-joined s b = union-fresh s b
-
-pub fresh_absent : (s b : MessageSet) (m : Draft) → set.contains (fresh_of s b) m ≡ true → set.contains s m ≡ false
-fresh_absent s b m h = fresh_apart s b m h

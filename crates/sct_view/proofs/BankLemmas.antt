@@ -20,8 +20,9 @@ use Rattle.sct_view.specs.Answers.{status_of}
 use Rattle.sct_view.specs.Laws.{BanksHaveTotals}
 use Rattle.sct_view.specs.Totals.{banks_of, banks_on, beneficiary_in, is_nothing, nothing, share, share_of, totals_of}
 use Rattle.sct_view.specs.declared.totals.Totals.{Totals}
-use Rattle.sct_view.proofs.PartLemmas.{any_flat_map}
-use Rattle.sct_view.proofs.SetKeys.{text_is, texts_same}
+use Rattle.sct_message.proofs.Tests.{any_flat_map}
+use Rattle.sct_message.proofs.SameValues.{text_is}
+use Rattle.sct_message.specs.CellsBack.{texts_same}
 use Rattle.sct_view.proofs.SumLemmas.{sum_elsewhere, sum_none}
 use Rattle.sct_view.proofs.TotalsLemmas.{IsNumber, by_numbers}
 
@@ -79,12 +80,6 @@ told_where held bank =
       | true ↦ λ _. refl
       | false ↦ λ away. ap (λ (t : Totals). not (is_nothing t)) (sym (nothing_elsewhere held bank away))
     ] refl
-
--- a member of a filtered list passes the test
-pub passes_filter : {K : Type 0} (E : K → K → Bool) (same : (x y : K) → E x y ≡ true → x ≡ y) (p : K → Bool) (q : K) (ks : List K)
-    → list_any (E q) (filter p ks) ≡ true → p q ≡ true
-passes_filter E same p q [] h = absurd (false≢true h)
-passes_filter E same p q (k ∷ ks) h = grind (arith, passes_filter E same p q ks, same q k)
 
 pub banks_have_totals : BanksHaveTotals
 banks_have_totals held bank = (

@@ -21,6 +21,7 @@ use Rattle.sct_view.specs.Changes.{Change, case_after, change_in, changes_of}
 use Rattle.sct_view.specs.Kept.{Kept, case_of, contradicted_on, kept_in, no_messages, same_key}
 use Rattle.sct_view.specs.Touched.{touched_by}
 use Rattle.sct_view.specs.declared.case.Planned.{Planned}
+use Rattle.sct_message.proofs.Tests.{none_kept}
 use Rattle.sct_view.proofs.EvaluationLemmas.{filter_swap}
 use Rattle.sct_view.proofs.GatheredLemmas.{case_after-alike}
 use Rattle.sct_view.proofs.KeyLemmas.{key_swap, keys_apart, same_key_is}
@@ -29,14 +30,6 @@ use Rattle.sct_view.proofs.TotalsLemmas.{Cases}
 use Rattle.sct_view.proofs.TouchedLemmas.{same_case, untouched_where}
 
 -- ---- a transfer of which the set has no message
-
-none_kept : {X : Type 0} (p : X → Bool) (xs : List X) → list_any p xs ≡ false → filter p xs ≡ []
-none_kept p [] h = refl
-none_kept p (x ∷ xs) h =
-    elim (p x) as (λ b. (b || list_any p xs) ≡ false → (if b then x ∷ filter p xs else filter p xs) ≡ []) [
-      | true ↦ λ e. absurd (false≢true (sym e))
-      | false ↦ λ later. none_kept p xs later
-    ] h
 
 no_asides : ascending identity_order [] ≡ []
 unfolding IsStrictlySortedBy

@@ -22,7 +22,8 @@ use Rattle.sct_view.specs.declared.case.Case.{Case}
 use Rattle.sct_view.specs.declared.totals.Totals.{Totals}
 use Rattle.sct_view.proofs.ChangeLemmas.{nothing_kept}
 use Rattle.sct_view.proofs.KeyLemmas.{key_itself, key_swap, keys_apart, same_key_is}
-use Rattle.sct_view.proofs.SetKeys.{apart_from_rises, same_transfer-is, shorter}
+use Rattle.sct_message.proofs.SameValues.{transfer_is}
+use Rattle.sct_view.proofs.SetKeys.{apart_from_rises, shorter}
 use Rattle.sct_view.proofs.SumLemmas.{AreApart, sum_kept, sum_none}
 use Rattle.sct_view.proofs.TableLemmas.{none_is}
 use Rattle.sct_view.proofs.TotalsLemmas.{Cases, totals_alike, totals_by, totals_same, part_of_shares, shares_alike, shares_in_range, shares_replaced}
@@ -63,7 +64,7 @@ one_more E is f t ts none =
     ∙ ap (totals_over f)
     (sym (ascending-filter transfer_total transfers_same p (t ∷ ts))
     ∙ ascending-same transfer_total transfers_same (filter p (t ∷ ts)) ts (λ q.
-    any-filter_same (same_transfer q) p (p q) (λ k e. ap p (sym (same_transfer-is q k e))) (t ∷ ts) ∙ within (p q) (same_transfer q t)))
+    any-filter_same (same_transfer q) p (p q) (λ k e. ap p (sym (transfer_is q k e))) (t ∷ ts) ∙ within (p q) (same_transfer q t)))
 
 -- ---- sums
 

@@ -30,7 +30,7 @@ use Rattle.sct_set.proofs.ContentsLemmas.{any_items, same_contents}
 use Rattle.sct_view.specs.Changes.{newly_contradicted_by, touched_by_one}
 use Rattle.sct_view.specs.Touched.{AreOnAtMost, BatchesTouchFew, fresh_of, is_newly_contradicted, keys_in, touched_by}
 use Rattle.sct_view.proofs.EvaluationLemmas.{among_picked, contradicted_in_union}
-use Rattle.sct_view.proofs.PartLemmas.{any_flat_map}
+use Rattle.sct_message.proofs.Tests.{any_flat_map}
 use Rattle.sct_view.proofs.SetKeys.{apart_from_rises, shorter}
 use Rattle.sct_view.proofs.SumLemmas.{AreApart}
 use Rattle.sct_view.proofs.TouchedLemmas.{found_held}

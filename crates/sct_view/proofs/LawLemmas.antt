@@ -24,7 +24,8 @@ use Rattle.sct_view.specs.StatusText.{status_text_of}
 use Rattle.sct_view.specs.Totals.{banks_of, banks_on, beneficiary_in, cents_in, share, share_of, share_of_originator, totals_of, totals_over}
 use Rattle.sct_view.specs.TotalsText.{totals_text_of}
 use Rattle.sct_view.specs.declared.totals.Totals.{Totals}
-use Rattle.sct_view.proofs.SetKeys.{banks_apart, key-is_on, same_transfer-is, same_transfer-itself, text_is, text_itself}
+use Rattle.sct_message.proofs.SameValues.{text_is, text_itself, transfer_is, transfer_itself}
+use Rattle.sct_view.proofs.SetKeys.{banks_apart, key-is_on}
 use Rattle.sct_view.proofs.StandingLemmas.{is_instructed, is_known, is_settled, key_known, settled_instructed}
 use Rattle.sct_view.proofs.BankLemmas.{any_candidate, candidates, has_totals_told, is_nothing-is, number_of}
 use Rattle.sct_view.proofs.SumLemmas.{AreApart, sum_alike_on, sum_at_one, sum_both, sum_exchanged, sum_kept, sum_none}
@@ -55,14 +56,14 @@ over_transfers n is held count each =
     sum_kept (λ bank. n (totals_of held bank)) (has_totals_told held) (λ bank e. ap n (is_nothing-is (totals_of held bank) (not-false _ e)) ∙ is.none) (candidates held)
     ∙ (λ i. sum_by (λ bank. number_of n is held bank i) (candidates held))
     ∙ sum_exchanged (λ bank t. n (share_of held bank t)) (candidates held) (keys_of held)
-    ∙ sum_alike_on same_transfer same_transfer-itself _ count (keys_of held) each
+    ∙ sum_alike_on same_transfer transfer_itself _ count (keys_of held) each
 
 -- each bank of a transfer of the set is a candidate
 is_candidate : (held : MessageSet) (t : TransferKey) → is_key held t ≡ true → (bank : List ℕ)
     → list_any (is_text bank) (banks_on held t) ≡ true → list_any (is_text bank) (candidates held) ≡ true
 is_candidate held t h bank among =
     any_candidate (is_text bank) held
-    ∙ list_any-found same_transfer same_transfer-is (λ k. list_any (is_text bank) (banks_on held k)) t (keys_of held) h among
+    ∙ list_any-found same_transfer transfer_is (λ k. list_any (is_text bank) (banks_on held k)) t (keys_of held) h among
 
 -- ---- what is sent is received
 
@@ -164,7 +165,7 @@ add_up : (held : MessageSet) (bank : List ℕ) → counted_in (totals_of held ba
 unfolding totals_of
 add_up held bank =
     counted_over (share_of held bank) (keys_of held)
-    ∙ sum_alike_on same_transfer same_transfer-itself _ (λ t. if is_originator bank t then 1 else 0) (keys_of held) (counted held bank)
+    ∙ sum_alike_on same_transfer transfer_itself _ (λ t. if is_originator bank t then 1 else 0) (keys_of held) (counted held bank)
     ∙ sym (length-filter (is_originator bank) (keys_of held))
 
 pub counted_once : EachTransferIsCountedOnce

@@ -12,7 +12,6 @@ pub mod KeyLemmas
 pub mod LawLemmas
 pub mod ListedLemmas
 pub mod NamedLemmas
-pub mod PartLemmas
 pub mod ReadyLemmas
 pub mod RebuildLemmas
 pub mod SetKeys

@@ -29,7 +29,8 @@ use Rattle.sct_view.specs.declared.case.Case.{Case}
 use Rattle.sct_view.specs.declared.totals.Totals.{Totals}
 use Rattle.sct_view.proofs.BankLemmas.{told_where}
 use Rattle.sct_view.proofs.KeyLemmas.{same_key_is}
-use Rattle.sct_view.proofs.SetKeys.{key-is_on, texts_same}
+use Rattle.sct_message.specs.CellsBack.{texts_same}
+use Rattle.sct_view.proofs.SetKeys.{key-is_on}
 use Rattle.sct_view.proofs.StandingLemmas.{some_left, split}
 
 -- ---- the entries of a map that pass a test

@@ -28,7 +28,7 @@ use Rattle.sct_view.specs.StatusText.{recall_line}
 use Rattle.sct_view.specs.Kept.{Kept, case_of, no_messages, same_key}
 use Rattle.sct_view.proofs.ChangeLemmas.{nothing_kept}
 use Rattle.sct_view.proofs.GatheredLemmas.{gathered_those}
-use Rattle.sct_view.proofs.PartLemmas.{any_flat_map}
+use Rattle.sct_message.proofs.Tests.{any_flat_map}
 
 -- ---- the messages of a set, filed
 

@@ -3,9 +3,8 @@ use Rattle.std.proofs.Common.{◌≡◌, ℕ, ◌≤◌, Bool, true, false, ◌|
 use Rattle.std.specs.FinMap as finite
 use Rattle.std.specs.FinMap.{len-empty, len-entries, len-insert}
 use Rattle.std.specs.FinSet as set
-use Rattle.std.specs.FinSet.{IsAntisymmetric, nat_cmp-IsAntisymmetric, slice_cmp-IsAntisymmetric}
 use Rattle.std.specs.Cmp.{IsTotalOrder, eq_by_cmp_equiv}
-use Rattle.std.specs.Cmp.Lexicographic.{nat_list_cmp_total, nat_list_eq_equiv, texts_ties}
+use Rattle.std.specs.Cmp.Lexicographic.{nat_list_cmp_total, texts_ties}
 use Rattle.std.specs.List.{flat_map, list_any, AllByRecursion, IsDistinct}
 use Rattle.std.specs.List.Sorted.{IsStrictlySortedBy}
 use Rattle.std.specs.Ordering.{eq_by_cmp}
@@ -13,6 +12,7 @@ use Rattle.std.proofs.lemmas.List.{length-map}
 use Rattle.std.proofs.lemmas.Map.Keys.{IsDistinct-from_sorted}
 use Rattle.sct_element.specs.Text.{is_text}
 use Rattle.sct_message.specs.Ascending.{ascending, alone}
+use Rattle.sct_message.specs.CellsBack.{texts_same}
 use Rattle.sct_message.specs.Keys.{transfers_of}
 use Rattle.sct_message.specs.Order.{same_transfer, text_order, transfer_order}
 use Rattle.sct_message.specs.OrderLaws.{transfer_total, transfers_same, transfer_ties}
@@ -21,9 +21,8 @@ use Rattle.sct_message.specs.Transfers.{is_on, keys_of}
 use Rattle.sct_message.specs.declared.draft.Draft.{Draft}
 use Rattle.sct_message.specs.declared.keys.TransferKey.{TransferKey}
 use Rattle.sct_message.proofs.AscendingLemmas.{any_ascending, ascending_rises}
-use Rattle.sct_message.proofs.Members.{tie_is, ties_itself}
+use Rattle.sct_message.proofs.Tests.{any_flat_map}
 use Rattle.sct_view.specs.Kept.{same_key}
-use Rattle.sct_view.proofs.PartLemmas.{any_flat_map}
 use Rattle.sct_view.proofs.SumLemmas.{AreApart}
 
 -- ---- lists of keys
@@ -55,12 +54,6 @@ shorter {R = R} o ks = omega (arith, few_entries o ks, length-map (finite.entrie
 
 -- ---- transfers
 
-pub same_transfer-is : (s t : TransferKey) → same_transfer s t ≡ true → s ≡ t
-same_transfer-is = tie_is transfer_total transfers_same
-
-pub same_transfer-itself : (t : TransferKey) → same_transfer t t ≡ true
-same_transfer-itself = ties_itself transfer_total transfers_same
-
 -- a test is passed by a key exactly where it is passed by a transfer of a message
 pub any_key : (p : TransferKey → Bool) (held : MessageSet)
     → list_any p (keys_of held) ≡ list_any (λ m. list_any p (transfers_of m)) (set.items held)
@@ -77,15 +70,6 @@ key-is_on held t = any_key (same_transfer t) held ∙ (λ i. list_any (λ m. sym
 
 -- ---- banks
 
-pub texts_same : IsAntisymmetric text_order
-texts_same = slice_cmp-IsAntisymmetric nat_cmp-IsAntisymmetric
-
-pub text_is : (s t : List ℕ) → is_text s t ≡ true → s ≡ t
-text_is s t h = tie_is nat_list_cmp_total texts_same s t (sym (texts_ties s t) ∙ h)
-
-pub text_itself : (s : List ℕ) → is_text s s ≡ true
-text_itself = nat_list_eq_equiv.refl
-
 -- an ascending list of banks names none twice
 pub banks_apart : (banks : List (List ℕ)) → AreApart is_text (ascending text_order banks)
 banks_apart banks =
@@ -96,11 +80,3 @@ banks_apart banks =
 
 pub same_key-same : (s t : TransferKey) → same_key s t ≡ same_transfer s t
 same_key-same s t = transfer_ties s t
-
-pub same_key-is : (s t : TransferKey) → same_key s t ≡ true → s ≡ t
-same_key-is s t h = same_transfer-is s t (sym (same_key-same s t) ∙ h)
-
-pub keys_apart_in_table : (held : MessageSet) → AreApart same_key (keys_of held)
-keys_apart_in_table held =
-    subst (λ (E : TransferKey → TransferKey → Bool). AreApart E (keys_of held)) (λ i s t. sym (same_key-same s t) i)
-    (apart_from_rises transfer_order _ (ascending_rises transfer_total transfers_same (flat_map transfers_of (set.items held))))

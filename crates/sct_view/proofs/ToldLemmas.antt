@@ -19,8 +19,8 @@ use Rattle.sct_view.specs.Kept.{Kept, no_messages, case_of, contradicted_on, ins
 use Rattle.sct_view.specs.Listed.{found_in, recalls_in, lines_of_recalls}
 use Rattle.sct_view.specs.StatusText.{status_line, finding_line, lines_on}
 use Rattle.sct_view.proofs.NamedLemmas.{none_named}
-use Rattle.sct_view.proofs.PartLemmas.{any_flat_map}
-pub use Rattle.sct_view.proofs.SetKeys.{texts_same}
+use Rattle.sct_message.proofs.Tests.{any_flat_map}
+use Rattle.sct_message.specs.CellsBack.{texts_same}
 use Rattle.sct_view.proofs.StandingLemmas.{split}
 
 -- ---- findings stand in the status

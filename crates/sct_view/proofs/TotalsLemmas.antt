@@ -31,10 +31,6 @@ by_numbers a b each =
     (each (λ t. t.contradicted) (search rules)) (each (λ t. t.received) (search rules)) (each (λ t. t.received_cents) (search rules))
     (each (λ t. t.returned_out) (search rules))
 
--- nothing changes no totals
-pub plus_nothing : (t : Totals) → plus t nothing ≡ t
-plus_nothing t = grind arith
-
 -- shares that are the same for every transfer give the same totals
 pub totals_alike : (f g : TransferKey → Totals) → ((t : TransferKey) → f t ≡ g t) → (ts : List TransferKey)
     → totals_over f ts ≡ totals_over g ts

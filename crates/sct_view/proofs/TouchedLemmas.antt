@@ -25,8 +25,9 @@ use Rattle.sct_view.specs.Listed.{recalls_in}
 use Rattle.sct_view.specs.Totals.{share}
 use Rattle.sct_view.specs.Touched.{IsToldAlike, UntouchedTransfersStay, fresh_of, is_newly_contradicted, touched_by}
 use Rattle.sct_view.proofs.EvaluationLemmas.{among_picked, contradicted_in_union}
-use Rattle.sct_view.proofs.PartLemmas.{any_flat_map}
-use Rattle.sct_view.proofs.SetKeys.{on_is, same_transfer-is}
+use Rattle.sct_message.proofs.Tests.{any_flat_map}
+use Rattle.sct_message.proofs.SameValues.{transfer_is}
+use Rattle.sct_view.proofs.SetKeys.{on_is}
 use Rattle.sct_view.proofs.ToldLemmas.{recalls_kept}
 
 -- ---- messages that pass a test, in order
@@ -34,10 +35,6 @@ use Rattle.sct_view.proofs.ToldLemmas.{recalls_kept}
 filter_filter : {X : Type 0} (p q : X → Bool) (xs : List X) → filter p (filter q xs) ≡ filter (λ x. q x && p x) xs
 filter_filter p q [] = refl
 filter_filter p q (x ∷ xs) = grind (arith, filter_filter p q xs)
-
-pub and_any : {X : Type 0} (b : Bool) (p : X → Bool) (xs : List X) → list_any (λ x. b && p x) xs ≡ (b && list_any p xs)
-and_any b p [] = grind arith
-and_any b p (x ∷ xs) = grind (arith, and_any b p xs)
 
 -- the messages of two sets that pass a test each, where the same messages do
 picked_alike : (s t : MessageSet) (p r : Draft → Bool)
@@ -129,5 +126,5 @@ union-fresh held batch = same_contents _ _ (λ d. grind (arith, members, message
 pub untouched_stay : UntouchedTransfersStay
 untouched_stay held batch t away =
     let fresh = fresh_of held batch in
-    let not_among = false_from_ne_true _ (λ among. away (Contains-from_any same_transfer-is t (touched_by held fresh) among)) in
+    let not_among = false_from_ne_true _ (λ among. away (Contains-from_any transfer_is t (touched_by held fresh) among)) in
     subst (λ (later : MessageSet). IsToldAlike held later t) (union-fresh held batch) (told_alike held fresh t (untouched_where held fresh t not_among))

@@ -38,10 +38,6 @@ none_held held m there = absurd (false≢true (sym (contains-empty message_order
 pub keeps_any : (book : Book) (own size : ℕ) (held : MessageSet) (r : Told) → Keeps book own size (contents_of []) r → Keeps book own size held r
 keeps_any book own size held r kept = keeps_more book own size (contents_of []) held r (none_held held) kept
 
-all_keep_any : (book : Book) (own size : ℕ) (held : MessageSet) (rs : List Told) → AllKeep book own size (contents_of []) rs
-    → AllKeep book own size held rs
-all_keep_any book own size held rs all = λ k d low. keeps_any book own size held _ (all k d low)
-
 one_held : (held : MessageSet) (m q : Draft) → set.contains held m ≡ true → set.contains (contents_of (m ∷ [])) q ≡ true → set.contains held q ≡ true
 one_held held m q there one =
     let same : (same_message m q || false) ≡ true = sym (contains-contents_of (m ∷ []) q) ∙ one in

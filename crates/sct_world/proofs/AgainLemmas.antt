@@ -11,7 +11,7 @@ use Rattle.sct_delta.specs.Entries.{Placed, log_of, same_entry, holds, IsArrival
 use Rattle.sct_delta.specs.Refusals.{message_at, is_held, is_outside, is_ahead, is_past, is_fork, firsts_after}
 use Rattle.sct_delta.specs.declared.fault.DeltaFault.{DeltaFault}
 use Rattle.sct_delta.proofs.JoinLemmas.{IsPassed, passed, unrefused, kept_is}
-use Rattle.sct_delta.proofs.TestLemmas.{filter_none}
+use Rattle.sct_message.proofs.Tests.{none_kept as filter_none}
 use Rattle.sct_site.specs.Cores.{logs_of, arrivals_joined, fresh_of, refusal_by}
 use Rattle.sct_world.specs.Closed.{IsClosed}
 use Rattle.sct_world.specs.Laws.{history, ChangesNothing, HandingAgainChangesNothing}

@@ -21,7 +21,8 @@ use Rattle.sct_delta.proofs.EntryLemmas.{from-append}
 use Rattle.sct_delta.proofs.FittingLemmas.{refused_where_it_does_not_fit}
 use Rattle.sct_delta.proofs.HeldLemmas.{passes_none, one_entry}
 use Rattle.sct_delta.proofs.JoinLemmas.{IsPassed, passed}
-use Rattle.sct_delta.proofs.TestLemmas.{filter_none, none_also, implied}
+use Rattle.sct_message.proofs.Tests.{and_implied, none_kept as filter_none}
+use Rattle.sct_delta.proofs.TestLemmas.{none_also}
 use Rattle.sct_site.specs.Cores.{Core, IsSite, logs_of, is_above, entries_above, fresh_of, arrivals_joined, refusal_by}
 use Rattle.sct_site.proofs.AboveLemmas.{entry_total, entry_same}
 use Rattle.sct_site.proofs.ArrivalLemmas.{length-log}
@@ -71,7 +72,7 @@ module _ (count : ℕ → ℕ) (empty : (o : ℕ) → count o ≡ 0) (es : List 
   all_above e above =
       any_ascending entry_total entry_same (λ x. same_entry x e) (filter (is_above count) es)
       ∙ list_any-filter (λ x. same_entry x e) (is_above count) es
-      ∙ ap (λ (p : Placed → Bool). list_any p es) (λ i x. implied (is_above count x) (same_entry x e) (λ same. ap (is_above count) (one_entry x e same) ∙ above) i)
+      ∙ ap (λ (p : Placed → Bool). list_any p es) (λ i x. and_implied (is_above count x) (same_entry x e) (λ same. ap (is_above count) (one_entry x e same) ∙ above) i)
 
   pub whole_has : (e : Placed) → holds es e ≡ true → holds d e ≡ true
   whole_has e held =

@@ -104,12 +104,6 @@ pub record AreGathered (before now : List Core) (k : ℕ) : Type 0 where
   pub kept : AreKept before now
   pub firsts : (j : ℕ) → j < k → HasAll (core_in before j) (core_in now 0)
 
-pub gathered_first : (cores : List Core) → AreGathered cores cores 1
-gathered_first cores = record {
-  kept = kept_itself cores;
-  firsts = λ j less. let is : 0 ≡ j = omega (arith, less) in subst (λ (p : ℕ). HasAll (core_in cores p) (core_in cores 0)) is (λ e held. held);
-}
-
 pub gathered_more : (before now new : List Core) (k : ℕ) → AreGathered before now k → AreKept now new → HasAll (core_in now k) (core_in new 0) → AreGathered before new (k + 1)
 gathered_more before now new k so_far kept handed = record {
   kept = kept_on before now new so_far.kept kept;
@@ -164,13 +158,6 @@ beside_group c (x ∷ others) (suc k) is there =
     let parts : ((nat_eq x.group c.group && not (nat_eq x.number c.number)) ≡ true) × (is_beside c others ≡ true)
     = and_parts (nat_eq x.group c.group && not (nat_eq x.number c.number)) (is_beside c others) is in
     beside_group c others k parts.1 (omega (arith, there))
-
-pub of_one_group : (cores : List Core) → are_one_group cores ≡ true → OfOneGroup cores
-of_one_group [] is place there = absurd (omega (arith, there))
-of_one_group (c ∷ others) is zero there = refl
-of_one_group (c ∷ others) is (suc k) there =
-    let parts : (is_beside c others ≡ true) × (are_one_group others ≡ true) = and_parts (is_beside c others) (are_one_group others) is in
-    beside_group c others k parts.0 (omega (arith, there))
 
 pub group_kept : (a b : List Core) → AreKept a b → OfOneGroup a → OfOneGroup b
 group_kept a b kept one place there =

@@ -5,7 +5,8 @@ use Rattle.sct_message.specs.Sets.{MessageSet, messages_in}
 use Rattle.sct_set.specs.Contents.{contents_of}
 use Rattle.sct_view.specs.Changes.{change_in}
 use Rattle.sct_view.specs.Kept.{case_at, case_of}
-use Rattle.sct_view.proofs.ApplyLemmas.{few_applied, joined, len_joined}
+use Rattle.sct_view.proofs.ApplyLemmas.{few_applied, len_joined}
+use Rattle.sct_view.proofs.TouchedLemmas.{union-fresh}
 use Rattle.sct_view.proofs.ChangeLemmas.{cases_after}
 use Rattle.sct_view.proofs.view.View.apply.Goals as goal
 
@@ -25,7 +26,7 @@ pub returns-clause-ok : goal.returns-clause-ok
 returns-clause-ok c =
     c.in_ok-make_room.ensures.joined
     ∙ (λ n. set.union (c.self.view_is n) (c.in_ok-plan.ensures.fresh n))
-    ∙ joined c.args.self.now (contents_of (messages_in c.args.messages.now))
+    ∙ union-fresh c.args.self.now (contents_of (messages_in c.args.messages.now))
 
 pub returns-clause-fresh : goal.returns-clause-fresh
 returns-clause-fresh c =

@@ -9,7 +9,7 @@ use Rattle.sct_view.specs.Totals.{banks_of}
 use Rattle.sct_view.specs.Kept.{case_at, totals_at}
 use Rattle.sct_view.proofs.CommitLemmas.{sums_told}
 use Rattle.sct_view.proofs.ListedLemmas.{banks_listed}
-use Rattle.sct_view.proofs.ToldLemmas.{texts_same}
+use Rattle.sct_message.specs.CellsBack.{texts_same}
 use Rattle.sct_view.proofs.view.View.banks.Goals as goal
 
 pub returns : goal.returns
