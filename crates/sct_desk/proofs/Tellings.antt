@@ -28,19 +28,6 @@ tellings_more number p rs i r inside is =
     ∙ length-counted (filter (tells number p) (take i rs)) (get_or rs i r) (tells number p (get_or rs i r))
     ∙ ap (λ (x : Told). tellings number p (take i rs) + counted (tells number p x)) (sym is)
 
--- the receipt does not tell the position
-pub same_mark : (number p : ℕ) (rs : List Told) (i : ℕ) (r : Told) (m : ℕ) → i < length rs → r ≡ get_or rs i r
-    → tells number p r ≡ false → m ≡ up_to_two (tellings number p (take i rs)) → m ≡ up_to_two (tellings number p (take (i + 1) rs))
-same_mark number p rs i r m inside is other so_far =
-    omega (arith, so_far, tellings_more number p rs i r inside is, ap counted other)
-
--- it does
-pub more_mark : (number p : ℕ) (rs : List Told) (i : ℕ) (r : Told) (m n : ℕ) → i < length rs → r ≡ get_or rs i r
-    → tells number p r ≡ true → m ≡ up_to_two (tellings number p (take i rs)) → n ≡ up_to_two (m + 1)
-    → n ≡ up_to_two (tellings number p (take (i + 1) rs))
-more_mark number p rs i r m n inside is does so_far marked =
-    omega (arith, so_far, marked, tellings_more number p rs i r inside is, ap counted does)
-
 -- ---- the marks after one receipt more
 
 abbrev pub AreMarks : ℕ → List Told → ℕ → List ℕ → Type 0
