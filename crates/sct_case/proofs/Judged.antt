@@ -1,5 +1,5 @@
--- What the words on a transfer come to where there is no message, and by whether something was found.
-use Rattle.std.proofs.Common.{◌≡◌, ◌∙◌, refl, sym, ap, arith, Bool, true, false, not, List, [], ◌∷◌, ◌++◌, length, map, filter}
+-- The status of a transfer without messages, and by whether something is found.
+use Rattle.std.proofs.Common.{◌≡◌, ◌∙◌, refl, sym, ap, arith, true, false, not, List, [], ◌∷◌, ◌++◌, length, map, filter}
 use Rattle.std.specs.Prelude.{◌==◌, ◌&&◌}
 use Rattle.std.specs.List.{list_any}
 use Rattle.std.specs.List.Sorted.{IsStrictlySortedBy}
@@ -13,14 +13,14 @@ use Rattle.sct_message.proofs.AscendingLemmas.{ascending-sorted}
 use Rattle.sct_case.specs.declared.finding.Finding.{Finding}
 use Rattle.sct_case.specs.declared.finding.Finding.TheVariants as finding
 use Rattle.sct_case.specs.Told.{has_some, cxls, differ_among, recall_of_it, return_of_it, refusal_of_it, same_recall, same_refusal, findings_of_instruction, findings_of_recalls, findings_of}
-use Rattle.sct_case.proofs.Same.{texts_same}
-use Rattle.sct_case.specs.Statuses.{Standing, Contradicted, Unknown, first_standing, is_unknown, standing_of, transfer_status_of}
+use Rattle.std.specs.FinSet.{nat_cmp-IsAntisymmetric, slice_cmp-IsAntisymmetric}
+use Rattle.sct_case.specs.Statuses.{Contradicted, Unknown, first_standing, is_unknown, standing_of, transfer_status_of}
 
--- ---- where there is no message
+-- ---- without messages
 
 no_cxls : cxls [] ≡ []
 unfolding IsStrictlySortedBy
-no_cxls = ascending-sorted nat_list_cmp_total texts_same [] tt
+no_cxls = ascending-sorted nat_list_cmp_total (slice_cmp-IsAntisymmetric nat_cmp-IsAntisymmetric) [] tt
 
 no_recalls : (t : TransferKey) → findings_of_recalls t [] ≡ []
 unfolding findings_of_recalls
@@ -43,7 +43,7 @@ found_of_asides t clean asides none =
     ∙ (λ i. only_identities t asides i ++ no_recalls t i)
     ∙ append-nil (map (λ i. finding.Identity i) asides))
 
--- ---- by whether something was found
+-- ---- by whether something is found
 
 pub some : {X : Type 0} (x : X) (xs : List X) → (length (x ∷ xs) == 0) ≡ false
 some x xs = ne_eqb _ _ (λ e. omega arith)
@@ -52,10 +52,10 @@ pub empty_of : {X : Type 0} (xs : List X) → (length xs == 0) ≡ true → xs �
 empty_of [] e = refl
 empty_of (x ∷ xs) e = absurd (false≢true (sym (some x xs) ∙ e))
 
-none_in : {X : Type 0} (xs : List X) → has_some xs ≡ false → xs ≡ []
+pub none_in : {X : Type 0} (xs : List X) → has_some xs ≡ false → xs ≡ []
 none_in xs e = empty_of xs (not-false _ e)
 
--- whether there is anything, of a list and of what it is mapped to
+-- whether a list has items, and what it is mapped to
 pub none_held : {X Y : Type 0} (g : X → Y) (xs : List X) → (length xs == 0) ≡ true → map g xs ≡ []
 none_held g xs e = ap (map g) (empty_of xs e)
 
@@ -63,27 +63,21 @@ pub some_held : {X Y : Type 0} (g : X → Y) (xs : List X) → (length xs == 0) 
 some_held g [] e = cc
 some_held g (x ∷ xs) e = ap not (some (g x) (map g xs))
 
-found_stands : (found : List Finding) (unknown : Bool) (stands : Standing) → has_some found ≡ true → Contradicted found ≡ first_standing found unknown stands
-found_stands [] unknown stands e = cc
-found_stands (f ∷ found) unknown stands e = refl
-
 pub contradicted : (t : TransferKey) (clean : List Draft) (asides : List Identity) (found : List Finding)
     → found ≡ findings_of t clean asides → has_some found ≡ true → Contradicted found ≡ transfer_status_of t clean asides
 unfolding transfer_status_of
-contradicted t clean asides found f e =
-    found_stands found (is_unknown clean asides) (standing_of t clean) e ∙ ap (λ (fs : List Finding). first_standing fs (is_unknown clean asides) (standing_of t clean)) f
+contradicted t clean asides [] f e = cc
+contradicted t clean asides (g ∷ found) f e = ap (λ (fs : List Finding). first_standing fs (is_unknown clean asides) (standing_of t clean)) f
 
--- where nothing was found, and there is a message
+-- if nothing is found, and there is a message
 pub not_contradicted : (t : TransferKey) (clean : List Draft) (asides : List Identity) (found : List Finding)
     → found ≡ findings_of t clean asides → has_some found ≡ false → has_some clean ≡ true → standing_of t clean ≡ transfer_status_of t clean asides
 unfolding transfer_status_of
 not_contradicted t [] asides found f e known = cc
 not_contradicted t (m ∷ clean) asides found f e known =
-    let s = some m clean in
-    sym ((λ i. first_standing (sym f i) (is_unknown (m ∷ clean) asides) (standing_of t (m ∷ clean)))
-    ∙ (λ i. first_standing (none_in found e i) ((s i) && (length asides == 0)) (standing_of t (m ∷ clean))))
+    λ i. first_standing ((sym (none_in found e) ∙ f) i) (sym (some m clean) i && (length asides == 0)) (standing_of t (m ∷ clean))
 
--- where nothing was found, and there is no message
+-- if nothing is found, and there is no message
 pub mapped_none : {X Y : Type 0} (g : X → Y) (xs : List X) → map g xs ≡ [] → xs ≡ []
 mapped_none g [] e = refl
 mapped_none g (x ∷ xs) e = cc
@@ -93,4 +87,4 @@ pub unknown : (t : TransferKey) (clean : List Draft) (asides : List Identity) (f
 unfolding transfer_status_of
 unknown t clean asides found f e none =
     let empty : asides ≡ [] = mapped_none (λ i. finding.Identity i) asides (found_of_asides t clean asides none ∙ sym f ∙ none_in found e) in
-    sym ((λ i. first_standing ((sym f ∙ none_in found e) i) (is_unknown (none i) (empty i)) (standing_of t clean)))
+    λ i. first_standing ((sym (none_in found e) ∙ f) i) (is_unknown (sym none i) (sym empty i)) (standing_of t clean)

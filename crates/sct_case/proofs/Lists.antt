@@ -7,7 +7,7 @@ map-one : {X Y : Type 0} (f : X → Y) (b : Bool) (x : X) → map f (cond b (x �
 map-one f true x = refl
 map-one f false x = refl
 
--- one more item of a list, told where it passes a test
+-- one more item of a list, appended if it passes a test
 pub told_more : {X Y : Type 0} (f : X → Y) (p : X → Bool) (old : List Y) (xs : List X) (i : ℕ) (x : X) → i < length xs → x ≡ get_or xs i x
     → (old ++ map f (filter p (take i xs))) ++ cond (p x) (f x ∷ []) [] ≡ old ++ map f (filter p (take (i + 1) xs))
 told_more f p old xs i x in' is =

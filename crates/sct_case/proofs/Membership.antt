@@ -1,196 +1,202 @@
--- What stands in a list that is made of others.
-use Rattle.std.proofs.Common.{◌≡◌, ◌∙◌, refl, sym, ap, subst, arith, inl, inr, Bool, true, false, cond, not, List, [], ◌∷◌, ◌++◌, map, filter, Option, Some, None, Ordering}
-use Rattle.std.specs.Prelude.{◌⊎◌, ◌≢◌, ◌&&◌, ◌||◌, find, Contains}
+-- What lists made of others contain, and what tests of lists decide.
+use Rattle.std.proofs.Common.{◌≡◌, ◌∙◌, refl, sym, ap, subst, arith, inl, inr, zero, suc, Bool, true, false, cond, not, List, [], ◌∷◌, map, filter, find, Option, Some, None, option_map, Ordering}
+use Rattle.std.specs.Prelude.{◌⊎◌, ◌≢◌, Contains}
+use Rattle.std.specs.Bool.{Decides}
 use Rattle.std.specs.List.{list_any, flat_map}
 use Rattle.std.specs.Ordering.{eq_by_cmp}
 use Rattle.std.specs.Cmp.{IsTotalOrder}
 use Rattle.std.specs.FinSet.{IsAntisymmetric}
-use Rattle.std.proofs.lemmas.Bool.{and_parts, false≢true, not-true, true_from_ne_false}
-use Rattle.std.proofs.lemmas.List.Elements.{Contains-append_left, Contains-append_right, Contains-append_cases, Contains-push, Contains-push_cases}
+use Rattle.std.proofs.lemmas.Bool.{false≢true, true_from_ne_false}
+use Rattle.std.proofs.lemmas.Bool.Decides.{Decides-and, Decides-like, Decides-not, not_from_Decides}
+use Rattle.std.proofs.lemmas.List.{get_or-map, length-map}
+use Rattle.std.proofs.lemmas.List.Elements.{All-contains, All-contains_itself, All-filter, All-map, Contains-append_cases, Contains-append_left, Contains-append_right, Contains-get_or, filter_passes}
+use Rattle.std.proofs.lemmas.List.Folds.{Any-from_list_any, list_any-from_Any}
+use Rattle.std.proofs.lemmas.Map.Views.{Contains-from_any}
 use Rattle.sct_message.specs.Ascending.{ascending}
 use Rattle.sct_message.proofs.AscendingLemmas.{members_ascending}
 use Rattle.sct_message.proofs.Members.{tie_is, ties_itself}
 use Rattle.sct_message.specs.declared.draft.Draft.{Draft}
 use Rattle.sct_case.specs.Said.{IsSaid}
 use Rattle.sct_case.specs.Told.{differ_from, differ_among, has_some}
+use Rattle.sct_case.proofs.Judged.{some}
 
--- one of the items, from the front
-abbrev pub In : {X : Type 0} → X → List X → Type 0
-In x [] = ⊥
-In x (y ∷ ys) = (y ≡ x) ⊎ In x ys
+-- a proof of a fact, and one of the facts after it
+pub both : {A B : Type 0} → A → B → A × B
+both a b = (a, b)
 
-nothing_in : {X : Type 0} (x : X) → Contains [] x → ⊥
-nothing_in x h = omega arith
+-- ---- one of the items
 
-pub in_contains : {X : Type 0} (xs : List X) (x : X) → Contains xs x → In x xs
-in_contains [] x h = nothing_in x h
-in_contains (y ∷ ys) x h = elim (Contains-append_cases (y ∷ []) ys x h) as (λ _. (y ≡ x) ⊎ In x ys) [
-  | inl a ↦ elim (Contains-push_cases [] y x a) as (λ _. (y ≡ x) ⊎ In x ys) [ inl b ↦ absurd (nothing_in x b) | inr e ↦ inl e ]
-  | inr b ↦ inr (in_contains ys x b)
-]
+module _ {X : Type 0} where
+  pub nothing : (x : X) → Contains [] x → ⊥
+  nothing x h = omega arith
 
-pub contains_in : {X : Type 0} (xs : List X) (x : X) → In x xs → Contains xs x
-contains_in [] x h = absurd h
-contains_in (y ∷ ys) x (inl e) = subst (λ z. Contains (y ∷ ys) z) e (Contains-append_left (y ∷ []) ys y (Contains-push [] y))
-contains_in (y ∷ ys) x (inr h) = Contains-append_right (y ∷ []) ys x (contains_in ys x h)
+  pub here : (x : X) (xs : List X) → Contains (x ∷ xs) x
+  here x xs = (0, omega arith, refl)
 
--- ---- lists put together
+  pub later : (y : X) (xs : List X) (x : X) → Contains xs x → Contains (y ∷ xs) x
+  later y xs x (k, within, is) = (suc k, omega arith, is)
 
-pub in_left : {X : Type 0} (xs ys : List X) (x : X) → In x xs → In x (xs ++ ys)
-in_left [] ys x h = absurd h
-in_left (z ∷ xs) ys x (inl e) = inl e
-in_left (z ∷ xs) ys x (inr h) = inr (in_left xs ys x h)
+  pub first_or_later : (y : X) (xs : List X) (x : X) → Contains (y ∷ xs) x → (y ≡ x) ⊎ Contains xs x
+  first_or_later y xs x (zero, within, is) = inl is
+  first_or_later y xs x (suc k, within, is) = inr (k, omega arith, is)
 
-pub in_right : {X : Type 0} (xs ys : List X) (x : X) → In x ys → In x (xs ++ ys)
-in_right [] ys x h = h
-in_right (z ∷ xs) ys x h = inr (in_right xs ys x h)
+  pub only : (y x : X) → Contains (y ∷ []) x → y ≡ x
+  only y x h = elim (first_or_later y [] x h) as (λ _. y ≡ x) [ inl e ↦ e | inr k ↦ absurd (nothing x k) ]
 
-pub in_either : {X : Type 0} (xs ys : List X) (x : X) → In x (xs ++ ys) → In x xs ⊎ In x ys
-in_either [] ys x h = inr h
-in_either (z ∷ xs) ys x (inl e) = inl (inl e)
-in_either (z ∷ xs) ys x (inr h) = elim (in_either xs ys x h) as (λ _. ((z ≡ x) ⊎ In x xs) ⊎ In x ys) [ inl a ↦ inl (inr a) | inr b ↦ inr b ]
+  pub empty : (xs : List X) → ((x : X) → Contains xs x → ⊥) → xs ≡ []
+  empty [] none = refl
+  empty (x ∷ xs) none = absurd (none x (here x xs))
 
-pub in_map : {X Y : Type 0} (f : X → Y) (xs : List X) (y : Y) → In y (map f xs) → (x : X) × In x xs × (f x ≡ y)
-in_map f [] y h = absurd h
-in_map f (x ∷ xs) y (inl e) = (x, inl refl, e)
-in_map f (x ∷ xs) y (inr h) = let r = in_map f xs y h in (r.0, inr r.1, r.2)
+module _ {X Y : Type 0} (f : X → Y) where
+  pub in_map : (xs : List X) (y : Y) → Contains (map f xs) y → (x : X) × Contains xs x × (f x ≡ y)
+  in_map xs y h =
+      All-contains (λ z. (x : X) × Contains xs x × (f x ≡ z)) (map f xs) y
+      (All-map (λ z. (x : X) × Contains xs x × (f x ≡ z)) f xs (λ k d within. (_, Contains-get_or xs k d within, refl))) h
 
-pub mapped_in : {X Y : Type 0} (f : X → Y) (xs : List X) (x : X) → In x xs → In (f x) (map f xs)
-mapped_in f [] x h = absurd h
-mapped_in f (z ∷ xs) x (inl e) = inl (ap f e)
-mapped_in f (z ∷ xs) x (inr h) = inr (mapped_in f xs x h)
+  pub mapped_in : (xs : List X) (x : X) → Contains xs x → Contains (map f xs) (f x)
+  mapped_in xs x (k, within, is) = (k, rw length-map within, get_or-map f xs k x (f x) within ∙ ap f is)
 
-pub in_filter : {X : Type 0} (p : X → Bool) (xs : List X) (x : X) → In x (filter p xs) → In x xs × (p x ≡ true)
-in_filter p [] x h = absurd h
-in_filter p (z ∷ xs) x h =
-    elim (p z) as (λ b. p z ≡ b → In x (cond b (z ∷ filter p xs) (filter p xs)) → ((z ≡ x) ⊎ In x xs) × (p x ≡ true)) [
-      | true ↦ λ e. elim [ inl k ↦ (inl k, sym (ap p k) ∙ e) | inr k ↦ let r = in_filter p xs x k in (inr r.0, r.1) ]
-      | false ↦ λ e k. let r = in_filter p xs x k in (inr r.0, r.1)
-    ] refl h
+module _ {X : Type 0} (p : X → Bool) where
+  pub in_filter : (xs : List X) (x : X) → Contains (filter p xs) x → Contains xs x × (p x ≡ true)
+  in_filter xs x h = (
+    All-contains (Contains xs) (filter p xs) x (All-filter p (Contains xs) xs (All-contains_itself xs)) h,
+    All-contains (λ y. p y ≡ true) (filter p xs) x (filter_passes p xs) h,
+  )
 
-pub filtered_in : {X : Type 0} (p : X → Bool) (xs : List X) (x : X) → In x xs → p x ≡ true → In x (filter p xs)
-filtered_in p [] x h passes = absurd h
-filtered_in p (z ∷ xs) x (inl e) passes = let k : p z ≡ true = ap p e ∙ passes in subst (λ b. In x (cond b (z ∷ filter p xs) (filter p xs))) (sym k) (inl e)
-filtered_in p (z ∷ xs) x (inr h) passes =
-    let rest = filtered_in p xs x h passes in
-    elim (p z) as (λ b. In x (cond b (z ∷ filter p xs) (filter p xs))) [ true ↦ inr rest | false ↦ rest ]
+  pub filtered_in : (xs : List X) (x : X) → Contains xs x → p x ≡ true → Contains (filter p xs) x
+  filtered_in [] x h passes = absurd (nothing x h)
+  filtered_in (y ∷ ys) x h passes = elim (first_or_later y ys x h) as (λ _. Contains (cond (p y) (y ∷ filter p ys) (filter p ys)) x) [
+    | inl e ↦ subst (λ b. Contains (cond b (y ∷ filter p ys) (filter p ys)) x) (sym (ap p e ∙ passes)) (subst (Contains (y ∷ filter p ys)) e (here y (filter p ys)))
+    | inr k ↦
+        let rest = filtered_in ys x k passes in
+        elim (p y) as (λ b. Contains (cond b (y ∷ filter p ys) (filter p ys)) x) [ true ↦ later y (filter p ys) x rest | false ↦ rest ]
+  ]
 
--- ---- tests
+module _ {X Y : Type 0} (f : X → List Y) where
+  pub in_flat_map : (xs : List X) (y : Y) → Contains (flat_map f xs) y → (x : X) × Contains xs x × Contains (f x) y
+  in_flat_map [] y h = absurd (nothing y h)
+  in_flat_map (x ∷ xs) y h = elim (Contains-append_cases (f x) (flat_map f xs) y h) as (λ _. (z : X) × Contains (x ∷ xs) z × Contains (f z) y) [
+    | inl a ↦ (x, here x xs, a)
+    | inr b ↦ let r = in_flat_map xs y b in (r.0, later x xs r.0 r.1, r.2)
+  ]
 
-pub any_has : {X : Type 0} (p : X → Bool) (xs : List X) → list_any p xs ≡ true → (x : X) × In x xs × (p x ≡ true)
-any_has p [] h = absurd (false≢true h)
-any_has p (z ∷ xs) h =
-    elim (p z) as (λ b. p z ≡ b → (b || list_any p xs) ≡ true → (x : _) × ((z ≡ x) ⊎ In x xs) × (p x ≡ true)) [
-      | true ↦ λ e _. (z, inl refl, e)
-      | false ↦ λ e k. let r = any_has p xs k in (r.0, inr r.1, r.2)
-    ] refl h
+  pub flat_mapped_in : (xs : List X) (x : X) (y : Y) → Contains xs x → Contains (f x) y → Contains (flat_map f xs) y
+  flat_mapped_in [] x y h says = absurd (nothing x h)
+  flat_mapped_in (z ∷ zs) x y h says = elim (first_or_later z zs x h) as (λ _. Contains (flat_map f (z ∷ zs)) y) [
+    | inl e ↦ Contains-append_left (f z) (flat_map f zs) y (subst (λ w. Contains (f w) y) (sym e) says)
+    | inr k ↦ Contains-append_right (f z) (flat_map f zs) y (flat_mapped_in zs x y k says)
+  ]
 
-pub has_any : {X : Type 0} (p : X → Bool) (xs : List X) (x : X) → In x xs → p x ≡ true → list_any p xs ≡ true
-has_any p [] x h passes = absurd h
-has_any p (z ∷ xs) x (inl e) passes = let k : p z ≡ true = ap p e ∙ passes in ap (λ b. b || list_any p xs) k
-has_any p (z ∷ xs) x (inr h) passes =
-    let rest : list_any p xs ≡ true = has_any p xs x h passes in
-    elim (p z) as (λ b. (b || list_any p xs) ≡ true) [ true ↦ refl | false ↦ rest ]
+-- ---- equality under an order
 
-pub some_has : {X : Type 0} (xs : List X) → has_some xs ≡ true → (x : X) × In x xs
-some_has [] h = absurd (false≢true h)
-some_has (x ∷ xs) h = (x, inl refl)
+module _ {K : Type 0} {R : K → K → Ordering} (o : IsTotalOrder R) (apart : IsAntisymmetric R) where
+  pub ties-Decides : (x y : K) → Decides (eq_by_cmp R x y) (x ≡ y)
+  ties-Decides x y = (tie_is o apart x y, λ e. subst (λ z. eq_by_cmp R x z ≡ true) e (ties_itself o apart x))
+
+  pub any_tie : (ks : List K) (q : K) → Contains ks q → list_any (eq_by_cmp R q) ks ≡ true
+  any_tie ks q (k, within, is) = list_any-from_Any (eq_by_cmp R q) ks (k, q, within, is, ties_itself o apart q)
+
+  pub in_ascending : (ks : List K) (q : K) → Contains (ascending R ks) q → Contains ks q
+  in_ascending ks q h = Contains-from_any (tie_is o apart) q ks (sym (members_ascending o apart ks q) ∙ any_tie (ascending R ks) q h)
+
+  pub ascending_in : (ks : List K) (q : K) → Contains ks q → Contains (ascending R ks) q
+  ascending_in ks q h = Contains-from_any (tie_is o apart) q (ascending R ks) (members_ascending o apart ks q ∙ any_tie ks q h)
+
+-- values that cannot differ are equal
+pub equal_unless : {X : Type 0} {x y : X} (b : Bool) → Decides b (x ≡ y) → (x ≢ y → ⊥) → x ≡ y
+equal_unless b d none = d.0 (true_from_ne_false b (λ e. none (not_from_Decides b d e)))
+
+-- ---- tests of a list
+
+pub some-Decides : {X : Type 0} (xs : List X) → Decides (has_some xs) ((x : X) × Contains xs x)
+some-Decides [] = (λ h. absurd (false≢true h), λ s. absurd (nothing s.0 s.1))
+some-Decides (x ∷ xs) = (λ _. (x, here x xs), λ _. ap not (some x xs))
+
+-- P holds of the item that was found, or of no item if none was
+abbrev pub Finds : {X : Type 0} → (X → Type 0) → List X → Option X → Type 0
+Finds P xs None = (x : _) → Contains xs x → P x → ⊥
+Finds P xs (Some x) = Contains xs x × P x
+
+module _ {X : Type 0} (p : X → Bool) (P : X → Type 0) (each : (x : X) → Decides (p x) (P x)) where
+  pub any-Decides : (xs : List X) → Decides (list_any p xs) ((x : X) × Contains xs x × P x)
+  any-Decides xs = (
+    λ h. let a = Any-from_list_any p xs h in (a.1, (a.0, a.2, a.3), (each a.1).0 a.4),
+    λ s. list_any-from_Any p xs (s.1.0, s.0, s.1.1, s.1.2, (each s.0).1 s.2),
+  )
+
+  finds_later : (x : X) (xs : List X) → (P x → ⊥) → (found : Option X) → Finds P xs found → Finds P (x ∷ xs) found
+  finds_later x xs fails None none = λ y h is. elim (first_or_later x xs y h) as (λ _. ⊥) [ inl e ↦ fails (subst P (sym e) is) | inr k ↦ none y k is ]
+  finds_later x xs fails (Some y) f = (later x xs y f.0, f.1)
+
+  pub finds : (xs : List X) → Finds P xs (find p xs)
+  finds [] = λ x h _. nothing x h
+  finds (x ∷ xs) = elim (p x) as (λ b. p x ≡ b → Finds P (x ∷ xs) (cond b (Some x) (find p xs))) [
+    | true ↦ λ e. (here x xs, (each x).0 e)
+    | false ↦ λ e. finds_later x xs (not_from_Decides (p x) (each x) e) (find p xs) (finds xs)
+  ] refl
 
 -- ---- what messages say
 
-pub in_flat_map : {X Y : Type 0} (f : X → List Y) (xs : List X) (y : Y) → In y (flat_map f xs) → (x : X) × In x xs × In y (f x)
-in_flat_map f [] y h = absurd h
-in_flat_map f (z ∷ xs) y h = elim (in_either (f z) (flat_map f xs) y h) as (λ _. (x : _) × ((z ≡ x) ⊎ In x xs) × In y (f x)) [
-  | inl a ↦ (z, inl refl, a)
-  | inr b ↦ let r = in_flat_map f xs y b in (r.0, inr r.1, r.2)
-]
+-- P holds of the value in the option, or of no value if there is none
+abbrev pub Picks : {Y : Type 0} → Option Y → (Y → Type 0) → Type 0
+Picks None P = (y : _) × P y → ⊥
+Picks (Some y) P = P y
 
-pub flat_mapped_in : {X Y : Type 0} (f : X → List Y) (xs : List X) (x : X) (y : Y) → In x xs → In y (f x) → In y (flat_map f xs)
-flat_mapped_in f [] x y h k = absurd h
-flat_mapped_in f (z ∷ xs) x y (inl e) k = in_left (f z) (flat_map f xs) y (subst (λ w. In y (f w)) (sym e) k)
-flat_mapped_in f (z ∷ xs) x y (inr h) k = in_right (f z) (flat_map f xs) y (flat_mapped_in f xs x y h k)
+module _ {Y : Type 0} (P : Y → Type 0) where
+  pub picks_none : (o : Option Y) → Picks o P → ((y : Y) × P y → ⊥) → o ≡ None
+  picks_none None p none = refl
+  picks_none (Some y) p none = absurd (none (y, p))
 
-pub said_in : {X : Type 0} (by : Draft → List X) (clean : List Draft) (x : X) → IsSaid by clean x → In x (flat_map by clean)
-said_in by clean x s = flat_mapped_in by clean s.message x (in_contains clean s.message s.held) (in_contains (by s.message) x s.says)
+  pub picks_some : (o : Option Y) → Picks o P → (y : Y) → P y → ((z : Y) → P z → z ≡ y) → o ≡ Some y
+  picks_some None p y is one = absurd (p (y, is))
+  picks_some (Some z) p y is one = ap Some (one z p)
 
-pub in_said : {X : Type 0} (by : Draft → List X) (clean : List Draft) (x : X) → In x (flat_map by clean) → IsSaid by clean x
-in_said by clean x h =
-    let r = in_flat_map by clean x h in
-    record { message = r.0; held = contains_in clean r.0 r.1; says = contains_in (by r.0) x r.2 }
+  pub picks_like : (Q : Y → Type 0) (o : Option Y) → ((y : Y) → P y → Q y) → ((y : Y) → Q y → P y) → Picks o P → Picks o Q
+  picks_like Q None to from p = λ s. p (s.0, from s.0 s.1)
+  picks_like Q (Some y) to from p = to y p
 
--- ---- two that differ
-
--- two items that pass the test and differ
-pub record Differ {X : Type 0} (p : X → Bool) (xs : List X) : Type 0 where
+-- P holds of two statements that differ
+pub record SaidDiffer {X : Type 0} (by : Draft → List X) (clean : List Draft) (P : X → Type 0) : Type 0 where
   pub one : X
   pub other : X
-  pub one_in : In one xs
-  pub other_in : In other xs
-  pub one_passes : p one ≡ true
-  pub other_passes : p other ≡ true
+  pub one_said : IsSaid by clean one
+  pub other_said : IsSaid by clean other
+  pub one_is : P one
+  pub other_is : P other
   pub different : one ≢ other
 
-pub found_in : {X : Type 0} (p : X → Bool) (xs : List X) (x : X) → find p xs ≡ Some x → In x xs × (p x ≡ true)
-found_in p [] x h = cc
-found_in p (z ∷ xs) x h =
-    elim (p z) as (λ b. p z ≡ b → cond b (Some z) (find p xs) ≡ Some x → ((z ≡ x) ⊎ In x xs) × (p x ≡ true)) [
-      | true ↦ λ e k. let same : z ≡ x = cc in (inl same, sym (ap p same) ∙ e)
-      | false ↦ λ e k. let r = found_in p xs x k in (inr r.0, r.1)
-    ] refl h
+module _ {X : Type 0} (by : Draft → List X) (clean : List Draft) where
+  pub said_in : (x : X) → IsSaid by clean x → Contains (flat_map by clean) x
+  said_in x s = flat_mapped_in by clean s.message x s.held s.says
 
-pub find_some : {X : Type 0} (p : X → Bool) (xs : List X) (x : X) → In x xs → p x ≡ true → find p xs ≡ None → ⊥
-find_some p [] x h passes none = h
-find_some p (z ∷ xs) x (inl e) passes none = let k : p z ≡ true = ap p e ∙ passes in let s : Some z ≡ None = ap (λ b. cond b (Some z) (find p xs)) (sym k) ∙ none in cc
-find_some p (z ∷ xs) x (inr h) passes none =
-    elim (p z) as (λ b. cond b (Some z) (find p xs) ≡ None → ⊥) [
-      | true ↦ λ k. cc
-      | false ↦ λ k. find_some p xs x h passes k
-    ] none
+  pub in_said : (x : X) → Contains (flat_map by clean) x → IsSaid by clean x
+  in_said x h = let r = in_flat_map by clean x h in record { message = r.0; held = r.1; says = r.2 }
 
-module _ {X : Type 0} (same : X → X → Bool) (alike : (x y : X) → same x y ≡ true → x ≡ y) (itself : (x : X) → same x x ≡ true) where
-  differ_has : (p : X → Bool) (xs : List X) (first : Option X) → find p xs ≡ first → differ_from p same first xs ≡ true → Differ p xs
-  differ_has p xs None e h = absurd (false≢true h)
-  differ_has p xs (Some one) e h =
-      let f = found_in p xs one e in
-      let r = any_has (λ other. p other && not (same one other)) xs h in
-      let passes = and_parts (p r.0) (not (same one r.0)) r.2 in
-      record {
-        one = one;
-        other = r.0;
-        one_in = f.0;
-        other_in = r.1;
-        one_passes = f.1;
-        other_passes = passes.0;
-        different = λ e. false≢true (sym (not-true _ passes.1) ∙ ap (same one) (sym e) ∙ itself one);
-      }
+  pub some_said-Decides : Decides (has_some (flat_map by clean)) ((x : X) × IsSaid by clean x)
+  some_said-Decides = Decides-like _ (λ s. (s.0, in_said s.0 s.1)) (λ s. (s.0, said_in s.0 s.1)) (some-Decides (flat_map by clean))
 
-  -- two that differ are found
-  pub differ_among_has : (p : X → Bool) (xs : List X) → differ_among p same xs ≡ true → Differ p xs
-  differ_among_has p xs h = differ_has p xs (find p xs) refl h
+  module _ (p : X → Bool) (P : X → Type 0) (each : (x : X) → Decides (p x) (P x)) where
+    pub any_said-Decides : Decides (list_any p (flat_map by clean)) ((x : X) × IsSaid by clean x × P x)
+    any_said-Decides = Decides-like _ (λ s. (s.0, in_said s.0 s.1, s.2)) (λ s. (s.0, said_in s.0 s.1, s.2)) (any-Decides p P each (flat_map by clean))
 
-  has_differ : (p : X → Bool) (xs : List X) (first : Option X) → find p xs ≡ first → Differ p xs → differ_from p same first xs ≡ true
-  has_differ p xs None e d = absurd (find_some p xs d.one d.one_in d.one_passes e)
-  has_differ p xs (Some one) e d =
-      true_from_ne_false _ (λ none.
-      let alike_one : (x : X) → In x xs → p x ≡ true → one ≡ x =
-      λ x h passes. alike one x (true_from_ne_false _ (λ differs. false≢true (sym none ∙ has_any (λ other. p other && not (same one other)) xs x h (λ i. passes i && not (differs i))))) in
-      d.different (sym (alike_one d.one d.one_in d.one_passes) ∙ alike_one d.other d.other_in d.other_passes))
+    picks_said : {Y : Type 0} (f : X → Y) (found : Option X) → Finds P (flat_map by clean) found → Picks (option_map f found) (λ y. (x : X) × IsSaid by clean x × P x × (f x ≡ y))
+    picks_said f None none = λ s. none s.1.0 (said_in s.1.0 s.1.1) s.1.2
+    picks_said f (Some x) h = (x, in_said x h.0, h.1, refl)
 
-  -- where two differ, that is found
-  pub has_differ_among : (p : X → Bool) (xs : List X) → Differ p xs → differ_among p same xs ≡ true
-  has_differ_among p xs d = has_differ p xs (find p xs) refl d
+    pub said_picks : {Y : Type 0} (f : X → Y) → Picks (option_map f (find p (flat_map by clean))) (λ y. (x : X) × IsSaid by clean x × P x × (f x ≡ y))
+    said_picks f = picks_said f (find p (flat_map by clean)) (finds p P each (flat_map by clean))
 
--- ---- ascending lists
+    module _ (same : X → X → Bool) (equal : (x y : X) → Decides (same x y) (x ≡ y)) where
+      differ_from-Decides : (first : Option X) → Finds P (flat_map by clean) first → Decides (differ_from p same first (flat_map by clean)) (SaidDiffer by clean P)
+      differ_from-Decides None none = (λ h. absurd (false≢true h), λ d. absurd (none d.one (said_in d.one d.one_said) d.one_is))
+      differ_from-Decides (Some one) f = Decides-like _
+          (λ s. record { one = one; other = s.0; one_said = in_said one f.0; other_said = s.1; one_is = f.1; other_is = s.2.0; different = s.2.1 })
+          (λ d. elim (same one d.one) as (λ b. same one d.one ≡ b → (x : X) × IsSaid by clean x × (P x × (one ≢ x))) [
+            | true ↦ λ e. (d.other, d.other_said, (d.other_is, λ k. d.different (sym ((equal one d.one).0 e) ∙ k)))
+            | false ↦ λ e. (d.one, d.one_said, (d.one_is, not_from_Decides _ (equal one d.one) e))
+          ] refl)
+          (Decides-like _ (λ s. (s.0, in_said s.0 s.1, s.2)) (λ s. (s.0, said_in s.0 s.1, s.2))
+          (any-Decides _ (λ x. P x × (one ≢ x)) (λ x. Decides-and _ _ (each x) (Decides-not _ (equal one x))) (flat_map by clean)))
 
-module _ {K : Type 0} {R : K → K → Ordering} (o : IsTotalOrder R) (apart : IsAntisymmetric R) where
-  any_in : (ks : List K) (q : K) → list_any (eq_by_cmp R q) ks ≡ true → In q ks
-  any_in ks q h = let r = any_has (eq_by_cmp R q) ks h in subst (λ k. In k ks) (sym (tie_is o apart q r.0 r.2)) r.1
-
-  in_any : (ks : List K) (q : K) → In q ks → list_any (eq_by_cmp R q) ks ≡ true
-  in_any ks q h = has_any (eq_by_cmp R q) ks q h (ties_itself o apart q)
-
-  pub in_ascending : (ks : List K) (q : K) → In q (ascending R ks) → In q ks
-  in_ascending ks q h = any_in ks q (sym (members_ascending o apart ks q) ∙ in_any (ascending R ks) q h)
-
-  pub ascending_in : (ks : List K) (q : K) → In q ks → In q (ascending R ks)
-  ascending_in ks q h = any_in (ascending R ks) q (members_ascending o apart ks q ∙ in_any ks q h)
+      pub differ_said-Decides : Decides (differ_among p same (flat_map by clean)) (SaidDiffer by clean P)
+      differ_said-Decides = differ_from-Decides (find p (flat_map by clean)) (finds p P each (flat_map by clean))

@@ -15,6 +15,7 @@ use Rattle.sct_message.specs.declared.draft.Draft.{Draft}
 use Rattle.sct_message.specs.declared.draft.Draft.TheVariants as draft
 use Rattle.sct_message.specs.declared.draft.RecallTx.{RecallTx}
 use Rattle.sct_message.specs.declared.keys.TransferKey.{TransferKey}
+use Rattle.sct_message.proofs.Tests.{or_between}
 use Rattle.sct_case.specs.declared.recalls.RecallSaid.{RecallSaid}
 use Rattle.sct_case.specs.declared.said.RecallAsked.{RecallAsked}
 use Rattle.sct_case.specs.declared.said.RecallMade.{RecallMade}
@@ -26,27 +27,12 @@ use Rattle.sct_case.specs.Told.{recall_of_it, refusal_of_it, return_of_it}
 use Rattle.sct_case.specs.Inside.{IsOneMoreOn, IsSaidOn, SayAlike, judged}
 use Rattle.sct_case.proofs.OfOneRecall.{first_alike, some_alike}
 
--- ---- what the items of a list say, one after the other
-
-module _ {X Y : Type 0} (says : X → List Y) (p : Y → Bool) where
-  pub any_parts : (xs : List X) → list_any (λ x. list_any p (says x)) xs ≡ list_any p (flat_map says xs)
-  any_parts [] = refl
-  any_parts (x ∷ xs) =
-      ap (λ (b : Bool). list_any p (says x) || b) (any_parts xs)
-      ∙ sym (list_any-append p (says x) (flat_map says xs))
-
 -- ---- a message names a recall in one of four ways
-
-or_pairs : (a b x y : Bool) → ((a || x) || (b || y)) ≡ ((a || b) || (x || y))
-or_pairs true b x y = refl
-or_pairs false true true y = refl
-or_pairs false true false y = refl
-or_pairs false false x y = refl
 
 or_fours : (a b c d x y z w : Bool) → ((((a || b) || c) || d) || (((x || y) || z) || w)) ≡ ((((a || x) || (b || y)) || (c || z)) || (d || w))
 or_fours a b c d x y z w =
-    or_pairs ((a || b) || c) ((x || y) || z) d w
-    ∙ ap (λ v. v || (d || w)) (or_pairs (a || b) (x || y) c z ∙ ap (λ v. v || (c || z)) (or_pairs a x b y))
+    or_between ((a || b) || c) d ((x || y) || z) w
+    ∙ ap (λ v. v || (d || w)) (or_between (a || b) c (x || y) z ∙ ap (λ v. v || (c || z)) (or_between a b x y))
 
 is_found : {X Y : Type 0} (f : X → Y) (p : X → Bool) (xs : List X) → is_some (option_map f (find p xs)) ≡ list_any p xs
 is_found f p [] = refl
@@ -111,7 +97,7 @@ module _ (t : TransferKey) (cxl : List ℕ) where
       || sym (list_any-append (refusal_of_it cxl) (refusals_by t m) (flat_map (refusals_by t) ms)) i
       || sym (list_any-append (request_of_it cxl) (requests_by t m) (flat_map (requests_by t) ms)) i)
 
-  -- so these four say where the recall stands
+  -- so these four give the status of the recall
   pub judged_is : (ms : List Draft)
       → judged (is_made t ms cxl) (amount_returned cxl (flat_map (returns_by t) ms)) (reason_refused cxl (flat_map (refusals_by t) ms)) (list_any (request_of_it cxl) (flat_map (requests_by t) ms))
       ≡ recall_standing_of t ms cxl

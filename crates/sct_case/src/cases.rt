@@ -17,7 +17,7 @@ use std::sync::Arc;
 /// The findings of a transfer, in their stated order.
 /// `clean` are the uncontradicted messages on the transfer. `asides` are the contradicted identities that a message on
 /// it has, ascending. Error: `Memory` (39).
-/// Cost: each transaction of the messages is looked at, and the recalls of the transfer are sorted.
+/// O(t + n log n) for t transactions in the messages and n statements about the transfer.
 pub fn findings(
     alloc: Global,
     transfer: &TransferKey,
@@ -30,8 +30,8 @@ pub fn findings(
     Ok(said.into_findings(alloc, asides)?)
 }
 
-/// The status of the transfer, from its clean messages and its asides, as [`findings`]
-/// takes them. Error: `Memory` (39).
+/// The status of the transfer, from its clean messages and its asides, as [`findings`] takes them. Error: `Memory` (39).
+/// It costs what [`findings`] costs.
 pub fn transfer_status(
     alloc: Global,
     transfer: &TransferKey,
@@ -53,9 +53,9 @@ pub fn transfer_status(
     Ok(standing)
 }
 
-/// The status of the recall `cxl` of a transfer, from the transfer's clean messages and
-/// its asides, as [`findings`] takes them.
-/// For many recalls of one transfer use [`recall_statuses`](crate::recall_statuses). Error: `Memory` (39).
+/// The status of the recall `cxl` of a transfer, from the transfer's clean messages and its asides, as [`findings`] takes
+/// them. Error: `Memory` (39). It costs what [`findings`] costs. If the status of the transfer is known, use
+/// [`recall_status_by`], and for many recalls [`recall_statuses`](crate::recall_statuses).
 pub fn recall_status(
     alloc: Global,
     transfer: &TransferKey,

@@ -129,7 +129,7 @@ pub(crate) fn first_on<'a, S: OfRecall>(said: &'a [S], cxl: &Id35) -> Option<&'a
     requires { IsByRecall S.recall said.now }
     ensures { option_copied result ≡ find (λ m. is_text (S.recall m) cxl.now) said.now }
 {
-    on(said, cxl).first()
+    first(on(said, cxl))
 }
 
 /// Whether there is a statement about a recall.

@@ -114,7 +114,7 @@ fn standings(
 }
 
 /// Each of the recalls, with the status contradicted.
-fn contradicted(alloc: Global, cxls: &[Id35]) -> Result<Vec<(Id35, RecallStatus)>, AllocError>
+fn all_contradicted(alloc: Global, cxls: &[Id35]) -> Result<Vec<(Id35, RecallStatus)>, AllocError>
     ensures { IfOk result (λ found. found.items ≡ map (λ cxl. (cxl, recall.Contradicted)) cxls.now) }
 {
     cxls.iter()
@@ -123,8 +123,8 @@ fn contradicted(alloc: Global, cxls: &[Id35]) -> Result<Vec<(Id35, RecallStatus)
 }
 
 /// Each of the recalls with its status, from the status of the transfer and its clean messages. Error: `Memory` (39).
-/// It takes O(log n) for each recall after one sort;
-/// [`recall_status_by`](crate::recall_status_by) looks at each message.
+/// O(t + (n + c) log n) for t transactions in the messages, n statements about the recalls and c recalls.
+/// For one recall use [`recall_status_by`](crate::recall_status_by), which does not allocate.
 pub fn recall_statuses(
     alloc: Global,
     status: &Status,
@@ -138,7 +138,7 @@ pub fn recall_statuses(
         ≡ map (λ cxl. (cxl, recall_status_of transfer.now (messages_in clean.now) asides cxl)) cxls.now) }
 {
     match status {
-        Status::Contradicted(_) => Ok(contradicted(alloc, cxls)?),
+        Status::Contradicted(_) => Ok(all_contradicted(alloc, cxls)?),
         _ => Ok(standings(alloc, transfer, clean, cxls)?),
     }
 }

@@ -1,4 +1,4 @@
-//! Why a transfer could not be evaluated.
+//! The error of the calls that evaluate a transfer.
 
 ghost use Rattle.std.specs.Prelude.{◌≡◌};
 
@@ -8,7 +8,7 @@ use thiserror::Error;
 /// 39: out of memory.
 #[derive(Debug, Drop, PartialEq, Eq, Error)]
 pub enum CaseFault {
-    #[error("memory is wanting")]
+    #[error("out of memory")]
     Memory,
 }
 

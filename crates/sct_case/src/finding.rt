@@ -6,7 +6,8 @@ use sct_message::Identity;
 use std::alloc::{AllocError, Global};
 
 /// A contradiction among the messages on a transfer. The variants are in the order in which findings are reported.
-/// A recall is named by its identification.
+/// A recall is named by its identification. By EPC004-16, an instruction is a pacs.008, a confirmation or a rejection a
+/// pacs.002, a recall a camt.056, and its answer a return (pacs.004) or a refusal (camt.029).
 #[derive(Debug, Drop, PartialEq, Eq)]
 pub enum Finding {
     /// Two different messages have this identity, and at least one of them is on the transfer.

@@ -2,11 +2,11 @@
 #![tactic(auto)]
 
 mod cases;
+mod contradictions;
 mod differ;
 mod each_recall;
 mod fault;
 mod finding;
-mod found;
 pub mod laws;
 mod recall_order;
 mod recalls;

@@ -87,17 +87,17 @@ impl RecallSaid {
 }
 
 /// Whether a transaction makes the recall.
-fn makes_it(tx: &RecallTx, transfer: &TransferKey, cxl: &Id35) -> bool
+fn transaction_makes(tx: &RecallTx, transfer: &TransferKey, cxl: &Id35) -> bool
     ensures { result ≡ list_any (recall_of_it cxl.now) (made_in transfer.now tx.now) }
 {
     recalls(transfer, tx) && tx.cancellation_id.text() == cxl.text()
 }
 
 /// Whether one of the transactions makes the recall.
-fn make_it(txs: &[RecallTx], transfer: &TransferKey, cxl: &Id35) -> bool
+fn any_makes(txs: &[RecallTx], transfer: &TransferKey, cxl: &Id35) -> bool
     ensures { result ≡ list_any (λ tx. list_any (recall_of_it cxl.now) (made_in transfer.now tx)) txs.now }
 {
-    txs.iter().any(|tx| makes_it(tx, transfer, cxl))
+    txs.iter().any(|tx| transaction_makes(tx, transfer, cxl))
 }
 
 /// Whether a message makes the recall.
@@ -105,7 +105,7 @@ fn makes(request: &CancellationRequest, transfer: &TransferKey, cxl: &Id35) -> b
     ensures { result
         ≡ list_any (recall_of_it cxl.now) (recalls_by transfer.now (draft.CancellationRequest request.now)) }
 {
-    make_it(&request.txs, transfer, cxl)
+    any_makes(&request.txs, transfer, cxl)
 }
 
 /// Whether a message asks for the status of the recall.
@@ -169,9 +169,9 @@ fn answered(returned: Option<Amount>, refused: Option<Reason>, chased: bool) -> 
     }
 }
 
-/// The status of the recall `cxl` of a transfer, from the status of the transfer and its
-/// clean messages. It does not allocate.
-/// O(transactions of the messages); for many recalls of one transfer use [`recall_statuses`](crate::recall_statuses).
+/// The status of the recall `cxl` of a transfer, from the status of the transfer and its clean messages.
+/// O(t) for t transactions in the messages, without allocation. For many recalls of one transfer use
+/// [`recall_statuses`](crate::recall_statuses).
 pub fn recall_status_by(
     status: &Status,
     transfer: &TransferKey,

@@ -7,7 +7,8 @@ use sct_element::Amount;
 use sct_reason::Reason;
 use std::alloc::{AllocError, Global};
 
-/// The status of a transfer: the first of these that holds.
+/// The status of a transfer: the first of these that holds. [`Finding`] names the messages (EPC004-16) that decide it;
+/// a pacs.028 asks for a status.
 #[derive(Debug, Drop, PartialEq, Eq)]
 pub enum Status {
     /// Its messages contradict each other: these findings, in their order.

@@ -8,20 +8,24 @@ use Rattle.std.specs.List.{AllByRecursion}
 use Rattle.std.specs.List.Sorted.{IsStrictlySortedBy}
 use Rattle.std.proofs.Math.Seq.{drop-cons}
 use Rattle.std.proofs.Math.ListN.{get_or-map}
-use Rattle.std.proofs.lemmas.List.{length-map}
+use Rattle.std.proofs.lemmas.List.{length-map, map-append}
 use Rattle.std.proofs.lemmas.List.Elements.{filter-append}
 use Rattle.std.specs.Arc.{arc_value}
 use Rattle.std.specs.declared.sync.Arc.{Arc}
 use Rattle.std.specs.Global.{Global}
+use Rattle.std.proofs.lemmas.Bool.{eq-eqb}
 use Rattle.sct_message.specs.declared.draft.Draft.{Draft}
 use Rattle.sct_delta.specs.Entries.{Placed, is_from, entries_from, log_of, numbered, place_order, IsRun}
 
 -- ---- tests of numbers
 
 pub same_number : (n : ℕ) → nat_eq n n ≡ true
-same_number n = grind (arith, nat_tests)
+same_number n = eq-eqb n n refl
 
--- ---- messages xs the entries of one origin
+pub not_zero : (n : ℕ) → 1 ≤ n → nat_eq n 0 ≡ false
+not_zero n above = grind (arith, nat_tests)
+
+-- ---- messages as the entries of one origin
 
 pub length-numbered : (o n : ℕ) (ms : List Draft) → length (numbered o n ms) ≡ length ms
 length-numbered o n [] = refl
@@ -55,12 +59,8 @@ numbered-step o i ms d inside = ap (numbered o (i + 1)) (drop-cons ms i d inside
 pub from-append : (o : ℕ) (xs ys : List Placed) → entries_from o (xs ++ ys) ≡ entries_from o xs ++ entries_from o ys
 from-append o xs ys = filter-append (is_from o) xs ys
 
-map-append : {X Y : Type 0} (f : X → Y) (xs ys : List X) → map f (xs ++ ys) ≡ map f xs ++ map f ys
-map-append f [] ys = refl
-map-append f (a ∷ xs) ys = ap (λ (l : List _). f a ∷ l) (map-append f xs ys)
-
 pub log-append : (o : ℕ) (xs ys : List Placed) → log_of o (xs ++ ys) ≡ log_of o xs ++ log_of o ys
-log-append o xs ys = ap (map (λ entry. entry.message)) (from-append o xs ys) ∙ map-append (λ entry. entry.message) (entries_from o xs) (entries_from o ys)
+log-append o xs ys = ap (map (λ entry. entry.message)) (from-append o xs ys) ∙ map-append (λ (entry : Placed). entry.message) (entries_from o xs) (entries_from o ys)
 
 -- ---- runs
 
@@ -82,7 +82,7 @@ module _ {K : Type 0} (R : K → K → Ordering) where
   all-append x [] ys p q = q
   all-append x (a ∷ xs) ys p q = (p.0, all-append x xs ys p.1 q)
 
-  -- lists that rise, the second above the first, rise xs one
+  -- lists that rise, the second above the first, rise as one
   pub rises-append : (xs ys : List K) → IsStrictlySortedBy R xs → IsStrictlySortedBy R ys → AllByRecursion (λ x. AllByRecursion (λ y. R x y ≡ Less) ys) xs → IsStrictlySortedBy R (xs ++ ys)
   unfolding IsStrictlySortedBy
   rises-append [] ys p q below = q

@@ -2,7 +2,7 @@
 use Rattle.std.proofs.Common.{◌≡◌, ◌∙◌, refl, ap, sym, ℕ, ◌+◌, ◌-◌, ◌<◌, ◌≤◌, Bool, true, false, not, cond, ◌&&◌, ◌||◌, List, [], ◌∷◌, length, arith, nat_eq, nat_lt, Option, Some, None, suc}
 use Rattle.std.specs.List.{list_any, slice_get}
 use Rattle.std.specs.List.Sorted.{IsStrictlySortedBy}
-use Rattle.std.proofs.lemmas.Bool.{eqb-true, false≢true}
+use Rattle.std.proofs.lemmas.Bool.{eqb-true, false≢true, not-false, ltb-false, le-ltb, eq-eqb, ltb-true}
 use Rattle.std.proofs.lemmas.Bool.Decides.{nat_tests}
 use Rattle.std.proofs.lemmas.Option.{slice_get_past}
 use Rattle.std.proofs.lemmas.Map.Keys.{sorted_tail}
@@ -12,12 +12,8 @@ use Rattle.sct_delta.specs.Refusals.{message_at, is_same_as, is_other_than, is_h
 use Rattle.sct_delta.specs.Laws.{Held, IsFitting, IsReached, IsRefusedWhereItDoesNotFit}
 use Rattle.sct_delta.proofs.EntryLemmas.{same_number}
 use Rattle.sct_delta.proofs.HeldLemmas.{entry_itself, none_passes, passes_none, holds_from, holds_run}
-use Rattle.sct_delta.proofs.JoinLemmas.{IsPassed, passed, unrefused, fresh_at, first_reached, not_past}
+use Rattle.sct_delta.proofs.JoinLemmas.{IsPassed, passed, unrefused, fresh_at, first_reached, not_past, swapped, is_the_first}
 use Rattle.sct_delta.proofs.RoomLemmas.{none_of_earlier, first_rises}
-
-not_true : (a : Bool) → not a ≡ false → a ≡ true
-not_true true e = refl
-not_true false e = absurd (false≢true (sym e))
 
 -- ---- an entry and the run of its origin
 
@@ -25,28 +21,16 @@ from_false : (b : Bool) (x : Bool) → cond b false x ≡ true → b ≡ false
 from_false true x e = absurd (false≢true e)
 from_false false x e = refl
 
-not_lower : (n f : ℕ) → nat_lt n f ≡ false → f ≤ n
-not_lower n f e = grind (arith, nat_tests)
-
 -- an entry of a run has no lower number than the first
 at_least_first : (delta : List Placed) (o f : ℕ) (ms : List Draft) (e : Placed) → entries_from o delta ≡ numbered o f ms → e.origin ≡ o → holds delta e ≡ true → f ≤ e.n
 at_least_first delta o f ms e is from among =
-    not_lower e.n f (from_false (nat_lt e.n f) (is_same_as e.message (slice_get ms (e.n - f)))
+    ltb-false e.n f (from_false (nat_lt e.n f) (is_same_as e.message (slice_get ms (e.n - f)))
     (sym (holds_run o f ms e from) ∙ ap (λ (l : List Placed). holds l e) (sym is) ∙ ap (λ (p : ℕ). holds (entries_from p delta) e) (sym from) ∙ sym (holds_from e delta) ∙ among))
 
 first_among : (delta : List Placed) (e : Placed) (rest : List Placed) → entries_from e.origin delta ≡ e ∷ rest → holds delta e ≡ true
 first_among delta e rest is = holds_from e delta ∙ ap (λ (l : List Placed). holds l e) is ∙ ap (λ (b : Bool). b || holds rest e) (entry_itself e)
 
 -- ---- from the tests to the sentences
-
-up_to : (h n : ℕ) → nat_lt h n ≡ false → n ≤ h
-up_to h n e = grind (arith, nat_tests)
-
-not_above : (h n : ℕ) → n ≤ h → nat_lt h n ≡ false
-not_above h n e = grind (arith, nat_tests)
-
-same_from : (a b : ℕ) → a ≡ b → nat_eq a b ≡ true
-same_from a b e = grind (arith, nat_tests)
 
 site_not_0 : (group o : ℕ) → has_site group o ≡ true → nat_eq o 0 ≡ false
 site_not_0 group o e = grind (arith, nat_tests)
@@ -66,16 +50,16 @@ reached_in group log delta o f (m ∷ ms) e site none is from among =
 
 fitting : (own group : ℕ) (log : Held) (delta : List Placed) → IsDelta delta → IsPassed own group log delta → IsFitting own group log delta
 fitting own group log delta shape p =
-    let inside = λ (e : Placed) (among : holds delta e ≡ true). not_true (has_site group e.origin) (none_passes (is_outside group) delta p.inside e among) in
+    let inside = λ (e : Placed) (among : holds delta e ≡ true). not-false (has_site group e.origin) (none_passes (is_outside group) delta p.inside e among) in
     record {
       inside = inside;
-      known = λ e among is. up_to (vector_of log own) e.n
-          (ap (λ (b : Bool). b && nat_lt (vector_of log own) e.n) (sym (same_from e.origin own is)) ∙ none_passes (is_ahead own log) delta p.known e among);
+      known = λ e among is. ltb-false (vector_of log own) e.n
+          (ap (λ (b : Bool). b && nat_lt (vector_of log own) e.n) (sym (eq-eqb e.origin own is)) ∙ none_passes (is_ahead own log) delta p.known e among);
       no_gap = λ e among. let run = shape.runs e.origin in reached_in group log delta e.origin run.first (log_of e.origin delta) e (inside e among) p.no_gap run.follow refl among;
       no_fork = λ e among held.
           let run = shape.runs e.origin in
           let from_1 : 1 ≤ e.n = let a = run.above_0 in let b = at_least_first delta e.origin run.first (log_of e.origin delta) e run.follow refl among in omega (arith, a, b) in
-          not_true (is_held log e) (fresh_at (log e.origin) e.n e.message from_1 (none_passes (is_fork log) delta p.no_fork e among) ∙ not_above (vector_of log e.origin) e.n held);
+          not-false (is_held log e) (fresh_at (log e.origin) e.n e.message from_1 (none_passes (is_fork log) delta p.no_fork e among) ∙ le-ltb (vector_of log e.origin) e.n held);
     }
 
 -- ---- and back
@@ -93,9 +77,6 @@ skip o x es fs other is = (λ i. cond (other i) (x ∷ entries_from o es) (entri
 apart : (x p o : ℕ) → nat_eq x p ≡ true → nat_eq o p ≡ false → nat_eq x o ≡ false
 apart x p o e f = grind (arith, nat_tests)
 
-swapped : (a b : ℕ) → nat_eq a b ≡ false → nat_eq b a ≡ false
-swapped a b e = grind (arith, nat_tests)
-
 not_before : (x o n k : ℕ) → (o < x → n ≡ 0) → n ≡ suc k → x ≤ o
 not_before x o n k none count = grind arith
 
@@ -105,12 +86,9 @@ above_last p x n k count none other = grind (arith, nat_tests)
 later_differs : (p x o : ℕ) → p < x → x ≤ o → nat_eq o p ≡ false
 later_differs p x o up on = grind (arith, nat_tests)
 
-head_is : (x e : Placed) (es fs : List Placed) → (x ∷ es) ≡ (e ∷ fs) → x ≡ e
-head_is x e es fs is = cc
-
 first_number : (o f : ℕ) (ms : List Draft) (e : Placed) (rest : List Placed) → numbered o f ms ≡ e ∷ rest → e.n ≡ f
 first_number o f [] e rest is = cc
-first_number o f (m ∷ ms) e rest is = ap (λ (x : Placed). x.n) (sym (head_is (record { origin = o; n = f; message = m }) e (numbered o (f + 1) ms) rest is))
+first_number o f (m ∷ ms) e rest is = ap (λ (x : Placed). x.n) (sym (is_the_first (record { origin = o; n = f; message = m }) e (numbered o (f + 1) ms) rest is))
 
 same_not_other : (m : Draft) (x : Option Draft) → is_same_as m x ≡ true → is_other_than m x ≡ false
 same_not_other m None e = refl
@@ -122,9 +100,6 @@ none_above ms n above =
       | true ↦ refl
       | false ↦ slice_get_past ms (n - 1) (omega (arith, above))
     ]
-
-is_above : (h n : ℕ) → nat_lt h n ≡ true → h < n
-is_above h n e = grind (arith, nat_tests)
 
 -- where the first entry of each origin passes no test, no entry that begins an origin does
 firsts_pass : (log : Held) (previous : ℕ) (es : List Placed) → IsStrictlySortedBy place_order es → ((o : ℕ) → o < previous → held_from o es ≡ 0)
@@ -151,7 +126,7 @@ back own group log delta shape f = record {
   inside = passes_none (is_outside group) delta (λ e among. ap not (f.inside e among));
   known = passes_none (is_ahead own log) delta (λ e among.
       elim (nat_eq e.origin own) as (λ b. nat_eq e.origin own ≡ b → (b && nat_lt (vector_of log own) e.n) ≡ false) [
-        | true ↦ λ t. not_above (vector_of log own) e.n (f.known e among (eqb-true e.origin own t))
+        | true ↦ λ t. le-ltb (vector_of log own) e.n (f.known e among (eqb-true e.origin own t))
         | false ↦ λ t. refl
       ] refl);
   no_gap = firsts_pass log 0 delta shape.rises (λ o below. absurd (omega (arith, below))) (λ e rest new is.
@@ -160,11 +135,11 @@ back own group log delta shape f = record {
       let number : e.n ≡ run.first = first_number e.origin run.first (log_of e.origin delta) e rest (sym run.follow ∙ is) in
       let least = at_least_first delta e.origin run.first (log_of e.origin delta) r.entry run.follow r.from r.among in
       let reached = r.reached in
-      not_above (vector_of log e.origin + 1) e.n (omega (arith, number, least, reached)));
+      le-ltb (vector_of log e.origin + 1) e.n (omega (arith, number, least, reached)));
   no_fork = passes_none (is_fork log) delta (λ e among.
       elim (nat_lt (vector_of log e.origin) e.n) as (λ b. nat_lt (vector_of log e.origin) e.n ≡ b → is_fork log e ≡ false) [
-        | true ↦ λ t. ap (is_other_than e.message) (none_above (log e.origin) e.n (is_above (vector_of log e.origin) e.n t))
-        | false ↦ λ t. same_not_other e.message (message_at (log e.origin) e.n) (f.no_fork e among (up_to (vector_of log e.origin) e.n t))
+        | true ↦ λ t. ap (is_other_than e.message) (none_above (log e.origin) e.n (ltb-true (vector_of log e.origin) e.n t))
+        | false ↦ λ t. same_not_other e.message (message_at (log e.origin) e.n) (f.no_fork e among (ltb-false (vector_of log e.origin) e.n t))
       ] refl);
 }
 

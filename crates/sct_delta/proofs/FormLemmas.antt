@@ -1,5 +1,5 @@
 -- A text of form 1 is read as a delta exactly where it is a form of it. Proof plumbing.
-use Rattle.std.proofs.Common.{ℕ, ◌≡◌, ◌+◌, ◌++◌, ◌∷◌, [], List, Bool, true, false, cond, Option, Some, None, Result, Ok, Err, length, refl, sym, ap, ◌∙◌, append_assoc, subst, arith}
+use Rattle.std.proofs.Common.{ℕ, ◌≡◌, ◌+◌, ◌++◌, ◌∷◌, [], List, Bool, true, false, cond, Some, None, Result, Ok, Err, length, refl, sym, ap, ◌∙◌, append_assoc, subst, arith}
 use Rattle.std.specs.Prelude.{nat_eq}
 use Rattle.std.specs.Cmp.Lexicographic.{pointwise}
 use Rattle.std.specs.Result.{result_ok}
@@ -15,7 +15,7 @@ use Rattle.sct_delta.specs.Shapes.{may_be_next, first_break, are_of_sites, are_o
 use Rattle.sct_delta.specs.TextLines.{Line, lines_of, lines_as, is_end_line, end_line, entries_ended}
 use Rattle.sct_delta.specs.EntryText.{IsEntryText, EntryFields, fields_in, entry_of, entry_in, entries_head, TellsEntry, TellEntries, entries_on, entries_in}
 use Rattle.sct_delta.proofs.TextLemmas.{HasFields, fields_read, fields_written, mapped_from, then_from, same_texts, texts_same}
-use Rattle.sct_delta.proofs.ShapeLemmas.{delta_from_unbroken, delta_unbroken}
+use Rattle.sct_delta.proofs.ShapeLemmas.{delta_from_unbroken, delta_unbroken, unbroken}
 
 -- ---- one entry
 
@@ -150,10 +150,6 @@ entries_shape lines entries read =
 
 -- ---- from the form to what is read
 
-unbroken_head : (b : Bool) (rest : Option ℕ) (place : ℕ) → cond b rest (Some place) ≡ None → (b ≡ true) × (rest ≡ None)
-unbroken_head true rest place h = (refl, h)
-unbroken_head false rest place h = cc
-
 pub end_is_end : (count : ℕ) → is_end_line count (end_line count) ≡ true
 unfolding is_end_line
 end_is_end count = texts_same (end_line count)
@@ -166,7 +162,7 @@ form_on place k origin n before [] [] tell order sites =
 form_on place k origin n before [] (line ∷ told) tell order sites = absurd tell
 form_on place k origin n before (entry ∷ more) [] tell order sites = absurd tell
 form_on place k origin n before (entry ∷ more) (line ∷ told) tell order sites =
-    let next : (may_be_next origin n entry ≡ true) × (first_break (k + 1) entry.origin entry.n more ≡ None) = unbroken_head _ _ _ order in
+    let next : (may_be_next origin n entry ≡ true) × (first_break (k + 1) entry.origin entry.n more ≡ None) = unbroken _ _ _ order in
     let site : (is_site_of_form_1 entry.origin ≡ true) × (are_of_form_1 more ≡ true) = and_parts (is_site_of_form_1 entry.origin) (are_of_form_1 more) sites in
     let read : entry_in line ≡ Some entry = entry_read line entry (record { tells = tell.0; site = site.0 }) in
     let rest : entries_in (place + 1) entry.origin entry.n (before ++ entry ∷ []) (lines_as (told ++ end_line (length ((before ++ entry ∷ []) ++ more)) ∷ [])) ≡ Ok ((before ++ entry ∷ []) ++ more) =

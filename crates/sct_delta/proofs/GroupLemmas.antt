@@ -13,7 +13,7 @@ use Rattle.sct_delta.specs.Entries.{Placed, IsDelta, numbered}
 use Rattle.sct_delta.specs.Shapes.{first_break, are_of_sites}
 use Rattle.sct_delta.specs.TextLines.{Line, lines_of, lines_as, is_end_line, end_line, entries_ended, Field, number_in, number_before_space, after_prefix}
 use Rattle.sct_delta.specs.GroupText.{Group, origin_line, group_lines, group_entries, TellMessages, may_begin, AreGroups, groups_head, IsGroupText, OriginFields, count_behind, numbers_behind, origin_in, origin_on, message_on, groups_in}
-use Rattle.sct_delta.proofs.TextLemmas.{IsNumbered, field_read, field_written, number_read, number_written, prefix_written, mapped_from, then_from, same_texts}
+use Rattle.sct_delta.proofs.TextLemmas.{IsNumbered, field_read, field_written, number_read, number_written, prefix_written, mapped_from, then_from, same_texts, site_below}
 use Rattle.sct_delta.proofs.ShapeLemmas.{delta_from_unbroken}
 use Rattle.sct_delta.proofs.FormLemmas.{ended_as, never_ended, gone_on, message_of_ok, end_is_end}
 
@@ -259,9 +259,6 @@ messages_read place origin n before (text ∷ texts) (message ∷ messages) rest
     let more = messages_read (place + 1) origin (n + 1) (before ++ record { origin = origin; n = n; message = message } ∷ []) texts messages rest tell.1 in
     rw (some, tell.0, left, ← at, ← number, ← same) more
 
-site_small : (origin : ℕ) → is_site origin ≡ true → origin < 2 ^ 64
-site_small origin h = grind (arith, nat_tests, h)
-
 -- the line of an origin that may begin is read
 begins_read : (place before n origin first count : ℕ) (entries : List Placed) (lines : List Line) → may_begin before origin first count ≡ true
     → groups_in place before n 0 entries (Some (origin_line origin first count) ∷ lines) ≡ groups_in (place + 1) origin first count entries lines
@@ -271,7 +268,7 @@ begins_read place before n origin first count entries lines begins =
     let above : 1 ≤ first = first_above_0 before origin first count begins in
     let some : 1 ≤ count = some_counted before origin first count begins in
     let read : origin_in (origin_line origin first count) ≡ Some (origin, first, count) =
-    origin_read origin first count (site_small origin (of_site before origin first count begins)) (omega arith) (omega arith) in
+    origin_read origin first count (site_below origin (of_site before origin first count begins)) (omega arith) (omega arith) in
     rw (read, begins) refl
 
 pub ends_read : (place before n : ℕ) (entries : List Placed) → groups_in place before n 0 entries (Some (end_line (length entries)) ∷ []) ≡ Ok entries

@@ -13,6 +13,7 @@ use Rattle.sct_json.specs.Writing.{has_no_line_feed}
 use Rattle.sct_delta.specs.Entries.{Placed, numbered}
 use Rattle.sct_delta.specs.TextLines.{Line, lines_as, is_end_line, end_line, entries_ended}
 use Rattle.sct_delta.specs.GroupText.{TellMessages, may_begin, origin_in, groups_in}
+use Rattle.sct_delta.proofs.EntryLemmas.{length-numbered}
 use Rattle.sct_delta.proofs.TextLemmas.{same_texts}
 use Rattle.sct_delta.proofs.GroupLemmas.{messages_read, ends_read, last_below}
 use Rattle.sct_delta.proofs.WrongLineLemmas.{Read, Is, told_here}
@@ -44,10 +45,6 @@ one_copies : (k : ℕ) (sample : Sample) → list_all has_no_line_feed (copies k
 one_copies zero sample = refl
 one_copies (suc k) sample = rw sample.one (one_copies k sample)
 
-length_numbered : (origin n : ℕ) (messages : List Draft) → length (numbered origin n messages) ≡ length messages
-length_numbered origin n [] = refl
-length_numbered origin n (message ∷ messages) = omega (arith, length_numbered origin (n + 1) messages)
-
 -- ---- what the lines from a place on are mended to
 
 -- The first lines, so many, with further ones that are read as entries.
@@ -76,7 +73,7 @@ mended_here sample place zero origin n due entries lines small none = record {
   agree = refl;
   read = read_copies place origin n due entries sample;
   one = one_copies due sample;
-  few = omega (arith, small, length_numbered origin n (copies due sample.message), length_copies due sample.message);
+  few = omega (arith, small, length-numbered origin n (copies due sample.message), length_copies due sample.message);
 }
 mended_here sample place (suc j) origin n due entries lines small none = absurd (omega (arith, none))
 

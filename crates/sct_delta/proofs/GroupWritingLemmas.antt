@@ -1,5 +1,5 @@
 -- The written text is the form 2 of its delta. Proof plumbing.
-use Rattle.std.proofs.Common.{ℕ, ◌≡◌, ◌+◌, ◌<◌, ◌≤◌, ◌^◌, ◌++◌, ◌∷◌, [], List, Bool, true, false, cond, Option, Some, None, length, refl, sym, ap, ◌∙◌, arith, append_assoc, subst, All}
+use Rattle.std.proofs.Common.{ℕ, ◌≡◌, ◌+◌, ◌<◌, ◌≤◌, ◌^◌, ◌++◌, ◌∷◌, [], List, true, false, cond, None, length, refl, sym, ap, ◌∙◌, arith, append_assoc, subst, All}
 use Rattle.std.specs.Prelude.{nat_eq, nat_le, nat_lt, decimal, flat_map, codes}
 use Rattle.std.specs.List.{list_all}
 use Rattle.std.proofs.lemmas.Bool.{and_parts, and_from, eqb-true}
@@ -17,7 +17,7 @@ use Rattle.sct_delta.specs.Shapes.{may_be_next, first_break, are_of_sites}
 use Rattle.sct_delta.specs.TextLines.{lines_of, lines_as, ended, end_line}
 use Rattle.sct_delta.specs.GroupText.{Group, origin_line, group_lines, group_entries, TellMessages, may_begin, AreGroups, groups_head, IsGroupText, run_length, lines_after, IsWritten}
 use Rattle.sct_delta.specs.DeltaText.{written_delta}
-use Rattle.sct_delta.proofs.ShapeLemmas.{Behind, behind_from, delta_unbroken}
+use Rattle.sct_delta.proofs.ShapeLemmas.{Behind, behind_from, delta_unbroken, unbroken}
 use Rattle.sct_delta.proofs.TextLemmas.{site_below}
 use Rattle.sct_delta.proofs.GroupLemmas.{none_due}
 use Rattle.sct_delta.proofs.WritingLemmas.{lines_from_text, decimal_one_line, one_line_appended, end_one_line}
@@ -91,10 +91,6 @@ goes_on previous n entry entries it number written rest =
     ap (λ (o : ℕ). record { origin = o; n = entry.n; message = entry.message }) it ∙ ap (λ (m : ℕ). record { origin = previous; n = m; message = entry.message }) number in
     subst (λ (e : Placed). Continued previous n (e ∷ entries)) (sym whole)
     (same_origin previous n entry.message entries (record { reads_back = written.reads_back; small = subst (λ (m : ℕ). m < 2 ^ 64) number written.small }) there)
-
-unbroken : (b : Bool) (rest : Option ℕ) (place : ℕ) → cond b rest (Some place) ≡ None → (b ≡ true) × (rest ≡ None)
-unbroken true rest place h = (refl, h)
-unbroken false rest place h = cc
 
 later_of : (previous origin : ℕ) → previous ≤ origin → nat_eq origin previous ≡ false → previous < origin
 later_of previous origin le other = grind (arith, nat_tests, le, other)
@@ -180,12 +176,6 @@ written_is_form entries few delta all =
     }
 
 -- ---- the text, part by part
-
-pub origin_spelled : (origin first count : ℕ) → codes "origin " ++ (decimal origin ++ 32 ∷ (decimal first ++ 32 ∷ (decimal count ++ 10 ∷ []))) ≡ ended (origin_line origin first count)
-origin_spelled origin first count =
-    ap (λ (t : List ℕ). codes "origin " ++ t)
-    (ap (λ (t : List ℕ). decimal origin ++ 32 ∷ t) (sym (append_assoc (decimal first) (32 ∷ decimal count) (10 ∷ [])))
-    ∙ sym (append_assoc (decimal origin) (32 ∷ (decimal first ++ 32 ∷ decimal count)) (10 ∷ [])))
 
 pub whole_written : (head with_lines whole end : List ℕ) (entries : List Placed) → head ≡ ended groups_head → with_lines ≡ head ++ flat_map ended (lines_after 0 entries) → end ≡ ended (end_line (length entries)) → whole ≡ with_lines ++ end → whole ≡ written_delta entries
 unfolding written_delta

@@ -1,13 +1,12 @@
 -- Which entries lists and logs hold. It serves the laws of logs, and the sites and worlds above.
-use Rattle.std.proofs.Common.{◌≡◌, ◌∙◌, refl, ap, sym, ℕ, ◌+◌, ◌-◌, Bool, true, false, cond, ◌&&◌, ◌||◌, List, [], ◌∷◌, drop, arith, nat_eq, nat_lt, None, zero, suc}
+use Rattle.std.proofs.Common.{◌≡◌, ◌∙◌, refl, ap, sym, ℕ, ◌+◌, ◌-◌, Bool, true, false, cond, ◌&&◌, ◌||◌, List, [], ◌∷◌, drop, arith, nat_eq, nat_lt, Option, Some, None, zero, suc}
 use Rattle.std.specs.List.{list_any, slice_get}
 use Rattle.std.proofs.Math.Bool.{and-false, and-true, or-false, or-true}
 use Rattle.std.proofs.lemmas.Bool.{and_parts, eqb-true, false≢true, or_parts}
 use Rattle.std.proofs.lemmas.Bool.Decides.{nat_tests}
 use Rattle.sct_message.specs.declared.draft.Draft.{Draft}
 use Rattle.sct_message.specs.Order.{same_message}
-use Rattle.sct_message.specs.OrderLaws.{message_total, message_same}
-use Rattle.sct_message.proofs.Members.{tie_is, ties_itself}
+use Rattle.sct_message.proofs.SameValues.{message_is, message_itself}
 use Rattle.sct_delta.specs.Entries.{Placed, entries_from, log_of, numbered, same_entry, holds, IsArrivals}
 use Rattle.sct_delta.specs.Refusals.{message_at, is_same_as, is_held, IsCut}
 use Rattle.sct_delta.proofs.EntryLemmas.{same_number}
@@ -15,25 +14,20 @@ use Rattle.sct_delta.proofs.EntryLemmas.{same_number}
 pub and_first : (a b : Bool) → (a && b) ≡ true → a ≡ true
 and_first a b e = (and_parts a b e).0
 
-pub or_true : (a : Bool) → (a || true) ≡ true
-or_true = or-true
-
 -- ---- one entry
 
-pub same_draft : (a b : Draft) → same_message a b ≡ true → a ≡ b
-same_draft = tie_is message_total message_same
-
-pub draft_itself : (a : Draft) → same_message a a ≡ true
-draft_itself = ties_itself message_total message_same
+pub some_there : (m : Draft) (x : Option Draft) → is_same_as m x ≡ true → x ≡ Some m
+some_there m None e = absurd (false≢true e)
+some_there m (Some d) e = ap (λ (a : Draft). Some a) (message_is d m e)
 
 pub one_entry : (a b : Placed) → same_entry a b ≡ true → a ≡ b
 one_entry a b e =
     let first : (nat_eq a.origin b.origin ≡ true) × ((nat_eq a.n b.n && same_message a.message b.message) ≡ true) = and_parts _ _ e in
     let rest : (nat_eq a.n b.n ≡ true) × (same_message a.message b.message ≡ true) = and_parts _ _ first.1 in
-    λ i. record { origin = eqb-true a.origin b.origin first.0 i; n = eqb-true a.n b.n rest.0 i; message = same_draft a.message b.message rest.1 i }
+    λ i. record { origin = eqb-true a.origin b.origin first.0 i; n = eqb-true a.n b.n rest.0 i; message = message_is a.message b.message rest.1 i }
 
 pub entry_itself : (a : Placed) → same_entry a a ≡ true
-entry_itself a = (λ i. same_number a.origin i && (same_number a.n i && draft_itself a.message i))
+entry_itself a = (λ i. same_number a.origin i && (same_number a.n i && message_itself a.message i))
 
 -- what no member passes no entry of the list passes, and the other way about
 pub none_passes : (p : Placed → Bool) (es : List Placed) → list_any p es ≡ false → (e : Placed) → holds es e ≡ true → p e ≡ false
@@ -47,7 +41,7 @@ none_passes p (x ∷ es) none e among =
 pub passes_none : (p : Placed → Bool) (es : List Placed) → ((e : Placed) → holds es e ≡ true → p e ≡ false) → list_any p es ≡ false
 passes_none p [] none = refl
 passes_none p (x ∷ es) none =
-    (λ i. none x (ap (λ (b : Bool). b || holds es x) (entry_itself x)) i || passes_none p es (λ e among. none e (ap (λ (b : Bool). same_entry x e || b) among ∙ or_true (same_entry x e))) i)
+    (λ i. none x (ap (λ (b : Bool). b || holds es x) (entry_itself x)) i || passes_none p es (λ e among. none e (ap (λ (b : Bool). same_entry x e || b) among ∙ or-true (same_entry x e))) i)
 
 -- ---- entries of one origin
 

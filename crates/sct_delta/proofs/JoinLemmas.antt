@@ -3,7 +3,7 @@ use Rattle.std.proofs.Common.{◌≡◌, ◌∙◌, refl, ap, sym, ℕ, ◌+◌,
 use Rattle.std.specs.List.{list_any, find, slice_get}
 use Rattle.std.specs.Option.{is_none, option_or}
 use Rattle.std.proofs.Math.Seq.{drop-nil}
-use Rattle.std.proofs.lemmas.Bool.{false≢true, or_parts}
+use Rattle.std.proofs.lemmas.Bool.{false≢true, or_parts, lt-ltb}
 use Rattle.std.proofs.lemmas.Bool.Decides.{nat_tests}
 use Rattle.std.proofs.lemmas.List.Folds.{list_any-append}
 use Rattle.std.proofs.lemmas.List.Kept.{IsStrictlySortedBy-filter}
@@ -13,9 +13,10 @@ use Rattle.sct_delta.specs.Refusals.{message_at, is_same_as, is_other_than, is_h
 use Rattle.sct_delta.specs.Sites.{is_site}
 use Rattle.sct_delta.specs.declared.fault.DeltaFault.{DeltaFault}
 use Rattle.sct_delta.specs.declared.fault.DeltaFault.TheVariants as fault
-use Rattle.sct_delta.proofs.EntryLemmas.{numbered-append, log_is, run_is}
+use Rattle.sct_delta.proofs.EntryLemmas.{numbered-append, log_is, run_is, not_zero}
 use Rattle.sct_delta.proofs.HeldLemmas.{one_entry, holds_from, held_as_run}
-use Rattle.sct_delta.proofs.TestLemmas.{all_kept, filter_comm, filter_none, none_also, none_kept}
+use Rattle.sct_message.proofs.Tests.{none_kept as filter_none}
+use Rattle.sct_delta.proofs.TestLemmas.{all_kept, filter_comm, none_also, none_kept}
 
 -- ---- a delta is refused for nothing
 
@@ -70,10 +71,10 @@ unrefused own group log delta p =
 other_origin : (x o p : ℕ) → nat_eq x p ≡ true → nat_eq o p ≡ false → nat_eq x o ≡ false
 other_origin x o p e g = grind (arith, nat_tests)
 
-swapped : (x o : ℕ) → nat_eq x o ≡ false → nat_eq o x ≡ false
+pub swapped : (x o : ℕ) → nat_eq x o ≡ false → nat_eq o x ≡ false
 swapped x o e = grind (arith, nat_tests)
 
-is_the_first : (x e : Placed) (es fs : List Placed) → (x ∷ es) ≡ (e ∷ fs) → x ≡ e
+pub is_the_first : (x e : Placed) (es fs : List Placed) → (x ∷ es) ≡ (e ∷ fs) → x ≡ e
 is_the_first x e es fs is = cc
 
 -- the first entry of an origin is not past its next number
@@ -106,9 +107,6 @@ fresh_place [] i m e = past_none i
 fresh_place (x ∷ ms) zero m e = e ∙ within_first (length ms)
 fresh_place (x ∷ ms) (suc i) m e = fresh_place ms i m e ∙ one_place_on (length ms) i
 
-not_zero : (n : ℕ) → 1 ≤ n → nat_eq n 0 ≡ false
-not_zero n above = grind (arith, nat_tests)
-
 pub fresh_at : (ms : List Draft) (n : ℕ) (m : Draft) → 1 ≤ n → is_other_than m (message_at ms n) ≡ false → not (is_same_as m (message_at ms n)) ≡ nat_lt (length ms) n
 fresh_at ms n m above e =
     (λ i. not (is_same_as m (cond (not_zero n above i) None (slice_get ms (n - 1)))))
@@ -125,15 +123,9 @@ fresh_of_run log o f (m ∷ ms) above none =
     fresh_of_run log o (f + 1) ms (omega arith) parts.1 in
     λ i. cond (fresh_at (log o) f m above parts.0 i) (entry ∷ rest i) (rest i)
 
-is_above : (h n : ℕ) → h < n → nat_lt h n ≡ true
-is_above h n e = grind (arith, nat_tests)
-
-is_below : (h n : ℕ) → n ≤ h → nat_lt h n ≡ false
-is_below h n e = grind (arith, nat_tests)
-
 all_above : (o h n : ℕ) (ms : List Draft) → h < n → filter (λ e. nat_lt h e.n) (numbered o n ms) ≡ numbered o n ms
 all_above o h n [] above = refl
-all_above o h n (m ∷ ms) above = rw (is_above h n above) (ap (λ (l : List Placed). record { origin = o; n = n; message = m } ∷ l) (all_above o h (n + 1) ms (omega arith)))
+all_above o h n (m ∷ ms) above = rw (lt-ltb h n above) (ap (λ (l : List Placed). record { origin = o; n = n; message = m } ∷ l) (all_above o h (n + 1) ms (omega arith)))
 
 further : (h n : ℕ) → nat_lt h n ≡ true → h < n + 1
 further h n t = grind (arith, nat_tests)
@@ -240,7 +232,7 @@ kept_fresh own group log held delta ds es none same whole is =
 
 -- ---- what is held once a delta was joined
 
-kept_is : (p : Placed → Bool) (e : Placed) → p e ≡ true → (es : List Placed) → holds (filter p es) e ≡ holds es e
+pub kept_is : (p : Placed → Bool) (e : Placed) → p e ≡ true → (es : List Placed) → holds (filter p es) e ≡ holds es e
 kept_is p e passes [] = refl
 kept_is p e passes (x ∷ es) =
     elim (p x) as (λ b. p x ≡ b → holds (cond b (x ∷ filter p es) (filter p es)) e ≡ (same_entry x e || holds es e)) [

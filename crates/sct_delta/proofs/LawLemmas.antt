@@ -1,56 +1,49 @@
 -- The laws of logs and deltas. Proof plumbing.
 use Rattle.std.proofs.Common.{◌≡◌, ◌∙◌, refl, ap, sym, ℕ, ◌+◌, ◌-◌, ◌<◌, ◌≤◌, Bool, true, false, not, cond, ◌&&◌, ◌||◌, List, [], ◌∷◌, ◌++◌, length, drop, arith, nat_eq, nat_lt, Option, Some, None, zero, suc, length-append}
 use Rattle.std.specs.List.{list_any, slice_get}
-use Rattle.std.proofs.lemmas.Bool.{false≢true}
+use Rattle.std.proofs.lemmas.Bool.{false≢true, not-false, ltb-false}
 use Rattle.std.proofs.lemmas.Bool.Decides.{nat_tests}
-use Rattle.std.proofs.lemmas.Option.{slice_get_within}
+use Rattle.std.proofs.lemmas.Option.{slice_get_within, same_Some}
+use Rattle.std.proofs.Math.Bool.{or-true}
 use Rattle.sct_message.specs.declared.draft.Draft.{Draft}
 use Rattle.sct_message.specs.Order.{same_message}
 use Rattle.sct_delta.specs.Entries.{Placed, entries_from, log_of, numbered, holds, IsDelta}
 use Rattle.sct_delta.specs.Refusals.{message_at, is_same_as, is_other_than, is_held, is_ahead, is_past, is_fork, firsts_after, vector_of, fresh_in, joined}
 use Rattle.sct_delta.specs.Laws.{IsThere, AreEntrySet, CutsWhatIsAbove, CutsNothingForItself, JoinsBothSides, KeepsWhatWasHeld, JoinsOnce, CatchesUp, NameAlike, JoinsInAnyOrder, Held}
-use Rattle.sct_delta.proofs.EntryLemmas.{same_number}
-use Rattle.sct_delta.proofs.HeldLemmas.{or_true, none_passes, passes_none, same_draft, draft_itself, cut_holds}
+use Rattle.sct_delta.proofs.EntryLemmas.{same_number, not_zero}
+use Rattle.sct_delta.proofs.HeldLemmas.{none_passes, passes_none, cut_holds, some_there}
+use Rattle.sct_message.proofs.SameValues.{message_is, message_itself}
+use Rattle.sct_message.proofs.Tests.{or_swap}
 use Rattle.sct_delta.proofs.JoinLemmas.{IsPassed, passed, unrefused, joins}
 
 -- ---- one message at a place
 
-not_true : (a : Bool) → not a ≡ false → a ≡ true
-not_true true e = refl
-not_true false e = absurd (false≢true (sym e))
-
 agree : (x : Option Draft) (a b : Draft) → is_same_as a x ≡ true → is_same_as b x ≡ true → a ≡ b
 agree None a b e f = absurd (false≢true e)
-agree (Some d) a b e f = sym (same_draft d a e) ∙ same_draft d b f
+agree (Some d) a b e f = sym (message_is d a e) ∙ message_is d b f
 
 agree_unless : (x : Option Draft) (a b : Draft) → is_same_as a x ≡ true → is_other_than b x ≡ false → a ≡ b
 agree_unless None a b e f = absurd (false≢true e)
-agree_unless (Some d) a b e f = sym (same_draft d a e) ∙ same_draft d b (not_true (same_message d b) f)
+agree_unless (Some d) a b e f = sym (message_is d a e) ∙ message_is d b (not-false (same_message d b) f)
 
 no_other : (x : Option Draft) (b : Draft) → ((a : Draft) → is_same_as a x ≡ true → a ≡ b) → is_other_than b x ≡ false
 no_other None b same = refl
-no_other (Some d) b same = (λ i. not (same_message (same d (draft_itself d) i) b)) ∙ ap not (draft_itself b)
+no_other (Some d) b same = (λ i. not (same_message (same d (message_itself d) i) b)) ∙ ap not (message_itself b)
 
 same_option : (x y : Option Draft) → ((a : Draft) → is_same_as a x ≡ is_same_as a y) → x ≡ y
 same_option None None same = refl
-same_option None (Some d) same = absurd (false≢true (same d ∙ draft_itself d))
-same_option (Some d) None same = absurd (false≢true (sym (same d) ∙ draft_itself d))
-same_option (Some d) (Some e) same = ap (λ (m : Draft). Some m) (sym (same_draft e d (sym (same d) ∙ draft_itself d)))
-
-some_inside : (a b : Draft) → Some a ≡ Some b → a ≡ b
-some_inside a b e = cc
+same_option None (Some d) same = absurd (false≢true (same d ∙ message_itself d))
+same_option (Some d) None same = absurd (false≢true (sym (same d) ∙ message_itself d))
+same_option (Some d) (Some e) same = ap (λ (m : Draft). Some m) (sym (message_is e d (sym (same d) ∙ message_itself d)))
 
 same_list : (xs ys : List Draft) → ((i : ℕ) → slice_get xs i ≡ slice_get ys i) → xs ≡ ys
 same_list [] [] same = refl
 same_list [] (y ∷ ys) same = let first = same zero in cc
 same_list (x ∷ xs) [] same = let first = same zero in cc
-same_list (x ∷ xs) (y ∷ ys) same = λ i. some_inside x y (same zero) i ∷ same_list xs ys (λ k. same (suc k)) i
-
-not_zero : (i : ℕ) → nat_eq (i + 1) 0 ≡ false
-not_zero i = grind (arith, nat_tests)
+same_list (x ∷ xs) (y ∷ ys) same = λ i. same_Some x y (same zero) i ∷ same_list xs ys (λ k. same (suc k)) i
 
 at_place : (ms : List Draft) (i : ℕ) → message_at ms (i + 1) ≡ slice_get ms i
-at_place ms i = (λ j. cond (not_zero i j) None (slice_get ms (i + 1 - 1))) ∙ ap (slice_get ms) (omega arith)
+at_place ms i = (λ j. cond (not_zero (i + 1) (omega arith) j) None (slice_get ms (i + 1 - 1))) ∙ ap (slice_get ms) (omega arith)
 
 -- logs that hold the same entries are the same
 pub same_logs : (a b : Held) → ((e : Placed) → is_held a e ≡ is_held b e) → (o : ℕ) → a o ≡ b o
@@ -68,13 +61,6 @@ held_once log x y e f origin n =
 
 above_zero : (n : ℕ) → nat_eq n 0 ≡ false → 1 ≤ n
 above_zero n e = grind (arith, nat_tests)
-
-positive : (n : ℕ) → 1 ≤ n → nat_eq n 0 ≡ false
-positive n e = grind (arith, nat_tests)
-
-some_there : (m : Draft) (x : Option Draft) → is_same_as m x ≡ true → x ≡ Some m
-some_there m None e = absurd (false≢true e)
-some_there m (Some d) e = ap (λ (a : Draft). Some a) (same_draft d m e)
 
 within_log : (ms : List Draft) (n : ℕ) (m : Draft) → is_same_as m (message_at ms n) ≡ true → (1 ≤ n) × (n ≤ length ms)
 within_log ms n m e =
@@ -97,7 +83,7 @@ stands_at log o n above inside =
     let s = standing (log o) (n - 1) (omega (arith, above, inside)) in
     record {
       message = s.message;
-      is_held = (λ i. is_same_as s.message (cond (positive n above i) None (slice_get (log o) (n - 1)))) ∙ ap (is_same_as s.message) s.stands ∙ draft_itself s.message;
+      is_held = (λ i. is_same_as s.message (cond (not_zero n above i) None (slice_get (log o) (n - 1)))) ∙ ap (is_same_as s.message) s.stands ∙ message_itself s.message;
     }
 
 pub entry_set : AreEntrySet
@@ -138,7 +124,7 @@ stays_at : (a b : List Draft) (n : ℕ) (m : Draft) → is_same_as m (message_at
 stays_at a b n m e =
     elim (nat_eq n 0) as (λ z. is_same_as m (cond z None (slice_get a (n - 1))) ≡ true → is_same_as m (cond z None (slice_get (a ++ b) (n - 1))) ≡ true) [
       | true ↦ λ f. f
-      | false ↦ λ f. ap (is_same_as m) (longer a b (n - 1) m (some_there m (slice_get a (n - 1)) f)) ∙ draft_itself m
+      | false ↦ λ f. ap (is_same_as m) (longer a b (n - 1) m (some_there m (slice_get a (n - 1)) f)) ∙ message_itself m
     ] e
 
 pub keeps : KeepsWhatWasHeld
@@ -193,7 +179,7 @@ passes_after own group log a b shape p q alike = record {
 -- ---- joining again, in any order, and to catch up
 
 held_after : (own group : ℕ) (log : Held) (delta : List Placed) → IsDelta delta → IsPassed own group log delta → (e : Placed) → holds delta e ≡ true → is_held (joined log delta) e ≡ true
-held_after own group log delta shape p e among = joins own group log delta shape p e ∙ ap (λ (b : Bool). is_held log e || b) among ∙ or_true (is_held log e)
+held_after own group log delta shape p e among = joins own group log delta shape p e ∙ ap (λ (b : Bool). is_held log e || b) among ∙ or-true (is_held log e)
 
 names_alike : (own group : ℕ) (log : Held) (delta : List Placed) → IsDelta delta → IsPassed own group log delta → NameAlike delta delta
 names_alike own group log delta shape p x y among also origin n =
@@ -203,13 +189,6 @@ or_again : (a b : Bool) → ((a || b) || b) ≡ (a || b)
 or_again true b = refl
 or_again false true = refl
 or_again false false = refl
-
-or_swap : (a b c : Bool) → ((a || b) || c) ≡ ((a || c) || b)
-or_swap true b c = refl
-or_swap false true true = refl
-or_swap false true false = refl
-or_swap false false true = refl
-or_swap false false false = refl
 
 pub joins_once : JoinsOnce
 joins_once own group log delta shape none =
@@ -242,13 +221,10 @@ any_order own group log a b shape_a shape_b none_a none_b alike =
           ∙ sym (joins own group (joined log b) a shape_a a_after e ∙ ap (λ (t : Bool). t || holds a e) (joins own group log b shape_b q e)));
     }
 
-up_to : (h n : ℕ) → nat_lt h n ≡ false → n ≤ h
-up_to h n e = grind (arith, nat_tests)
-
 pub catches_up : CatchesUp
 catches_up own group mine theirs count delta shape cut none have e held =
     elim (nat_lt (count e.origin) e.n) as (λ b. nat_lt (count e.origin) e.n ≡ b → is_held (joined mine delta) e ≡ true) [
       | true ↦ λ t. held_after own group mine delta shape (passed own group mine delta none) e
           (cut_holds theirs count delta cut e ∙ (λ i. held i && t i))
-      | false ↦ λ t. keeps mine delta e (have e held (up_to (count e.origin) e.n t))
+      | false ↦ λ t. keeps mine delta e (have e held (ltb-false (count e.origin) e.n t))
     ] refl

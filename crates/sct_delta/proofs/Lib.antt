@@ -14,6 +14,7 @@ pub mod GroupWrongLemmas
 pub mod HeldLemmas
 pub mod JoinLemmas
 pub mod LawLemmas
+pub mod LogsLemmas
 pub mod ReadingLemmas
 pub mod RightFrontLemmas
 pub mod RoomLemmas

@@ -10,6 +10,7 @@ use Rattle.std.proofs.lemmas.Bool.Decides.{nat_tests}
 use Rattle.sct_delta.specs.Entries.{Placed, entries_from, log_of, numbered, IsRun, IsDelta, place_order}
 use Rattle.sct_delta.specs.declared.fault.DeltaFault.TheVariants as fault
 use Rattle.sct_delta.specs.Sites.{is_site}
+use Rattle.sct_delta.proofs.EntryLemmas.{same_number}
 use Rattle.sct_delta.specs.Shapes.{may_be_next, first_break, are_of_sites, delta_refusal}
 
 -- ---- an entry behind another
@@ -51,7 +52,7 @@ behind_passes origin n entry b = passes origin n entry.origin entry.n b.above_0 
 
 -- ---- a list without a break, entry by entry
 
-unbroken : (b : Bool) (rest : Option ℕ) (place : ℕ) → cond b rest (Some place) ≡ None → (b ≡ true) × (rest ≡ None)
+pub unbroken : (b : Bool) (rest : Option ℕ) (place : ℕ) → cond b rest (Some place) ≡ None → (b ≡ true) × (rest ≡ None)
 unbroken true rest place h = (refl, h)
 unbroken false rest place h = cc
 
@@ -188,9 +189,6 @@ none_earlier origin n of (entry ∷ entries) all below =
     let other : nat_eq entry.origin of ≡ false = grind (arith, nat_tests, le, below) in
     from_other of entry entries other ∙ none_earlier origin n of entries all.1 below
 
-same_place : (origin : ℕ) → nat_eq origin origin ≡ true
-same_place origin = grind (arith, nat_tests)
-
 -- the first entry has the number that the run of its origin begins with
 run_at_head : (of : ℕ) (entry : Placed) (entries : List Placed) → nat_eq entry.origin of ≡ true → (run : IsRun of (entry ∷ entries))
     → (entry.n ≡ run.first) × (entries_from of entries ≡ numbered of (run.first + 1) (log_of of entries))
@@ -203,14 +201,14 @@ run_at_head of entry entries same run =
 
 head_behind : (origin n : ℕ) (entry : Placed) (entries : List Placed) → RunAfter origin n entry.origin (entry ∷ entries) → Behind origin n entry
 head_behind origin n entry entries after =
-    let head = run_at_head entry.origin entry entries (same_place entry.origin) after.run in
+    let head = run_at_head entry.origin entry entries (same_number entry.origin) after.run in
     record {
       above_0 = omega (arith, head.0, after.run.above_0);
       not_before =
           elim (nat_lt entry.origin origin) as (λ below. nat_lt entry.origin origin ≡ below → origin ≤ entry.origin) [
             | true ↦ λ e.
                 let none : entries_from entry.origin (entry ∷ entries) ≡ [] = after.before (grind (arith, nat_tests, e)) in
-                let some : entries_from entry.origin (entry ∷ entries) ≡ entry ∷ entries_from entry.origin entries = from_it entry.origin entry entries (same_place entry.origin) in
+                let some : entries_from entry.origin (entry ∷ entries) ≡ entry ∷ entries_from entry.origin entries = from_it entry.origin entry entries (same_number entry.origin) in
                 cc
             | false ↦ λ e. grind (arith, nat_tests, e)
           ] refl;

@@ -28,12 +28,6 @@ module _ {X : Type 0} where
   filter_agree p q [] agree = refl
   filter_agree p q (x ∷ xs) agree = λ i. cond (agree.0 i) (x ∷ filter_agree p q xs agree.1 i) (filter_agree p q xs agree.1 i)
 
-  pub filter_none : (p : X → Bool) (xs : List X) → list_any p xs ≡ false → filter p xs ≡ []
-  filter_none p [] none = refl
-  filter_none p (x ∷ xs) none =
-      let parts : (p x ≡ false) × (list_any p xs ≡ false) = or_parts (p x) (list_any p xs) none in
-      λ i. cond (parts.0 i) (x ∷ filter_none p xs parts.1 i) (filter_none p xs parts.1 i)
-
   pub none_kept : (p q : X → Bool) (xs : List X) → list_any p xs ≡ false → list_any p (filter q xs) ≡ false
   none_kept p q [] none = refl
   none_kept p q (x ∷ xs) none =

@@ -239,9 +239,6 @@ same_texts some other h = same_text some other (sym h)
 pub texts_same : (text : List ℕ) → pointwise nat_eq text text ≡ true
 texts_same text = search (rules, nat_list_eq_equiv)
 
-pub prefix_read : (prefix rest : List ℕ) → after_prefix prefix (prefix ++ rest) ≡ Some rest
-prefix_read prefix rest = rw (take-append_seam prefix rest, texts_same prefix, drop-append_seam prefix rest) refl
-
 pub prefix_written : (prefix text rest : List ℕ) → after_prefix prefix text ≡ Some rest → text ≡ prefix ++ rest
 prefix_written prefix text rest h =
     let parts : (pointwise nat_eq (take (length prefix) text) prefix ≡ true) × (Some (drop (length prefix) text) ≡ Some rest) = passed _ _ _ h in

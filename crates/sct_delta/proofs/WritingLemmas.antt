@@ -4,7 +4,7 @@ use Rattle.std.specs.Prelude.{decimal, flat_map}
 use Rattle.std.specs.Char.{digit_value}
 use Rattle.std.specs.List.{list_all}
 use Rattle.std.specs.Str.Parse.{AllDigits}
-use Rattle.std.proofs.lemmas.Bool.{and_parts, and_from}
+use Rattle.std.proofs.lemmas.Bool.{and_parts, and_from, not-true}
 use Rattle.std.proofs.lemmas.Bool.Decides.{nat_tests}
 use Rattle.std.proofs.lemmas.Fmt.{decimal_is_IsNumeral, decimal_is_IsNumeral_wide}
 use Rattle.std.proofs.lemmas.List.Folds.{list_all-append}
@@ -14,10 +14,6 @@ use Rattle.sct_delta.proofs.TextLemmas.{lines_of_none, feed_first, line_behind}
 
 -- ---- lines make the text
 
-other_than : (b : Bool) → not b ≡ true → b ≡ false
-other_than true h = cc
-other_than false h = refl
-
 pub not_other : (b : Bool) → b ≡ false → not b ≡ true
 not_other true h = cc
 not_other false h = refl
@@ -26,7 +22,7 @@ pub line_ended : (line rest : List ℕ) → has_no_line_feed line ≡ true → l
 line_ended [] rest one = feed_first 10 rest refl
 line_ended (byte ∷ line) rest one =
     let parts : (not (byte == 10) ≡ true) × (has_no_line_feed line ≡ true) = and_parts (not (byte == 10)) (has_no_line_feed line) one in
-    line_behind byte (line ++ 10 ∷ rest) line (lines_of rest) (other_than (byte == 10) parts.0) (line_ended line rest parts.1)
+    line_behind byte (line ++ 10 ∷ rest) line (lines_of rest) (not-true (byte == 10) parts.0) (line_ended line rest parts.1)
 
 pub ended_behind : (line rest : List ℕ) → has_no_line_feed line ≡ true → lines_of (ended line ++ rest) ≡ Some line ∷ lines_of rest
 ended_behind line rest one = ap lines_of (append_assoc line (10 ∷ []) rest) ∙ line_ended line rest one

@@ -1,6 +1,7 @@
 -- The definitions of entries, deltas and logs.
 pub mod Entries
 pub mod Faults
+pub mod Inside
 pub mod Laws
 pub mod Logs
 pub mod Refusals

@@ -1,26 +1,23 @@
 -- Proof plumbing: the test for equal vectors is an equivalence, and holds exactly if they count the same.
-use Rattle.std.proofs.Common.{ℕ, ◌≡◌, ◌∷◌, [], List, Bool, true, false, cond, Some, None, ◌==◌, ◌&&◌, ◌⊎◌, inl, inr, refl, sym, ap, ◌∙◌, arith, eqb-true}
+use Rattle.std.proofs.Common.{ℕ, ◌≡◌, ◌∷◌, [], List, Bool, true, false, cond, Some, None, ◌==◌, ◌⊎◌, inl, inr, refl, sym, ap, ◌∙◌, eqb-true}
 use Rattle.std.specs.Prelude.{nat_lt, nat_eq}
 use Rattle.std.specs.BTreeMap.{keys, is_at}
-use Rattle.std.specs.Cmp.{IsEquivalence}
+use Rattle.std.specs.Cmp.{IsEquivalence, both_ways}
 use Rattle.std.specs.List.{list_all}
 use Rattle.std.specs.Map.{lookup, keys_of}
 use Rattle.std.specs.Ordering.{nat_cmp, is_eq}
 use Rattle.std.specs.declared.cmp.Ordering.TheVariants.{Less, Equal, Greater}
-use Rattle.std.proofs.lemmas.Bool.{and_parts, and_from}
-use Rattle.std.proofs.lemmas.Bool.Decides.{nat_tests}
+use Rattle.std.proofs.lemmas.Bool.{and_parts, and_from, eq-eqb}
+use Rattle.std.proofs.Math.Bool.{and_comm}
 use Rattle.sct_delta.specs.declared.vector.Vector.{Vector}
 use Rattle.sct_delta.specs.Vectors.{count_in, count_or_0, counted_alike, same_counts, CountAlike}
-
-same_number : (n : ℕ) → nat_eq n n ≡ true
-same_number n = grind (arith, nat_tests)
 
 -- ---- from counts to the test
 
 all_alike : (f g : ℕ → ℕ) → ((origin : ℕ) → f origin ≡ g origin) → (origins : List ℕ)
     → list_all (λ origin. nat_eq (f origin) (g origin)) origins ≡ true
 all_alike f g same [] = refl
-all_alike f g same (origin ∷ origins) = rw (same origin, same_number (g origin), all_alike f g same origins) refl
+all_alike f g same (origin ∷ origins) = rw (same origin, eq-eqb (g origin) (g origin) refl, all_alike f g same origins) refl
 
 pub same_from_alike : (a b : Vector) → CountAlike a b → same_counts a b ≡ true
 unfolding same_counts
@@ -69,26 +66,15 @@ alike_from_same a b same =
 
 -- ---- an equivalence
 
-swapped : (x y : Bool) → (x && y) ≡ (y && x)
-swapped true true = refl
-swapped true false = refl
-swapped false true = refl
-swapped false false = refl
-
 same_back : (a b : Vector) → same_counts a b ≡ same_counts b a
 unfolding same_counts
-same_back a b = swapped (counted_alike a b) (counted_alike b a)
-
-both_or_none : (x y : Bool) → (x ≡ true → y ≡ true) → (y ≡ true → x ≡ true) → x ≡ y
-both_or_none true y to from = sym (to refl)
-both_or_none false true to from = from refl
-both_or_none false false to from = refl
+same_back a b = and_comm (counted_alike a b) (counted_alike b a)
 
 pub same_counts_equiv : IsEquivalence same_counts
 same_counts_equiv = record {
   refl = λ a. same_from_alike a a (λ origin. refl);
   symm = same_back;
-  congr = λ a b c same. both_or_none (same_counts a c) (same_counts b c)
+  congr = λ a b c same. both_ways (same_counts a c) (same_counts b c)
       (λ there. same_from_alike b c (λ origin. sym (alike_from_same a b same origin) ∙ alike_from_same a c there origin))
       (λ there. same_from_alike a c (λ origin. alike_from_same a b same origin ∙ alike_from_same b c there origin));
 }

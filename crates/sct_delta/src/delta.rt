@@ -85,7 +85,7 @@ fn refusal(entries: &[Entry]) -> Option<DeltaFault>
 }
 
 impl Delta {
-    /// Makes a delta of entries. The first refusal is returned, and the entries are dropped:
+    /// Makes a delta of entries. O(entries). The first refusal is returned, and the entries are dropped:
     /// - `BadSite` (44): an origin is outside 1 to 1024;
     /// - `BadDelta` (45) with the place, from 1, of the first entry that is out of order: it does not ascend by origin
     ///   and number, it leaves a hole after the entry before it, or it has number 0.

@@ -29,7 +29,7 @@ impl Model for Entry {
 
 impl Entry {
     // A copy that shares the message.
-    pub(crate) fn share(&self) -> Result<Entry, AllocError>
+    pub(crate) fn clone(&self) -> Result<Entry, AllocError>
         ensures { IfOk result (λ entry. entry ≡ self.now) }
     {
         Ok(Entry {

@@ -77,6 +77,7 @@ impl Logs {
     }
 
     /// Whether the site `own` accepts a delta. If not, the first of these errors is returned. It does not allocate.
+    /// O(entries of the delta).
     /// - `BadSite` (44): the group does not have an origin of the delta;
     /// - `OwnAhead` (43): an entry of the own origin is above the own count;
     /// - `Gap` (41): the least number of an origin is past the next one;

@@ -39,7 +39,7 @@ impl Logs {
     }
 
     /// Makes room for the entries of a delta, so that joining it does not allocate. The entries held stay as they are.
-    /// Error: `Memory` (40); the logs then keep nothing for an origin that holds no message.
+    /// Error: `Memory` (40); the logs then keep nothing for an origin that holds no message. O(entries of the delta).
     /// The room is kept until a `join`, or until `drop_empty` if nothing is joined.
     pub fn reserve(&mut self, delta: &Delta) -> Result<(), DeltaFault>
         ensures group { self.new.group ≡ self.old.group }
@@ -98,7 +98,7 @@ impl Logs {
     /// Joins a delta that fits the site `own`. Returns how many of its entries were not held. It does not
     /// allocate right after `reserve` of the delta.
     /// A delta that does not fit is refused as by `fits`, and dropped. Further error: `Memory`
-    /// (40). The entries held are then unchanged.
+    /// (40). The entries held are then unchanged. O(entries of the delta).
     pub fn join(&mut self, own: u16, delta: Delta) -> Result<u64, DeltaFault>
         ensures group { self.new.group ≡ self.old.group }
         ensures answer { IfOk result (λ fresh. fresh ≡ length (fresh_in (log_in self.old) delta)) }

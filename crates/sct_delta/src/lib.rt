@@ -9,7 +9,6 @@ mod fits;
 mod join;
 pub mod laws;
 mod logs;
-mod raise;
 mod shelf;
 mod sites;
 mod text;

@@ -1,12 +1,11 @@
 //! The logs of one site: one log for each origin, with the vector that counts their entries.
 
-ghost use Rattle.std.specs.Prelude.{◌≡◌, ◌≢◌, ◌≤◌, ◌+◌, ℕ, [], None, true, false, length, nat_eq, not, if◌then◌else◌, OnOk, OnErr, IfOk, IfErr, IsOk, MatchOption, option_map};
+ghost use Rattle.std.specs.Prelude.{◌≡◌, ◌≢◌, ◌≤◌, ◌<◌, ◌^◌, ◌+◌, ℕ, [], None, true, false, length, nat_eq, not, if◌then◌else◌, OnOk, OnErr, IfOk, IfErr, IsOk, MatchOption, option_map};
 ghost use Rattle.std.specs.Arc.{arc_value};
 ghost use Rattle.std.specs.List.{list_all};
 ghost use Rattle.std.specs.Option.{option_copied};
 ghost use Rattle.sct_delta.specs.Entries.{entries_from, log_of, numbered, IsDelta};
 ghost use Rattle.sct_delta.specs.Vectors.{count_in};
-ghost use Rattle.sct_delta.specs.Shelves.{log_on};
 ghost use Rattle.sct_delta.specs.Refusals.{appended, first_refusal, fresh_in, has_site, is_new, message_at, refusal_at, vector_of, IsCut};
 ghost use Rattle.sct_delta.specs.Sites.{is_group};
 
@@ -18,6 +17,7 @@ use crate::sites::is_site;
 use crate::vector::Vector;
 use sct_message::Message;
 use std::alloc::Global;
+use std::marker::Model;
 use std::sync::Arc;
 
 /// The entries that one site holds. For each origin of the group these are the numbers 1 to some count.
@@ -26,14 +26,23 @@ pub struct Logs {
     group: u16,
     shelf: Shelf,
     vector: Vector,
-    ghost in_step: { (origin : ℕ) → count_in vector origin ≡ length (log_on shelf origin) },
-    ghost small: { is_group group ≡ true },
-    ghost inside: { (origin : ℕ) → has_site group origin ≡ false → log_on shelf origin ≡ [] },
 }
 
+impl Model for Logs {
+    ghost use Rattle.sct_delta.specs.Logs.{HeldLogs};
+    ghost use Rattle.sct_delta.specs.Inside.{held_logs, AreLogs};
+
+    ghost Value = { HeldLogs };
+
+    ghost view = { λ l. held_logs l.group l.shelf l.vector };
+
+    ghost invariant = { λ l. AreLogs l.group l.shelf l.vector };
+}
+
+#[tactic(auto, using(crate::proofs::LogsLemmas::log_is, crate::proofs::LogsLemmas::room_is))]
 impl Logs {
     ghost use Rattle.sct_delta.specs.declared.fault.DeltaFault.TheVariants as fault;
-    ghost use Rattle.sct_delta.specs.Logs.{log_in, room_at, HasRoom, HoldSame, KeepsNoEmpty};
+    ghost use Rattle.sct_delta.specs.Logs.{log_in, room_at, HasRoom, HoldSame, IsOfGroup, KeepsNoEmpty};
 
     /// Empty logs for a group of 1 to 1024 sites. Error: `BadSite` (44) for any other size.
     pub fn new(alloc: Global, group: u16) -> Result<Logs, DeltaFault>
@@ -52,14 +61,14 @@ impl Logs {
         })
     }
 
-    /// The version vector: how many entries of each origin are held.
+    /// The version vector: how many entries of each origin are held. O(1).
     pub fn vector(&self) -> &Vector
         ensures { (origin : ℕ) → count_in result.now origin ≡ vector_of (log_in self.now) origin }
     {
         &self.vector
     }
 
-    /// The message of an entry, whose number counts from 1. None if no such entry is held.
+    /// The message of an entry, whose number counts from 1. None if no such entry is held. O(log origins).
     pub fn get(&self, origin: u16, n: u64) -> Option<&Arc<Message>>
         ensures { option_map arc_value (option_copied result) ≡ message_at (log_in self.now origin) n }
     {
@@ -93,12 +102,13 @@ impl Logs {
         ensures err { IfErr result (λ refusal. MatchOption
             (first_refusal own self.now.group (log_in self.now) delta.now)
             (refusal ≡ fault.Memory) (λ first. refusal ≡ first)) }
+        ensures inside { IsOfGroup self.now }
     {
-        self.fits(own, delta)?;
         let mut fresh = Vec::new(self.shelf.allocator());
+        self.fits(own, delta)?;
         for entry in delta.entries() {
             if self.is_new(entry) {
-                fresh.push(entry.share()?)?;
+                fresh.push(entry.clone()?)?;
             }
         }
         Ok(Delta::of_shape(fresh))
@@ -110,6 +120,7 @@ impl Logs {
         ensures cut { IfOk result (λ delta. IsCut (log_in self.now) (count_in vector.now) delta) }
         ensures shape { IfOk result (λ delta. IsDelta delta) }
         ensures err { IfErr result (λ refusal. refusal ≡ fault.Memory) }
+        ensures inside { IsOfGroup self.now }
     {
         let entries = self.shelf.above(vector)?;
         Ok(Delta::of_shape(entries))
@@ -135,6 +146,7 @@ impl Logs {
         ensures same { HoldSame self.new self.old }
         ensures keeps { (k : ℕ) → room_at self.old k ≤ room_at self.new k }
         ensures ok { OnOk result (places ≤ room_at self.new origin) }
+        ensures few { OnOk result (places < 2 ^ 63) }
         ensures err { IfErr result (λ refusal. refusal ≡ fault.Memory) }
         ensures there { places ≤ room_at self.old origin → 1 ≤ places → IsOk result }
     {
@@ -158,7 +170,7 @@ impl Logs {
     /// allocate. The entries held stay as they are.
     /// Errors: `BadSite` (44) if the group does not have the origin; `Memory` (40), and the logs then keep
     /// nothing for an origin that holds no message.
-    /// The room is kept until a `push`, or until `drop_empty` if nothing is pushed.
+    /// The room is kept until a `push`, or until `drop_empty` if nothing is pushed. O(log origins).
     pub fn room(&mut self, origin: u16) -> Result<(), DeltaFault>
         ensures group { self.new.group ≡ self.old.group }
         ensures same { HoldSame self.new self.old }
@@ -180,7 +192,7 @@ impl Logs {
     /// Appends a message as the next entry of its origin. Returns the number of that entry. It does not
     /// allocate right after `room` of the origin.
     /// Errors: `BadSite` (44) if the group does not have the origin; `Memory` (40), and the logs then keep nothing for
-    /// an origin that holds no message. The entries held are then unchanged.
+    /// an origin that holds no message. The entries held are then unchanged. O(log origins).
     pub fn push(&mut self, origin: u16, message: Arc<Message>) -> Result<u64, DeltaFault>
         ensures group { self.new.group ≡ self.old.group }
         ensures answer { IfOk result (λ n. n ≡ vector_of (log_in self.old) origin + 1) }

@@ -3,21 +3,21 @@
 ghost use Rattle.std.specs.BTreeMap.{keys};
 ghost use Rattle.std.specs.Cmp.{partial_equiv_from_equiv};
 ghost use Rattle.std.specs.List.{list_all};
-ghost use Rattle.std.specs.Prelude.{◌≡◌, ◌≢◌, ◌↔◌, ℕ, Some, None, true, IfOk, IfErr, OnOk, IsTrue};
+ghost use Rattle.std.specs.Prelude.{◌≡◌, ◌≢◌, ◌↔◌, ℕ, Some, None, true, nat_eq, if◌then◌else◌, IfOk, IfErr, IsOk, IsTrue, OnOk, OnErr};
 ghost use Rattle.sct_delta.specs.declared.fault.DeltaFault.TheVariants as fault;
 ghost use Rattle.sct_delta.specs.Shapes.{are_sites, first_fall, count_among, vector_refusal};
-ghost use Rattle.sct_delta.specs.Vectors.{CountAlike, count_in, counted_alike, same_counts};
+ghost use Rattle.sct_delta.specs.Vectors.{CountAlike, HasNoZero, Names, count_in, counted_alike, same_counts};
 ghost use Rattle.sct_delta.specs.VectorLaws.{same_counts_equiv};
 
 use crate::fault::DeltaFault;
 use crate::sites::is_site;
-use std::alloc::Global;
+use std::alloc::{AllocError, Global};
 use std::collections::BTreeMap;
 
 /// How many entries of each origin are held. An origin without entries counts 0, whether or not the vector names it.
 #[derive(Drop)]
 pub struct Vector {
-    pub(crate) counts: BTreeMap<u16, u64>,
+    counts: BTreeMap<u16, u64>,
 }
 
 // Whether each origin is the number of a site.
@@ -80,7 +80,8 @@ fn counted_alike(some: &Vector, other: &Vector) -> bool
 }
 
 impl Vector {
-    /// The vector of these pairs of an origin and a count, which ascend by origin. Errors, the first that holds:
+    /// The vector of these pairs of an origin and a count, which ascend by origin. O(pairs × log pairs). The first of
+    /// these errors is returned:
     /// - `BadSite` (44): an origin is outside 1 to 1024;
     /// - `BadDelta` (45) with the place, from 1, of the first pair whose origin does not ascend;
     /// - `Memory` (40).
@@ -97,7 +98,7 @@ impl Vector {
         counted(alloc, pairs)
     }
 
-    /// How many entries of the origin are held; 0 if the vector does not name it.
+    /// How many entries of the origin are held; 0 if the vector does not name it. O(log origins).
     pub fn get(&self, origin: u16) -> u64
         ensures { result ≡ count_in self.now origin }
     {
@@ -105,6 +106,50 @@ impl Vector {
             Some(count) => *count,
             None => 0,
         }
+    }
+
+    // A vector of zero counts.
+    pub(crate) fn empty(alloc: Global) -> Vector
+        ensures { (origin : ℕ) → count_in result origin ≡ 0 }
+    {
+        Vector {
+            counts: BTreeMap::new(alloc),
+        }
+    }
+
+    // Makes room for the count of the origin.
+    pub(crate) fn room(&mut self, origin: u16) -> Result<(), AllocError>
+        ensures same { (k : ℕ) → count_in self.new k ≡ count_in self.old k }
+        ensures keeps { (k : ℕ) → Names self.old k → Names self.new k }
+        ensures ok { OnOk result (Names self.new origin) }
+        ensures there { Names self.old origin → IsOk result }
+    {
+        if self.counts.get(&origin).is_some() {
+            return Ok(());
+        }
+        self.counts.insert(origin, 0)?;
+        Ok(())
+    }
+
+    // Sets the count of the origin.
+    pub(crate) fn set(&mut self, origin: u16, count: u64) -> Result<(), AllocError>
+        ensures ok { OnOk result ((k : ℕ) → count_in self.new k
+            ≡ (if nat_eq origin k then count else count_in self.old k)) }
+        ensures err { OnErr result ((k : ℕ) → count_in self.new k ≡ count_in self.old k) }
+        ensures keeps { (k : ℕ) → Names self.old k → Names self.new k }
+        ensures named { OnOk result (Names self.new origin) }
+        ensures room { Names self.old origin → IsOk result }
+    {
+        self.counts.insert(origin, count)?;
+        Ok(())
+    }
+
+    // Drops the counts of 0.
+    pub(crate) fn drop_zeros(&mut self)
+        ensures same { (k : ℕ) → count_in self.new k ≡ count_in self.old k }
+        ensures counted { HasNoZero self.new }
+    {
+        self.counts.retain(|_, count| *count > 0);
     }
 }
 

@@ -216,10 +216,3 @@ pub fails_if : {A : Type 0} (old new : Locked) (r : Result A DeskFault) → IsPr
     → IfErr r (λ refusal. refusal ≡ unpublished old) → OnErr r (new ≡ old) → IfErr r (Fails old old.core.arrivals new)
 fails_if old new (Ok x) pre why same = tt
 fails_if old new (Err f) pre why same = fails_same old new f pre why same
-
-want_cases : (held : Locked) (b : Bool) → nat_eq (length held.published) (length held.core.arrivals) ≡ b → IsWant (unpublished held)
-want_cases held true is = rw is tt
-want_cases held false is = rw is (omega arith)
-
-pub want_is : (held : Locked) → IsWant (unpublished held)
-want_is held = want_cases held (nat_eq (length held.published) (length held.core.arrivals)) refl

@@ -22,14 +22,6 @@ use Rattle.sct_desk.specs.Rules.{GoesOn, absorbed, handed_over, view_of}
 pub prefix_take : {A : Type 0} (k : ℕ) (xs : List A) → IsPrefix (take k xs) xs
 prefix_take k xs = (drop k xs, take-append-drop k xs)
 
--- one batch more
-pub handed_more : (x : Shown) (bs : List Batch) (b : Batch) (ds : List Placed) (t : Sight)
-    → messages_in b.messages.items ≡ map (λ entry. entry.message) ds → b.track ≡ t
-    → handed_over x (bs ++ b ∷ []) ≡ record { view = set.union (handed_over x bs).view (messages_of ds); track = t }
-handed_more x bs b ds t messages track =
-    fold-append absorbed x bs (b ∷ [])
-    ∙ λ i. record { view = set.union (handed_over x bs).view (contents_of (messages i)); track = track i }
-
 -- a batch of all arrivals that were not handed over
 given_all : (x : Shown) (book : Book) (es : List Placed) (k : ℕ) (t : Sight)
     → x ≡ view_of book (take k es) → t ≡ record { book = book; log = es }

@@ -28,49 +28,10 @@ tellings_more number p rs i r inside is =
     ∙ length-counted (filter (tells number p) (take i rs)) (get_or rs i r) (tells number p (get_or rs i r))
     ∙ ap (λ (x : Told). tellings number p (take i rs) + counted (tells number p x)) (sym is)
 
--- the receipt does not tell the position
-pub same_mark : (number p : ℕ) (rs : List Told) (i : ℕ) (r : Told) (m : ℕ) → i < length rs → r ≡ get_or rs i r
-    → tells number p r ≡ false → m ≡ up_to_two (tellings number p (take i rs)) → m ≡ up_to_two (tellings number p (take (i + 1) rs))
-same_mark number p rs i r m inside is other so_far =
-    omega (arith, so_far, tellings_more number p rs i r inside is, ap counted other)
-
--- it does
-pub more_mark : (number p : ℕ) (rs : List Told) (i : ℕ) (r : Told) (m n : ℕ) → i < length rs → r ≡ get_or rs i r
-    → tells number p r ≡ true → m ≡ up_to_two (tellings number p (take i rs)) → n ≡ up_to_two (m + 1)
-    → n ≡ up_to_two (tellings number p (take (i + 1) rs))
-more_mark number p rs i r m n inside is does so_far marked =
-    omega (arith, so_far, marked, tellings_more number p rs i r inside is, ap counted does)
-
 -- ---- the marks after one receipt more
 
 abbrev pub AreMarks : ℕ → List Told → ℕ → List ℕ → Type 0
 AreMarks number rs i marks = (at : ℕ) → at < length marks → slice_index marks at ≡ up_to_two (tellings number (at + 1) (take i rs))
-
-mark_at : (number at : ℕ) (rs : List Told) (i : ℕ) (r : Told) (m n start end : ℕ) → i < length rs → r ≡ get_or rs i r
-    → m ≡ up_to_two (tellings number (at + 1) (take i rs))
-    → (start ≤ at → at < end → n ≡ up_to_two (m + 1)) → ((at < start) ⊎ (end ≤ at) → n ≡ m)
-    → r.site ≡ number → r.from ≡ start + 1 → end ≡ start + r.count
-    → (b : Bool) → tells number (at + 1) r ≡ b → n ≡ up_to_two (tellings number (at + 1) (take (i + 1) rs))
-mark_at number at rs i r m n start end inside is so_far within without site from till true does =
-    more_mark number (at + 1) rs i r m n inside is does so_far
-    (within (grind (arith, nat_tests, does, from, till)) (grind (arith, nat_tests, does, from, till)))
-mark_at number at rs i r m n start end inside is so_far within without site from till false misses =
-    same_mark number (at + 1) rs i r n inside is misses (without (grind (arith, nat_tests, misses, site, from, till)) ∙ so_far)
-
-pub marks_after : (number : ℕ) (rs : List Told) (i : ℕ) (r : Told) (old new : List ℕ) (start end : ℕ)
-    → i < length rs → r ≡ get_or rs i r → AreMarks number rs i old → length new ≡ length old
-    → ((at : ℕ) → start ≤ at → at < end → slice_index new at ≡ up_to_two (slice_index old at + 1))
-    → ((at : ℕ) → (at < start) ⊎ (end ≤ at) → slice_index new at ≡ slice_index old at)
-    → r.site ≡ number → r.from ≡ start + 1 → end ≡ start + r.count
-    → AreMarks number rs (i + 1) new
-marks_after number rs i r old new start end inside is so_far len within without site from till at here =
-    mark_at number at rs i r (slice_index old at) (slice_index new at) start end inside is (so_far at (omega (arith, here, len)))
-    (within at) (without at) site from till (tells number (at + 1) r) refl
-
-pub marks_same : (number : ℕ) (rs : List Told) (i : ℕ) (r : Told) (marks : List ℕ)
-    → i < length rs → r ≡ get_or rs i r → AreMarks number rs i marks → r.site ≢ number → AreMarks number rs (i + 1) marks
-marks_same number rs i r marks inside is so_far other at here =
-    same_mark number (at + 1) rs i r (slice_index marks at) inside is (grind (arith, nat_tests, other)) (so_far at here)
 
 -- ---- the first position that is not told once
 

@@ -9,7 +9,7 @@ use Rattle.sct_set.specs.Contents.{contents_of}
 use Rattle.sct_set.proofs.TextLemmas.{archive_text-lines, contents-in_text_order, Contains-in_text_order}
 use Rattle.sct_lines.specs.Lines.{is_blank, lines_of, onto_first, numbered_from, messages_among, refusals_among}
 use Rattle.sct_engine.specs.Again.{ArchiveGivesBack}
-use Rattle.sct_lines.proofs.LineLemmas.{lines_of_none, numbered_none, messages_of_none, refusals_of_none, numbered-cons, written_line, messages-append, refusals-append, message_line, no_refusal}
+use Rattle.sct_lines.proofs.LineLemmas.{lines_of_none, numbered_none, messages_of_none, refusals_of_none, numbered-cons, written_line, messages_by_line, refusals_by_line, message_line, no_refusal}
 
 -- the first line of a text that begins with bytes none of which is a line feed, and a line feed
 line_first : (line rest : List ℕ) → has_no_line_feed line ≡ true → lines_of (line ++ 10 ∷ rest) ≡ line ∷ lines_of rest
@@ -50,13 +50,13 @@ lines-cons number draft drafts =
 messages_again : (number : ℕ) (drafts : List Draft) → AllReadAgain drafts → messages_among (lines_from number drafts) ≡ drafts
 messages_again number [] all = rw (lines_of_none, numbered_none, messages_of_none) refl
 messages_again number (draft ∷ drafts) all =
-    ap messages_among (lines-cons number draft drafts) ∙ messages-append ((number, written_text draft) ∷ []) (lines_from (number + 1) drafts)
+    ap messages_among (lines-cons number draft drafts) ∙ messages_by_line.append ((number, written_text draft) ∷ []) (lines_from (number + 1) drafts)
     ∙ rw (message_line number (written_text draft) draft all.0, messages_again (number + 1) drafts all.1) refl
 
 refusals_again : (number : ℕ) (drafts : List Draft) → AllReadAgain drafts → refusals_among (lines_from number drafts) ≡ []
 refusals_again number [] all = rw (lines_of_none, numbered_none, refusals_of_none) refl
 refusals_again number (draft ∷ drafts) all =
-    ap refusals_among (lines-cons number draft drafts) ∙ refusals-append ((number, written_text draft) ∷ []) (lines_from (number + 1) drafts)
+    ap refusals_among (lines-cons number draft drafts) ∙ refusals_by_line.append ((number, written_text draft) ∷ []) (lines_from (number + 1) drafts)
     ∙ rw (no_refusal number (written_text draft) draft all.0, refusals_again (number + 1) drafts all.1) refl
 
 pub archive_gives_back : ArchiveGivesBack

@@ -1,9 +1,12 @@
 -- The lemmas of the program.
 mod AgainLemmas
+mod AnswerLemmas
 mod CommandLineLemmas
 mod FileLemmas
 mod PieceLemmas
 mod Prefixes
 mod RunFaults
+mod RunLemmas
 mod Unasked
+mod UnionLemmas
 mod Values

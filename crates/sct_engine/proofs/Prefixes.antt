@@ -1,19 +1,25 @@
--- A text written in two parts, of which the second, or the first, may be cut off.
-use Rattle.std.proofs.Common.{◌≡◌, ℕ, ◌+◌, List, ◌++◌, Option, Some, None, Result, Ok, Err, length, take, OnErr, sym, ap, ◌∙◌, subst, append_assoc, arith}
+-- A text written in two parts, of which the second, or the first, may be cut off. Proof plumbing.
+use Rattle.std.proofs.Common.{ℕ, ◌+◌, List, ◌++◌, Option, Some, None, Result, Ok, Err, length, take, OnErr, sym, ap, ◌∙◌, subst, append_assoc, arith}
 use Rattle.std.proofs.lemmas.List.{take-append-le, length-append}
 use Rattle.std.proofs.Math.Seq.{take-append-add}
-use Rattle.sct_engine.specs.Engine.{IsCutOff}
-use Rattle.sct_streams.specs.Stream.{AppendsIfTold, AppendsPrefixIfTold}
+use Rattle.sct_streams.specs.Stream.{AppendsIfTold, AppendsPrefixIfTold, IsCutOff, IsWritten, Output}
+
+appends_both : (before between after : Option (List ℕ)) (first second : List ℕ) → AppendsIfTold before between first → AppendsIfTold between after second
+    → AppendsIfTold before after (first ++ second)
+appends_both None between after first second one two = tt
+appends_both (Some held) between after first second one two =
+    let told : AppendsIfTold (Some (held ++ first)) after second = subst (λ b. AppendsIfTold b after second) one two in
+    told ∙ ap Some (append_assoc held first second)
 
 -- a prefix of the first part is one of both
-pub prefix_of_both : (before after : Option (List ℕ)) (first second : List ℕ) → AppendsPrefixIfTold before after first
+prefix_of_both : (before after : Option (List ℕ)) (first second : List ℕ) → AppendsPrefixIfTold before after first
     → AppendsPrefixIfTold before after (first ++ second)
 prefix_of_both None after first second cut = tt
 prefix_of_both (Some held) after first second (count, (within, is)) =
     (count, (rw (length-append first second) (omega (arith, within)), is ∙ ap (λ p. Some (held ++ p)) (sym (take-append-le count first second within))))
 
 -- the first part and a prefix of the second are a prefix of both
-pub prefix_after_whole : (before between after : Option (List ℕ)) (first second : List ℕ) → AppendsIfTold before between first
+prefix_after_whole : (before between after : Option (List ℕ)) (first second : List ℕ) → AppendsIfTold before between first
     → AppendsPrefixIfTold between after second → AppendsPrefixIfTold before after (first ++ second)
 prefix_after_whole None between after first second whole cut = tt
 prefix_after_whole (Some held) between after first second whole cut =
@@ -25,12 +31,28 @@ prefix_after_whole (Some held) between after first second whole cut =
       ),
     )
 
--- a writing that failed has cut its text off
-pub cut_off : {T E : Type 0} (result : Result T E) (failed now : ℕ) (held held_now : Option (List ℕ)) (text : List ℕ)
-    → OnErr result (now ≡ failed + 1) → OnErr result (AppendsPrefixIfTold held held_now text)
-    → OnErr result (IsCutOff failed now held held_now (Some text))
-cut_off (Ok done) failed now held held_now text counted cut = tt
-cut_off (Err e) failed now held held_now text counted cut = record { one_failed = counted; prefix = cut }
+-- both parts are written
+pub both_written : (before between after : Output) (first second : List ℕ) → IsWritten before between (Some first) → IsWritten between after (Some second)
+    → IsWritten before after (Some (first ++ second))
+both_written before between after first second one two = record {
+  none_failed = two.none_failed ∙ one.none_failed;
+  whole = appends_both before.held between.held after.held first second one.whole two.whole;
+}
+
+-- the first part is cut off
+pub first_cut_off : (before after : Output) (first second : List ℕ) → IsCutOff before after (Some first) → IsCutOff before after (Some (first ++ second))
+first_cut_off before after first second cut = record {
+  one_failed = cut.one_failed;
+  prefix = prefix_of_both before.held after.held first second cut.prefix;
+}
+
+-- the first part is written, and the second is cut off
+pub second_cut_off : (before between after : Output) (first second : List ℕ) → IsWritten before between (Some first) → IsCutOff between after (Some second)
+    → IsCutOff before after (Some (first ++ second))
+second_cut_off before between after first second one cut = record {
+  one_failed = cut.one_failed ∙ ap (λ (n : ℕ). n + 1) one.none_failed;
+  prefix = prefix_after_whole before.held between.held after.held first second one.whole cut.prefix;
+}
 
 -- what holds holds on a refusal
 pub on_err : {T E : Type 0} (result : Result T E) (P : Type 0) → P → OnErr result P

@@ -1,14 +1,17 @@
 -- What ends the settling of inputs. Proof plumbing.
-use Rattle.sct_run.specs.Runs.{RunEndsWhere}
-use Rattle.sct_run.specs.declared.fault.RunFault.{RunFault}
-use Rattle.sct_run.specs.declared.fault.RunFault.TheVariants as run
-use Rattle.sct_engine.specs.Fault.{fault_of_run}
+use Rattle.sct_engine.specs.Runs.{RunEndsWhere}
 use Rattle.sct_engine.specs.Tasks.{EndsSettling}
+use Rattle.sct_engine.specs.declared.fault.ProgramFault.{ProgramFault}
+use Rattle.sct_engine.specs.declared.fault.ProgramFault.TheVariants as fault
 
 -- where no gate may hold a worker, none was held
-pub ends_settling : (f : RunFault) → RunEndsWhere (λ point. ⊥) f → EndsSettling (fault_of_run f)
-ends_settling run.Usage ends = tt
-ends_settling run.Held ends = absurd ends.1
-ends_settling run.Memory ends = tt
-ends_settling (run.Refused number) ends = ends
-ends_settling run.NoWorker ends = tt
+pub ends_settling : (f : ProgramFault) → RunEndsWhere (λ point. ⊥) f → EndsSettling f
+ends_settling fault.Usage ends = tt
+ends_settling fault.Held ends = absurd ends.1
+ends_settling fault.Memory ends = tt
+ends_settling (fault.Refused number) ends = ends
+ends_settling fault.NoWorker ends = tt
+ends_settling (fault.BadList row) ends = absurd ends
+ends_settling fault.TooLong ends = absurd ends
+ends_settling fault.Read ends = absurd ends
+ends_settling fault.Write ends = absurd ends

@@ -3,7 +3,8 @@ use Rattle.std.proofs.Common.{◌≡◌, ℕ, List, Option, Result, Ok, Err, ref
 use Rattle.std.specs.Result.{IsErrAnd}
 use Rattle.sct_engine.specs.declared.ending.Ending.{Ending}
 use Rattle.sct_engine.specs.declared.fault.ProgramFault.{ProgramFault}
-use Rattle.sct_engine.specs.Run.{IsAnsweredTo, IsAskedBy, Streams}
+use Rattle.sct_engine.specs.Run.{IsAnsweredTo, IsAskedBy}
+use Rattle.sct_engine.specs.Stream.{Streams}
 
 -- it ends with the fault of the words, and leaves the streams as they were
 pub unasked : (gives : List ℕ → Option (List ℕ)) (told : Result (List (List ℕ)) ProgramFault) (f : ProgramFault) (before : Streams) (ended : Result Ending ProgramFault)

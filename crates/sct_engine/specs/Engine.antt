@@ -1,4 +1,4 @@
--- The texts that the engine writes for an input, and how a text is written to a stream. Read by an auditor.
+-- The texts that the engine writes for an input, and how a run of it ends. Read by an auditor.
 use Rattle.std.specs.Prelude.{ℕ, ◌≡◌, ◌+◌, ◌<◌, ◌≤◌, ◌⊎◌, List, [], length, Option, Some, None, IfSome, IsSome, Result, Ok, Err}
 use Rattle.std.specs.Option.{option_map}
 use Rattle.sct_engine.specs.declared.jobs.Job.{Job}
@@ -20,7 +20,8 @@ use Rattle.sct_set.specs.Contents.{Contents}
 use Rattle.sct_script.specs.Replays.{replay_of}
 use Rattle.sct_script.specs.Scripts as script
 use Rattle.sct_script.specs.Scripts.{sites_told}
-use Rattle.sct_streams.specs.Stream.{AppendsIfTold, AppendsPrefixIfTold}
+use Rattle.sct_streams.specs.Stream.{HasTakenIfTold, Input, Output, IsCutOff, IsWritten}
+use Rattle.sct_engine.specs.Stream.{Streams}
 
 -- ---- the text of a job
 
@@ -83,18 +84,6 @@ StandsOnList row (Err fault.Usage) = Unit {0}
 StandsOnList row (Err fault.Memory) = Unit {0}
 StandsOnList row _ = row ≡ None
 
--- the rows of the list that was read for a job, if the job compares with a list
-abbrev pub IsListOf : Job → Option (List ListedRow) → Type 0
-IsListOf (job.Report bank day list) (Some rows) = list_of list.items ≡ Ok rows
-IsListOf (job.Report bank day list) None = ⊥
-IsListOf _ rows = Unit {0}
-
--- the faults that may end a run while its list is read
-abbrev pub EndsListing : ProgramFault → Type 0
-EndsListing (fault.BadList row) = Unit {0}
-EndsListing fault.Memory = Unit {0}
-EndsListing _ = ⊥
-
 -- ---- inputs that a job does not take: a replay takes only a script
 
 abbrev pub IsInputOf : Job → List ℕ → Type 0
@@ -106,29 +95,39 @@ IsNoInputOf job.Replay input = sites_told input ≡ None
 IsNoInputOf _ input = ⊥
 
 -- the bytes of an input, which was read whole and is within the limit, are not taken by the job
-pub record IsRefusedInput (work : Job) (limit : ℕ) (left left_now : Option (List ℕ)) : Type 0 where
+pub record IsRefusedInput (work : Job) (limit : ℕ) (before after : Input) : Type 0 where
   pub bytes : List ℕ
   pub within : length bytes ≤ limit
   pub no_input : IsNoInputOf work bytes
-  pub read : IfSome left (λ input. (input ≡ bytes) × (left_now ≡ Some []))
+  pub read : IfSome before.left (λ input. (input ≡ bytes) × (after.left ≡ Some []))
 
 -- a limit that a run cannot have: a limit is 1 to 1,073,741,824 bytes
 abbrev pub IsBadLimit : ℕ → Type 0
 IsBadLimit limit = (limit ≡ 0) ⊎ (1073741824 < limit)
 
--- ---- how a text is written to a stream
+-- ---- how a run ends
 
--- no write failed, and the bytes held are those held before followed by the whole text, if these are known
-pub record IsWritten (failed failed_now : ℕ) (held held_now : Option (List ℕ)) (text : Option (List ℕ)) : Type 0 where
-  pub none_failed : failed_now ≡ failed
-  pub whole : IfSome text (λ bytes. AppendsIfTold held held_now bytes)
+-- an input within the limit was read whole, if it is known
+abbrev pub IsReadWhole : ℕ → Input → Input → Type 0
+IsReadWhole limit before after = IfSome before.left (λ input. (length input ≤ limit) × (after.left ≡ Some []))
 
--- one write failed, and the bytes held are those held before followed by a prefix of the text, if these are known
-pub record IsCutOff (failed failed_now : ℕ) (held held_now : Option (List ℕ)) (text : Option (List ℕ)) : Type 0 where
-  pub one_failed : failed_now ≡ failed + 1
-  pub prefix : IfSome text (λ bytes. AppendsPrefixIfTold held held_now bytes)
+-- The job was done, with this number of refused lines. An input that the job takes was read whole. Standard error got
+-- the lines that report the refused ones, and standard output the text of the job.
+pub record IsDone (work : Job) (limit : ℕ) (before after : Streams) (refused : ℕ) : Type 0 where
+  pub read : IsReadWhole limit before.input after.input
+  pub none_failed : after.input.failures ≡ before.input.failures
+  pub taken : IfSome before.input.left (IsInputOf work)
+  pub told : IsWritten before.err after.err (told_text_if_told work before.input.left)
+  pub text : IsWritten before.out after.out (job_text_if_told work before.input.left)
+  pub count : IfSome before.input.left (λ input. refused ≡ refused_of work input)
 
--- the whole text was written, or one write failed and a prefix of it was written
-abbrev pub IsWrittenOrCutOff : ℕ → ℕ → Option (List ℕ) → Option (List ℕ) → Option (List ℕ) → Type 0
-IsWrittenOrCutOff failed failed_now held held_now text =
-    IsWritten failed failed_now held held_now text ⊎ IsCutOff failed failed_now held held_now text
+-- the input has more bytes than the limit, and exactly one byte more than the limit was taken
+pub record IsPastLimit (limit : ℕ) (before after : Input) : Type 0 where
+  pub longer : IfSome before.left (λ input. limit < length input)
+  pub taken : HasTakenIfTold before.left after.left (limit + 1)
+
+-- One write failed. Either standard error got a prefix of its text, and standard output is as it was. Or standard error
+-- got its whole text, and standard output a prefix of its own.
+abbrev pub AreCutOff : (err err_now out out_now : Output) (told text : Option (List ℕ)) → Type 0
+AreCutOff err err_now out out_now told text =
+    (IsCutOff err err_now told × (out_now ≡ out)) ⊎ (IsWritten err err_now told × IsCutOff out out_now text)

@@ -4,10 +4,12 @@ use Rattle.sct_engine.specs.declared.fault.ProgramFault.{ProgramFault}
 use Rattle.sct_engine.specs.declared.fault.ProgramFault.TheVariants.{BadList, TooLong, Held, Read, Write, Usage, Memory, Refused, NoWorker}
 use Rattle.sct_reconcile.specs.declared.fault.ReconcileFault.{ReconcileFault}
 use Rattle.sct_reconcile.specs.declared.fault.ReconcileFault.TheVariants as list
-use Rattle.sct_run.specs.declared.fault.RunFault.{RunFault}
-use Rattle.sct_run.specs.declared.fault.RunFault.TheVariants as run
+use Rattle.sct_script.specs.declared.fault.ScriptFault.{ScriptFault}
+use Rattle.sct_script.specs.declared.fault.ScriptFault.TheVariants as script
 use Rattle.sct_streams.specs.declared.whole.ReadFault.{ReadFault}
 use Rattle.sct_streams.specs.declared.whole.ReadFault.TheVariants as read
+use Rattle.sct_workers.specs.declared.fault.WorkFault.{WorkFault}
+use Rattle.sct_workers.specs.declared.fault.WorkFault.TheVariants as work
 
 -- the number of a fault that ends a run
 abbrev pub program_fault_number : ProgramFault → ℕ
@@ -37,10 +39,14 @@ abbrev pub fault_of_list : ReconcileFault → ProgramFault
 fault_of_list (list.BadList row) = BadList row
 fault_of_list list.Memory = Memory
 
--- the fault of the program if the inputs of a run have no answer
-abbrev pub fault_of_run : RunFault → ProgramFault
-fault_of_run run.Usage = Usage
-fault_of_run run.Held = Held
-fault_of_run run.Memory = Memory
-fault_of_run (run.Refused number) = Refused number
-fault_of_run run.NoWorker = NoWorker
+-- the fault of the program if an input is not read as a script
+abbrev pub fault_of_script : ScriptFault → ProgramFault
+fault_of_script script.NoScript = Usage
+fault_of_script script.Memory = Memory
+
+-- the fault of the program, by the fault that ended the work at one of its sites
+abbrev pub fault_of_work : WorkFault → ProgramFault
+fault_of_work work.Held = Held
+fault_of_work work.Memory = Memory
+fault_of_work (work.Refused number) = Refused number
+fault_of_work work.NoWorker = NoWorker

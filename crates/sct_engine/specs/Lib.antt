@@ -6,5 +6,6 @@ pub mod Engine
 pub mod Fault
 pub mod Request
 pub mod Run
+pub mod Runs
 pub mod Stream
 pub mod Tasks

@@ -1,5 +1,5 @@
 -- The requests of the command line. Read by an auditor.
-use Rattle.std.specs.Prelude.{ℕ, ◌≡◌, List, map, length, Option, Some, None, Bool, true, false, ◌&&◌, nat_lt, not, if◌then◌else◌, codes, option_and_then, option_map, Result, Ok, Err}
+use Rattle.std.specs.Prelude.{ℕ, ◌≡◌, List, map, length, Option, Some, None, Bool, true, false, if◌then◌else◌, codes, option_and_then, option_map, Result, Ok, Err}
 use Rattle.sct_element.specs.Bank.{written_bic}
 use Rattle.sct_element.specs.Date.{written_day}
 use Rattle.sct_element.specs.Text.{is_text}
@@ -8,6 +8,7 @@ use Rattle.sct_engine.specs.declared.jobs.Job.{Job}
 use Rattle.sct_engine.specs.declared.jobs.Job.TheVariants.{Status, Archive, Totals, Replay}
 use Rattle.sct_engine.specs.declared.fault.ProgramFault.{ProgramFault}
 use Rattle.sct_engine.specs.declared.fault.ProgramFault.TheVariants as fault
+use Rattle.sct_engine.specs.Runs.{are_sites}
 use Rattle.sct_engine.specs.declared.request.Reconciliation.{Reconciliation}
 use Rattle.sct_engine.specs.declared.request.Request.{Request}
 use Rattle.sct_engine.specs.declared.request.Request.TheVariants.{Run, Reconcile, Settle, Help, Mistake}
@@ -48,10 +49,6 @@ report_ordered given =
     (first_of (codes "LIST") given))
     (option_and_then written_day (first_of (codes "DAY") given)))
     (option_and_then written_bic (first_of (codes "BANK") given))
-
--- this number of files can be run: 1 to 16
-abbrev pub are_sites : ℕ → Bool
-are_sites count = nat_lt 0 count && not (nat_lt 16 count)
 
 -- the order of `run` with these files, if they can be run
 abbrev pub sites_from : List Text → Option Order

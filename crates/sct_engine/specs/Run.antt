@@ -1,5 +1,5 @@
 -- One run of the program: its request, its answer and its report. Read by an auditor.
-use Rattle.std.specs.Prelude.{ℕ, ◌≡◌, ◌≢◌, ◌+◌, ◌≤◌, ◌⊎◌, false, List, length, map, Option, Some, Result, Ok, Err, IfOk, IfErr, OnOk, Vec, String, string_bytes}
+use Rattle.std.specs.Prelude.{ℕ, ◌≡◌, ◌≢◌, ◌+◌, ◌≤◌, false, List, length, map, Option, Some, Result, Ok, Err, IfOk, IfErr, OnOk, Vec, String, string_bytes}
 use Rattle.std.specs.declared.alloc.Global.{Global}
 use Rattle.sct_engine.specs.declared.ending.Ending.{Ending}
 use Rattle.sct_engine.specs.declared.fault.ProgramFault.{ProgramFault}
@@ -7,33 +7,14 @@ use Rattle.sct_engine.specs.declared.fault.ProgramFault.TheVariants as fault
 use Rattle.sct_engine.specs.declared.request.Request.{Request}
 use Rattle.sct_engine.specs.CommandLine.{AreAsking}
 use Rattle.sct_engine.specs.Ending.{ending_text_of, exit_status_of}
-use Rattle.sct_engine.specs.Engine.{IsCutOff, IsRefusedInput, IsWritten, IsWrittenOrCutOff, StandsOnList}
+use Rattle.sct_engine.specs.Engine.{AreCutOff, IsRefusedInput, StandsOnList}
 use Rattle.sct_engine.specs.Fault.{failed_reads}
+use Rattle.sct_engine.specs.Stream.{Streams}
 use Rattle.sct_engine.specs.Tasks.{bad_row_in, out_text_of, refusals_text_of, IsEndingOf, IsPrepared, LeavesInput}
 use Rattle.sct_engine.specs.declared.task.Task.{Task}
 use Rattle.sct_engine.specs.declared.task.Task.TheVariants as task
-use Rattle.sct_run.specs.Runs.{are_sites}
-use Rattle.sct_streams.specs.Stream.{HasTakenIfTold}
-
--- the three streams at one moment: the bytes that standard input has left and the bytes that the other two hold, if
--- these are known, and how many reads and writes of each have failed
-pub record Streams : Type 0 where
-  pub left : Option (List ℕ)
-  pub reads_failed : ℕ
-  pub out : Option (List ℕ)
-  pub out_failed : ℕ
-  pub err : Option (List ℕ)
-  pub err_failed : ℕ
-
-abbrev pub streams : Option (List ℕ) → ℕ → Option (List ℕ) → ℕ → Option (List ℕ) → ℕ → Streams
-streams left reads_failed out out_failed err err_failed = record {
-  left = left;
-  reads_failed = reads_failed;
-  out = out;
-  out_failed = out_failed;
-  err = err;
-  err_failed = err_failed;
-}
+use Rattle.sct_engine.specs.Runs.{are_sites}
+use Rattle.sct_streams.specs.Stream.{HasTakenIfTold, Input, IsWritten, IsWrittenOrCutOff}
 
 -- the words of a command line as texts, or the fault by which they could not be read
 abbrev pub words_told : Result (Vec (String Global) Global) ProgramFault → Result (List (List ℕ)) ProgramFault
@@ -42,49 +23,32 @@ words_told (Err fault) = Err fault
 
 -- nothing was written between the two moments
 pub record IsUnwritten (before after : Streams) : Type 0 where
-  pub out : (after.out ≡ before.out) × (after.out_failed ≡ before.out_failed)
-  pub err : (after.err ≡ before.err) × (after.err_failed ≡ before.err_failed)
-
--- standard error got the whole text
-abbrev pub IsTold : Streams → Streams → Option (List ℕ) → Type 0
-IsTold before after text = IsWritten before.err_failed after.err_failed before.err after.err text
-
--- one write of standard error failed, and it got a prefix of the text
-abbrev pub IsToldInPart : Streams → Streams → Option (List ℕ) → Type 0
-IsToldInPart before after text = IsCutOff before.err_failed after.err_failed before.err after.err text
-
--- standard output got the whole text
-abbrev pub IsPrinted : Streams → Streams → Option (List ℕ) → Type 0
-IsPrinted before after text = IsWritten before.out_failed after.out_failed before.out after.out text
-
--- one write of standard output failed, and it got a prefix of the text
-abbrev pub IsPrintedInPart : Streams → Streams → Option (List ℕ) → Type 0
-IsPrintedInPart before after text = IsCutOff before.out_failed after.out_failed before.out after.out text
+  pub out : after.out ≡ before.out
+  pub err : after.err ≡ before.err
 
 -- the task cannot be done: standard input was read whole and the job does not take it, or the inputs cannot be run
-abbrev pub CannotBeDone : Task → Option (List ℕ) → Option (List ℕ) → Type 0
-CannotBeDone (task.Work job) left left_now = IsRefusedInput job 1073741824 left left_now
-CannotBeDone (task.Settle inputs) left left_now = are_sites (length inputs.items) ≡ false
-CannotBeDone _ left left_now = ⊥
+abbrev pub CannotBeDone : Task → Input → Input → Type 0
+CannotBeDone (task.Work job) before after = IsRefusedInput job 1073741824 before after
+CannotBeDone (task.Settle inputs) before after = are_sites (length inputs.items) ≡ false
+CannotBeDone _ before after = ⊥
 
 -- how a task is answered, from the streams before to the streams after: the text on standard output, the refused lines
 -- on standard error, and the cases of each fault. An input has at most 1,073,741,824 bytes.
 pub record IsAnswered (task : Task) (before after : Streams) (ended : Result Ending ProgramFault) : Type 0 where
-  pub ending : IfOk ended (IsEndingOf task before.left)
-  pub printed : OnOk ended (IsPrinted before after (out_text_of task before.left))
-  pub told : OnOk ended (IsTold before after (refusals_text_of task before.left))
-  pub usage : ended ≡ Err fault.Usage → CannotBeDone task before.left after.left
+  pub ending : IfOk ended (IsEndingOf task before.input.left)
+  pub printed : OnOk ended (IsWritten before.out after.out (out_text_of task before.input.left))
+  pub told : OnOk ended (IsWritten before.err after.err (refusals_text_of task before.input.left))
+  pub usage : ended ≡ Err fault.Usage → CannotBeDone task before.input after.input
   pub list : StandsOnList (bad_row_in task) ended
-  pub unlisted : (row : ℕ) → ended ≡ Err (fault.BadList row) → after.left ≡ before.left
-  pub too_long : ended ≡ Err fault.TooLong → HasTakenIfTold before.left after.left 1073741825
-  pub cut_input : ended ≡ Err fault.Read → (n : ℕ) × ((n ≤ 1073741824) × HasTakenIfTold before.left after.left n)
-  pub reads : OnOk ended (after.reads_failed ≡ before.reads_failed)
-  pub failed_read : IfErr ended (λ e. after.reads_failed ≡ before.reads_failed + failed_reads e)
-  pub left : LeavesInput task → (after.left ≡ before.left) × (after.reads_failed ≡ before.reads_failed)
+  pub unlisted : (row : ℕ) → ended ≡ Err (fault.BadList row) → after.input.left ≡ before.input.left
+  pub too_long : ended ≡ Err fault.TooLong → HasTakenIfTold before.input.left after.input.left 1073741825
+  pub cut_input : ended ≡ Err fault.Read → (n : ℕ) × ((n ≤ 1073741824) × HasTakenIfTold before.input.left after.input.left n)
+  pub reads : OnOk ended (after.input.failures ≡ before.input.failures)
+  pub failed_read : IfErr ended (λ e. after.input.failures ≡ before.input.failures + failed_reads e)
+  pub left : LeavesInput task → after.input ≡ before.input
   pub cut_off : ended ≡ Err fault.Write
-      → (IsToldInPart before after (refusals_text_of task before.left) × (after.out ≡ before.out))
-      ⊎ (IsTold before after (refusals_text_of task before.left)
-      × IsPrintedInPart before after (out_text_of task before.left))
+      → AreCutOff before.err after.err before.out after.out
+      (refusals_text_of task before.input.left) (out_text_of task before.input.left)
   pub unwritten : IfErr ended (λ e. e ≢ fault.Write → IsUnwritten before after)
 
 -- the task of a request with the bytes of its files; a command line that could not be read, or
@@ -121,6 +85,6 @@ pub record IsRun (gives : List ℕ → Option (List ℕ)) (words : Result (List 
   pub is_asked : IsAskedBy words asked
   pub is_prepared : IsPreparedIfAsked gives asked prepared
   pub is_answered : IsAnsweredIfPrepared prepared before answered ended
-  pub is_told : IsWrittenOrCutOff answered.err_failed after.err_failed answered.err after.err (Some (ending_text_of ended))
-  pub others : (after.left ≡ answered.left) × (after.out ≡ answered.out) × (after.out_failed ≡ answered.out_failed)
+  pub is_told : IsWrittenOrCutOff answered.err after.err (Some (ending_text_of ended))
+  pub others : (after.input ≡ answered.input) × (after.out ≡ answered.out)
   pub status_is : status ≡ exit_status_of ended

@@ -1,8 +1,18 @@
--- The faults that may end the reading of files. Read by an auditor.
+-- The streams of a run, and the faults that may end the reading of files. Read by an auditor.
 use Rattle.std.specs.Prelude.{ℕ, ◌<◌, List, length, Option, IfSome}
 use Rattle.std.specs.List.{Contains}
 use Rattle.sct_engine.specs.declared.fault.ProgramFault.{ProgramFault}
 use Rattle.sct_engine.specs.declared.fault.ProgramFault.TheVariants.{TooLong, Read, Memory}
+use Rattle.sct_streams.specs.Stream.{Input, Output}
+
+-- the three streams at one moment: standard input, standard output and standard error
+pub record Streams : Type 0 where
+  pub input : Input
+  pub out : Output
+  pub err : Output
+
+abbrev pub streams : Input → Output → Output → Streams
+streams input out err = record { input = input; out = out; err = err }
 
 -- the faults that may end the reading of a file with these bytes, if they are known: it cannot be opened or a read
 -- fails, it has more than 1,073,741,824 bytes, or it is out of memory

@@ -2,7 +2,7 @@
 -- the run then writes. Read by an auditor.
 use Rattle.std.specs.Prelude.{ℕ, ◌≡◌, List, [], map, Option, Some, None, IfSome, Result, Ok, Err, string_bytes}
 use Rattle.sct_workers.specs.Faults.{IsRefusalNumber}
-use Rattle.sct_run.specs.Runs.{set_of_all}
+use Rattle.sct_engine.specs.Runs.{set_of_all}
 use Rattle.sct_view.specs.StatusText.{status_text_of}
 use Rattle.sct_workers.specs.Files.{bytes_of, refused_in, told_from}
 use Rattle.sct_engine.specs.declared.jobs.Job.{Job}

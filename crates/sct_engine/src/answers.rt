@@ -38,39 +38,6 @@ fn view_of<T: Threads + Sync>(
     Ok(view)
 }
 
-// The status text of a view, in pieces.
-fn status_pieces_of<T: Threads + Sync>(rt: &T, view: &View) -> Result<Vec<Vec<u8>>, ProgramFault>
-    ensures text { IfOk result (λ pieces. joined pieces.items ≡ status_text_of view.now) }
-    ensures memory { IfErr result (λ e. e ≡ fault.Memory) }
-{
-    Ok(view.status_text_in_pieces(rt)?)
-}
-
-// The totals text of a view.
-fn totals_text_of(view: &View) -> Result<Vec<u8>, ProgramFault>
-    ensures text { IfOk result (λ text. text.items ≡ totals_text_of view.now) }
-    ensures memory { IfErr result (λ e. e ≡ fault.Memory) }
-{
-    Ok(view.totals_text()?)
-}
-
-// The report of a view on a list.
-fn report_text_of<T: Threads + Sync>(
-    rt: &T,
-    alloc: Global,
-    view: &View,
-    bank: &Bic,
-    day: &Day,
-    list: &List,
-) -> Result<Vec<u8>, ProgramFault>
-    ensures text { IfOk result (λ text. text.items
-        ≡ report_text_of (report_of view.now bank.now day.now list.now)) }
-    ensures memory { IfErr result (λ e. e ≡ fault.Memory) }
-{
-    let report = reconcile(rt, alloc, view, bank, day, list)?;
-    Ok(report.write()?)
-}
-
 // The status text of the set of the messages, in pieces. The messages may be in any order
 // and may repeat. Error: `Memory` (65).
 fn status_pieces<T: Threads + Sync>(
@@ -84,9 +51,9 @@ fn status_pieces<T: Threads + Sync>(
     ensures memory { IfErr result (λ e. e ≡ fault.Memory) }
 {
     let view = view_of(rt, alloc, release, messages)?;
-    let pieces = status_pieces_of(rt, &view);
+    let pieces = view.status_text_in_pieces(rt);
     release.let_go(view);
-    pieces
+    Ok(pieces?)
 }
 
 // The totals text of the set of the messages, which may be in any order and may repeat. Error: `Memory` (65).
@@ -101,9 +68,9 @@ fn totals_text<T: Threads + Sync>(
     ensures memory { IfErr result (λ e. e ≡ fault.Memory) }
 {
     let view = view_of(rt, alloc, release, messages)?;
-    let text = totals_text_of(&view);
+    let text = view.totals_text();
     release.let_go(view);
-    text
+    Ok(text?)
 }
 
 // The report on a bank's list for a settlement day, over the set of the messages. Error: `Memory` (65).
@@ -121,9 +88,9 @@ fn report_text<T: Threads + Sync>(
     ensures memory { IfErr result (λ e. e ≡ fault.Memory) }
 {
     let view = view_of(rt, alloc, release, messages)?;
-    let text = report_text_of(rt, alloc, &view, bank, day, list);
+    let report = reconcile(rt, alloc, &view, bank, day, list);
     release.let_go(view);
-    text
+    Ok(report?.write()?)
 }
 
 /// A question about messages.

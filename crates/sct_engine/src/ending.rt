@@ -1,7 +1,7 @@
 //! The end of a run: the text on standard error, and the exit status.
 ghost use Rattle.std.specs.Prelude.{◌≡◌, ◌++◌, Some, OnErr, OnOk};
 ghost use Rattle.sct_engine.specs.Ending.{ending_text_of, exit_status_of, fault_line_of};
-ghost use Rattle.sct_engine.specs.Engine.{IsCutOff, IsWritten, IsWrittenOrCutOff};
+ghost use Rattle.sct_streams.specs.Stream.{IsCutOff, IsWritten, IsWrittenOrCutOff};
 
 use crate::fault::ProgramFault;
 use crate::jobs::Done;
@@ -44,12 +44,10 @@ fn fault_line(fault: &ProgramFault) -> ArrayString<64>
 }
 
 // Writes the line of a fault and the text after it.
-fn tell_fault<E: Sink>(fault: &ProgramFault, text: &str, err: &mut E) -> Result<(), Failed>
-    ensures whole { OnOk result (IsWritten
-        (E.failures err.old) (E.failures err.new) (E.held err.old) (E.held err.new)
+fn write_fault<E: Sink>(fault: &ProgramFault, text: &str, err: &mut E) -> Result<(), Failed>
+    ensures whole { OnOk result (IsWritten (E.state err.old) (E.state err.new)
         (Some (fault_line_of fault.now ++ text.now))) }
-    ensures prefix { OnErr result (IsCutOff
-        (E.failures err.old) (E.failures err.new) (E.held err.old) (E.held err.new)
+    ensures prefix { OnErr result (IsCutOff (E.state err.old) (E.state err.new)
         (Some (fault_line_of fault.now ++ text.now))) }
 {
     write_all(err, fault_line(fault).as_bytes())?;
@@ -57,18 +55,16 @@ fn tell_fault<E: Sink>(fault: &ProgramFault, text: &str, err: &mut E) -> Result<
 }
 
 // Writes what standard error gets at the end of a run, after the refused lines.
-fn tell<E: Sink>(ended: &Result<Ending, ProgramFault>, err: &mut E) -> Result<(), Failed>
-    ensures whole { OnOk result (IsWritten
-        (E.failures err.old) (E.failures err.new) (E.held err.old) (E.held err.new)
+fn write_ending<E: Sink>(ended: &Result<Ending, ProgramFault>, err: &mut E) -> Result<(), Failed>
+    ensures whole { OnOk result (IsWritten (E.state err.old) (E.state err.new)
         (Some (ending_text_of ended.now))) }
-    ensures prefix { OnErr result (IsCutOff
-        (E.failures err.old) (E.failures err.new) (E.held err.old) (E.held err.new)
+    ensures prefix { OnErr result (IsCutOff (E.state err.old) (E.state err.new)
         (Some (ending_text_of ended.now))) }
 {
     match ended {
         Ok(Ending::Done(_)) | Ok(Ending::Helped) => Ok(()),
-        Ok(Ending::Mistaken(text)) => tell_fault(&ProgramFault::Usage, text.as_str(), err),
-        Err(fault) => tell_fault(fault, "", err),
+        Ok(Ending::Mistaken(text)) => write_fault(&ProgramFault::Usage, text.as_str(), err),
+        Err(fault) => write_fault(fault, "", err),
     }
 }
 
@@ -90,9 +86,9 @@ fn exit_status(ended: &Result<Ending, ProgramFault>) -> u8
 /// If standard error fails here, the status stays the same.
 pub fn conclude<E: Sink>(ended: &Result<Ending, ProgramFault>, err: &mut E) -> u8
     ensures status { result ≡ exit_status_of ended.now }
-    ensures told { IsWrittenOrCutOff (E.failures err.old) (E.failures err.new) (E.held err.old) (E.held err.new)
+    ensures told { IsWrittenOrCutOff (E.state err.old) (E.state err.new)
         (Some (ending_text_of ended.now)) }
 {
-    let _ = tell(ended, err);
+    let _ = write_ending(ended, err);
     exit_status(ended)
 }

@@ -1,13 +1,14 @@
 //! The faults that end a run, each with its number.
 ghost use Rattle.std.specs.Prelude.{◌≡◌};
 ghost use Rattle.sct_engine.specs.declared.fault.ProgramFault.TheVariants as fault;
-ghost use Rattle.sct_engine.specs.Fault.{fault_of_list, fault_of_read, fault_of_run, program_fault_number};
+ghost use Rattle.sct_engine.specs.Fault.{fault_of_list, fault_of_read, fault_of_script, fault_of_work, program_fault_number};
 
 use sct_case::CaseFault;
 use sct_reconcile::ReconcileFault;
-use sct_run::RunFault;
+use sct_script::ScriptFault;
 use sct_set::SetFault;
 use sct_streams::{Failed, ReadFault};
+use sct_workers::WorkFault;
 use std::alloc::{AllocError, AllocFailed};
 use thiserror::Error;
 
@@ -30,6 +31,9 @@ pub enum ProgramFault {
     /// 65: out of memory.
     Memory,
     /// 66: a call at a site was refused, with the number of its own fault.
+    /// When a desk is closed, arrivals may be pending (53) or not covered by exactly one receipt (54). An entry of another
+    /// site may be refused (42 to 44), or the sites cannot be settled (42 to 44). Of other numbers only 52 and 55 are
+    /// possible.
     Refused(u8),
     /// 67: a thread for the work at a site could not be started.
     NoWorker,
@@ -118,16 +122,26 @@ impl From<ReconcileFault> for ProgramFault {
     }
 }
 
-impl From<RunFault> for ProgramFault {
-    ghost from_gives = { λ fault e. e ≡ fault_of_run fault };
+impl From<ScriptFault> for ProgramFault {
+    ghost from_gives = { λ fault e. e ≡ fault_of_script fault };
 
-    fn from(fault: RunFault) -> ProgramFault {
+    fn from(fault: ScriptFault) -> ProgramFault {
         match fault {
-            RunFault::Usage => ProgramFault::Usage,
-            RunFault::Held => ProgramFault::Held,
-            RunFault::Memory => ProgramFault::Memory,
-            RunFault::Refused { number } => ProgramFault::Refused(number),
-            RunFault::NoWorker => ProgramFault::NoWorker,
+            ScriptFault::NoScript => ProgramFault::Usage,
+            ScriptFault::Memory => ProgramFault::Memory,
+        }
+    }
+}
+
+impl From<WorkFault> for ProgramFault {
+    ghost from_gives = { λ fault e. e ≡ fault_of_work fault };
+
+    fn from(fault: WorkFault) -> ProgramFault {
+        match fault {
+            WorkFault::Held => ProgramFault::Held,
+            WorkFault::Memory => ProgramFault::Memory,
+            WorkFault::Refused { number } => ProgramFault::Refused(number),
+            WorkFault::NoWorker => ProgramFault::NoWorker,
         }
     }
 }

@@ -10,7 +10,7 @@ ghost use Rattle.sct_engine.specs.declared.fault.ProgramFault.TheVariants as fau
 use crate::fault::ProgramFault;
 use crate::release::Release;
 use sct_message::Message;
-use sct_set::Ordered;
+use sct_set::SortedArchive;
 use std::alloc::Global;
 use std::sync::Arc;
 use std::thread::Threads;
@@ -35,8 +35,9 @@ pub fn archive_pieces<T: Threads + Sync>(
         GivesBack (contents_of (messages_in messages.items)) (joined pieces.items)) }
     ensures memory { IfErr result (λ e. e ≡ fault.Memory) }
 {
+    // for the clause `again`
     the_archive_text_gives_the_set_back();
-    let ordered = Ordered::of(rt, alloc, &messages)?;
+    let ordered = SortedArchive::of(rt, alloc, &messages)?;
     let pieces = ordered.text_in_pieces(rt)?;
     release.let_go(messages);
     release.let_go(ordered);

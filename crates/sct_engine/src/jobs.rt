@@ -1,43 +1,21 @@
 //! One run of a job: an input is read whole, and then its refused lines are reported and its text is written.
-ghost use Rattle.std.specs.Prelude.{
-  ◌≡◌,
-  ◌≢◌,
-  ◌+◌,
-  ◌<◌,
-  ◌≤◌,
-  ◌⊎◌,
-  ℕ,
-  [],
-  Some,
-  Err,
-  length,
-  string_bytes,
-  IfOk,
-  IfErr,
-  IfSome,
-  OnOk,
-};
-ghost use Rattle.sct_set.specs.Pieces.{joined};
+ghost use Rattle.std.specs.Prelude.{◌≡◌, ◌≢◌, ◌+◌, ◌≤◌, ◌⊎◌, ℕ, Err, IfOk, IfErr, IfSome, OnOk};
 ghost use Rattle.sct_engine.specs.declared.fault.ProgramFault.TheVariants as fault;
 ghost use Rattle.sct_engine.specs.Engine.{
   bad_row_of,
   job_text_if_told,
-  job_text_of,
-  refused_of,
-  told_of,
   told_text_if_told,
+  AreCutOff,
   IsBadLimit,
-  EndsListing,
-  IsCutOff,
-  IsInputOf,
-  IsListOf,
-  IsNoInputOf,
+  IsDone,
+  IsPastLimit,
+  IsReadWhole,
   IsRefusedInput,
-  IsWritten,
   StandsOnList,
 };
 ghost use Rattle.sct_engine.specs.Fault.{failed_reads};
-ghost use Rattle.sct_streams.specs.Stream.{HasTakenIfTold};
+ghost use Rattle.sct_engine.specs.Stream.{streams};
+ghost use Rattle.sct_streams.specs.Stream.{HasTakenIfTold, IsWritten};
 
 use crate::answers::{Answer, Question, answer_of_messages};
 use crate::fault::ProgramFault;
@@ -72,54 +50,6 @@ pub struct Done {
     pub refused: u64,
 }
 
-// The list that a job compares with, if it compares with one. Errors: `BadList` (48), `Memory` (65).
-fn list_for(alloc: Global, job: &Job) -> Result<Option<List>, ProgramFault>
-    ensures read { IfOk result (IsListOf job.now) }
-    ensures list { StandsOnList (bad_row_of job.now) result }
-    ensures faults { IfErr result EndsListing }
-{
-    match job {
-        Job::Report { list, .. } => Ok(Some(List::read(alloc, list)?)),
-        _ => Ok(None),
-    }
-}
-
-// The answer of a job to an input, with the list that it compares with. Errors: `Usage` (64) if the
-// job does not take the input; `Memory` (65).
-fn answer<T: Threads + Sync>(
-    rt: &T,
-    alloc: Global,
-    release: Release,
-    job: &Job,
-    list: Option<List>,
-    input: Vec<u8>,
-) -> Result<Answer, ProgramFault>
-    requires { IsListOf job.now list }
-    ensures text { IfOk result (λ answer. joined answer.pieces.items ≡ job_text_of job.now input.items) }
-    ensures told { IfOk result (λ answer. answer.refusals.text ≡ told_of job.now input.items) }
-    ensures refused { IfOk result (λ answer. answer.refusals.count ≡ refused_of job.now input.items) }
-    ensures taken { OnOk result (IsInputOf job.now input.items) }
-    ensures faults { IfErr result (λ e. e ≢ fault.Memory
-        → (e ≡ fault.Usage) × IsNoInputOf job.now input.items) }
-{
-    match (job, list) {
-        (Job::Status, _) => answer_of_messages(rt, alloc, release, Question::Status, input),
-        (Job::Archive, _) => answer_of_messages(rt, alloc, release, Question::Archive, input),
-        (Job::Totals, _) => answer_of_messages(rt, alloc, release, Question::Totals, input),
-        (Job::Replay, _) => answer_of_script(alloc, release, &input),
-        (Job::Report { bank, day, .. }, Some(list)) => {
-            answer_of_messages(
-                rt,
-                alloc,
-                release,
-                Question::Report { bank, day, list },
-                input,
-            )
-        }
-        (Job::Report { .. }, None) => unreachable!(),
-    }
-}
-
 /// Runs a job: reads its list, if it has one, then the whole input. It then writes the refused lines to `err` and the
 /// job's text to `out`. `limit` is the greatest number of bytes of the input, 1 to 1,073,741,824.
 ///
@@ -144,53 +74,51 @@ pub fn engine<T: Threads + Sync, R: Source, O: Sink, E: Sink>(
     out: &mut O,
     err: &mut E,
 ) -> Result<Done, ProgramFault>
-    // The whole of an input within the limit was read, and each stream got its text.
-    ensures input { OnOk result (IfSome (R.left reader.old)
-        (λ input. (length input ≤ limit) × (R.left reader.new ≡ Some []))) }
-    ensures told { OnOk result (IsWritten
-        (E.failures err.old) (E.failures err.new) (E.held err.old) (E.held err.new)
-        (told_text_if_told job.now (R.left reader.old))) }
-    ensures text { OnOk result (IsWritten
-        (O.failures out.old) (O.failures out.new) (O.held out.old) (O.held out.new)
-        (job_text_if_told job.now (R.left reader.old))) }
-    ensures refused { IfOk result (λ done. IfSome (R.left reader.old)
-        (λ input. done.refused ≡ refused_of job.now input)) }
+    ensures done { IfOk result (λ done. IsDone job.now limit
+        (streams (R.state reader.old) (O.state out.old) (E.state err.old))
+        (streams (R.state reader.new) (O.state out.new) (E.state err.new))
+        done.refused) }
 
     // The cases of each fault.
-    ensures limit { IsBadLimit limit → result ≡ Err fault.Usage }
+    ensures limit { IsBadLimit limit → (result ≡ Err fault.Usage) × (reader.new ≡ reader.old) }
     ensures usage { result ≡ Err fault.Usage
-        → IsBadLimit limit ⊎ IsRefusedInput job.now limit (R.left reader.old) (R.left reader.new) }
+        → IsBadLimit limit ⊎ IsRefusedInput job.now limit (R.state reader.old) (R.state reader.new) }
     ensures list { StandsOnList (bad_row_of job.now) result }
-    ensures taken { OnOk result (IfSome (R.left reader.old) (IsInputOf job.now)) }
-    ensures too_long { result ≡ Err fault.TooLong → IfSome (R.left reader.old) (λ input. limit < length input) }
-    ensures passed { result ≡ Err fault.TooLong
-        → HasTakenIfTold (R.left reader.old) (R.left reader.new) (limit + 1) }
-    ensures cut_input { result ≡ Err fault.Read
-        → (n : ℕ) × ((n ≤ limit) × HasTakenIfTold (R.left reader.old) (R.left reader.new) n) }
-    ensures reads { OnOk result (R.failures reader.new ≡ R.failures reader.old) }
-    ensures failed_read { IfErr result (λ e. R.failures reader.new ≡ R.failures reader.old + failed_reads e) }
-    ensures cut_off { result ≡ Err fault.Write
-        → (IsCutOff (E.failures err.old) (E.failures err.new) (E.held err.old) (E.held err.new)
-        (told_text_if_told job.now (R.left reader.old)) × (out.new ≡ out.old))
-        ⊎ (IsWritten (E.failures err.old) (E.failures err.new) (E.held err.old) (E.held err.new)
-        (told_text_if_told job.now (R.left reader.old))
-        × IsCutOff (O.failures out.old) (O.failures out.new) (O.held out.old) (O.held out.new)
-        (job_text_if_told job.now (R.left reader.old))) }
-
-    ensures whole { result ≡ Err fault.Write → IfSome (R.left reader.old)
-        (λ input. (length input ≤ limit) × (R.left reader.new ≡ Some [])) }
-
-    // The streams after the other faults.
-    ensures unread { IsBadLimit limit → reader.new ≡ reader.old }
     ensures unlisted { (row : ℕ) → result ≡ Err (fault.BadList row) → reader.new ≡ reader.old }
+    ensures too_long { result ≡ Err fault.TooLong
+        → IsPastLimit limit (R.state reader.old) (R.state reader.new) }
+    ensures cut_input { result ≡ Err fault.Read
+        → (n : ℕ) × ((n ≤ limit) × HasTakenIfTold (R.state reader.old).left (R.state reader.new).left n) }
+    ensures failed_read { IfErr result (λ e. (R.state reader.new).failures
+        ≡ (R.state reader.old).failures + failed_reads e) }
+    ensures whole { result ≡ Err fault.Write → IsReadWhole limit (R.state reader.old) (R.state reader.new) }
+    ensures cut_off { result ≡ Err fault.Write
+        → AreCutOff (E.state err.old) (E.state err.new) (O.state out.old) (O.state out.new)
+        (told_text_if_told job.now (R.state reader.old).left)
+        (job_text_if_told job.now (R.state reader.old).left) }
+    ensures order { result ≡ Err fault.Write → (out.new ≡ out.old)
+        ⊎ IsWritten (E.state err.old) (E.state err.new) (told_text_if_told job.now (R.state reader.old).left) }
     ensures unwritten { IfErr result (λ e. e ≢ fault.Write → (out.new ≡ out.old) × (err.new ≡ err.old)) }
 {
     if limit == 0 || limit > MOST_BYTES {
         return Err(ProgramFault::Usage);
     }
-    let list = list_for(alloc, job)?;
+    let question = match job {
+        Job::Status => Some(Question::Status),
+        Job::Archive => Some(Question::Archive),
+        Job::Totals => Some(Question::Totals),
+        Job::Report { bank, day, list } => {
+            let list = List::read(alloc, list)?;
+            Some(Question::Report { bank, day, list })
+        }
+        // a replay asks nothing about messages: its input is a script
+        Job::Replay => None,
+    };
     let input = read_all(alloc, reader, limit)?;
-    let Answer { pieces, refusals } = answer(rt, alloc, release, job, list, input)?;
+    let Answer { pieces, refusals } = match question {
+        Some(question) => answer_of_messages(rt, alloc, release, question, input)?,
+        None => answer_of_script(alloc, release, &input)?,
+    };
     write_all(err, refusals.text().as_bytes())?;
     write_pieces(out, &pieces)?;
     Ok(Done {

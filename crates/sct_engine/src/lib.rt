@@ -1,6 +1,6 @@
 //! The program over streams of any kind: from the words of its command line to its exit status.
 //!
-//! [`engine`] runs one job on one input. [`run`] does what the words of a command line ask for, on that input or on
+//! [`engine`] runs one job on one input. [`run_sites`] brings several inputs to one answer. [`run`] does what the words of a command line ask for, on that input or on
 //! files, and reports how it ended. [`run_over_std`] does the same over the readers and writers of std, and
 //! [`read_words`] reads the words. [`Release`] says when the memory of a job is given back.
 #![tactic(auto)]
@@ -16,6 +16,7 @@ mod program;
 mod release;
 mod replays;
 mod request;
+mod runs;
 mod settling;
 mod task;
 mod transfer;
@@ -25,4 +26,5 @@ pub use jobs::{Done, Job, engine};
 pub use program::{run, run_over_std};
 pub use release::Release;
 pub use request::read_words;
+pub use runs::{RunAnswer, run_sites};
 pub use transfer::MOST_BYTES;

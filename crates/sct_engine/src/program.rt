@@ -1,6 +1,7 @@
 //! The whole program over streams of any kind: from the words of the command line to the exit status.
 ghost use Rattle.std.specs.Prelude.{◌≡◌};
-ghost use Rattle.sct_engine.specs.Run.{streams, words_told, IsAnswered, IsAnsweredTo, IsRun, Streams};
+ghost use Rattle.sct_engine.specs.Run.{words_told, IsAnswered, IsAnsweredTo, IsRun};
+ghost use Rattle.sct_engine.specs.Stream.{streams, Streams};
 
 use crate::ending::{Ending, conclude};
 use crate::fault::ProgramFault;
@@ -28,10 +29,8 @@ fn perform<T: Threads + Wait + Sync, R: Source, O: Sink, E: Sink>(
     err: &mut E,
 ) -> Result<Ending, ProgramFault>
     ensures { IsAnswered task
-        (streams (R.left reader.old) (R.failures reader.old) (O.held out.old) (O.failures out.old)
-        (E.held err.old) (E.failures err.old))
-        (streams (R.left reader.new) (R.failures reader.new) (O.held out.new) (O.failures out.new)
-        (E.held err.new) (E.failures err.new))
+        (streams (R.state reader.old) (O.state out.old) (E.state err.old))
+        (streams (R.state reader.new) (O.state out.new) (E.state err.new))
         result }
 {
     match task {
@@ -60,10 +59,8 @@ fn answer_words<T: Threads + Wait + Sync, F: Files, R: Source, O: Sink, E: Sink>
     err: &mut E,
 ) -> Result<Ending, ProgramFault>
     ensures { IsAnsweredTo (F.gives files.now) (words_told words)
-        (streams (R.left reader.old) (R.failures reader.old) (O.held out.old) (O.failures out.old)
-        (E.held err.old) (E.failures err.old))
-        (streams (R.left reader.new) (R.failures reader.new) (O.held out.new) (O.failures out.new)
-        (E.held err.new) (E.failures err.new))
+        (streams (R.state reader.old) (O.state out.old) (E.state err.old))
+        (streams (R.state reader.new) (O.state out.new) (E.state err.new))
         result }
 {
     let words = words?;
@@ -87,10 +84,8 @@ pub fn run<T: Threads + Wait + Sync, F: Files, R: Source, O: Sink, E: Sink>(
     err: &mut E,
 ) -> u8
     ensures { IsRun (F.gives files.now) (words_told words)
-        (streams (R.left reader.old) (R.failures reader.old) (O.held out.old) (O.failures out.old)
-        (E.held err.old) (E.failures err.old))
-        (streams (R.left reader.new) (R.failures reader.new) (O.held out.new) (O.failures out.new)
-        (E.held err.new) (E.failures err.new))
+        (streams (R.state reader.old) (O.state out.old) (E.state err.old))
+        (streams (R.state reader.new) (O.state out.new) (E.state err.new))
         result }
 {
     let ended = answer_words(rt, alloc, release, files, words, reader, out, err);
@@ -128,7 +123,8 @@ pub fn run_over_std<
     requires stderr_parts { stderr.1.parts ≡ C.parts }
     requires stderr_part { stderr.1.parts ≡ 1 }
     ensures { (after : Streams) × IsRun (F.gives files.now) (words_told words)
-        (streams (R.remaining stdin.0) 0 (O.contents stdout.0) 0 (E.contents stderr.0) 0) after result }
+        (streams (record { left = R.remaining stdin.0; failures = 0 }) (record { held = O.contents stdout.0; failures = 0 })
+        (record { held = E.contents stderr.0; failures = 0 })) after result }
 {
     let mut reader = Reading::<R, A>::new(stdin.0, stdin.1);
     let mut out = Writing::<O, B>::new(stdout.0, stdout.1);

@@ -1,7 +1,7 @@
 //! The answer to a script.
-ghost use Rattle.std.specs.Prelude.{◌≡◌, ◌≢◌, None, Some, true, length, IfErr, IfOk, IsSome, OnOk};
+ghost use Rattle.std.specs.Prelude.{◌≡◌, ◌≢◌, None, true, length, IfErr, IfOk, IsSome, OnOk};
 ghost use Rattle.sct_script.specs.Replays.{replay_of, replay_text};
-ghost use Rattle.sct_script.specs.Scripts.{happenings_told, refusals_told, sites_told, told_text_of};
+ghost use Rattle.sct_script.specs.Scripts.{refusals_told, sites_told, told_text_of};
 ghost use Rattle.sct_set.specs.Pieces.{joined};
 ghost use Rattle.sct_world.specs.Happenings.{happenings_of};
 ghost use Rattle.sct_world.specs.States.{is_size};
@@ -10,26 +10,10 @@ ghost use Rattle.sct_engine.specs.declared.fault.ProgramFault.TheVariants as fau
 use crate::answers::{Answer, one_piece};
 use crate::fault::ProgramFault;
 use crate::release::Release;
-use sct_script::{Script, ScriptFault, read_script, replay};
+use sct_script::{Script, read_script, replay};
 use std::alloc::Global;
 
-// The script of an input. Errors: `Usage` (64) if the input is not a script; `Memory` (65).
-fn script_of(alloc: Global, input: &[u8]) -> Result<Script, ProgramFault>
-    ensures sites { IfOk result (λ script. sites_told input.now ≡ Some script.sites) }
-    ensures size { IfOk result (λ script. is_size script.sites ≡ true) }
-    ensures events { IfOk result (λ script. happenings_of script.events.items ≡ happenings_told input.now) }
-    ensures told { IfOk result (λ script. script.refusals.text ≡ told_text_of (refusals_told input.now)) }
-    ensures refused { IfOk result (λ script. script.refusals.count ≡ length (refusals_told input.now)) }
-    ensures faults { IfErr result (λ e. e ≢ fault.Memory → (e ≡ fault.Usage) × (sites_told input.now ≡ None)) }
-{
-    match read_script(alloc, input) {
-        Ok(script) => Ok(script),
-        Err(ScriptFault::NoScript) => Err(ProgramFault::Usage),
-        Err(ScriptFault::Memory) => Err(ProgramFault::Memory),
-    }
-}
-
-// The replay of a script.
+// The replay of a script. Its number of sites is one that a world can have, so that the only error is `Memory` (65).
 fn replay_text(alloc: Global, script: &Script) -> Result<Vec<u8>, ProgramFault>
     requires { is_size script.now.sites ≡ true }
     ensures text { IfOk result (λ text. text.items
@@ -56,7 +40,7 @@ pub fn answer_of_script(
     ensures script { OnOk result (IsSome (sites_told input.now)) }
     ensures faults { IfErr result (λ e. e ≢ fault.Memory → (e ≡ fault.Usage) × (sites_told input.now ≡ None)) }
 {
-    let script = script_of(alloc, input)?;
+    let script = read_script(alloc, input)?;
     let text = replay_text(alloc, &script)?;
     let pieces = one_piece(alloc, text)?;
     let Script {

@@ -7,11 +7,12 @@ ghost use Rattle.clap.specs.Words.{all_of, found_of, rows_of, subcommand_rows_of
 ghost use Rattle.clap.specs.Values.{kind_of};
 ghost use Rattle.sct_engine.specs.CommandLine.{AnswersKind, AreAsking, CommandsAskForTheirOrders};
 ghost use Rattle.clap.specs.declared.error.kind.ErrorKind.TheVariants as kind;
-ghost use Rattle.sct_engine.specs.Request.{job_named, is_mistake, order_named, are_sites, report_ordered, report_with, sites_from, AsksForNoOrder, IsOrdered};
+ghost use Rattle.sct_engine.specs.Request.{job_named, is_mistake, order_named, report_ordered, report_with, sites_from, AsksForNoOrder, IsOrdered};
 
 use crate::commands::command;
 use crate::fault::ProgramFault;
 use crate::jobs::Job;
+use crate::runs::are_sites;
 use clap::error::ErrorKind;
 use clap::{ArgMatches, Error};
 use sct_element::{Bic, Day, read_bic, read_day};
@@ -68,7 +69,7 @@ pub fn read_words(alloc: Global, words: io::Result<Args>) -> Result<Vec<String>,
 }
 
 // The request if clap reports an error in place of matches: help, or a mistake.
-fn answer_of<'a>(alloc: Global, error: &Error) -> Result<Request<'a>, ProgramFault>
+fn request_of_error<'a>(alloc: Global, error: &Error) -> Result<Request<'a>, ProgramFault>
     ensures no_order { IfOk result AsksForNoOrder }
     ensures mistake { IfOk result (λ r. IsTrue (is_mistake r)
         ↔ ((kind_of error.now ≢ kind.DisplayHelp) × (kind_of error.now ≢ kind.DisplayVersion))) }
@@ -86,8 +87,6 @@ fn answer_of<'a>(alloc: Global, error: &Error) -> Result<Request<'a>, ProgramFau
         Ok(Request::Help(text))
     }
 }
-
-const MOST_FILES: usize = 16;
 
 // The job of a command's name.
 fn job_named(name: &str) -> Option<Job>
@@ -113,13 +112,6 @@ fn report_of<'a>(given: &ArgMatches<'a>) -> Option<Reconciliation<'a>>
     Some(Reconciliation { bank, day, list })
 }
 
-// Whether this number of files can be run.
-fn are_sites(count: usize) -> bool
-    ensures { result ≡ are_sites count }
-{
-    count > 0 && count <= MOST_FILES
-}
-
 // The request of `run` with these files. Error: `Usage` (64) if there are more than 16.
 fn sites_of<'a>(alloc: Global, files: &[&'a str]) -> Result<Request<'a>, ProgramFault>
     ensures { IsOrdered (sites_from (map (λ path. path.now) files.now)) result }
@@ -140,7 +132,7 @@ fn files_of<'b, 'a>(given: &'b ArgMatches<'a>) -> Option<&'b [&'a str]>
 }
 
 // The request of a command with its arguments.
-fn asked_with<'a>(
+fn request_of_command<'a>(
     alloc: Global,
     name: &str,
     given: &ArgMatches<'a>,
@@ -164,12 +156,15 @@ fn asked_with<'a>(
 }
 
 // The request of the matches that clap found.
-fn asked_by<'a>(alloc: Global, matches: &ArgMatches<'a>) -> Result<Request<'a>, ProgramFault>
+fn request_of_matches<'a>(
+    alloc: Global,
+    matches: &ArgMatches<'a>,
+) -> Result<Request<'a>, ProgramFault>
     ensures { IsOrdered
         (option_and_then (λ found. order_named found.0 found.1) (subcommand_rows_of matches.now)) result }
 {
     match matches.subcommand() {
-        Some((name, given)) => asked_with(alloc, name, given),
+        Some((name, given)) => request_of_command(alloc, name, given),
         None => Err(ProgramFault::Usage),
     }
 }
@@ -186,7 +181,7 @@ pub fn read_request<'a>(alloc: Global, words: &'a [String]) -> Result<Request<'a
     ensures faults { IfErr result EndsAsking }
 {
     match command(alloc)?.try_get_matches_from(words) {
-        Ok(matches) => asked_by(alloc, &matches),
-        Err(error) => answer_of(alloc, &error),
+        Ok(matches) => request_of_matches(alloc, &matches),
+        Err(error) => request_of_error(alloc, &error),
     }
 }

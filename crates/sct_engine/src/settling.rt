@@ -1,15 +1,16 @@
 //! Several inputs with one answer: each fills a site of its own, and the sites are settled.
 ghost use Rattle.std.specs.Prelude.{◌≡◌, ◌≢◌, ◌⊎◌, Err, Some, false, length, IfErr, IfOk, OnOk};
-ghost use Rattle.sct_run.specs.Runs.{are_sites, set_of_all};
+ghost use Rattle.sct_engine.specs.Runs.{are_sites, set_of_all};
 ghost use Rattle.sct_engine.specs.declared.fault.ProgramFault.TheVariants as fault;
-ghost use Rattle.sct_engine.specs.Engine.{IsCutOff, IsWritten};
+ghost use Rattle.sct_engine.specs.Engine.{AreCutOff};
 ghost use Rattle.sct_engine.specs.Tasks.{EndsSettling};
+ghost use Rattle.sct_streams.specs.Stream.{IsWritten};
 ghost use Rattle.sct_view.specs.StatusText.{status_text_of};
 ghost use Rattle.sct_workers.specs.Files.{bytes_of, refused_in, told_from};
 
 use crate::fault::ProgramFault;
 use crate::jobs::Done;
-use sct_run::{RunAnswer, run_sites};
+use crate::runs::{RunAnswer, run_sites};
 use sct_streams::{Sink, write_all};
 use sct_workers::FreeGate;
 use std::alloc::Global;
@@ -30,22 +31,19 @@ pub fn settle_inputs<T: Threads + Wait + Sync, O: Sink, E: Sink>(
     out: &mut O,
     err: &mut E,
 ) -> Result<Done, ProgramFault>
-    ensures told { OnOk result (IsWritten
-        (E.failures err.old) (E.failures err.new) (E.held err.old) (E.held err.new)
+    ensures told { OnOk result (IsWritten (E.state err.old) (E.state err.new)
         (Some (told_from 1 (bytes_of inputs.items)))) }
-    ensures text { OnOk result (IsWritten
-        (O.failures out.old) (O.failures out.new) (O.held out.old) (O.held out.new)
+    ensures text { OnOk result (IsWritten (O.state out.old) (O.state out.new)
         (Some (status_text_of (set_of_all (bytes_of inputs.items))))) }
     ensures refused { IfOk result (λ done. done.refused ≡ refused_in (bytes_of inputs.items)) }
     ensures faults { IfErr result EndsSettling }
     ensures usage { result ≡ Err fault.Usage → are_sites (length inputs.items) ≡ false }
     ensures cut_off { result ≡ Err fault.Write
-        → (IsCutOff (E.failures err.old) (E.failures err.new) (E.held err.old) (E.held err.new)
-        (Some (told_from 1 (bytes_of inputs.items))) × (out.new ≡ out.old))
-        ⊎ (IsWritten (E.failures err.old) (E.failures err.new) (E.held err.old) (E.held err.new)
+        → AreCutOff (E.state err.old) (E.state err.new) (O.state out.old) (O.state out.new)
         (Some (told_from 1 (bytes_of inputs.items)))
-        × IsCutOff (O.failures out.old) (O.failures out.new) (O.held out.old) (O.held out.new)
-        (Some (status_text_of (set_of_all (bytes_of inputs.items))))) }
+        (Some (status_text_of (set_of_all (bytes_of inputs.items)))) }
+    ensures order { result ≡ Err fault.Write → (out.new ≡ out.old)
+        ⊎ IsWritten (E.state err.old) (E.state err.new) (Some (told_from 1 (bytes_of inputs.items))) }
     ensures unwritten { IfErr result (λ e. e ≢ fault.Write → (out.new ≡ out.old) × (err.new ≡ err.old)) }
 {
     let RunAnswer {

@@ -1,7 +1,7 @@
 //! The limit of an input, and texts that are written in pieces.
-ghost use Rattle.std.specs.Prelude.{◌≡◌, ◌+◌, [], IsOk, OnOk, OnErr};
+ghost use Rattle.std.specs.Prelude.{◌≡◌, [], Some, IsOk, OnOk, OnErr};
 ghost use Rattle.sct_set.specs.Pieces.{joined};
-ghost use Rattle.sct_streams.specs.Stream.{AppendsIfTold, AppendsPrefixIfTold};
+ghost use Rattle.sct_streams.specs.Stream.{IsCutOff, IsWritten};
 
 use sct_streams::{Failed, Sink, write_all};
 
@@ -11,11 +11,8 @@ pub const MOST_BYTES: u64 = 1_073_741_824;
 /// Writes all of the bytes of the pieces, one piece after another. Error: `Failed` if a write
 /// fails; a prefix of the bytes was then written.
 pub fn write_pieces<K: Sink>(sink: &mut K, pieces: &[Vec<u8>]) -> Result<(), Failed>
-    ensures all { OnOk result (AppendsIfTold (K.held sink.old) (K.held sink.new) (joined pieces.now)) }
-    ensures prefix { OnErr result (AppendsPrefixIfTold
-        (K.held sink.old) (K.held sink.new) (joined pieces.now)) }
-    ensures quiet { OnOk result (K.failures sink.new ≡ K.failures sink.old) }
-    ensures counted { OnErr result (K.failures sink.new ≡ K.failures sink.old + 1) }
+    ensures all { OnOk result (IsWritten (K.state sink.old) (K.state sink.new) (Some (joined pieces.now))) }
+    ensures prefix { OnErr result (IsCutOff (K.state sink.old) (K.state sink.new) (Some (joined pieces.now))) }
     ensures empty { joined pieces.now ≡ [] → IsOk result × (sink.new ≡ sink.old) }
 {
     for piece in pieces {

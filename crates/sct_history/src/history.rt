@@ -2,7 +2,7 @@
 
 ghost use Rattle.std.specs.Prelude.{◌≡◌, []};
 
-use crate::law::Law;
+use crate::rule::HistoryRule;
 use crate::track::Track;
 use logbook::{Seen, Start, Word};
 use sct_delta::Entry;
@@ -12,7 +12,7 @@ use std::marker::Model;
 /// Contracts see which history it is.
 #[derive(Drop)]
 pub struct History {
-    pub(crate) head: Word<Entry, u64, Law>,
+    pub(crate) head: Word<Entry, u64, HistoryRule>,
 }
 
 impl Model for History {

@@ -3,7 +3,7 @@
 #![tactic(auto)]
 
 mod history;
-mod law;
+mod rule;
 mod track;
 
 pub use history::History;

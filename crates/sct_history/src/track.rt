@@ -6,7 +6,7 @@ ghost use Rattle.sct_delta.specs.Entries.{IsArrivals};
 ghost use Rattle.sct_history.specs.Sights.{IsLonger};
 
 use crate::history::History;
-use crate::law::{Add, Law, Nothing};
+use crate::rule::{Append, HistoryRule, NoTrade};
 use logbook::{Offer, Seen};
 use sct_delta::Entry;
 use std::marker::Model;
@@ -16,7 +16,7 @@ use std::marker::Model;
 #[derive(Drop)]
 pub struct Track {
     len: u64,
-    seen: Seen<Entry, u64, Law>,
+    seen: Seen<Entry, u64, HistoryRule>,
 }
 
 impl Model for Track {
@@ -33,7 +33,7 @@ impl Model for Track {
 
 impl Track {
     // The track of a history without arrivals.
-    pub(crate) fn of(seen: Seen<Entry, u64, Law>) -> Track
+    pub(crate) fn of(seen: Seen<Entry, u64, HistoryRule>) -> Track
         requires { seen.log ≡ [] }
         ensures { result ≡ record { book = seen.book; log = [] } }
     {
@@ -48,7 +48,7 @@ impl Track {
         self.len
     }
 
-    /// A copy. It does not allocate.
+    /// A copy. It does not allocate. O(1).
     pub fn again(&self) -> Track
         ensures { result ≡ self.now }
     {
@@ -96,12 +96,16 @@ impl Track {
             (self.new.log ≡ self.old.log ++ entry.now ∷ []) (self.new.log ≡ self.old.log) }
     {
         let mut seen = self.seen.again();
-        let mut offer: Offer<Entry, u64, Law, Nothing> = seen.plain::<Nothing, Entry, Add>(entry);
+        let mut offer: Offer<Entry, u64, HistoryRule, NoTrade> = seen.plain::<
+            NoTrade,
+            Entry,
+            Append,
+        >(entry);
         let mut pen = seen.no_pen();
         let len = self.len;
         let found = history
             .head
-            .compare_exchange::<Add, Nothing>(len, len + 1, &mut seen, &mut offer, &mut pen);
+            .compare_exchange::<Append, NoTrade>(len, len + 1, &mut seen, &mut offer, &mut pen);
         if found != len {
             return false;
         }

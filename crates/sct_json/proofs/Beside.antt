@@ -6,6 +6,7 @@ use Rattle.std.specs.List.Sorted.{IsStrictlySortedBy}
 use Rattle.std.specs.Ordering.{ordering_reverse}
 use Rattle.std.specs.Cmp.Lexicographic.{slice_cmp, texts_ties, nat_list_cmp_total}
 use Rattle.sct_element.specs.Text.{is_text}
+use Rattle.sct_message.proofs.Tests.{or_false}
 use Rattle.sct_json.specs.declared.keys.Key.{Key}
 use Rattle.sct_json.specs.Keys.{key_text, keys_from, is_first, is_among}
 use Rattle.sct_json.specs.Names.{IsBefore, AscendByBytes}
@@ -60,10 +61,6 @@ none_behind name key (later ∷ keys) before all =
     let no : is_text name (key_text later) ≡ false = texts_ties name (key_text later) ∙ ap is_eq (nat_list_cmp_total.trans name key (key_text later) before all.0) in
     ap (λ (b : Bool). b || is_among keys name) no ∙ none_behind name key keys before all.1
 
-alone : (a b : Bool) → b ≡ false → a ≡ (a || b)
-alone true b e = refl
-alone false b e = sym e
-
 first_at : (o : Ordering) (name : List ℕ) (key : Key) (keys : List Key) → by_bytes (key_text key) name ≡ o → AscendByBytes (map key_text (key ∷ keys))
     → is_first name (keys_from name keys) ≡ is_among (keys_from name keys) name
     → is_first name (cond (is_lt o) (keys_from name keys) (key ∷ keys)) ≡ is_among (cond (is_lt o) (keys_from name keys) (key ∷ keys)) name
@@ -73,7 +70,7 @@ first_at Equal name key keys e all later =
     let same : is_text name (key_text key) ≡ true = at_key Equal name (key_text key) e in same ∙ ap (λ (b : Bool). b || is_among keys name) (sym same)
 first_at Greater name key keys e all later =
     let before : IsBefore name (key_text key) = nat_list_cmp_total.antisymm name (key_text key) ∙ ap ordering_reverse e in
-    alone (is_text name (key_text key)) (is_among keys name) (none_behind name (key_text key) keys before all.0)
+    sym (ap (λ (b : Bool). is_text name (key_text key) || b) (none_behind name (key_text key) keys before all.0) ∙ or_false (is_text name (key_text key)))
 
 -- where the name is a key, that key stands first in what is left
 first_where_among : (name : List ℕ) (keys : List Key) → AscendByBytes (map key_text keys) → is_first name (keys_from name keys) ≡ is_among (keys_from name keys) name

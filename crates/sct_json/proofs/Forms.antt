@@ -15,6 +15,7 @@ use Rattle.sct_message.specs.declared.draft.Draft.TheVariants as draft
 use Rattle.sct_message.specs.declared.rules.RuleFault.{RuleFault}
 use Rattle.sct_message.specs.Drafts.{kind_of, head_of}
 use Rattle.sct_message.specs.Kinds.{kind_text, is_name_of, kinds, kind_named}
+use Rattle.sct_message.specs.OrderLaws.{kinds_same}
 use Rattle.sct_message.specs.Rules.{FollowsRules, first_broken_rule}
 use Rattle.sct_json.specs.declared.keys.Key.TheVariants as key
 use Rattle.sct_json.specs.declared.faults.JsonFault.TheVariants as fault
@@ -56,22 +57,11 @@ kept_as_read : (s t : List ℕ) → written_identification s ≡ Some t → s �
 unfolding written_identification
 kept_as_read s t e = (read_parts (is_identification s) s t e).1
 
-named_itself : (k : Kind) → kind_named (kind_text k) ≡ Some k
-named_itself Camt029 = refl
-named_itself Camt056 = refl
-named_itself Pacs002 = refl
-named_itself Pacs004 = refl
-named_itself Pacs008 = refl
-named_itself Pacs028 = refl
-
-one_kind : (j k : Kind) → kind_text j ≡ kind_text k → Some j ≡ Some k
-one_kind j k e = sym (named_itself j) ∙ ap kind_named e ∙ named_itself k
-
 text_of_name : (k : Kind) (s : List ℕ) → is_name_of k s ≡ true → take 8 s ≡ kind_text k
 text_of_name k s e = (bytes_decides (take 8 s) (kind_text k)).0 (and_parts _ _ e).0
 
 some_name : (b : Bool) (j k : Kind) (s : List ℕ) (later : Option Kind) → is_name_of j s ≡ b → is_name_of k s ≡ true → (b ≡ false → later ≡ Some k) → cond b (Some j) later ≡ Some k
-some_name true j k s later named e others = one_kind j k (sym (text_of_name j s named) ∙ text_of_name k s e)
+some_name true j k s later named e others = ap (λ (i : Kind). Some i) (kinds_same j k (sym (text_of_name j s named) ∙ text_of_name k s e))
 some_name false j k s later named e others = others refl
 
 no_kind_left : (k : Kind) (s : List ℕ) → is_name_of Camt029 s ≡ false → is_name_of Camt056 s ≡ false → is_name_of Pacs002 s ≡ false → is_name_of Pacs004 s ≡ false → is_name_of Pacs008 s ≡ false → is_name_of Pacs028 s ≡ false → is_name_of k s ≡ true → None ≡ Some k

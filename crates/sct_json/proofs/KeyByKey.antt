@@ -1,27 +1,11 @@
 -- An object as it is read key by key.
-use Rattle.std.proofs.Common.{◌≡◌, ◌∙◌, ap, sym, refl, ℕ, List, [], ◌∷◌, map, Option, Some, None, option_map}
+use Rattle.std.proofs.Common.{◌≡◌, ◌∙◌, ap, sym, refl, List, [], ◌∷◌, map, Option, Some, option_map}
 use Rattle.std.specs.Prelude.{option_and_then}
 use Rattle.serde_json.specs.Data.{Data}
-use Rattle.serde_json.specs.Find.{as_str, as_array}
+use Rattle.serde_json.specs.Find.{as_array}
 use Rattle.serde_json.specs.View.{view, items_of, items_view}
 use Rattle.serde_json.specs.declared.value.Value.{Value}
 use Rattle.sct_json.specs.Reading.{items_list, items_in}
-
--- ---- a text at a key
-
-pub text_there : (o : Option Data) (s : List ℕ) → Some (Some s) ≡ option_map as_str o → (d : Data) × (o ≡ Some d) × (as_str d ≡ Some s)
-text_there None s e = cc
-text_there (Some d) s e = (d, refl, cc)
-
-pub no_text_there : (o : Option Data) → Some None ≡ option_map as_str o → (d : Data) × (o ≡ Some d) × (as_str d ≡ None)
-no_text_there None e = cc
-no_text_there (Some d) e = (d, refl, cc)
-
-pub nothing_there : (o : Option Data) → None ≡ option_map as_str o → o ≡ None
-nothing_there None e = refl
-nothing_there (Some d) e = cc
-
--- ---- the elements of a list
 
 items_back : (ds : List Data) → items_list (items_of ds) ≡ ds
 items_back [] = refl

@@ -5,7 +5,7 @@ use Rattle.std.specs.List.{AllByRecursion, list_all}
 use Rattle.std.specs.List.Sorted.{IsStrictlySortedBy}
 use Rattle.std.specs.Cmp.{both_ways}
 use Rattle.std.specs.Cmp.Lexicographic.{slice_cmp, bytes_decides, nat_list_cmp_total}
-use Rattle.std.proofs.lemmas.Bool.{false≢true}
+use Rattle.std.proofs.lemmas.Bool.{false≢true, and_parts}
 use Rattle.std.proofs.lemmas.List.Folds.{list_any-append}
 use Rattle.sct_element.specs.Text.{is_text}
 use Rattle.sct_message.specs.declared.kinds.Kind.TheVariants.{Camt029, Camt056, Pacs002, Pacs004, Pacs008, Pacs028}
@@ -23,14 +23,6 @@ each_before_next [] = true
 each_before_next (s ∷ []) = true
 each_before_next (s ∷ t ∷ names) = is_lt (slice_cmp nat_cmp s t) && each_before_next (t ∷ names)
 
-first_holds : (a b : Bool) → (a && b) ≡ true → a ≡ true
-first_holds true b e = refl
-first_holds false b e = e
-
-second_holds : (a b : Bool) → (a && b) ≡ true → b ≡ true
-second_holds true b e = e
-second_holds false b e = absurd (false≢true e)
-
 is_less : (o : Ordering) → is_lt o ≡ true → o ≡ Less
 is_less Less e = refl
 is_less Equal e = absurd (false≢true e)
@@ -45,8 +37,8 @@ unfolding IsStrictlySortedBy each_before_next
 ascend_where_each_does [] e = tt
 ascend_where_each_does (s ∷ []) e = (tt, tt)
 ascend_where_each_does (s ∷ t ∷ names) e =
-    let before : IsBefore s t = is_less (slice_cmp nat_cmp s t) (first_holds (is_lt (slice_cmp nat_cmp s t)) (each_before_next (t ∷ names)) e) in
-    let later : AscendByBytes (t ∷ names) = ascend_where_each_does (t ∷ names) (second_holds (is_lt (slice_cmp nat_cmp s t)) (each_before_next (t ∷ names)) e) in
+    let before : IsBefore s t = is_less (slice_cmp nat_cmp s t) ((and_parts _ _ e).0) in
+    let later : AscendByBytes (t ∷ names) = ascend_where_each_does (t ∷ names) (and_parts _ _ e).1 in
     ((before, before_all s t names before later.0), later)
 
 pub credit_transfer_ascends : AscendByBytes (map key_text CREDIT_TRANSFER_KEYS)
@@ -91,7 +83,7 @@ among_at : (b : Bool) (name : List ℕ) (key : Key) (keys others : List Key) →
     → (is_among keys name ≡ true → is_among others name ≡ true) → is_among others name ≡ true
 unfolding is_among are_among
 among_at true name key keys others same all h later =
-    subst (λ (s : List ℕ). is_among others s ≡ true) (sym ((bytes_decides name (key_text key)).0 same)) (first_holds (is_among others (key_text key)) (are_among keys others) all)
+    subst (λ (s : List ℕ). is_among others s ≡ true) (sym ((bytes_decides name (key_text key)).0 same)) (and_parts _ _ all).0
 among_at false name key keys others same all h later = later h
 
 among_others : (name : List ℕ) (keys others : List Key) → are_among keys others ≡ true → is_among keys name ≡ true → is_among others name ≡ true
@@ -99,7 +91,7 @@ unfolding is_among are_among
 among_others name [] others all h = absurd (false≢true h)
 among_others name (key ∷ keys) others all h =
     among_at (is_text name (key_text key)) name key keys others refl all h
-    (λ later. among_others name keys others (second_holds (is_among others (key_text key)) (are_among keys others) all) later)
+    (λ later. among_others name keys others (and_parts _ _ all).1 later)
 
 among_both : (name : List ℕ) (keys others : List Key) → are_among keys others ≡ true → are_among others keys ≡ true → is_among keys name ≡ is_among others name
 among_both name keys others there back =

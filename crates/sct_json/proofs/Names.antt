@@ -1,11 +1,11 @@
 -- The names of an object ascend by their bytes, in what is read and in what is written, and the first extra one is the least.
-use Rattle.std.proofs.Common.{◌≡◌, ◌∙◌, ap, sym, subst, refl, inl, inr, ℕ, Bool, true, false, cond, List, Option, Some, None, option_map, Ordering, Less, Equal, Greater, nat_cmp, is_eq}
+use Rattle.std.proofs.Common.{◌≡◌, ◌∙◌, ap, sym, subst, refl, inl, inr, ℕ, Bool, true, false, cond, List, Option, Some, None, option_map, Ordering, Less, Equal, Greater, nat_cmp}
 use Rattle.std.specs.Prelude.{not, find, is_some, option_and_then, ◌⊎◌}
 use Rattle.std.specs.List.{AllByRecursion}
 use Rattle.std.specs.List.Sorted.{IsStrictlySortedBy}
 use Rattle.std.specs.Ordering.{match_ordering, ordering_reverse}
-use Rattle.std.specs.Cmp.Lexicographic.{slice_cmp, bytes_decides, texts_ties, nat_list_cmp_total}
-use Rattle.std.proofs.lemmas.Bool.{false≢true}
+use Rattle.std.specs.Cmp.Lexicographic.{slice_cmp, nat_list_cmp_total}
+use Rattle.std.proofs.lemmas.Bool.{false≢true, not-true}
 use Rattle.std.proofs.lemmas.Cmp.{tied_itself}
 use Rattle.json.specs.Json as json
 use Rattle.json.specs.Lex.{tokens}
@@ -15,7 +15,9 @@ use Rattle.serde_json.specs.Read.{read, max_depth, of_json, of_items, of_members
 use Rattle.sct_json.specs.declared.keys.Shape.{Shape}
 use Rattle.sct_json.specs.Keys.{is_key_in}
 use Rattle.sct_json.specs.Reading.{names_of, first_extra}
+use Rattle.sct_message.specs.CellsBack.{texts_same}
 use Rattle.sct_json.specs.Names.{IsBefore, AscendByBytes, NamesAscend, NamesAscendInItems, NamesAscendInMembers, IsLeastExtraKey}
+use Rattle.sct_json.proofs.Rows.{kept_put}
 
 abbrev by_bytes : List ℕ → List ℕ → Ordering
 by_bytes = slice_cmp nat_cmp
@@ -28,15 +30,10 @@ AllNames P ms = AllByRecursion P (names_of ms)
 
 -- ---- a member that is put
 
-all_at : (o : Ordering) (P : List ℕ → Type 0) (k l : List ℕ) (d e : Data) (ms : Members) → P k → AllNames P (member l e ms) → AllNames P (put k d ms)
-    → AllNames P (match_ordering o (member k d (member l e ms)) (member l d ms) (member l e (put k d ms)))
-all_at Less P k l d e ms here all later = (here, all)
-all_at Equal P k l d e ms here all later = all
-all_at Greater P k l d e ms here all later = (all.0, later)
-
 all_put : (P : List ℕ → Type 0) (k : List ℕ) (d : Data) (ms : Members) → P k → AllNames P ms → AllNames P (put k d ms)
-all_put P k d no_members here all = (here, tt)
-all_put P k d (member l e ms) here all = all_at (by_bytes k l) P k l d e ms here all (all_put P k d ms here all.1)
+all_put P k d ms here all =
+    kept_put (AllNames P) (λ name _. P name)
+    (record { none = tt; both = λ l e ns h rest. (h, rest); parts = λ l e ns h. h; mixed = λ j l e f h there. there }) k d here ms all
 
 all_later : (k l : List ℕ) (ms : Members) → IsBefore k l → AllNames (λ y. IsBefore l y) ms → AllNames (λ y. IsBefore k y) ms
 all_later k l no_members before all = tt
@@ -58,15 +55,10 @@ names_put k d (member l e ms) all = ascend_at (by_bytes k l) k l d e ms refl all
 
 -- ---- each value in an object
 
-within_at : (o : Ordering) (k l : List ℕ) (d e : Data) (ms : Members) → NamesAscend d → NamesAscendInMembers (member l e ms) → NamesAscendInMembers (put k d ms)
-    → NamesAscendInMembers (match_ordering o (member k d (member l e ms)) (member l d ms) (member l e (put k d ms)))
-within_at Less k l d e ms here all later = (here, all)
-within_at Equal k l d e ms here all later = (here, all.1)
-within_at Greater k l d e ms here all later = (all.0, later)
-
 within_put : (k : List ℕ) (d : Data) (ms : Members) → NamesAscend d → NamesAscendInMembers ms → NamesAscendInMembers (put k d ms)
-within_put k d no_members here all = (here, tt)
-within_put k d (member l e ms) here all = within_at (by_bytes k l) k l d e ms here all (within_put k d ms here all.1)
+within_put k d ms here all =
+    kept_put NamesAscendInMembers (λ _ value. NamesAscend value)
+    (record { none = tt; both = λ l e ns h rest. (h, rest); parts = λ l e ns h. h; mixed = λ j l e f h there. h }) k d here ms all
 
 pub ascend_none : NamesAscend (object no_members)
 unfolding IsStrictlySortedBy
@@ -91,7 +83,7 @@ same_members ms ns e = cc
 same_items : (ds es : Items) → ◌≡◌ {A = Option Items} (Some ds) (Some es) → ds ≡ es
 same_items ds es e = cc
 
-same_value : (d e : Data) → ◌≡◌ {A = Option Data} (Some d) (Some e) → d ≡ e
+pub same_value : (d e : Data) → ◌≡◌ {A = Option Data} (Some d) (Some e) → d ≡ e
 same_value d e same = cc
 
 -- the members of a text go in one after another
@@ -122,14 +114,11 @@ names_read bytes d e =
 
 -- ---- the first extra name
 
-same_name : (k l : List ℕ) → by_bytes k l ≡ Equal → k ≡ l
-same_name k l e = (bytes_decides k l).0 (texts_ties k l ∙ ap is_eq e)
-
 -- what is found at a name stands there, or behind the first member
 found_at : {G : Type 0} (o : Ordering) (k l : List ℕ) (e : Data) (r : Option Data) → by_bytes k l ≡ o → is_some (match_ordering o r (Some e) r) ≡ true
     → (k ≡ l → G) → (is_some r ≡ true → G) → G
 found_at Less k l e r o h here later = later h
-found_at Equal k l e r o h here later = here (same_name k l o)
+found_at Equal k l e r o h here later = here (texts_same k l o)
 found_at Greater k l e r o h here later = later h
 
 at_name : (P : List ℕ → Type 0) (k : List ℕ) (ms : Members) → AllNames P ms → is_some (get_member k ms) ≡ true → P k
@@ -178,13 +167,9 @@ unfolding IsStrictlySortedBy
 first_is_least_of p no_members name all h = cc
 first_is_least_of p (member l e ms) name all h = least_at (p l) p l e ms name all refl h (first_is_least_of p ms name all.1)
 
-fails_not : (b : Bool) → not b ≡ true → b ≡ false
-fails_not true e = absurd (false≢true e)
-fails_not false e = refl
-
 pub first_is_least : (shape : Shape) (ms : Members) (name : List ℕ) → AscendByBytes (names_of ms) → first_extra shape ms ≡ Some name → IsLeastExtraKey shape ms name
 first_is_least shape ms name all h =
     let least : IsLeast (λ k. not (is_key_in shape k)) ms name = first_is_least_of (λ k. not (is_key_in shape k)) ms name all h in record {
-      is_extra = record { stands = least.stands; extra = fails_not (is_key_in shape name) least.passes };
+      is_extra = record { stands = least.stands; extra = not-true (is_key_in shape name) least.passes };
       is_least = λ other extra. least.least other extra.stands (ap not extra.extra);
     }

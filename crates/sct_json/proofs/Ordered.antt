@@ -2,8 +2,7 @@
 use Rattle.std.proofs.Common.{◌≡◌, ◌∙◌, ap, sym, refl, subst, arith, ℕ, ◌≤◌, List, [], ◌∷◌, ◌++◌, append_assoc, append-nil, Option, Some, None, option_map, option_and_then, Ordering, Less, Equal, Greater, nat_cmp}
 use Rattle.std.specs.Prelude.{IsUtf8}
 use Rattle.std.specs.Ordering.{match_ordering, ordering_reverse}
-use Rattle.std.specs.Cmp.Lexicographic.{slice_cmp, nat_list_cmp_total, bytes_decides, texts_ties}
-use Rattle.std.specs.Ordering.{is_eq}
+use Rattle.std.specs.Cmp.Lexicographic.{slice_cmp, nat_list_cmp_total}
 use Rattle.json.specs.Json as json
 use Rattle.json.specs.Lex.{tokens}
 use Rattle.json.specs.Print.{print}
@@ -15,6 +14,7 @@ use Rattle.serde_json.specs.Data.{Data, string, array, object, Items, no_items, 
 use Rattle.serde_json.specs.Read.{read, max_depth, of_json, of_items, of_members}
 use Rattle.serde_json.specs.Written.{compact_text, outline, items_outline, members_outline}
 use Rattle.serde_json.proofs.Texts.{print-outline}
+use Rattle.sct_message.specs.CellsBack.{texts_same}
 use Rattle.sct_message.specs.declared.draft.Head.{Head}
 use Rattle.sct_message.specs.declared.draft.RecallTx.{RecallTx}
 use Rattle.sct_message.specs.declared.draft.Draft.{Draft}
@@ -98,9 +98,6 @@ put_first k s ((l, None) ∷ rs) h = put_first k s rs h.1
 put_first k s ((l, Some t) ∷ rs) h =
     ap (λ (o : Ordering). match_ordering o (member k (string s) (member (key_text l) (string t) (members_of rs))) (member (key_text l) (string s) (members_of rs)) (member (key_text l) (string t) (put k (string s) (members_of rs)))) h.0
 
-same_key : (k l : List ℕ) → by_bytes k l ≡ Equal → k ≡ l
-same_key k l e = (bytes_decides k l).0 (texts_ties k l ∙ ap is_eq e)
-
 insert_at : (o : Ordering) (k : Key) (t : Option (List ℕ)) (l : Key) (u : Option (List ℕ)) (rs : List Row) → by_bytes (key_text k) (key_text l) ≡ o → AreInOrder ((l, u) ∷ rs)
     → members_of (insert (k, t) rs) ≡ with_text k t (members_of rs)
     → members_of (match_ordering o ((k, t) ∷ (l, u) ∷ rs) ((l, later_of u t) ∷ rs) ((l, u) ∷ insert (k, t) rs)) ≡ with_text k t (members_of ((l, u) ∷ rs))
@@ -108,7 +105,7 @@ insert_at Less k None l u rs is h later = refl
 insert_at Less k (Some s) l u rs is h later = sym (put_first (key_text k) s ((l, u) ∷ rs) (is, behind_all _ _ rs is h.0))
 insert_at Equal k None l u rs is h later = refl
 insert_at Equal k (Some s) l None rs is h later =
-    let same : key_text k ≡ key_text l = same_key _ _ is in
+    let same : key_text k ≡ key_text l = texts_same _ _ is in
     sym (ap (λ (n : List ℕ). put n (string s) (members_of rs)) same ∙ put_first (key_text l) s rs h.0)
 insert_at Equal k (Some s) l (Some v) rs is h later =
     sym (ap (λ (o : Ordering). match_ordering o (member (key_text k) (string s) (member (key_text l) (string v) (members_of rs))) (member (key_text l) (string s) (members_of rs)) (member (key_text l) (string v) (put (key_text k) (string s) (members_of rs)))) is)

@@ -1,17 +1,14 @@
 -- An object whose members are all texts.
 use Rattle.std.proofs.Common.{◌≡◌, ◌∙◌, ap, sym, subst, refl, arith, ℕ, ◌+◌, ◌-◌, ◌<◌, Bool, true, false, cond, List, [], ◌∷◌, ◌++◌, length, Option, Some, None, option_map, Result, Ok, take, get_or}
-use Rattle.std.specs.Prelude.{option_and_then, ◌&&◌, zero, suc, find, not, ok_or}
-use Rattle.std.specs.Ordering.{nat_cmp, match_ordering}
-use Rattle.std.specs.declared.cmp.Ordering.{Ordering}
-use Rattle.std.specs.declared.cmp.Ordering.TheVariants.{Less, Equal, Greater}
-use Rattle.std.specs.Cmp.Lexicographic.{slice_cmp, bytes_decides}
+use Rattle.std.specs.Prelude.{option_and_then, zero, suc, ok_or}
+use Rattle.std.specs.Cmp.Lexicographic.{bytes_decides}
 use Rattle.std.specs.List.{list_all}
-use Rattle.std.proofs.lemmas.Bool.{false≢true, cond-true, cond-false}
+use Rattle.std.proofs.lemmas.Bool.{false≢true, and_parts, cond-true, cond-false}
 use Rattle.std.proofs.lemmas.List.{take_all, take_more, map-append}
 use Rattle.json.specs.Token as json
 use Rattle.json.specs.Lex.{tokens}
 use Rattle.json.specs.Json as grammar
-use Rattle.serde_json.specs.Data.{Data, string, object, Members, no_members, member, put}
+use Rattle.serde_json.specs.Data.{Data, string, object, Members, no_members, put}
 use Rattle.serde_json.specs.Read.{read, of_json, of_members, max_depth}
 use Rattle.serde_json.specs.Find.{get_member, as_str}
 use Rattle.serde_json.proofs.Views.{get_member-put, get_member-put_other}
@@ -28,14 +25,8 @@ use Rattle.sct_json.specs.Keys.{key_text, is_key_in}
 use Rattle.sct_json.specs.Members.{texts_of}
 use Rattle.sct_json.specs.Objects.{put_texts, object_of, later_or, last_text, tokens_before}
 use Rattle.sct_json.specs.Reading.{◌>>=◌, items_in, names_of, passes_unless, kind_in, draft_in, shape_in, follows_unless, message_in_whole, object_in}
-
-first_holds : (a b : Bool) → (a && b) ≡ true → a ≡ true
-first_holds true b e = refl
-first_holds false b e = e
-
-second_holds : (a b : Bool) → (a && b) ≡ true → b ≡ true
-second_holds true b e = e
-second_holds false b e = absurd (false≢true e)
+use Rattle.sct_json.proofs.Rows.{names_put}
+use Rattle.sct_json.proofs.TableForms.{none_fails}
 
 -- ---- the last text at a key
 
@@ -84,12 +75,6 @@ seen_alike (Some s) = refl
 
 pub text_seen : (name : List ℕ) (ms : List (Key × List ℕ)) → option_map (λ s. Some s) (last_text name ms) ≡ option_map as_str (get_member name (put_texts ms no_members))
 text_seen name ms = seen_alike (last_text name ms) ∙ ap (option_map as_str) (sym (text_at name ms))
-
--- ---- the keys
-
-pub all_alike : {X : Type 0} (p q : X → Bool) → ((x : X) → p x ≡ q x) → (xs : List X) → list_all p xs ≡ list_all q xs
-all_alike p q same [] = refl
-all_alike p q same (x ∷ xs) = ap (λ (b : Bool). b && list_all p xs) (same x) ∙ ap (λ (b : Bool). q x && b) (all_alike p q same xs)
 
 -- ---- members in front of another
 
@@ -178,36 +163,19 @@ read_texts text ms e =
 
 -- ---- no other key
 
-names_put_at : (o : Ordering) (q : List ℕ → Bool) (k l : List ℕ) (d e : Data) (ms : Members) → q k ≡ true → list_all q (l ∷ names_of ms) ≡ true → list_all q (names_of (put k d ms)) ≡ true
-    → list_all q (names_of (match_ordering o (member k d (member l e ms)) (member l d ms) (member l e (put k d ms)))) ≡ true
-names_put_at Less q k l d e ms here all later = ap (λ (b : Bool). b && list_all q (l ∷ names_of ms)) here ∙ all
-names_put_at Equal q k l d e ms here all later = all
-names_put_at Greater q k l d e ms here all later = ap (λ (b : Bool). b && list_all q (names_of (put k d ms))) (first_holds (q l) (list_all q (names_of ms)) all) ∙ later
-
-names_put : (q : List ℕ → Bool) (k : List ℕ) (d : Data) (ms : Members) → q k ≡ true → list_all q (names_of ms) ≡ true → list_all q (names_of (put k d ms)) ≡ true
-names_put q k d no_members here all = ap (λ (b : Bool). b && true) here
-names_put q k d (member l e ms) here all =
-    names_put_at (slice_cmp nat_cmp k l) q k l d e ms here all (names_put q k d ms here (second_holds (q l) (list_all q (names_of ms)) all))
-
 names_of_texts : (q : List ℕ → Bool) (ms : List (Key × List ℕ)) (found : Members) → list_all (λ m. q (key_text m.0)) ms ≡ true → list_all q (names_of found) ≡ true
     → list_all q (names_of (put_texts ms found)) ≡ true
 names_of_texts q [] found all before = before
 names_of_texts q (m ∷ ms) found all before =
-    names_of_texts q ms (put (key_text m.0) (string m.1) found) (second_holds (q (key_text m.0)) (list_all (λ n. q (key_text n.0)) ms) all)
-    (names_put q (key_text m.0) (string m.1) found (first_holds (q (key_text m.0)) (list_all (λ n. q (key_text n.0)) ms) all) before)
-
-none_other : (q : List ℕ → Bool) (names : List (List ℕ)) → list_all q names ≡ true → find (λ name. not (q name)) names ≡ None
-none_other q [] all = refl
-none_other q (name ∷ names) all =
-    ap (λ (b : Bool). cond (not b) (Some name) (find (λ other. not (q other)) names)) (first_holds (q name) (list_all q names) all)
-    ∙ none_other q names (second_holds (q name) (list_all q names) all)
+    names_of_texts q ms (put (key_text m.0) (string m.1) found) (and_parts _ _ all).1
+    (names_put q (key_text m.0) (string m.1) found (and_parts _ _ all).0 before)
 
 -- an object with keys of its shape alone is a message if its elements follow the rules
 pub message_of_texts : (shape : Shape) (ms : List (Key × List ℕ)) (elements : Draft) → list_all (λ m. is_key_in shape (key_text m.0)) ms ≡ true
     → message_in_whole shape (put_texts ms no_members) elements ≡ follows_unless (first_broken_rule elements) elements
 message_of_texts shape ms elements all =
     ap (λ (extra : Option (List ℕ)). passes_unless extra >>= λ alone. follows_unless (first_broken_rule elements) elements)
-    (none_other (is_key_in shape) (names_of (put_texts ms no_members)) (names_of_texts (is_key_in shape) ms no_members all refl))
+    (none_fails (is_key_in shape) (names_of (put_texts ms no_members)) (names_of_texts (is_key_in shape) ms no_members all refl))
 
 -- an object of a kind, with keys of its shape alone
 pub object_of_kind : (ms : List (Key × List ℕ)) (kind : Kind) (shape : Shape) (elements : Draft) → Some kind ≡ kind_in (object_of ms) → draft_in kind (object_of ms) ≡ Ok elements

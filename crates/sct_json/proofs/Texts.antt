@@ -1,8 +1,6 @@
 -- The text of a written object: one line, its keys ascending, and of one message alone.
-use Rattle.std.proofs.Common.{◌≡◌, ◌∙◌, ap, sym, refl, arith, inl, inr, ℕ, zero, suc, ◌<◌, ◌≤◌, ◌==◌, Bool, true, false, List, [], ◌∷◌, ◌++◌, Option, Some, None, Result, Ok, Ordering, Less, Equal, Greater, nat_cmp}
+use Rattle.std.proofs.Common.{◌≡◌, ◌∙◌, ap, sym, refl, arith, inl, inr, ℕ, zero, suc, ◌<◌, ◌≤◌, ◌==◌, Bool, true, false, List, [], ◌∷◌, ◌++◌, Option, Some, None, Result, Ok}
 use Rattle.std.specs.Prelude.{◌&&◌, not, option_and_then}
-use Rattle.std.specs.Ordering.{match_ordering}
-use Rattle.std.specs.Cmp.Lexicographic.{slice_cmp}
 use Rattle.std.proofs.lemmas.Bool.{and_parts, and_from, cases_lt, cases_eq}
 use Rattle.std.proofs.lemmas.Bool.Decides.{nat_tests}
 use Rattle.std.proofs.lemmas.List.Folds.{list_all-append}
@@ -24,9 +22,9 @@ use Rattle.sct_json.specs.Keys.{key_text}
 use Rattle.sct_json.specs.Names.{NamesAscend, NamesAscendInItems}
 use Rattle.sct_json.specs.Reading.{object_in}
 use Rattle.sct_json.specs.Writing.{with_rows, transaction_rows, transaction_objects, with_elements, written_object, written_text, has_no_line_feed, ElementsReadBack}
-use Rattle.sct_json.proofs.Names.{ascend_none, ascend_put}
+use Rattle.sct_json.proofs.Names.{ascend_none, ascend_put, same_value}
 use Rattle.sct_json.proofs.Ordered.{object_back, written_shallow}
-use Rattle.sct_json.proofs.Rows.{IsKept, kept_rows, kept_written}
+use Rattle.sct_json.proofs.Rows.{IsKept, kept_put, kept_rows, kept_written}
 use Rattle.sct_json.proofs.Written.{written_is_read}
 
 -- ---- the keys ascend
@@ -88,15 +86,10 @@ abbrev AreLines : Members → Type 0
 AreLines no_members = Unit {0}
 AreLines (member k d ms) = IsOneLine (compact_text d) × AreLines ms
 
-lines_at : (o : Ordering) (k l : List ℕ) (d e : Data) (ms : Members) → IsOneLine (compact_text d) → AreLines (member l e ms) → AreLines (put k d ms)
-    → AreLines (match_ordering o (member k d (member l e ms)) (member l d ms) (member l e (put k d ms)))
-lines_at Less k l d e ms here all later = (here, all)
-lines_at Equal k l d e ms here all later = (here, all.1)
-lines_at Greater k l d e ms here all later = (all.0, later)
-
 lines_put : (k : List ℕ) (d : Data) (ms : Members) → IsOneLine (compact_text d) → AreLines ms → AreLines (put k d ms)
-lines_put k d no_members here all = (here, tt)
-lines_put k d (member l e ms) here all = lines_at (slice_cmp nat_cmp k l) k l d e ms here all (lines_put k d ms here all.1)
+lines_put k d ms here all =
+    kept_put AreLines (λ _ value. IsOneLine (compact_text value))
+    (record { none = tt; both = λ l e ns h rest. (h, rest); parts = λ l e ns h. h; mixed = λ j l e f h there. h }) k d here ms all
 
 member_is_one_line : (k text rest : List ℕ) → IsOneLine text → IsOneLine rest → IsOneLine (quoted k ++ 58 ∷ (text ++ rest))
 member_is_one_line k text rest here later = both_one_line (quoted k) (58 ∷ (text ++ rest)) (quoted_is_one_line k) (both_one_line text rest here later)
@@ -137,15 +130,10 @@ text_begins m = (members_text false (with_elements m no_members), refl)
 abbrev HaveNumbers : Members → Type 0
 HaveNumbers ms = tree.MembersHaveNumbers (members_outline ms)
 
-numbers_at : (o : Ordering) (k l : List ℕ) (d e : Data) (ms : Members) → tree.HasNumbers (outline d) → HaveNumbers (member l e ms) → HaveNumbers (put k d ms)
-    → HaveNumbers (match_ordering o (member k d (member l e ms)) (member l d ms) (member l e (put k d ms)))
-numbers_at Less k l d e ms here all later = (here, all)
-numbers_at Equal k l d e ms here all later = (here, all.1)
-numbers_at Greater k l d e ms here all later = (all.0, later)
-
 numbers_put : (k : List ℕ) (d : Data) (ms : Members) → tree.HasNumbers (outline d) → HaveNumbers ms → HaveNumbers (put k d ms)
-numbers_put k d no_members here all = (here, tt)
-numbers_put k d (member l e ms) here all = numbers_at (slice_cmp nat_cmp k l) k l d e ms here all (numbers_put k d ms here all.1)
+numbers_put k d ms here all =
+    kept_put HaveNumbers (λ _ value. tree.HasNumbers (outline value))
+    (record { none = tt; both = λ l e ns h rest. (h, rest); parts = λ l e ns h. h; mixed = λ j l e f h there. h }) k d here ms all
 
 kept_numbers : IsKept HaveNumbers
 kept_numbers k s ms all = numbers_put k (string s) ms tt all
@@ -171,11 +159,8 @@ value_written m =
     ∙ ap (option_and_then of_json) (document-print line (numbers_written m) (omega (arith, low)))
     ∙ object_back m
 
-some_same : (d e : Data) → ◌≡◌ {A = Option Data} (Some d) (Some e) → d ≡ e
-some_same d e same = cc
-
 same_object : (m n : Draft) → written_text m ≡ written_text n → written_object m ≡ written_object n
-same_object m n same = some_same _ _ (sym (value_written m) ∙ ap value_of same ∙ value_written n)
+same_object m n same = same_value _ _ (sym (value_written m) ∙ ap value_of same ∙ value_written n)
 
 ok_same : (m n : Draft) → ◌≡◌ {A = Result Draft JsonFault} (Ok m) (Ok n) → m ≡ n
 ok_same m n e = cc

@@ -1,10 +1,9 @@
 -- What is written is a form of its message.
-use Rattle.std.proofs.Common.{◌≡◌, ◌∙◌, ap, sym, subst, refl, inl, inr, ℕ, suc, Bool, true, false, not, cond, List, [], ◌∷◌, length, Option, Some, None, option_map, Ok, Ordering, Less, Equal, Greater, nat_cmp}
+use Rattle.std.proofs.Common.{◌≡◌, ◌∙◌, ap, sym, subst, refl, inl, inr, ℕ, suc, Bool, true, false, not, cond, List, [], ◌∷◌, length, Option, Some, None, option_map, Ok}
 use Rattle.std.specs.List.{AllByRecursion, list_all}
-use Rattle.std.specs.Ordering.{match_ordering}
-use Rattle.std.specs.Cmp.Lexicographic.{slice_cmp, bytes_decides}
-use Rattle.std.proofs.lemmas.Bool.{false≢true, and_parts, and_from}
-use Rattle.serde_json.specs.Data.{Data, string, array, object, Members, no_members, member, put}
+use Rattle.std.specs.Cmp.Lexicographic.{bytes_decides}
+use Rattle.std.proofs.lemmas.Bool.{false≢true, and_parts}
+use Rattle.serde_json.specs.Data.{Data, string, array, object, Members, no_members, put}
 use Rattle.serde_json.specs.Find.{get, get_member}
 use Rattle.serde_json.proofs.Views.{get_member-put, get_member-put_other}
 use Rattle.sct_element.specs.Account.{written_iban}
@@ -40,6 +39,7 @@ use Rattle.sct_json.specs.Reading.{name_of, remittance_of, names_of, items_list,
 use Rattle.sct_json.specs.Form.{Holds, MayHold, HoldsHead, HoldsOriginal, HoldsCreditTransfer, HoldsStatusReport, HoldsStatusRequest, HoldsTransaction, IsTransaction, AreTransactions, HoldsOne, HoldsList, HoldsRecalls, HoldsPaymentReturn, HoldsResolution, HoldsElements, HasKeysIn, HasKeysOf}
 use Rattle.sct_json.specs.Writing.{Row, with_text, with_rows, with_elements, written_object, head_rows, original_rows, credit_transfer_rows, status_report_rows, status_request_rows, transaction_rows, payment_return_rows, resolution_rows, with_head, with_original, with_list, with_transactions, transaction_objects, ReadsBack, MayReadBack, HeadReadsBack, OriginalReadsBack, CreditTransferReadsBack, StatusReportReadsBack, StatusRequestReadsBack, TransactionReadsBack, PaymentReturnReadsBack, ResolutionReadsBack, ElementsReadBack}
 use Rattle.sct_json.proofs.Forms.{held_is_read}
+use Rattle.sct_json.proofs.Rows.{names_put}
 
 -- ---- what stands at a key once rows were put
 
@@ -78,16 +78,6 @@ may_hold_written reads written k d (Some y) back at = (written y, at, back)
 
 -- ---- the keys of what is written
 
-named_at : (o : Ordering) (p : List ℕ → Bool) (k l : List ℕ) (d e : Data) (ms : Members) → p k ≡ true → list_all p (l ∷ names_of ms) ≡ true → list_all p (names_of (put k d ms)) ≡ true
-    → list_all p (names_of (match_ordering o (member k d (member l e ms)) (member l d ms) (member l e (put k d ms)))) ≡ true
-named_at Less p k l d e ms here all later = and_from _ _ here all
-named_at Equal p k l d e ms here all later = all
-named_at Greater p k l d e ms here all later = and_from _ _ (and_parts _ _ all).0 later
-
-names_put : (p : List ℕ → Bool) (k : List ℕ) (d : Data) (ms : Members) → p k ≡ true → list_all p (names_of ms) ≡ true → list_all p (names_of (put k d ms)) ≡ true
-names_put p k d no_members here all = and_from _ _ here refl
-names_put p k d (member l e ms) here all = named_at (slice_cmp nat_cmp k l) p k l d e ms here all (names_put p k d ms here (and_parts _ _ all).1)
-
 abbrev are_rows_of : (List ℕ → Bool) → List Row → Bool
 are_rows_of p rs = list_all (λ r. p (key_text r.0)) rs
 
@@ -95,74 +85,6 @@ names_with : (p : List ℕ → Bool) (rs : List Row) (ms : Members) → are_rows
 names_with p [] ms rows all = all
 names_with p ((k, None) ∷ rs) ms rows all = names_with p rs ms (and_parts _ _ rows).1 all
 names_with p ((k, Some s) ∷ rs) ms rows all = names_with p rs (put (key_text k) (string s) ms) (and_parts _ _ rows).1 (names_put p (key_text k) (string s) ms (and_parts _ _ rows).0 all)
-
-head_rows_in_credit_transfer : (m : Head) → are_rows_of (is_key_of Pacs008) (head_rows m) ≡ true
-unfolding is_among
-head_rows_in_credit_transfer m = refl
-
-credit_transfer_rows_in_credit_transfer : (m : CreditTransfer) → are_rows_of (is_key_of Pacs008) (credit_transfer_rows m) ≡ true
-unfolding is_among
-credit_transfer_rows_in_credit_transfer m = refl
-
-head_rows_in_status_report : (m : Head) → are_rows_of (is_key_of Pacs002) (head_rows m) ≡ true
-unfolding is_among
-head_rows_in_status_report m = refl
-
-original_rows_in_status_report : (m : Original) → are_rows_of (is_key_of Pacs002) (original_rows m) ≡ true
-unfolding is_among
-original_rows_in_status_report m = refl
-
-status_report_rows_in_status_report : (m : StatusReport) → are_rows_of (is_key_of Pacs002) (status_report_rows m) ≡ true
-unfolding is_among
-status_report_rows_in_status_report m = refl
-
-head_rows_in_status_request : (m : Head) → are_rows_of (is_key_of Pacs028) (head_rows m) ≡ true
-unfolding is_among
-head_rows_in_status_request m = refl
-
-original_rows_in_status_request : (m : Original) → are_rows_of (is_key_of Pacs028) (original_rows m) ≡ true
-unfolding is_among
-original_rows_in_status_request m = refl
-
-status_request_rows_in_status_request : (m : StatusRequest) → are_rows_of (is_key_of Pacs028) (status_request_rows m) ≡ true
-unfolding is_among
-status_request_rows_in_status_request m = refl
-
-head_rows_in_one : (m : Head) → are_rows_of (is_key_of Camt056) (head_rows m) ≡ true
-unfolding is_among
-head_rows_in_one m = refl
-
-transaction_rows_in_one : (m : RecallTx) → are_rows_of (is_key_of Camt056) (transaction_rows m) ≡ true
-unfolding is_among
-transaction_rows_in_one m = refl
-
-head_rows_in_list : (m : Head) → are_rows_of (is_key_in Listed) (head_rows m) ≡ true
-unfolding is_among
-head_rows_in_list m = refl
-
-list_key_in_list : is_key_in Listed (key_text key.TxInf) ≡ true
-unfolding is_among
-list_key_in_list = refl
-
-transaction_rows_in_transaction : (m : RecallTx) → are_rows_of (is_key_in Transaction) (transaction_rows m) ≡ true
-unfolding is_among
-transaction_rows_in_transaction m = refl
-
-head_rows_in_payment_return : (m : Head) → are_rows_of (is_key_of Pacs004) (head_rows m) ≡ true
-unfolding is_among
-head_rows_in_payment_return m = refl
-
-payment_return_rows_in_payment_return : (m : PaymentReturn) → are_rows_of (is_key_of Pacs004) (payment_return_rows m) ≡ true
-unfolding is_among
-payment_return_rows_in_payment_return m = refl
-
-head_rows_in_resolution : (m : Head) → are_rows_of (is_key_of Camt029) (head_rows m) ≡ true
-unfolding is_among
-head_rows_in_resolution m = refl
-
-resolution_rows_in_resolution : (m : Resolution) → are_rows_of (is_key_of Camt029) (resolution_rows m) ≡ true
-unfolding is_among
-resolution_rows_in_resolution m = refl
 
 -- ---- the elements of what is written
 
@@ -282,10 +204,11 @@ one_written h tx head_back back = let d : Data = object (one_members h tx) in re
 }
 
 keys_of_one : (h : Head) (tx : RecallTx) → HasKeysOf Camt056 (object (one_members h tx))
+unfolding is_among
 keys_of_one h tx = subst (λ (list : Option Data). HasKeysIn (listed_or_flat list) (object (one_members h tx))) (sym (in_one h tx key.TxInf)) (
   one_members h tx,
   refl,
-  names_with (is_key_of Camt056) (transaction_rows tx) (with_head h no_members) (transaction_rows_in_one tx) (names_with (is_key_of Camt056) (head_rows h) no_members (head_rows_in_one h) refl),
+  names_with (is_key_of Camt056) (transaction_rows tx) (with_head h no_members) refl (names_with (is_key_of Camt056) (head_rows h) no_members refl refl),
 )
 
 -- ---- a camt.056 with a list
@@ -297,8 +220,9 @@ in_element : (tx : RecallTx) (k : Key) → get (key_text k) (object (element_mem
 in_element tx k = get_with (key_text k) (transaction_rows tx) no_members
 
 element_written : (tx : RecallTx) → TransactionReadsBack tx → IsTransaction (object (element_members tx)) tx
+unfolding is_among
 element_written tx back = record {
-  keys = (element_members tx, refl, names_with (is_key_in Transaction) (transaction_rows tx) no_members (transaction_rows_in_transaction tx) refl);
+  keys = (element_members tx, refl, names_with (is_key_in Transaction) (transaction_rows tx) no_members refl refl);
   elements = transaction_written (object (element_members tx)) tx back (in_element tx key.CxlId) (in_element tx key.OrgnlMsgId) (in_element tx key.OrgnlMsgNmId) (in_element tx key.OrgnlEndToEndId) (in_element tx key.OrgnlTxId) (in_element tx key.OrgnlIntrBkSttlmAmt) (in_element tx key.Ccy) (in_element tx key.OrgnlIntrBkSttlmDt) (in_element tx key.Rsn) (in_element tx key.DbtrAgt);
 }
 
@@ -332,10 +256,11 @@ list_written h txs head_back back few = let d : Data = object (list_members h tx
 }
 
 keys_of_list : (h : Head) (txs : List RecallTx) → HasKeysOf Camt056 (object (list_members h txs))
+unfolding is_among
 keys_of_list h txs = subst (λ (list : Option Data). HasKeysIn (listed_or_flat list) (object (list_members h txs))) (sym (at_list h txs)) (
   list_members h txs,
   refl,
-  names_put (is_key_in Listed) (key_text key.TxInf) (array (transaction_objects txs)) (with_head h no_members) list_key_in_list (names_with (is_key_in Listed) (head_rows h) no_members (head_rows_in_list h) refl),
+  names_put (is_key_in Listed) (key_text key.TxInf) (array (transaction_objects txs)) (with_head h no_members) refl (names_with (is_key_in Listed) (head_rows h) no_members refl refl),
 )
 
 -- ---- both forms
@@ -405,12 +330,13 @@ resolution_written m back = let d : Data = written_object (draft.Resolution m) i
 -- ---- every kind
 
 keys_written : (m : Draft) → HasKeysOf (kind_of m) (written_object m)
-keys_written (draft.CreditTransfer m) = (with_elements (draft.CreditTransfer m) no_members, refl, names_with (is_key_of Pacs008) (credit_transfer_rows m) (with_head m.head no_members) (credit_transfer_rows_in_credit_transfer m) (names_with (is_key_of Pacs008) (head_rows m.head) no_members (head_rows_in_credit_transfer m.head) refl))
-keys_written (draft.StatusReport m) = (with_elements (draft.StatusReport m) no_members, refl, names_with (is_key_of Pacs002) (status_report_rows m) (with_original m.original (with_head m.head no_members)) (status_report_rows_in_status_report m) (names_with (is_key_of Pacs002) (original_rows m.original) (with_head m.head no_members) (original_rows_in_status_report m.original) (names_with (is_key_of Pacs002) (head_rows m.head) no_members (head_rows_in_status_report m.head) refl)))
-keys_written (draft.StatusRequest m) = (with_elements (draft.StatusRequest m) no_members, refl, names_with (is_key_of Pacs028) (status_request_rows m) (with_original m.original (with_head m.head no_members)) (status_request_rows_in_status_request m) (names_with (is_key_of Pacs028) (original_rows m.original) (with_head m.head no_members) (original_rows_in_status_request m.original) (names_with (is_key_of Pacs028) (head_rows m.head) no_members (head_rows_in_status_request m.head) refl)))
+unfolding is_among
+keys_written (draft.CreditTransfer m) = (with_elements (draft.CreditTransfer m) no_members, refl, names_with (is_key_of Pacs008) (credit_transfer_rows m) (with_head m.head no_members) refl (names_with (is_key_of Pacs008) (head_rows m.head) no_members refl refl))
+keys_written (draft.StatusReport m) = (with_elements (draft.StatusReport m) no_members, refl, names_with (is_key_of Pacs002) (status_report_rows m) (with_original m.original (with_head m.head no_members)) refl (names_with (is_key_of Pacs002) (original_rows m.original) (with_head m.head no_members) refl (names_with (is_key_of Pacs002) (head_rows m.head) no_members refl refl)))
+keys_written (draft.StatusRequest m) = (with_elements (draft.StatusRequest m) no_members, refl, names_with (is_key_of Pacs028) (status_request_rows m) (with_original m.original (with_head m.head no_members)) refl (names_with (is_key_of Pacs028) (original_rows m.original) (with_head m.head no_members) refl (names_with (is_key_of Pacs028) (head_rows m.head) no_members refl refl)))
 keys_written (draft.CancellationRequest m) = keys_of_recalls m.head m.txs
-keys_written (draft.PaymentReturn m) = (with_elements (draft.PaymentReturn m) no_members, refl, names_with (is_key_of Pacs004) (payment_return_rows m) (with_head m.head no_members) (payment_return_rows_in_payment_return m) (names_with (is_key_of Pacs004) (head_rows m.head) no_members (head_rows_in_payment_return m.head) refl))
-keys_written (draft.Resolution m) = (with_elements (draft.Resolution m) no_members, refl, names_with (is_key_of Camt029) (resolution_rows m) (with_head m.head no_members) (resolution_rows_in_resolution m) (names_with (is_key_of Camt029) (head_rows m.head) no_members (head_rows_in_resolution m.head) refl))
+keys_written (draft.PaymentReturn m) = (with_elements (draft.PaymentReturn m) no_members, refl, names_with (is_key_of Pacs004) (payment_return_rows m) (with_head m.head no_members) refl (names_with (is_key_of Pacs004) (head_rows m.head) no_members refl refl))
+keys_written (draft.Resolution m) = (with_elements (draft.Resolution m) no_members, refl, names_with (is_key_of Camt029) (resolution_rows m) (with_head m.head no_members) refl (names_with (is_key_of Camt029) (head_rows m.head) no_members refl refl))
 
 elements_written : (m : Draft) → ElementsReadBack m → first_broken_rule m ≡ None → HoldsElements (written_object m) m
 elements_written (draft.CreditTransfer m) back rules = credit_transfer_written m back

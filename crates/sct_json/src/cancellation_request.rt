@@ -1,5 +1,5 @@
-//! camt.056: the recall of 1 to 100 transfers. It has two forms. Of one transfer, the elements of the recall stand beside
-//! those of the head. Of one or more, a list has an object for each.
+//! camt.056: the recall of 1 to 100 transfers. It has two forms. The form for one transfer has the elements of the recall
+//! beside those of the head. The other form has a list with an object for each transfer.
 ghost use Rattle.std.specs.Prelude.{◌≡◌, ◌∷◌, [], Some, Ok, OnOk};
 ghost use Rattle.serde_json.specs.Data.{Data};
 ghost use Rattle.serde_json.specs.Find.{get};
@@ -27,7 +27,7 @@ fn list_of(alloc: Global, tx: RecallTx) -> Result<Vec<RecallTx>, JsonFault>
     }
 }
 
-/// The form of one transaction, whose keys stand beside those of the head.
+/// The form of one transaction, whose keys are beside those of the head.
 #[tactic(auto, unfolding(crate::specs::Reading::flat_recall_in))]
 fn read_flat<O: Object>(alloc: Global, object: &O) -> Result<CancellationRequest, JsonFault>
     ensures { Gives result (flat_recall_in (O.value object.now)) }
@@ -81,7 +81,7 @@ fn put_flat(head: &Head, tx: &RecallTx, out: &mut Writer) -> Result<(), AllocErr
     Ok(())
 }
 
-/// Writes one transaction beside the head, and more as a list behind it.
+/// Writes one transaction beside the head, and two or more as a list after the head.
 fn put_recalls(head: &Head, txs: &[RecallTx], out: &mut Writer) -> Result<(), AllocError>
     ensures { OnOk result (Writes (with_recalls head.now txs.now) out.old out.new) }
 {

@@ -46,7 +46,7 @@ impl<R: Rule<N>, const N: usize> Element for Checked<R, N> {
 
     ghost written = { λ s. s };
 
-    // Its type's own fault is never want of memory.
+    // A fault of the type is never out of memory.
     ghost takes_memory = { is_want_of_memory R.fault };
 
     fn read_element(_alloc: Global, text: &str) -> Result<Self, ElementFault> {
@@ -58,6 +58,7 @@ impl<R: Rule<N>, const N: usize> Element for Checked<R, N> {
     }
 
     fn reads_back(&self) {
+        // For the contract alone: it says that the value is one that the type reads.
         let _ = self.text();
     }
 }
@@ -100,6 +101,7 @@ impl Element for Amount {
     }
 
     fn reads_back(&self) {
+        // For the contract alone: it says that the value is one that the type reads.
         let _ = self.text();
     }
 }
@@ -122,6 +124,7 @@ impl<const MOST: usize> Element for FreeText<MOST> {
     }
 
     fn reads_back(&self) {
+        // For the contract alone: it says that the value is one that the type reads.
         let _ = self.text();
     }
 }

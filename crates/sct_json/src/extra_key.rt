@@ -1,5 +1,5 @@
-//! The extra key that is told of an object. Its names and the keys of its shape stand in one order, so one walk along
-//! both finds it.
+//! The extra key for which an object is refused. The names of the object and the keys of its shape are both sorted by
+//! their bytes, so one walk along both finds the key.
 ghost use Rattle.std.specs.Prelude.{◌≡◌, find, not, is_some, string_bytes};
 ghost use Rattle.std.specs.Option.{option_copied};
 ghost use Rattle.std.specs.BTreeMap.{keys};
@@ -12,7 +12,7 @@ use crate::keys::{Key, Shape, keys_in};
 use serde_json::{Map, Value};
 use std::alloc::Global;
 
-/// What is left of keys from the first that does not stand before a name.
+/// The keys from the first that is not below a name, by bytes.
 fn keys_from<'a>(keys: &'a [Key], name: &str) -> &'a [Key]
     ensures { result.now ≡ keys_from name.now keys.now }
 {
@@ -47,7 +47,7 @@ fn first_other(shape: Shape, object: &Map<String, Value>) -> Option<&String>
     None
 }
 
-/// Refuses an object with a key that is none of its shape.
+/// Refuses an object that has a key outside its shape.
 #[tactic(auto, using(crate::proofs::Extra::first_extra_found))]
 pub(crate) fn refuse_extra(
     alloc: Global,

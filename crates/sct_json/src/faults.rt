@@ -39,8 +39,8 @@ impl ExtraKey {
     }
 }
 
-/// Why an object is no transaction of a recall message's list. It is the first reason, key by key in the order of the
-/// key table 34 to 36, and then 37.
+/// Why an object is no transaction of a recall message's list: the first reason that applies. The order is 34 to 36, key
+/// by key in the order of the key table, and then 37.
 #[derive(Debug, Drop, Error)]
 pub enum KeyFault {
     /// 34: a key that each transaction has is absent.
@@ -73,9 +73,9 @@ impl KeyFault {
     }
 }
 
-/// Why an object is a form of no message. It is the first reason in the order of the numbers 31 to 33, then key by key
-/// in the order of the kind's key table 34 to 36, then 37 and 38. A recall message with a list has 46 and then 56 behind
-/// the keys of its head, and before 37. Only 30 says nothing of the object.
+/// Why an object is a form of no message: the first reason that applies. The order is 31 to 33; then 34 to 36, key by key
+/// in the order of the kind's key table; then 37 and 38. For a recall message with a list, 46 and then 56 come after the
+/// keys of its head and before 37. Only 30 does not depend on the object.
 #[derive(Debug, Drop, Error)]
 pub enum JsonFault {
     /// 30: out of memory.
@@ -105,11 +105,11 @@ pub enum JsonFault {
     /// 38: the elements break a rule of the kind.
     #[error("{}", .0)]
     Rule(RuleFault),
-    /// 46: `TxInf` is no array of 1 to 100 elements, told with 0; or an element is no object, and the place of the first
-    /// such element is told, from 1.
+    /// 46: `TxInf` is no array of 1 to 100 elements, and the number is 0; or an element is no object, and the number is
+    /// the place of the first such element, from 1.
     #[error("TxInf is no list of 1 to 100 objects: {0}")]
     BadTransactions(usize),
-    /// 56: an element of `TxInf`, told by its place from 1, is no transaction.
+    /// 56: the element of `TxInf` at this place, from 1, is no transaction.
     #[error("transaction {0}: {1}")]
     At(usize, KeyFault),
 }
@@ -136,7 +136,7 @@ impl JsonFault {
         }
     }
 
-    /// A fault of an object's keys as one of the element at a place; another fault as it is.
+    /// Turns a fault of an object's keys into the fault of the element at a place. Any other fault stays as it is.
     pub(crate) fn placed(self, place: usize) -> JsonFault
         ensures { result ≡ placed place self }
     {

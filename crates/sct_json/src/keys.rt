@@ -103,7 +103,7 @@ impl Key {
         self == other
     }
 
-    /// The key as it stands in an object.
+    /// The key as it is written in an object, such as `MsgId`.
     pub fn text(self) -> &'static str
         ensures { result.now ≡ key_text self }
     {

@@ -1,4 +1,4 @@
-//! What holds of the definitions of reading and writing. These functions do nothing; their contracts are laws.
+//! Laws of reading and writing. Each law is the contract of a function that does nothing.
 ghost use Rattle.std.specs.Prelude.{◌≡◌, ◌≢◌, ◌↔◌, ℕ, List, ◌∷◌, Some, Ok, Err, IsTrue};
 ghost use Rattle.sct_json.specs.declared.faults.JsonFault.TheVariants as fault;
 ghost use Rattle.sct_json.specs.declared.faults.KeyFault.TheVariants as key_fault;
@@ -15,7 +15,7 @@ ghost use Rattle.sct_json.specs.Writing.{written_text, has_no_line_feed};
 use crate::writing::elements_read_back;
 use sct_message::{Message, all_rules_hold_where_none_is_broken};
 
-/// An object is read as the message of which it is a form. So a refusal says that it is a form of no message.
+/// An object is read as a message exactly if it is a form of the message. A refused object is a form of no message.
 pub fn an_object_is_read_where_it_is_a_form()
     ensures { (object : Data) (draft : Elements) → (object_in object ≡ Ok draft) ↔ IsFormOf object draft }
 {
@@ -27,9 +27,9 @@ pub fn names_that_were_read_ascend()
     ensures { (bytes : List ℕ) (value : Data) → read bytes ≡ Some value → NamesAscend value }
 {}
 
-/// Where an extra key is told, it is a key of the object that is none of its kind, and each other such key is
-/// greater by its bytes. Where one of an element of `TxInf` is told, the same holds of the element at that place and of
-/// the keys of a transaction.
+/// The extra key that a refusal names is the least by bytes of the keys of the object that its kind does not have. The
+/// extra key that a refusal names for an element of `TxInf` is the least by bytes of the keys of the element at that place
+/// that a transaction does not have.
 pub fn the_extra_key_told_is_the_least()
     ensures of_object { (bytes name : List ℕ) → message_in bytes ≡ Err (fault.Extra name)
         → HasLeastExtraKey bytes name }
@@ -43,7 +43,7 @@ pub fn no_message_is_refused_for_its_name()
     ensures { (bytes : List ℕ) → message_in bytes ≢ Err (fault.Rule WrongName) }
 {}
 
-/// Reading bytes has an answer of its own: want of memory is a fault of the call, never what the bytes are read as.
+/// Bytes are never read as `Memory` (30): out of memory is a fault of the call, and not of the bytes.
 pub fn reading_never_wants_memory()
     ensures { (bytes : List ℕ) → message_in bytes ≢ Err fault.Memory }
 {}
@@ -56,7 +56,7 @@ pub fn an_object_is_a_form_of_one_message()
     all_rules_hold_where_none_is_broken();
 }
 
-/// Bytes are read as a message where they are a text that is JSON for a form of it.
+/// Bytes are read as a message exactly if they are the JSON text of a form of the message.
 pub fn bytes_are_read_where_they_stand_for_a_form()
     ensures { (bytes : List ℕ) (draft : Elements)
         → (message_in bytes ≡ Ok draft) ↔ ((object : Data) × StandsFor bytes object × IsFormOf object draft) }
@@ -64,7 +64,7 @@ pub fn bytes_are_read_where_they_stand_for_a_form()
     all_rules_hold_where_none_is_broken();
 }
 
-/// A written text has the keys of its object in ascending order by their bytes, each once, and so has each object in it.
+/// The keys of each object of a written text ascend by their bytes, each once.
 pub fn the_keys_of_a_written_text_ascend()
     ensures { (draft : Elements) → (members : Members)
         × (written_text draft ≡ compact_text (object members)) × NamesAscend (object members) }

@@ -1,8 +1,8 @@
 //! The JSON form of interbank messages: one object to one message, one written text for each message. The object is flat,
 //! but a recall message may have a list of objects, one for each transaction.
 //!
-//! [`read_message`] takes the bytes of one JSON object and answers the message of which it is a form, or the
-//! first reason why it is a form of none. [`write_message`] answers the one written form of a message.
+//! [`read_message`] takes the bytes of one JSON object and returns the message of which it is a form, or the
+//! first reason why it is a form of none. [`write_message`] returns the one written form of a message.
 #![tactic(auto)]
 
 mod cancellation_request;

@@ -67,7 +67,7 @@ pub(crate) fn put<E: Element>(key: Key, element: &E, out: &mut Writer) -> Result
     Ok(())
 }
 
-/// Writes an element at its key, or nothing where it is absent.
+/// Writes an element at its key, or nothing if the element is absent.
 pub(crate) fn put_optional<E: Element>(
     key: Key,
     element: &Option<E>,
@@ -89,7 +89,7 @@ pub(crate) fn reads_back<E: Element>(element: &E)
     element.reads_back();
 }
 
-/// The same of an element that may be absent.
+/// A law: the written form of an element that is present is read as the element.
 pub(crate) fn may_read_back<E: Element>(element: &Option<E>)
     ensures { MayReadBack E.reads E.written element.now }
 {

@@ -1,7 +1,7 @@
 //! The walks over key tables.
 //!
 //! A key table is a macro that names its fields in their order, each with its form and its key, and hands them to
-//! a walk: `required` and `optional` keys, and a `part`, whose keys stand in a module of their own.
+//! a walk: `required` and `optional` keys, and a `part`, whose keys are in a module of their own.
 
 /// Reads an object by a key table: the record of its elements, or the first fault in the order of the table.
 macro_rules! read_table {

@@ -34,7 +34,7 @@ fn put_members(draft: &Draft, out: &mut Writer) -> Result<(), AllocError>
     }
 }
 
-/// The text of the object of a message. Most texts have room in the first allocation.
+/// The text of the object of a message. Most texts fit in the first allocation.
 fn text_of(alloc: Global, draft: &Draft) -> Result<Vec<u8>, AllocError>
     ensures text { IfOk result (λ text. text.items ≡ written_text draft.now) }
     ensures stands { IfOk result (λ text. StandsFor text.items (written_object draft.now)) }
@@ -64,8 +64,9 @@ pub(crate) fn elements_read_back(draft: &Draft)
 }
 
 /// Writes the one written form of a message: one line with no spaces, its keys in the order of their bytes, each
-/// element in its written form, absent elements left out. A camt.056 of one transaction has no list; one of more has an
-/// object for each, in their order. The text reads back as the message. Only want of memory is a fault.
+/// element in its written form, absent elements left out. A camt.056 of one transaction has no list; a camt.056 of more
+/// has a list with an object for each, in their order. The text is read back as the message.
+/// Error: `Memory` (30). O(bytes of the text).
 pub fn write_message(alloc: Global, message: &Message) -> Result<Vec<u8>, JsonFault>
     ensures written { IfOk result (λ text. text.items ≡ written_text message.now) }
     ensures reads_back { IfOk result (λ text. message_in text.items ≡ Ok message.now) }

@@ -1,7 +1,6 @@
 -- No rule is broken exactly where all rules hold.
 use Rattle.std.proofs.Common.{arith, ◌≡◌, ap, sym, subst, refl, inl, inr, ℕ, ◌≤◌, Bool, true, false, List, [], ◌∷◌, length, Option, Some, None, if◌then◌else◌}
 use Rattle.std.specs.Prelude.{◌&&◌, ◌⊎◌, ◌↔◌, not, is_some, is_none, nat_le, IsSome, IsNone, codes}
-use Rattle.std.specs.Cmp.Lexicographic.{bytes_decides}
 use Rattle.std.specs.List.{list_all, AllByRecursion}
 use Rattle.std.proofs.lemmas.Bool.{leb-true, le-leb, and_parts, and_from}
 use Rattle.std.proofs.lemmas.List.{length-map}
@@ -22,6 +21,7 @@ use Rattle.sct_message.specs.Rules.{FollowsRules, FollowsRulesOfKind, CreditTran
 use Rattle.sct_message.specs.Recalls.{Recalls, transfer_in}
 use Rattle.sct_message.specs.Keys.{transfers_of}
 use Rattle.sct_message.proofs.LongLists.{apart_where_none, none_where_apart}
+use Rattle.sct_message.proofs.SameValues.{text_is, is_text-from}
 
 -- a rule that is kept is passed over
 kept_then : (b : Bool) (f : RuleFault) (rest : Option RuleFault) → ((if not b then Some f else rest) ≡ None) ↔ ((b ≡ true) × (rest ≡ None))
@@ -33,12 +33,6 @@ unmet_then : (b : Bool) (f : RuleFault) (rest : Option RuleFault) → ((if b the
 unmet_then true f rest = (λ e. cc, λ p. cc)
 unmet_then false f rest = (λ e. (refl, e), λ p. p.1)
 
-same_text : (s t : List ℕ) → is_text s t ≡ true → s ≡ t
-same_text s t e = (bytes_decides s t).0 e
-
-text_same : (s t : List ℕ) → s ≡ t → is_text s t ≡ true
-text_same s t e = (bytes_decides s t).1 e
-
 credit_transfer_rules : (d : CreditTransfer) → (broken_in_credit_transfer d ≡ None) ↔ CreditTransferFollowsRules d
 unfolding broken_in_credit_transfer
 credit_transfer_rules d = (
@@ -48,12 +42,12 @@ credit_transfer_rules d = (
       let three = (kept_then _ _ _).0 two.1 in
       let four = (kept_then _ _ _).0 three.1 in
       record {
-        currency = same_text _ _ one.0;
-        service = same_text _ _ two.0;
-        instrument = same_text _ _ three.0;
-        charges = same_text _ _ four.0;
+        currency = text_is _ _ one.0;
+        service = text_is _ _ two.0;
+        instrument = text_is _ _ three.0;
+        charges = text_is _ _ four.0;
       },
-  λ r. (kept_then _ _ _).1 (text_same _ _ r.currency, (kept_then _ _ _).1 (text_same _ _ r.service, (kept_then _ _ _).1 (text_same _ _ r.instrument, (kept_then _ _ _).1 (text_same _ _ r.charges, refl)))),
+  λ r. (kept_then _ _ _).1 (is_text-from _ _ r.currency, (kept_then _ _ _).1 (is_text-from _ _ r.service, (kept_then _ _ _).1 (is_text-from _ _ r.instrument, (kept_then _ _ _).1 (is_text-from _ _ r.charges, refl)))),
 )
 
 abbrev Confirms : List ℕ → Option Reason → Type 0
@@ -62,9 +56,9 @@ Confirms status reason = ((status ≡ codes "ACCP") × IsNone reason) ⊎ ((stat
 -- what is left once the status is one of the two, a rejection has a reason, and a confirmation has none
 confirms_by : (status : List ℕ) (reason : Option Reason) (accepted rejected : Bool) → is_text status (codes "ACCP") ≡ accepted → is_text status (codes "RJCT") ≡ rejected
     → (not accepted && not rejected) ≡ false → (rejected && is_none reason) ≡ false → (accepted && is_some reason) ≡ false → Confirms status reason
-confirms_by status reason true rejected a r one two three = inl (same_text _ _ a, three)
+confirms_by status reason true rejected a r one two three = inl (text_is _ _ a, three)
 confirms_by status None false true a r one two three = cc
-confirms_by status (Some code) false true a r one two three = inr (same_text _ _ r, refl)
+confirms_by status (Some code) false true a r one two three = inr (text_is _ _ r, refl)
 confirms_by status reason false false a r one two three = cc
 
 none_is_no_some : (reason : Option Reason) → is_some reason ≡ true → is_none reason ≡ false
@@ -94,11 +88,11 @@ status_report_rules d = (
 
 euro_each : (txs : List RecallTx) → list_all (λ tx. is_text tx.currency (codes "EUR")) txs ≡ true → AllByRecursion (λ tx. tx.currency ≡ codes "EUR") txs
 euro_each [] e = tt
-euro_each (tx ∷ txs) e = let parts = and_parts _ _ e in (same_text _ _ parts.0, euro_each txs parts.1)
+euro_each (tx ∷ txs) e = let parts = and_parts _ _ e in (text_is _ _ parts.0, euro_each txs parts.1)
 
 each_euro : (txs : List RecallTx) → AllByRecursion (λ tx. tx.currency ≡ codes "EUR") txs → list_all (λ tx. is_text tx.currency (codes "EUR")) txs ≡ true
 each_euro [] h = refl
-each_euro (tx ∷ txs) h = and_from _ _ (text_same _ _ h.0) (each_euro txs h.1)
+each_euro (tx ∷ txs) h = and_from _ _ (is_text-from _ _ h.0) (each_euro txs h.1)
 
 -- of a recall message the rule on its currencies and those on its list are kept together
 cancellation_request_rules : (d : Recalls) → ((broken_in_cancellation_request d ≡ None) × (broken_by_transactions d.txs ≡ None)) ↔ CancellationRequestFollowsRules d
@@ -129,18 +123,18 @@ payment_return_rules d = (
       let two = (kept_then _ _ _).0 one.1 in
       let three = (kept_then _ _ _).0 two.1 in
       record {
-        currency = same_text _ _ one.0;
+        currency = text_is _ _ one.0;
         amount = leb-true _ _ two.0;
-        reason = same_reason d.reason FOCR (same_text _ _ three.0);
+        reason = same_reason d.reason FOCR (text_is _ _ three.0);
       },
-  λ r. (kept_then _ _ _).1 (text_same _ _ r.currency, (kept_then _ _ _).1 (le-leb _ _ r.amount, (kept_then _ _ _).1 (text_same _ _ (ap reason_text r.reason), refl))),
+  λ r. (kept_then _ _ _).1 (is_text-from _ _ r.currency, (kept_then _ _ _).1 (le-leb _ _ r.amount, (kept_then _ _ _).1 (is_text-from _ _ (ap reason_text r.reason), refl))),
 )
 
 resolution_rules : (d : Resolution) → (broken_in_resolution d ≡ None) ↔ ResolutionFollowsRules d
 unfolding broken_in_resolution
 resolution_rules d = (
-  λ e. record { answer = same_text _ _ ((kept_then _ _ _).0 e).0 },
-  λ r. (kept_then _ _ _).1 (text_same _ _ r.answer, refl),
+  λ e. record { answer = text_is _ _ ((kept_then _ _ _).0 e).0 },
+  λ r. (kept_then _ _ _).1 (is_text-from _ _ r.answer, refl),
 )
 
 abbrev none_broken : Option RuleFault

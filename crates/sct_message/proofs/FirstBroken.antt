@@ -4,9 +4,9 @@ use Rattle.std.specs.Prelude.{◌&&◌, ◌||◌, ◌⊎◌, ◌↔◌, ◌==◌
 use Rattle.std.specs.Bool.{Decides}
 use Rattle.std.specs.List.{find, list_all, list_any, AllByRecursion, Any, IsDistinct}
 use Rattle.std.specs.Cmp.Lexicographic.{bytes_decides}
-use Rattle.std.proofs.lemmas.Bool.{leb-true, leb-false, lt-leb, and_parts, and_left, and_right, false≢true}
-use Rattle.std.proofs.lemmas.List.Folds.{Any-from_list_any, list_any-from_Any}
-use Rattle.std.proofs.lemmas.Bool.Decides.{nat_tests}
+use Rattle.std.proofs.lemmas.Bool.{leb-true, leb-false, lt-leb, and_parts, and_left, and_right, true_from_ne_false, false≢true}
+use Rattle.std.proofs.lemmas.List.Folds.{Any-from_list_any, list_any-from_Any, list_all-map}
+use Rattle.std.proofs.lemmas.Bool.Decides.{nat_tests, Decides-and, Decides-not}
 use Rattle.sct_reason.specs.declared.reasons.Reason.{Reason}
 use Rattle.sct_reason.specs.declared.reasons.Reason.TheVariants.{FOCR}
 use Rattle.sct_reason.specs.Codes.{reason_text}
@@ -20,8 +20,8 @@ use Rattle.sct_message.specs.Kinds.{is_name_of}
 use Rattle.sct_message.specs.Drafts.{kind_of, head_of, originals_of, currencies_of, credit_transfer_of, status_report_of, recalls_in, payment_return_of, resolution_of}
 use Rattle.sct_message.specs.Recalls.{have_same_recall}
 use Rattle.sct_message.specs.declared.draft.RecallTx.{RecallTx}
-use Rattle.sct_message.proofs.LastRules.{all_of_map}
 use Rattle.sct_message.proofs.LongLists.{apart_where_none, none_where_apart}
+use Rattle.sct_message.proofs.Tests.{not_and}
 use Rattle.sct_message.specs.Rules.{rule_number, Breaks, IsFirstBroken, broken_in_credit_transfer, broken_in_status_report, broken_in_cancellation_request, broken_in_payment_return, broken_in_resolution, broken_by_transactions, broken_in_list, broken_first, first_broken_rule, names_its_original, repeats, is_right_count}
 
 -- ---- a test of each rule
@@ -58,23 +58,12 @@ some_decides : {A : Type 0} (o : Option A) (test : A → Bool) (P : A → Type 0
 some_decides None test P each = (λ e. absurd (false≢true e), λ p. absurd p)
 some_decides (Some a) test P each = each a
 
-not_decides : (b : Bool) (P : Type 0) → Decides b P → Decides (not b) (¬ P)
-not_decides true P d = (λ e. absurd (false≢true e), λ none. absurd (none (d.0 refl)))
-not_decides false P d = (λ e p. false≢true (d.1 p), λ none. refl)
-
 false_decides : (b : Bool) → Decides (not b) (IsFalse b)
 false_decides true = (λ e. cc, λ e. cc)
 false_decides false = (λ e. refl, λ e. refl)
 
-and_decides : (a b : Bool) (P Q : Type 0) → Decides a P → Decides b Q → Decides (a && b) (P × Q)
-and_decides true b P Q p q = (λ e. (p.0 refl, q.0 e), λ both. q.1 both.1)
-and_decides false b P Q p q = (λ e. absurd (false≢true e), λ both. p.1 both.0)
-
-text_decides : (s t : List ℕ) → Decides (is_text s t) (s ≡ t)
-text_decides s t = bytes_decides s t
-
 not_text_decides : (s t : List ℕ) → Decides (is_not s t) (s ≢ t)
-not_text_decides s t = not_decides (is_text s t) (s ≡ t) (text_decides s t)
+not_text_decides s t = Decides-not (is_text s t) (bytes_decides s t)
 
 above_decides : (returned original : ℕ) → Decides (not (nat_le returned original)) (original < returned)
 above_decides returned original =
@@ -83,12 +72,8 @@ above_decides returned original =
 reason_decides : (r : Reason) → Decides (is_not (reason_text r) (codes "FOCR")) (r ≢ FOCR)
 reason_decides r =
     let same : Decides (is_text (reason_text r) (codes "FOCR")) (r ≡ FOCR) =
-    (λ e. same_reason r FOCR ((text_decides _ _).0 e), λ e. (text_decides _ _).1 (ap reason_text e)) in
-    not_decides _ _ same
-
-not_and : (a b : Bool) → not (a && b) ≡ (not a || not b)
-not_and true b = refl
-not_and false b = refl
+    (λ e. same_reason r FOCR ((bytes_decides _ _).0 e), λ e. (bytes_decides _ _).1 (ap reason_text e)) in
+    Decides-not _ same
 
 some_item : {A : Type 0} (P Q : A → Type 0) → ((a : A) → P a → Q a) → (xs : List A) → Any P xs → Any Q xs
 some_item P Q each xs some = (some.0, some.1, some.2, some.3, each some.1 some.4)
@@ -109,10 +94,7 @@ fails_decides test P each xs = (
 repeats_decides : (txs : List RecallTx) → Decides (repeats txs) (¬ IsDistinct have_same_recall txs)
 repeats_decides txs = (
   λ e apart. false≢true (sym (none_where_apart txs apart) ∙ e),
-  λ twice. elim (repeats txs) as (λ b. repeats txs ≡ b → b ≡ true) [
-    | true ↦ λ _. refl
-    | false ↦ λ none. absurd (twice (apart_where_none txs none))
-  ] refl,
+  λ twice. true_from_ne_false _ (λ none. twice (apart_where_none txs none)),
 )
 
 wrong_by : (n : ℕ) (some most : Bool) → nat_le 1 n ≡ some → nat_le n 100 ≡ most → not (some && most) ≡ true → (n ≡ 0) ⊎ (100 < n)
@@ -134,11 +116,11 @@ breaks_decides WrongService d = some_decides (credit_transfer_of d) _ _ (λ m. n
 breaks_decides WrongInstrument d = some_decides (credit_transfer_of d) _ _ (λ m. not_text_decides m.local_instrument _)
 breaks_decides WrongCharge d = some_decides (credit_transfer_of d) _ _ (λ m. not_text_decides m.charge_bearer _)
 breaks_decides WrongStatus d = some_decides (status_report_of d) _ _
-    (λ m. and_decides _ _ _ _ (not_text_decides m.status _) (not_text_decides m.status _))
+    (λ m. Decides-and _ _ (not_text_decides m.status _) (not_text_decides m.status _))
 breaks_decides ReasonMissing d = some_decides (status_report_of d) _ _
-    (λ m. and_decides _ _ _ _ (text_decides m.status _) (false_decides (is_some m.reason)))
+    (λ m. Decides-and _ _ (bytes_decides m.status _) (false_decides (is_some m.reason)))
 breaks_decides ReasonUnasked d = some_decides (status_report_of d) _ _
-    (λ m. and_decides _ _ _ _ (text_decides m.status _) (λ e. e, λ e. e))
+    (λ m. Decides-and _ _ (bytes_decides m.status _) (λ e. e, λ e. e))
 breaks_decides ReturnAboveOriginal d = some_decides (payment_return_of d) _ _
     (λ m. above_decides m.returned_amount m.original_amount)
 breaks_decides WrongReturnReason d = some_decides (payment_return_of d) _ _ (λ m. reason_decides m.reason)
@@ -221,7 +203,7 @@ first_is_found (draft.CancellationRequest d) =
     let m : Draft = draft.CancellationRequest d in
     named (name_wrong m)
     (after_one (not (list_all (λ tx. euro tx.currency) d.txs)) WrongCurrency (original_wrong m)
-    ∙ tested _ _ WrongCurrency _ (ap not (all_of_map euro (λ tx. tx.currency) d.txs)))
+    ∙ tested _ _ WrongCurrency _ (ap not (sym (list_all-map euro (λ tx. tx.currency) d.txs))))
 first_is_found (draft.PaymentReturn d) =
     let m : Draft = draft.PaymentReturn d in
     named (name_wrong m)
@@ -240,9 +222,6 @@ ascends (f ∷ fs) = list_all (λ g. nat_le (rule_number f) (rule_number g)) fs 
 
 inside : {f g : RuleFault} → Some f ≡ Some g → f ≡ g
 inside e = cc
-
-some_is_not_none : {f : RuleFault} → Some f ≡ None → ⊥
-some_is_not_none e = cc
 
 later_is_more : (test : RuleFault → Bool) (f : RuleFault) (fs : List RuleFault)
     → list_all (λ g. nat_le (rule_number f) (rule_number g)) fs ≡ true
@@ -275,7 +254,7 @@ none_passes : (test : RuleFault → Bool) (fs : List RuleFault) → find test fs
 none_passes test [] e = tt
 none_passes test (g ∷ fs) e =
     elim (test g) as (λ b. test g ≡ b → cond b (Some g) (find test fs) ≡ None → AllByRecursion (λ k. test k ≡ false) (g ∷ fs)) [
-      | true ↦ λ _ here. absurd (some_is_not_none here)
+      | true ↦ λ _ here. cc
       | false ↦ λ fails later. (fails, none_passes test fs later)
     ] refl e
 

@@ -1,7 +1,6 @@
 -- The rules on the list of a recall message come after all others, and those on one transaction ask it of each.
-use Rattle.std.proofs.Common.{◌≡◌, ap, refl, Bool, true, false, cond, ◌&&◌, List, [], ◌∷◌, map, Option, Some, None}
+use Rattle.std.proofs.Common.{◌≡◌, refl, Bool, true, false, cond, Option, Some, None}
 use Rattle.std.specs.Prelude.{not}
-use Rattle.std.specs.List.{list_all}
 use Rattle.sct_message.specs.declared.draft.Draft.{Draft}
 use Rattle.sct_message.specs.declared.rules.RuleFault.{RuleFault}
 use Rattle.sct_message.specs.declared.rules.RuleFault.TheVariants.{WrongName, WrongOriginalName}
@@ -21,8 +20,3 @@ pub list_last : (d : Draft) → first_broken_rule d ≡ broken_first (broken_bef
 unfolding first_broken_rule broken_before_list
 list_last d =
     last_by (not (is_name_of (kind_of d) (head_of d).message_name)) (not (names_its_original d)) (broken_in_kind d) (broken_in_list d)
-
--- a test of what is told of each item
-pub all_of_map : {A B : Type 0} (test : B → Bool) (f : A → B) (xs : List A) → list_all (λ x. test (f x)) xs ≡ list_all test (map f xs)
-all_of_map test f [] = refl
-all_of_map test f (x ∷ xs) = ap (λ (b : Bool). test (f x) && b) (all_of_map test f xs)

@@ -1,4 +1,4 @@
--- Lemmas: those that serve this crate alone, and those on ascending lists that the crates above cite too.
+-- Lemmas: those that serve this crate alone, and those that the crates above cite too.
 mod AllRules
 mod FirstBroken
 mod KindTable
@@ -8,3 +8,5 @@ mod Names
 mod RecallRows
 pub mod AscendingLemmas
 pub mod Members
+pub mod SameValues
+pub mod Tests

@@ -3,7 +3,7 @@ use Rattle.std.proofs.Common.{◌≡◌, ◌∙◌, ap, sym, subst, refl, Bool, 
 use Rattle.std.specs.List.{list_any, dedup, dedup_from, AllByRecursion, IsDistinct}
 use Rattle.std.specs.List.Sorted.{IsPermutation, IsSorted}
 use Rattle.std.specs.Cmp.{IsTotalOrder, IsEquivalence, on_total}
-use Rattle.std.proofs.lemmas.Bool.{or_parts, false≢true}
+use Rattle.std.proofs.lemmas.Bool.{or_parts, or_right, false_from_ne_true, false≢true}
 use Rattle.std.proofs.lemmas.Cmp.{eq_by_cmp_equiv}
 use Rattle.std.proofs.lemmas.List.Kept.{IsStrictlySortedBy-dedup}
 use Rattle.std.proofs.lemmas.List.Sorted.{IsPermutation-sym}
@@ -48,10 +48,6 @@ none_where_apart (tx ∷ txs) h = (λ n. none_among tx txs h.0 n || none_where_a
 
 -- ---- neighbours
 
-or_true : (b : Bool) → (b || true) ≡ true
-or_true true = refl
-or_true false = refl
-
 -- a neighbour is one of those behind
 next_is_among : (tx : RecallTx) (txs : List RecallTx) → recalls_next tx txs ≡ true → list_any (have_same_recall tx) txs ≡ true
 next_is_among tx [] e = absurd (false≢true e)
@@ -62,7 +58,7 @@ repeated_where_next [] e = absurd (false≢true e)
 repeated_where_next (tx ∷ txs) e =
     elim (recalls_next tx txs) as (λ b. recalls_next tx txs ≡ b → (b || repeats_next txs) ≡ true → repeats (tx ∷ txs) ≡ true) [
       | true ↦ λ here _. ap (λ b. b || repeats txs) (next_is_among tx txs here)
-      | false ↦ λ _ later. ap (λ b. list_any (have_same_recall tx) txs || b) (repeated_where_next txs later) ∙ or_true (list_any (have_same_recall tx) txs)
+      | false ↦ λ _ later. ap (λ b. list_any (have_same_recall tx) txs || b) (repeated_where_next txs later) ∙ or_right (list_any (have_same_recall tx) txs) true refl
     ] refl e
 
 -- where no neighbours are one recall, to drop repeats drops nothing
@@ -83,11 +79,7 @@ apart_in_order txs sorted e =
     (IsDistinct-from_sorted by_recall _ (IsStrictlySortedBy-dedup by_recall_total (λ s t. refl) txs sorted))
 
 none_next : (txs : List RecallTx) → repeats txs ≡ false → repeats_next txs ≡ false
-none_next txs none =
-    elim (repeats_next txs) as (λ b. repeats_next txs ≡ b → b ≡ false) [
-      | true ↦ λ next. absurd (false≢true (sym none ∙ repeated_where_next txs next))
-      | false ↦ λ _. refl
-    ] refl
+none_next txs none = false_from_ne_true _ (λ next. false≢true (sym none ∙ repeated_where_next txs next))
 
 -- two tests that fail together are one test
 fail_alike : (s t : Bool) → (s ≡ false → t ≡ false) → (t ≡ false → s ≡ false) → s ≡ t

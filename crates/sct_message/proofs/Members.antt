@@ -5,11 +5,7 @@ use Rattle.std.specs.List.{list_any}
 use Rattle.std.specs.Ordering.{eq_by_cmp, is_eq}
 use Rattle.std.specs.Cmp.{IsTotalOrder, Equal-is, both_ways, tied_itself}
 use Rattle.std.specs.FinSet.{IsAntisymmetric}
-use Rattle.std.proofs.lemmas.Bool.{false≢true}
-
-or_true : (b : Bool) → (b || true) ≡ true
-or_true true = refl
-or_true false = refl
+use Rattle.std.proofs.lemmas.Bool.{false≢true, or_right}
 
 module _ {K : Type 0} where
   -- a member that passes a test is found by it
@@ -19,7 +15,7 @@ module _ {K : Type 0} where
   list_any-found E apart p q (k ∷ ks) among passes =
       elim (E q k) as (λ b. E q k ≡ b → (b || list_any (E q) ks) ≡ true → (p k || list_any p ks) ≡ true) [
         | true ↦ λ here _. ap (λ b. b || list_any p ks) (sym (ap p (apart q k here)) ∙ passes)
-        | false ↦ λ _ later. ap (λ b. p k || b) (list_any-found E apart p q ks later passes) ∙ or_true (p k)
+        | false ↦ λ _ later. ap (λ b. p k || b) (list_any-found E apart p q ks later passes) ∙ or_right (p k) true refl
       ] refl among
 
   -- a test that is passed is passed by every longer list of members
@@ -29,7 +25,7 @@ module _ {K : Type 0} where
   list_any-covered E itself apart p [] js covers passes = absurd (false≢true passes)
   list_any-covered E itself apart p (k ∷ ks) js covers passes =
       let here = covers k (ap (λ b. b || list_any (E k) ks) (itself k)) in
-      let rest = λ (q : K) (among : list_any (E q) ks ≡ true). covers q (ap (λ b. E q k || b) among ∙ or_true (E q k)) in
+      let rest = λ (q : K) (among : list_any (E q) ks ≡ true). covers q (ap (λ b. E q k || b) among ∙ or_right (E q k) true refl) in
       elim (p k) as (λ b. p k ≡ b → (b || list_any p ks) ≡ true → list_any p js ≡ true) [
         | true ↦ λ first _. list_any-found E apart p k js here first
         | false ↦ λ _ later. list_any-covered E itself apart p ks js rest later

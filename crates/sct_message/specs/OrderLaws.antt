@@ -41,7 +41,8 @@ reasons_by_code None (Some s) = refl
 reasons_by_code (Some r) None = refl
 reasons_by_code (Some r) (Some s) = refl
 
-named_by_text : (k : Kind) → kind_named (kind_text k) ≡ Some k
+-- a kind is found by its text
+pub named_by_text : (k : Kind) → kind_named (kind_text k) ≡ Some k
 named_by_text Camt029 = refl
 named_by_text Camt056 = refl
 named_by_text Pacs002 = refl
@@ -81,7 +82,7 @@ same_input told a b e = ap told (message_same a b (is_eq_Equal (message_order a 
 -- ---- the orders of keys
 
 -- if a comparison by two parts in turn is Equal, both parts compare Equal
-both_tie : (r s : Ordering) → ordering_then r s ≡ Equal → (r ≡ Equal) × (s ≡ Equal)
+pub both_tie : (r s : Ordering) → ordering_then r s ≡ Equal → (r ≡ Equal) × (s ≡ Equal)
 both_tie Less s e = cc
 both_tie Equal s e = (refl, e)
 both_tie Greater s e = cc

@@ -42,6 +42,7 @@ impl Message {
 
     /// Makes a message of these elements. Error: the first rule of their kind, by number, that they break, from
     /// `WrongName` (10) to `WrongCount` (23); the elements are dropped.
+    /// For a camt.056 of n transactions it takes O(n²) up to 100 transactions, and O(n log n) for more.
     #[tactic(auto, using(crate::proofs::LastRules::list_last))]
     pub fn of(draft: Draft) -> Result<Message, RuleFault>
         ensures { MatchOption (first_broken_rule draft) (result ≡ Ok draft) (λ fault. result ≡ Err fault) }

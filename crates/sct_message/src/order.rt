@@ -22,27 +22,6 @@ use crate::keys::{Identity, RecallKey, TransferKey};
 use crate::kinds::Kind;
 use std::cmp::Ordering;
 
-/// The order of two pacs.008 by their elements in the order of its key table.
-fn credit_transfer_order(left: &CreditTransfer, right: &CreditTransfer) -> Ordering
-    ensures { result ≡ by_elements (draft.CreditTransfer left.now) (draft.CreditTransfer right.now) }
-{
-    left.cmp(right)
-}
-
-/// The order of two pacs.002 by their elements in the order of its key table.
-fn status_report_order(left: &StatusReport, right: &StatusReport) -> Ordering
-    ensures { result ≡ by_elements (draft.StatusReport left.now) (draft.StatusReport right.now) }
-{
-    left.cmp(right)
-}
-
-/// The order of two pacs.028 by their elements in the order of its key table.
-fn status_request_order(left: &StatusRequest, right: &StatusRequest) -> Ordering
-    ensures { result ≡ by_elements (draft.StatusRequest left.now) (draft.StatusRequest right.now) }
-{
-    left.cmp(right)
-}
-
 /// The order of two camt.056 by their elements in the order of its key table, and then by their lists of transactions.
 /// A list that begins another comes before it.
 pub(crate) fn cancellation_request_order(
@@ -58,50 +37,20 @@ pub(crate) fn cancellation_request_order(
     left.txs.cmp(&right.txs)
 }
 
-/// The order of two pacs.004 by their elements in the order of its key table.
-fn payment_return_order(left: &PaymentReturn, right: &PaymentReturn) -> Ordering
-    ensures { result ≡ by_elements (draft.PaymentReturn left.now) (draft.PaymentReturn right.now) }
-{
-    left.cmp(right)
-}
-
-/// The order of two camt.029 by their elements in the order of its key table.
-fn resolution_order(left: &Resolution, right: &Resolution) -> Ordering
-    ensures { result ≡ by_elements (draft.Resolution left.now) (draft.Resolution right.now) }
-{
-    left.cmp(right)
-}
-
-/// The order of two messages' elements, if both are of one kind.
+/// The order of two messages' elements in the order of the kind's key table, if both are of one kind.
 fn elements_order(left: &Draft, right: &Draft) -> Ordering
     requires { kind_of left.now ≡ kind_of right.now }
     ensures { result ≡ by_elements left.now right.now }
 {
-    match left {
-        Draft::CreditTransfer(left) => match right {
-            Draft::CreditTransfer(right) => credit_transfer_order(left, right),
-            _ => unreachable!(),
-        },
-        Draft::StatusReport(left) => match right {
-            Draft::StatusReport(right) => status_report_order(left, right),
-            _ => unreachable!(),
-        },
-        Draft::StatusRequest(left) => match right {
-            Draft::StatusRequest(right) => status_request_order(left, right),
-            _ => unreachable!(),
-        },
-        Draft::CancellationRequest(left) => match right {
-            Draft::CancellationRequest(right) => cancellation_request_order(left, right),
-            _ => unreachable!(),
-        },
-        Draft::PaymentReturn(left) => match right {
-            Draft::PaymentReturn(right) => payment_return_order(left, right),
-            _ => unreachable!(),
-        },
-        Draft::Resolution(left) => match right {
-            Draft::Resolution(right) => resolution_order(left, right),
-            _ => unreachable!(),
-        },
+    match (left, right) {
+        (Draft::CreditTransfer(left), Draft::CreditTransfer(right)) => left.cmp(right),
+        (Draft::StatusReport(left), Draft::StatusReport(right)) => left.cmp(right),
+        (Draft::StatusRequest(left), Draft::StatusRequest(right)) => left.cmp(right),
+        (Draft::CancellationRequest(left), Draft::CancellationRequest(right)) =>
+            cancellation_request_order(left, right),
+        (Draft::PaymentReturn(left), Draft::PaymentReturn(right)) => left.cmp(right),
+        (Draft::Resolution(left), Draft::Resolution(right)) => left.cmp(right),
+        _ => unreachable!(),
     }
 }
 

@@ -1,9 +1,8 @@
 -- What filing a row does to the rows of each transfer.
 use Rattle.std.specs.Prelude.{map, filter, length, get_or, take, ◌+◌, ◌<◌, ℕ}
 use Rattle.std.proofs.Common.{◌≡◌, ◌∙◌, ap, sym, subst, refl, Bool, true, false, cond, add-one, List, [], ◌∷◌, ◌++◌}
-use Rattle.std.proofs.lemmas.List.{append-nil, map-append}
+use Rattle.std.proofs.lemmas.List.{append-nil, map-append, take_more as longer}
 use Rattle.std.proofs.lemmas.List.Elements.{filter-append}
-use Rattle.std.proofs.Math.Seq.{take-suc}
 use Rattle.std.specs.Global.{Vec}
 use Rattle.indexmap.specs.IndexMap.{IndexMap}
 use Rattle.sct_message.specs.Order.{same_transfer}
@@ -25,11 +24,9 @@ listed_more rows row key =
       | false ↦ append-nil (listed_on rows key)
     ]
 
+-- an item more in front
 pub take_more : {X : Type 0} (xs : List X) (i : ℕ) (x : X) → i < length xs → x ≡ get_or xs i x → take i xs ++ x ∷ [] ≡ take (i + 1) xs
-take_more xs i x inside here =
-    ap (λ y. take i xs ++ y ∷ []) here
-    ∙ sym (take-suc xs i x inside)
-    ∙ ap (λ n. take n xs) (sym (add-one i))
+take_more xs i x inside here = ap (λ y. take i xs ++ y ∷ []) here ∙ sym (longer xs i x inside)
 
 -- a map compares its keys by a test that answers as the one of the definition does
 module _ (E : TransferKey → TransferKey → Bool) (ties : (j k : TransferKey) → E j k ≡ same_transfer j k) where

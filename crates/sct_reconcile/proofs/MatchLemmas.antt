@@ -5,7 +5,7 @@ use Rattle.std.proofs.lemmas.Bool.{cases_Bool, eqb-true}
 use Rattle.std.proofs.lemmas.Bool.Decides.{nat_tests}
 use Rattle.sct_reconcile.specs.Words.{agrees, list_status_text}
 use Rattle.sct_element.specs.Text.{is_text}
-use Rattle.sct_case.proofs.Same.{text_is, text_itself}
+use Rattle.std.specs.Cmp.Lexicographic.{bytes_decides}
 use Rattle.sct_reconcile.specs.Reports.{verdict_of, is_uninstructed, is_contradicted, is_listed_twice}
 use Rattle.sct_reconcile.specs.Laws.{IsMatch}
 use Rattle.sct_reconcile.specs.declared.rows.Listed.{Listed}
@@ -41,7 +41,7 @@ one_row listed told amount e a b agreed known instructed =
       known = known;
       instructed = instructed;
       same_amount = same.0;
-      same_word = sym (text_is _ _ same.1);
+      same_word = sym ((bytes_decides _ _).0 same.1);
     }
 
 pub is_match : (listed : List Listed) (told : StatusWord) (amount : Option ℕ) → verdict_of listed told amount ≡ verdict.Matched → IsMatch listed told amount
@@ -86,17 +86,14 @@ not_uninstructed word.Accepted u m = refl
 not_uninstructed word.Investigated u m = refl
 not_uninstructed word.Pending u m = refl
 
-same_amounts : (cents : ℕ) → nat_eq cents cents ≡ true
-same_amounts cents = eq-eqb cents cents refl
-
 one_matched : (listed : Listed) (told : StatusWord) → is_contradicted told ≡ false → is_uninstructed told ≡ false
     → agrees listed.status told ≡ true → verdict_of (listed ∷ []) told (Some listed.amount) ≡ verdict.Matched
 unfolding verdict_of
-one_matched listed told a b e = rw (a, b, same_amounts listed.amount, e) refl
+one_matched listed told a b e = rw (a, b, eq-eqb listed.amount listed.amount refl, e) refl
 
 pub is_matched : (listed : List Listed) (told : StatusWord) (amount : Option ℕ) → IsMatch listed told amount → verdict_of listed told amount ≡ verdict.Matched
 is_matched listed told amount m =
     ap (λ (ls : List Listed). verdict_of ls told amount) m.once
     ∙ ap (verdict_of (m.row ∷ []) told) m.same_amount
     ∙ one_matched m.row told (not_contradicted told m.agreed) (not_uninstructed told m.known m.instructed)
-    (ap (is_text (list_status_text m.row.status)) m.same_word ∙ text_itself (list_status_text m.row.status))
+    (ap (is_text (list_status_text m.row.status)) m.same_word ∙ (bytes_decides (list_status_text m.row.status) (list_status_text m.row.status)).1 refl)

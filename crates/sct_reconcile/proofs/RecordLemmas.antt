@@ -67,9 +67,6 @@ step_rests st.AfterCr c = elim (cases_Bool (c == 10)) [
 abbrev Shorter : List ℕ → Read → Type 0
 Shorter bytes read = (ends_at_end read.1 ≡ false) × (length read.2 ≤ length bytes - 1)
 
-some_inj : {X : Type 0} (x y : X) → Some x ≡ Some y → x ≡ y
-some_inj x y e = cc
-
 at_end : (b : Bool) (given read : Read) → ends_at_end given.1 ≡ false → given.2 ≡ []
     → (if b then Some given else None) ≡ Some read → Shorter [] read
 at_end true given read state rest e =

@@ -4,6 +4,7 @@ use Rattle.std.specs.List.Sorted.{IsStrictlySortedBy}
 use Rattle.std.specs.Prelude.{◌⊎◌, Contains, map}
 use Rattle.std.proofs.Common.{◌≡◌, ap, sym, subst, refl, inl, inr, ℕ, true, List, [], ◌∷◌}
 use Rattle.std.proofs.lemmas.Bool.{cases_Bool}
+use Rattle.std.proofs.lemmas.List.Elements.{Contains-append_cases, Contains-append_left, Contains-append_right}
 use Rattle.csv.specs.Writing.{read_back}
 use Rattle.sct_message.proofs.AscendingLemmas.{ascending_rises}
 use Rattle.sct_message.proofs.Members.{tie_is}
@@ -12,7 +13,7 @@ use Rattle.sct_message.specs.OrderLaws.{message_total, message_same, transfer_to
 use Rattle.sct_message.specs.Sets.{MessageSet}
 use Rattle.sct_message.specs.Transfers.{instruction_of}
 use Rattle.sct_message.specs.declared.keys.TransferKey.{TransferKey}
-use Rattle.sct_case.proofs.Membership.{In, contains_in, in_contains, in_either, in_left, in_right, in_filter, filtered_in, in_ascending, ascending_in}
+use Rattle.sct_case.proofs.Membership.{nothing, here, later, in_filter, filtered_in, in_ascending, ascending_in}
 use Rattle.sct_view.specs.Answers.{transfers_of}
 use Rattle.sct_reconcile.specs.Laws.{EqualSetsHaveEqualReports, ListedTransfersAreTold, ListsChangeNoOthers, OthersAreOfTheBank, ReportsReadBack, RowsAscend, keys_listed, keys_told}
 use Rattle.sct_reconcile.specs.Reports.{fields_of_row, is_of_day, keys_reported, listed_on, report_of, report_text_of, row_beside, row_on, transfers_on_day}
@@ -31,48 +32,46 @@ module _ (held : MessageSet) (bank day : List ℕ) (list : List ListedRow) where
   unfolding report_of
   told_keys = keys_back held list (keys_reported held bank day list)
 
-  reported : (key : TransferKey) → In key (keys_listed list) ⊎ In key (transfers_on_day held bank day) → In key (keys_reported held bank day list)
-  reported key (inl h) = ascending_in transfer_total transfers_same _ key (in_left (keys_listed list) (transfers_on_day held bank day) key h)
-  reported key (inr h) = ascending_in transfer_total transfers_same _ key (in_right (keys_listed list) (transfers_on_day held bank day) key h)
+  reported : (key : TransferKey) → Contains (keys_listed list) key ⊎ Contains (transfers_on_day held bank day) key → Contains (keys_reported held bank day list) key
+  reported key (inl h) = ascending_in transfer_total transfers_same _ key (Contains-append_left (keys_listed list) (transfers_on_day held bank day) key h)
+  reported key (inr h) = ascending_in transfer_total transfers_same _ key (Contains-append_right (keys_listed list) (transfers_on_day held bank day) key h)
 
-  from_reported : (key : TransferKey) → In key (keys_reported held bank day list) → In key (keys_listed list) ⊎ In key (transfers_on_day held bank day)
-  from_reported key h = in_either (keys_listed list) (transfers_on_day held bank day) key (in_ascending transfer_total transfers_same _ key h)
+  from_reported : (key : TransferKey) → Contains (keys_reported held bank day list) key → Contains (keys_listed list) key ⊎ Contains (transfers_on_day held bank day) key
+  from_reported key h = Contains-append_cases (keys_listed list) (transfers_on_day held bank day) key (in_ascending transfer_total transfers_same _ key h)
 
-  of_day : (key : TransferKey) → In key (transfers_on_day held bank day)
+  of_day : (key : TransferKey) → Contains (transfers_on_day held bank day) key
       → Contains (transfers_of held bank) key × (is_of_day day (instruction_of held key) ≡ true)
-  of_day key h =
-      let parts = in_filter (λ k. is_of_day day (instruction_of held k)) (transfers_of held bank) key h in
-      (contains_in _ key parts.0, parts.1)
+  of_day key h = in_filter (λ k. is_of_day day (instruction_of held k)) (transfers_of held bank) key h
 
   on_day : (key : TransferKey) → Contains (transfers_of held bank) key → is_of_day day (instruction_of held key) ≡ true
-      → In key (transfers_on_day held bank day)
-  on_day key h e = filtered_in (λ k. is_of_day day (instruction_of held k)) (transfers_of held bank) key (in_contains _ key h) e
+      → Contains (transfers_on_day held bank day) key
+  on_day key h e = filtered_in (λ k. is_of_day day (instruction_of held k)) (transfers_of held bank) key h e
 
 pub listed_told : ListedTransfersAreTold
 listed_told held bank day list key h =
     subst (λ ks. Contains ks key) (sym (told_keys held bank day list))
-    (contains_in _ key (reported held bank day list key (inl (in_contains _ key h))))
+    (reported held bank day list key (inl h))
 
 pub ascend : RowsAscend
 ascend held bank day list =
     subst (IsStrictlySortedBy transfer_order) (sym (told_keys held bank day list)) (ascending_rises transfer_total transfers_same _)
 
 split : (held : MessageSet) (bank day : List ℕ) (list : List ListedRow) (key : TransferKey)
-    → In key (keys_listed list) ⊎ In key (transfers_on_day held bank day)
+    → Contains (keys_listed list) key ⊎ Contains (transfers_on_day held bank day) key
     → Contains (keys_listed list) key ⊎ (Contains (transfers_of held bank) key × (is_of_day day (instruction_of held key) ≡ true))
-split held bank day list key (inl h) = inl (contains_in _ key h)
+split held bank day list key (inl h) = inl h
 split held bank day list key (inr h) = inr (of_day held bank day list key h)
 
 joined : (held : MessageSet) (bank day : List ℕ) (list : List ListedRow) (key : TransferKey)
     → Contains (keys_listed list) key ⊎ (Contains (transfers_of held bank) key × (is_of_day day (instruction_of held key) ≡ true))
-    → In key (keys_listed list) ⊎ In key (transfers_on_day held bank day)
-joined held bank day list key (inl h) = inl (in_contains _ key h)
+    → Contains (keys_listed list) key ⊎ Contains (transfers_on_day held bank day) key
+joined held bank day list key (inl h) = inl h
 joined held bank day list key (inr h) = inr (on_day held bank day list key h.0 h.1)
 
 pub of_the_bank : OthersAreOfTheBank
 of_the_bank held bank day list key = (
-  (λ h. split held bank day list key (from_reported held bank day list key (in_contains _ key (subst (λ ks. Contains ks key) (told_keys held bank day list) h)))),
-  (λ h. subst (λ ks. Contains ks key) (sym (told_keys held bank day list)) (contains_in _ key (reported held bank day list key (joined held bank day list key h)))),
+  (λ h. split held bank day list key (from_reported held bank day list key (subst (λ ks. Contains ks key) (told_keys held bank day list) h))),
+  (λ h. subst (λ ks. Contains ks key) (sym (told_keys held bank day list)) (reported held bank day list key (joined held bank day list key h))),
 )
 
 -- ---- a transfer that is not on the list
@@ -80,20 +79,20 @@ of_the_bank held bank day list key = (
 others_stay : (held : MessageSet) (bank day : List ℕ) (list other : List ListedRow) (key : TransferKey) → ¬ (Contains (keys_listed list) key)
     → Contains (keys_reported held bank day list) key → Contains (keys_reported held bank day other) key
 others_stay held bank day list other key unlisted h =
-    elim (from_reported held bank day list key (in_contains _ key h)) as (λ _. Contains (keys_reported held bank day other) key) [
-      | inl on ↦ absurd (unlisted (contains_in _ key on))
-      | inr of ↦ contains_in _ key (reported held bank day other key (inr of))
+    elim (from_reported held bank day list key h) as (λ _. Contains (keys_reported held bank day other) key) [
+      | inl on ↦ absurd (unlisted on)
+      | inr of ↦ reported held bank day other key (inr of)
     ]
 
 nothing_listed : (key : TransferKey) → ¬ (Contains (keys_listed []) key)
-nothing_listed key h = in_contains [] key h
+nothing_listed key h = nothing key h
 
 -- no row of the list is on it
-none_on : (list : List ListedRow) (key : TransferKey) → ¬ (In key (keys_listed list)) → listed_on list key ≡ []
+none_on : (list : List ListedRow) (key : TransferKey) → ¬ (Contains (keys_listed list) key) → listed_on list key ≡ []
 none_on [] key unlisted = refl
 none_on (row ∷ list) key unlisted = elim (cases_Bool (same_transfer row.key key)) [
-  | inl same ↦ absurd (unlisted (inl (tie_is transfer_total transfers_same row.key key same)))
-  | inr other ↦ rw other (none_on list key (λ h. unlisted (inr h)))
+  | inl same ↦ absurd (unlisted (subst (Contains (keys_listed (row ∷ list))) (tie_is transfer_total transfers_same row.key key same) (here row.key (keys_listed list))))
+  | inr other ↦ rw other (none_on list key (λ h. unlisted (later row.key (keys_listed list) key h)))
 ]
 
 pub no_others : ListsChangeNoOthers
@@ -103,7 +102,7 @@ no_others = record {
     others_stay held bank day [] list key (nothing_listed key),
   );
   same = λ held list key unlisted.
-      ap (λ ls. row_beside held ls key) (none_on list key (λ h. unlisted (contains_in _ key h)));
+      ap (λ ls. row_beside held ls key) (none_on list key unlisted);
 }
 
 -- ---- sets, and texts

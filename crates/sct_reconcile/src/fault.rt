@@ -14,6 +14,7 @@ pub enum ReconcileFault {
     /// 48: the number of the first bad record of a list, counted from 1 with the header.
     #[error("record {0} of the list is no row of a list")]
     BadList(u64),
+    /// 49: out of memory, or any fault of `csv`.
     #[error("memory is wanting")]
     Memory,
 }

@@ -7,7 +7,7 @@ ghost use Rattle.sct_reconcile.specs.declared.rows.ListedRow.{ListedRow as Row};
 use crate::rows::{Listed, ListedRow};
 use indexmap::IndexMap;
 use sct_message::{TransferKey, keys_are_ordered};
-use sct_set::buckets::file;
+use sct_set::buckets::{file, items_at};
 use std::alloc::{AllocError, Global};
 
 /// What the rows of a list say of each transfer.
@@ -30,8 +30,5 @@ pub(crate) fn listed_on<'a>(index: &'a Index, key: &TransferKey) -> &'a [Listed]
     ensures { (rows : Rows Row) → IsFiled index.now rows → result.now ≡ listed_on rows key.now }
 {
     keys_are_ordered();
-    match index.get(key) {
-        Some(listed) => listed,
-        None => &[],
-    }
+    items_at(index, key)
 }

@@ -10,16 +10,18 @@ use sct_element::Amount;
 use sct_message::{Draft, Message, TransferKey};
 use sct_view::View;
 
-fn is_contradicted(told: StatusWord) -> bool
-    ensures { result ≡ is_contradicted told }
+// Whether the messages on a transfer contradict each other.
+fn is_contradicted(status: StatusWord) -> bool
+    ensures { result ≡ is_contradicted status }
 {
-    matches!(told, StatusWord::Contradicted)
+    matches!(status, StatusWord::Contradicted)
 }
 
-fn is_uninstructed(told: StatusWord) -> bool
-    ensures { result ≡ is_uninstructed told }
+// Whether a transfer has no instruction.
+fn is_uninstructed(status: StatusWord) -> bool
+    ensures { result ≡ is_uninstructed status }
 {
-    matches!(told, StatusWord::Unknown | StatusWord::Missing)
+    matches!(status, StatusWord::Unknown | StatusWord::Missing)
 }
 
 // What a list says of a transfer, if it names the transfer exactly once.
@@ -32,6 +34,7 @@ fn sole(listed: &[Listed]) -> Option<Listed>
     }
 }
 
+// Whether the row of a list has the amount of the instruction. False if there is no such row or no instruction.
 fn has_amount(listed: Option<Listed>, amount: &Option<Amount>) -> bool
     ensures { result ≡ has_amount listed amount.now }
 {
@@ -41,30 +44,31 @@ fn has_amount(listed: Option<Listed>, amount: &Option<Amount>) -> bool
     }
 }
 
-fn has_status(listed: Option<Listed>, told: StatusWord) -> bool
-    ensures { result ≡ has_status listed told }
+// Whether the row of a list has the word of the status. False if there is no such row.
+fn has_status(listed: Option<Listed>, status: StatusWord) -> bool
+    ensures { result ≡ has_status listed status }
 {
     match listed {
-        Some(listed) => listed.status.agrees(told),
+        Some(listed) => listed.status.agrees(status),
         None => false,
     }
 }
 
 // The first case that holds, in the order of [`Verdict`].
 #[tactic(auto, unfolding(crate::specs::Reports::verdict_of))]
-fn verdict_of(listed: &[Listed], told: StatusWord, amount: &Option<Amount>) -> Verdict
-    ensures { result ≡ verdict_of listed.now told amount.now }
+fn verdict_of(listed: &[Listed], status: StatusWord, amount: &Option<Amount>) -> Verdict
+    ensures { result ≡ verdict_of listed.now status amount.now }
 {
     if listed.len() > 1 {
         return Verdict::ListedTwice;
     }
-    if is_contradicted(told) {
+    if is_contradicted(status) {
         return Verdict::Contradicted;
     }
-    if is_uninstructed(told) && listed.len() > 0 {
+    if is_uninstructed(status) && listed.len() > 0 {
         return Verdict::OnlyInList;
     }
-    if is_uninstructed(told) {
+    if is_uninstructed(status) {
         return Verdict::Missing;
     }
     if !(listed.len() > 0) {
@@ -73,7 +77,7 @@ fn verdict_of(listed: &[Listed], told: StatusWord, amount: &Option<Amount>) -> V
     if !has_amount(sole(listed), amount) {
         return Verdict::AmountDiffers;
     }
-    if !has_status(sole(listed), told) {
+    if !has_status(sole(listed), status) {
         return Verdict::StatusDiffers;
     }
     Verdict::Matched
@@ -118,7 +122,7 @@ fn row_from(
     }
 }
 
-/// The report row of the transfer `key`. `listed` is what the rows of a list say of it.
+/// The report row of the transfer `key`. `listed` is what the rows of a list say of `key`. Expected O(1).
 pub fn row_on(view: &View, listed: &[Listed], key: &TransferKey) -> ReportRow
     ensures { result ≡ row_beside view.now listed.now key.now }
 {

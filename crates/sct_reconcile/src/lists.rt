@@ -41,7 +41,9 @@ impl List {
     /// Errors:
     /// - `BadList` (48) with the number of the first bad record, counted from 1 with the
     ///   header; 1 for a text without records;
-    /// - `Memory` (49), which also stands for any fault of `csv`.
+    /// - `Memory` (49), which also reports any fault of `csv`.
+    ///
+    /// O(bytes of the text).
     pub fn read(alloc: Global, text: &[u8]) -> Result<List, ReconcileFault>
         ensures { Gives result (list_of text.now) }
     {

@@ -45,7 +45,7 @@ impl Report {
     }
 
     /// The report as CSV: the header `DbtrAgt,TxId,Result,ListAmt,ListSts,Amt,Sts`, and a record for each row, each
-    /// ended by a line feed. Error: `Memory` (49).
+    /// ended by a line feed. Error: `Memory` (49). O(rows).
     pub fn write(&self) -> Result<Vec<u8>, ReconcileFault>
         ensures text { IfOk result (λ text. text.items ≡ report_text_of self.now) }
         ensures fault { IfErr result (λ refusal. refusal ≡ fault.Memory) }
@@ -79,7 +79,7 @@ fn rows_on<R: Threads + Sync>(
 /// names, and for each transfer of the bank whose instruction has no other settlement day.
 /// The rows are found in as many threads as there are processors. If a thread cannot be started, another
 /// thread does its work. Error: `Memory` (49).
-/// It looks at every transfer of the view.
+/// O(n log n) in the transfers of the view and the rows of the list.
 #[tactic(auto, unfolding(crate::specs::Reports::report_of))]
 pub fn reconcile<R: Threads + Sync>(
     rt: &R,

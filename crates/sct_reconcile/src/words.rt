@@ -31,7 +31,7 @@ impl ListStatus {
         }
     }
 
-    /// The word, as `ACCEPTED`.
+    /// The word as it is written, such as `ACCEPTED`.
     pub fn text(self) -> &'static str
         ensures { result.now ≡ list_status_text self }
     {
@@ -45,10 +45,10 @@ impl ListStatus {
     }
 
     /// Whether the list has the word of the transfer's status.
-    pub(crate) fn agrees(self, told: StatusWord) -> bool
-        ensures { result ≡ agrees self told }
+    pub(crate) fn agrees(self, status: StatusWord) -> bool
+        ensures { result ≡ agrees self status }
     {
-        self.text() == told.text()
+        self.text() == status.text()
     }
 }
 

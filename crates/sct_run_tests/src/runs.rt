@@ -3,7 +3,7 @@ mod inputs;
 
 use crate::gates::{HeldAccepts, InStep, Meeting, Shut};
 use inputs::{ROWS, Row};
-use sct_run::*;
+use sct_engine::{ProgramFault, run_sites};
 use sct_workers::{FreeGate, Gate};
 use std::alloc::{AllocError, Global};
 use std::sync::Wait;
@@ -60,7 +60,7 @@ fn fault_under<G: Gate + Sync, R: Threads + Wait + Sync>(
     alloc: Global,
     gate: &G,
     row: &Row,
-) -> Result<Option<RunFault>, AllocError> {
+) -> Result<Option<ProgramFault>, AllocError> {
     let inputs = owned(alloc, row.inputs)?;
     Ok(run_sites(rt, alloc, gate, inputs).err())
 }
@@ -69,7 +69,7 @@ fn fault_under<G: Gate + Sync, R: Threads + Wait + Sync>(
 fn a_gate_that_stays_shut_ends_a_run(rt: HostRuntime) -> Result<(), AllocError> {
     assert_eq!(rt;
         fault_under(&rt, rt.alloc(), &Shut, &ROWS[1])?,
-        Some(RunFault::Held)
+        Some(ProgramFault::Held)
     );
     Ok(())
 }
@@ -78,7 +78,7 @@ fn a_gate_that_stays_shut_ends_a_run(rt: HostRuntime) -> Result<(), AllocError> 
 fn held_comes_before_what_a_run_lacks(rt: HostRuntime) -> Result<(), AllocError> {
     assert_eq!(rt;
         fault_under(&rt, rt.alloc(), &HeldAccepts, &ROWS[1])?,
-        Some(RunFault::Held)
+        Some(ProgramFault::Held)
     );
     Ok(())
 }
@@ -88,7 +88,7 @@ fn fault_of<R: Threads + Wait + Sync>(
     rt: &R,
     alloc: Global,
     count: usize,
-) -> Result<Option<RunFault>, AllocError> {
+) -> Result<Option<ProgramFault>, AllocError> {
     let mut inputs = Vec::new(alloc);
     for _ in 0..count {
         inputs.push(Vec::new(alloc))?;
@@ -98,9 +98,9 @@ fn fault_of<R: Threads + Wait + Sync>(
 
 #[test]
 fn takes_1_to_16_inputs(rt: HostRuntime) -> Result<(), AllocError> {
-    assert_eq!(rt; fault_of(&rt, rt.alloc(), 0)?, Some(RunFault::Usage));
+    assert_eq!(rt; fault_of(&rt, rt.alloc(), 0)?, Some(ProgramFault::Usage));
     assert_eq!(rt; fault_of(&rt, rt.alloc(), 1)?, None);
     assert_eq!(rt; fault_of(&rt, rt.alloc(), 16)?, None);
-    assert_eq!(rt; fault_of(&rt, rt.alloc(), 17)?, Some(RunFault::Usage));
+    assert_eq!(rt; fault_of(&rt, rt.alloc(), 17)?, Some(ProgramFault::Usage));
     Ok(())
 }

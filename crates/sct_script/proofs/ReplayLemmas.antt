@@ -14,10 +14,5 @@ front X xs i d x within is =
     ∙ ap (λ (y : X). y ∷ drop (suc i) xs) (sym is)
     ∙ ap (λ (n : ℕ). x ∷ drop n xs) (sym (add-one i))
 
-pub piece_more : {X : Type 0} (f : ℕ × X → List ℕ) (xs : List X) (i number : ℕ) (d x : X) (before after all : List ℕ) → i < length xs → x ≡ get_or xs i d
-    → before ++ pieces_left f xs i number ≡ all → after ≡ before ++ f (number, x) → after ++ pieces_left f xs (i + 1) (number + 1) ≡ all
-piece_more {X = X} f xs i number d x before after all within is whole now =
-    rw (now, append_assoc) (rw (front X xs i d x within is) at whole)
-
 pub no_piece : {X : Type 0} (f : ℕ × X → List ℕ) (xs : List X) (i number : ℕ) (so_far all : List ℕ) → length xs ≤ i → so_far ++ pieces_left f xs i number ≡ all → so_far ≡ all
 no_piece f xs i number so_far all past whole = rw (drop_all i xs past, append-nil) at whole

@@ -11,13 +11,6 @@ use Rattle.sct_script.specs.Events.{Pair, is_comma, onto_pairs, pairs_among}
 abbrev pub before_pairs : List Pair → Option (List Pair) → Option (List Pair)
 before_pairs some pairs = option_map (λ others. some ++ others) pairs
 
-pub one_pair_more : (some : List Pair) (pair : Pair) (others : Option (List Pair)) → before_pairs (some ++ pair ∷ []) others ≡ before_pairs some (option_map (λ list. pair ∷ list) others)
-one_pair_more some pair None = refl
-one_pair_more some pair (Some list) = ap (λ (pairs : List Pair). Some pairs) (append_assoc some (pair ∷ []) list)
-
-pub no_pairs : (some : List Pair) → before_pairs some None ≡ None
-no_pairs some = refl
-
 -- ---- parts
 
 pub first_comma : (text : List ℕ) (at : ℕ) → position is_comma text ≡ Some at → slice_split is_comma text ≡ take at text ∷ slice_split is_comma (drop (at + 1) text)

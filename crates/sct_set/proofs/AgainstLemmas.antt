@@ -1,24 +1,16 @@
 -- The messages of a list that are not the first of their identity. Proof plumbing.
 use Rattle.std.proofs.Common.{◌≡◌, Bool, true, false, cond, ◌||◌, List, [], ◌∷◌, ◌++◌, refl, sym, ap, ◌∙◌, filter, take}
 use Rattle.std.specs.List.{list_any}
-use Rattle.std.proofs.lemmas.Bool.{false≢true}
+use Rattle.std.proofs.lemmas.Bool.{false≢true, false_from_ne_true, or_from, or_left, or_right}
 use Rattle.std.proofs.lemmas.List.{append_assoc, append-nil}
+use Rattle.std.proofs.lemmas.List.Folds.{list_any-append}
 use Rattle.sct_message.specs.declared.draft.Draft.{Draft}
 use Rattle.sct_message.specs.declared.keys.Identity.{Identity}
 use Rattle.sct_message.specs.Keys.{identity_of}
 use Rattle.sct_message.specs.Order.{same_identity, same_message}
-use Rattle.sct_message.specs.OrderLaws.{identity_total, identities_same}
-use Rattle.sct_message.proofs.Members.{tie_is, ties_itself}
+use Rattle.sct_message.proofs.SameValues.{identity_is, identity_itself, message_is}
+use Rattle.sct_message.proofs.Tests.{none_kept, or_false}
 use Rattle.sct_set.specs.Drafts.{against_after, against_in, drafts_of, finds}
-use Rattle.sct_set.proofs.ContentsLemmas.{same_is}
-
-or_false : (a : Bool) → (a || false) ≡ a
-or_false true = refl
-or_false false = refl
-
-or_true : (a : Bool) → (a || true) ≡ true
-or_true true = refl
-or_true false = refl
 
 -- a message behind the others
 against-push : (before ds : List Draft) (m : Draft)
@@ -40,20 +32,12 @@ against_in-found ds m e = against-push [] ds m ∙ ap (λ (b : Bool). against_in
 pub against_in-first : (ds : List Draft) (m : Draft) → finds (identity_of m) ds ≡ false → against_in (ds ++ m ∷ []) ≡ against_in ds
 against_in-first ds m e = against-push [] ds m ∙ ap (λ (b : Bool). against_in ds ++ cond b (m ∷ []) []) e ∙ append-nil (against_in ds)
 
-none_kept : (p : Draft → Bool) (ds : List Draft) → list_any p ds ≡ false → filter p ds ≡ []
-none_kept p [] e = refl
-none_kept p (d ∷ ds) e =
-    elim (p d) as (λ b. (b || list_any p ds) ≡ false → cond b (d ∷ filter p ds) (filter p ds) ≡ []) [
-      | true ↦ λ f. absurd (false≢true (sym f))
-      | false ↦ λ f. none_kept p ds f
-    ] e
-
 -- where no message of an identity is found, none is at a key that is that identity
 pub none_found : (ds : List Draft) (key i : Identity) → key ≡ i → finds i ds ≡ false
     → (k : Identity) → same_identity key k ≡ true → filter (λ m. same_identity (identity_of m) k) ds ≡ []
 none_found ds key i is none k e =
     none_kept (λ m. same_identity (identity_of m) k) ds
-    (ap (λ (j : Identity). finds j ds) (sym (tie_is identity_total identities_same key k e) ∙ is) ∙ none)
+    (ap (λ (j : Identity). finds j ds) (sym (identity_is key k e) ∙ is) ∙ none)
 
 module _ (m : Draft) where
   abbrev is : Draft → Bool
@@ -63,39 +47,19 @@ module _ (m : Draft) where
   has d = same_identity (identity_of d) (identity_of m)
 
   has_itself : has m ≡ true
-  has_itself = ties_itself identity_total identities_same (identity_of m)
+  has_itself = identity_itself (identity_of m)
 
   has_from_is : (d : Draft) → is d ≡ true → has d ≡ true
-  has_from_is d e = ap has (same_is d m e) ∙ has_itself
+  has_from_is d e = ap has (message_is d m e) ∙ has_itself
 
   finds_as : (d : Draft) (before : List Draft) → has d ≡ true → finds (identity_of d) before ≡ finds (identity_of m) before
-  finds_as d before e = ap (λ (i : Identity). finds i before) (tie_is identity_total identities_same (identity_of d) (identity_of m) e)
-
-  any-append : (p : Draft → Bool) (xs ys : List Draft) → list_any p xs ≡ true → list_any p (xs ++ ys) ≡ true
-  any-append p [] ys e = absurd (false≢true e)
-  any-append p (x ∷ xs) ys e =
-      elim (p x) as (λ b. (b || list_any p xs) ≡ true → (b || list_any p (xs ++ ys)) ≡ true) [
-        | true ↦ λ _. refl
-        | false ↦ λ f. any-append p xs ys f
-      ] e
-
-  any-push : (p : Draft → Bool) (xs : List Draft) (y : Draft) → p y ≡ false → list_any p xs ≡ false → list_any p (xs ++ y ∷ []) ≡ false
-  any-push p [] y n e = ap (λ (b : Bool). b || false) n
-  any-push p (x ∷ xs) y n e =
-      elim (p x) as (λ b. (b || list_any p xs) ≡ false → (b || list_any p (xs ++ y ∷ [])) ≡ false) [
-        | true ↦ λ f. f
-        | false ↦ λ f. any-push p xs y n f
-      ] e
-
-  any-last : (p : Draft → Bool) (xs : List Draft) (y : Draft) → p y ≡ true → list_any p (xs ++ y ∷ []) ≡ true
-  any-last p [] y e = ap (λ (b : Bool). b || false) e
-  any-last p (x ∷ xs) y e = ap (λ (b : Bool). p x || b) (any-last p xs y e) ∙ or_true (p x)
+  finds_as d before e = ap (λ (i : Identity). finds i before) (identity_is (identity_of d) (identity_of m) e)
 
   -- where one of its identity stands before the list, a message of the list is among those that find another
   among_later : (before ds : List Draft) → finds (identity_of m) before ≡ true → list_any is (against_after before ds) ≡ list_any is ds
   among_later before [] known = refl
   among_later before (d ∷ ds) known =
-      let rest = among_later (before ++ d ∷ []) ds (any-append (λ h. has h) before (d ∷ []) known) in
+      let rest = among_later (before ++ d ∷ []) ds (list_any-append has before (d ∷ []) ∙ or_left _ _ known) in
       elim (is d) as (λ b. is d ≡ b → list_any is (against_after before (d ∷ ds)) ≡ (b || list_any is ds)) [
         | true ↦ λ e.
             let found = finds_as d before (has_from_is d e) ∙ known in
@@ -116,13 +80,13 @@ module _ (m : Draft) where
       elim (has d) as (λ b. has d ≡ b → (list_any is (take 1 (cond b (d ∷ drafts_of (identity_of m) ds) (drafts_of (identity_of m) ds))) || list_any is (against_after before (d ∷ ds))) ≡ (is d || list_any is ds)) [
         | true ↦ λ e.
             let missed = finds_as d before e ∙ unknown in
-            let later = among_later (before ++ d ∷ []) ds (any-last (λ h. has h) before d e) in
+            let later = among_later (before ++ d ∷ []) ds (list_any-append has before (d ∷ []) ∙ or_right _ _ (or_left _ _ e)) in
             ap (λ (b : Bool). (is d || false) || list_any is (cond b (d ∷ against_after (before ++ d ∷ []) ds) (against_after (before ++ d ∷ []) ds))) missed
             ∙ ap (λ (b : Bool). (is d || false) || b) later
             ∙ ap (λ (b : Bool). b || list_any is ds) (or_false (is d))
         | false ↦ λ e.
-            let other : is d ≡ false = elim (is d) as (λ b. is d ≡ b → b ≡ false) [ true ↦ λ f. absurd (false≢true (sym e ∙ has_from_is d f)) | false ↦ λ _. refl ] refl in
-            let rest = among_all (before ++ d ∷ []) ds (any-push (λ h. has h) before d e unknown) in
+            let other : is d ≡ false = false_from_ne_true (is d) (λ f. false≢true (sym e ∙ has_from_is d f)) in
+            let rest = among_all (before ++ d ∷ []) ds (list_any-append has before (d ∷ []) ∙ or_from _ _ unknown (or_from _ _ e refl)) in
             let skipped : list_any is (against_after before (d ∷ ds)) ≡ list_any is (against_after (before ++ d ∷ []) ds) =
             elim (finds (identity_of d) before) as (λ b. list_any is (cond b (d ∷ against_after (before ++ d ∷ []) ds) (against_after (before ++ d ∷ []) ds)) ≡ list_any is (against_after (before ++ d ∷ []) ds)) [
               | true ↦ ap (λ (b : Bool). b || list_any is (against_after (before ++ d ∷ []) ds)) other

@@ -1,5 +1,5 @@
--- What an archive's table and its lines have to do with the set of its messages. Proof plumbing.
-use Rattle.std.proofs.Common.{◌≡◌, ℕ, suc, nat_eq, ◌+◌, Bool, true, false, cond, not, ◌&&◌, ◌||◌, List, [], ◌∷◌, ◌++◌, map, length, refl, sym, ap, ◌∙◌, filter, take, get_or, ◌<◌, Some, None}
+-- What an archive's arrivals and its lines have to do with the set of its messages. Proof plumbing.
+use Rattle.std.proofs.Common.{◌≡◌, ℕ, suc, nat_eq, ◌+◌, Bool, true, false, cond, not, ◌||◌, List, [], ◌∷◌, ◌++◌, map, length, refl, sym, ap, ◌∙◌, filter, take, get_or, ◌<◌, Some, None}
 use Rattle.std.specs.FinSet as set
 use Rattle.std.specs.Arc.{arc_value}
 use Rattle.std.specs.Global.{Global}
@@ -8,6 +8,7 @@ use Rattle.std.specs.Ordering.{eq_by_cmp}
 use Rattle.std.specs.declared.sync.Arc.{Arc}
 use Rattle.std.proofs.Math.Nat.{suc-ne-zero}
 use Rattle.std.proofs.lemmas.Bool.{eq-eqb, ne_eqb}
+use Rattle.std.proofs.lemmas.Map.Views.{any-filter_same}
 use Rattle.std.proofs.lemmas.List.{length-map, map-append}
 use Rattle.std.proofs.lemmas.Grind.{take_at_read}
 use Rattle.sct_message.specs.declared.draft.Draft.{Draft}
@@ -17,7 +18,9 @@ use Rattle.sct_message.specs.Keys.{identity_of}
 use Rattle.sct_message.specs.Order.{identity_order, same_message, same_identity}
 use Rattle.sct_message.specs.Ascending.{ascending}
 use Rattle.sct_message.proofs.AscendingLemmas.{ascending-same}
-use Rattle.sct_message.proofs.Members.{list_any-filter, list_any-map, ties_itself}
+use Rattle.sct_message.proofs.Members.{list_any-filter, list_any-map}
+use Rattle.sct_message.proofs.SameValues.{identity_itself, message_is}
+use Rattle.sct_message.proofs.Tests.{or_false}
 use Rattle.sct_set.specs.Archive.{added_of, added_where, has_identity}
 use Rattle.sct_set.specs.Contents.{Contents, contents_of}
 use Rattle.sct_set.specs.Contradictions.{contradicted_identities, is_disputed, is_rival}
@@ -25,34 +28,24 @@ use Rattle.sct_set.specs.Digest.{digest_of}
 use Rattle.sct_set.specs.Drafts.{against_in, drafts_in, drafts_of, drafts_alike, finds}
 use Rattle.sct_set.proofs.AgainstLemmas.{first_or_against}
 use Rattle.sct_set.specs.declared.added.Added.TheVariants as added
-use Rattle.sct_set.proofs.ContentsLemmas.{any_items, contains-contents_of, same_is}
+use Rattle.sct_set.proofs.ContentsLemmas.{any_items, contains-contents_of}
 
 -- ---- a message among those of its digest, and of its identity
 
 same_have_one_digest : (d m : Draft) → same_message d m ≡ true → nat_eq (digest_of d) (digest_of m) ≡ true
-same_have_one_digest d m e = ap (λ (x : Draft). nat_eq (digest_of x) (digest_of m)) (same_is d m e) ∙ eq-eqb (digest_of m) (digest_of m) refl
-
-implied : (a b : Bool) → (b ≡ true → a ≡ true) → (a && b) ≡ b
-implied true b h = refl
-implied false true h = h refl
-implied false false h = refl
+same_have_one_digest d m e = ap (λ (x : Draft). nat_eq (digest_of x) (digest_of m)) (message_is d m e) ∙ eq-eqb (digest_of m) (digest_of m) refl
 
 same_have_one_identity : (d m : Draft) → same_message d m ≡ true → same_identity (identity_of d) (identity_of m) ≡ true
-same_have_one_identity d m e = ap (λ (x : Draft). same_identity (identity_of x) (identity_of m)) (same_is d m e) ∙ ties_itself identity_total identities_same (identity_of m)
+same_have_one_identity d m e = ap (λ (x : Draft). same_identity (identity_of x) (identity_of m)) (message_is d m e) ∙ identity_itself (identity_of m)
 
 -- a message is not held where no message of its identity is
 pub held-not : (ms : List (Arc Draft Global)) (ds : List Draft) (m : Draft) → drafts_in ms ≡ drafts_of (identity_of m) ds → None ≡ slice_get ms 0
     → false ≡ set.contains (contents_of ds) m
 held-not [] ds m all f =
     ap (list_any (λ d. same_message d m)) all
-    ∙ list_any-filter (λ d. same_message d m) (λ d. same_identity (identity_of d) (identity_of m)) ds
-    ∙ ap (λ (p : Draft → Bool). list_any p ds) (λ i d. implied _ _ (same_have_one_identity d m) i)
+    ∙ any-filter_same (λ d. same_message d m) (λ d. same_identity (identity_of d) (identity_of m)) true (λ d. same_have_one_identity d m) ds
     ∙ sym (contains-contents_of ds m)
 held-not (x ∷ ms) ds m all f = let h : None ≡ Some x = f in cc
-
-or_false : (a : Bool) → a ≡ (a || false)
-or_false true = refl
-or_false false = refl
 
 -- a message is held where it is the first of its identity, or among those that came against another
 pub held-is : (ms : List (Arc Draft Global)) (ds : List Draft) (m : Draft) (x : Arc Draft Global) → drafts_in ms ≡ drafts_of (identity_of m) ds → Some x ≡ slice_get ms 0
@@ -62,7 +55,7 @@ held-is (y ∷ ms) ds m x all f =
     let h : Some x ≡ Some y = f in
     let k : x ≡ y = cc in
     ap (λ (a : Arc Draft Global). same_message (arc_value a) m || list_any (λ d. same_message d m) (against_in ds)) k
-    ∙ ap (λ (b : Bool). b || list_any (λ d. same_message d m) (against_in ds)) (or_false (same_message (arc_value y) m))
+    ∙ ap (λ (b : Bool). b || list_any (λ d. same_message d m) (against_in ds)) (sym (or_false (same_message (arc_value y) m)))
     ∙ ap (λ (xs : List Draft). list_any (λ d. same_message d m) (take 1 xs) || list_any (λ d. same_message d m) (against_in ds)) all
     ∙ first_or_against m ds
     ∙ sym (contains-contents_of ds m)
@@ -73,8 +66,7 @@ pub against-is : (later : List (Arc Draft Global)) (ds : List Draft) (m : Draft)
 against-is later ds m e =
     sym (list_any-map (λ d. same_message d m) arc_value later)
     ∙ ap (list_any (λ d. same_message d m)) e
-    ∙ list_any-filter (λ d. same_message d m) (λ d. nat_eq (digest_of d) (digest_of m)) ds
-    ∙ ap (λ (p : Draft → Bool). list_any p ds) (λ i d. implied _ _ (same_have_one_digest d m) i)
+    ∙ any-filter_same (λ d. same_message d m) (λ d. nat_eq (digest_of d) (digest_of m)) true (λ d. same_have_one_digest d m) ds
 
 one_kept : (p : Draft → Bool) (ds : List Draft) → not (nat_eq (length (filter p ds)) 0) ≡ list_any p ds
 one_kept p [] = refl

@@ -1,5 +1,5 @@
 -- Lists of messages and the set of them. Proof plumbing; it serves cases, the archive and the view alike.
-use Rattle.std.proofs.Common.{◌≡◌, ℕ, ◌+◌, Bool, true, false, cond, ◌||◌, List, [], ◌∷◌, ◌++◌, length, refl, sym, ap, ◌∙◌, length-append}
+use Rattle.std.proofs.Common.{◌≡◌, ℕ, ◌+◌, Bool, true, false, cond, ◌||◌, List, [], ◌∷◌, ◌++◌, sym, ap, ◌∙◌, length-append}
 use Rattle.std.specs.FinSet as set
 use Rattle.std.specs.FinSet.{contains-from_list, contains-items, contains-insert, contains-union, from_list_push, len-insert, len-empty, contains-empty, same_set}
 use Rattle.std.specs.Cmp.{eq_by_cmp_equiv}
@@ -8,7 +8,10 @@ use Rattle.std.specs.Ordering.{eq_by_cmp}
 use Rattle.sct_message.specs.declared.draft.Draft.{Draft}
 use Rattle.sct_message.specs.OrderLaws.{message_total, message_same}
 use Rattle.sct_message.specs.Order.{message_order, same_message}
-use Rattle.sct_message.proofs.Members.{same_any, tie_is, ties_itself}
+use Rattle.sct_message.proofs.Members.{same_any}
+use Rattle.sct_message.proofs.SameValues.{message_is}
+pub use Rattle.sct_message.proofs.SameValues.{message_is as same_is, message_itself as same_itself}
+use Rattle.sct_message.proofs.Tests.{or_false, or_implied, or_later}
 use Rattle.sct_set.specs.Contents.{Contents, HasNoRepeat, HaveSameMessages, contents_of}
 
 -- ---- messages that are the same
@@ -16,12 +19,6 @@ use Rattle.sct_set.specs.Contents.{Contents, HasNoRepeat, HaveSameMessages, cont
 -- the test of `==`, from the other side
 pub same_message-is : (d m : Draft) → same_message d m ≡ eq_by_cmp message_order m d
 same_message-is d m = (eq_by_cmp_equiv message_total).symm d m
-
-pub same_is : (d m : Draft) → same_message d m ≡ true → d ≡ m
-same_is d m e = tie_is message_total message_same d m e
-
-pub same_itself : (d : Draft) → same_message d d ≡ true
-same_itself d = ties_itself message_total message_same d
 
 -- ---- the set of a list
 
@@ -39,17 +36,12 @@ same_contents a b same = same_set message_total message_same a b same
 
 -- ---- a message more
 
-covered : (a b : Bool) → (a ≡ true → b ≡ true) → (a || b) ≡ b
-covered true true h = refl
-covered true false h = sym (h refl)
-covered false b h = refl
-
 -- to add what is held changes nothing
 pub insert-held : (s : Contents) (m : Draft) → set.contains s m ≡ true → set.insert s m ≡ s
 insert-held s m held =
     same_set message_total message_same _ _ (λ q.
     contains-insert message_total s m q
-    ∙ covered _ _ (λ e. ap (set.contains s) (tie_is message_total message_same q m e) ∙ held))
+    ∙ or_implied _ _ (λ e. ap (set.contains s) (message_is q m e) ∙ held))
 
 pub contents-push : (ds : List Draft) (m : Draft) → contents_of (ds ++ m ∷ []) ≡ set.insert (contents_of ds) m
 contents-push ds m = from_list_push message_total message_same ds m
@@ -68,19 +60,10 @@ HasNoRepeat-push ds m none absent =
 
 -- ---- many messages more
 
-or_later : (a b c : Bool) → (a || (b || c)) ≡ (b || (a || c))
-or_later true true c = refl
-or_later true false c = refl
-or_later false b c = refl
-
-or_nothing : (a : Bool) → (a || false) ≡ a
-or_nothing true = refl
-or_nothing false = refl
-
 pub union-none : (s : Contents) → set.union s (contents_of []) ≡ s
 union-none s =
     same_set message_total message_same _ _ (λ q.
-    contains-union message_total s set.empty q ∙ ap (λ (b : Bool). set.contains s q || b) (contains-empty message_order q) ∙ or_nothing (set.contains s q))
+    contains-union message_total s set.empty q ∙ ap (λ (b : Bool). set.contains s q || b) (contains-empty message_order q) ∙ or_false (set.contains s q))
 
 -- what is added to nothing is the set
 pub union-of_none : (s : Contents) → set.union (contents_of []) s ≡ s
@@ -97,7 +80,3 @@ union-push s ds m =
     ∙ or_later (set.contains s q) (eq_by_cmp message_order q m) (set.contains (contents_of ds) q)
     ∙ ap (λ (b : Bool). eq_by_cmp message_order q m || b) (sym (contains-union message_total s (contents_of ds) q))
     ∙ sym (contains-insert message_total (set.union s (contents_of ds)) m q))
-
--- an archive's number of messages is the length of its table
-pub len-contents_of : (ds : List Draft) → HasNoRepeat ds → set.len (contents_of ds) ≡ length ds
-len-contents_of ds none = none

@@ -21,6 +21,8 @@ use Rattle.sct_message.specs.Keys.{identity_of}
 use Rattle.sct_message.specs.Order.{identity_order, same_identity}
 use Rattle.sct_message.specs.OrderLaws.{identity_total, identities_same}
 use Rattle.sct_message.proofs.AscendingLemmas.{any_ascending, ascending-filter, ascending-same, ascending-sorted, ascending_rises}
+use Rattle.sct_message.proofs.SameValues.{identity_is, identity_itself}
+use Rattle.sct_message.proofs.Tests.{any_flat_map}
 use Rattle.sct_message.proofs.Members.{list_any-filter, list_any-found, list_any-map, tie_is, ties_itself}
 use Rattle.sct_set.specs.Archive.{archive_text_of, line_of, line_order, written_order, AreReadAgain, IsReadAgain}
 use Rattle.sct_set.specs.Contents.{contents_of}
@@ -72,7 +74,7 @@ module _ (rising : List Draft) where
   is_later i d = identity_order i (identity_of d) ≡ Less
 
   of_identity : (i : Identity) (d : Draft) → has i d ≡ true → identity_of d ≡ i
-  of_identity i d e = tie_is identity_total identities_same (identity_of d) i e
+  of_identity i d e = identity_is (identity_of d) i e
 
   later_groups : (i : Identity) (js : List Identity) → AllByRecursion (λ j. identity_order i j ≡ Less) js → AllByRecursion (is_later i) (flat_map group js)
   later_groups i [] h = tt
@@ -96,14 +98,6 @@ module _ (rising : List Draft) where
       rising)
 
 -- ---- the groups have the members of the list
-
-any-append : {X : Type 0} (p : X → Bool) (xs ys : List X) → list_any p (xs ++ ys) ≡ (list_any p xs || list_any p ys)
-any-append p [] ys = refl
-any-append p (x ∷ xs) ys = ap (λ b. p x || b) (any-append p xs ys) ∙ elim (p x) as (λ b. (b || (list_any p xs || list_any p ys)) ≡ ((b || list_any p xs) || list_any p ys)) [ true ↦ refl | false ↦ refl ]
-
-any-flat_map : {X Y : Type 0} (p : Y → Bool) (f : X → List Y) (xs : List X) → list_any p (flat_map f xs) ≡ list_any (λ x. list_any p (f x)) xs
-any-flat_map p f [] = refl
-any-flat_map p f (x ∷ xs) = any-append p (f x) (flat_map f xs) ∙ ap (λ b. list_any p (f x) || b) (any-flat_map p f xs)
 
 any-and : {X : Type 0} (q p : X → Bool) (xs : List X) → list_any (λ x. q x && p x) xs ≡ true → list_any p xs ≡ true
 any-and q p [] h = h
@@ -132,7 +126,7 @@ module _ (ds : List Draft) (q : Draft) where
   found_beside among =
       let itself : beside q ≡ true =
       list_any-found (eq_by_cmp line_order) (tie_is line_order_total line_order_same) (λ d. same_identity (identity_of d) (identity_of q) && is_q d) q ds among
-      (and_from _ _ (ties_itself identity_total identities_same (identity_of q)) (ties_itself line_order_total line_order_same q)) in
+      (and_from _ _ (identity_itself (identity_of q)) (ties_itself line_order_total line_order_same q)) in
       list_any-found (eq_by_cmp line_order) (tie_is line_order_total line_order_same) beside q ds among itself
 
   any_beside : list_any beside ds ≡ list_any is_q ds
@@ -145,7 +139,7 @@ module _ (ds : List Draft) (q : Draft) where
 
   any_grouped : list_any is_q (flat_map (group_of ds) (ascending identity_order (map identity_of ds))) ≡ list_any is_q ds
   any_grouped =
-      any-flat_map is_q (group_of ds) (ascending identity_order (map identity_of ds))
+      any_flat_map is_q (group_of ds) (ascending identity_order (map identity_of ds))
       ∙ any_ascending identity_total identities_same (λ i. list_any is_q (group_of ds i)) (map identity_of ds)
       ∙ list_any-map (λ i. list_any is_q (group_of ds i)) identity_of ds
       ∙ ap (λ (p : Draft → Bool). list_any p ds) (λ n e. any_in_group e n)

@@ -5,7 +5,7 @@ use Rattle.std.specs.FinSet.{contains-union, contains-items, contains-insert}
 use Rattle.std.specs.Cmp.{eq_by_cmp_equiv}
 use Rattle.std.specs.List.{list_any}
 use Rattle.std.specs.Ordering.{eq_by_cmp}
-use Rattle.std.proofs.lemmas.Bool.{false≢true}
+use Rattle.std.proofs.lemmas.Bool.{and_from, and_parts, false≢true, or_right}
 use Rattle.std.proofs.lemmas.Map.Views.{Contains-from_any, list_any-from_Contains}
 use Rattle.sct_message.specs.declared.draft.Draft.{Draft}
 use Rattle.sct_message.specs.declared.keys.Identity.{Identity}
@@ -18,25 +18,13 @@ use Rattle.sct_set.specs.Contradictions.{IsContradicted, contradicted_identities
 use Rattle.sct_set.specs.Contents.{Contents}
 use Rattle.sct_set.specs.Laws.{IsAssociative, IsCommutative, IsIdempotent, HoldsBothSides, EqualSetsAnswerAlike, TellsContradictions, TellsInOrder, AnswersAgainst}
 use Rattle.sct_message.proofs.AscendingLemmas.{members_ascending, ascending_rises}
-use Rattle.sct_set.proofs.ContentsLemmas.{same_contents, same_is, same_itself}
+use Rattle.sct_set.proofs.ContentsLemmas.{same_contents}
 use Rattle.sct_set.proofs.ArchiveLemmas.{added-absent}
+use Rattle.sct_message.proofs.SameValues.{identity_is, identity_itself, message_is, message_itself}
+use Rattle.sct_message.proofs.Tests.{or_assoc, or_comm, or_itself}
 use Rattle.sct_message.proofs.Members.{list_any-found, list_any-filter, list_any-map, tie_is, ties_itself}
 
 -- ---- merging
-
-or_assoc : (a b c : Bool) → ((a || b) || c) ≡ (a || (b || c))
-or_assoc true b c = refl
-or_assoc false b c = refl
-
-or_comm : (a b : Bool) → (a || b) ≡ (b || a)
-or_comm true true = refl
-or_comm true false = refl
-or_comm false true = refl
-or_comm false false = refl
-
-or_itself : (a : Bool) → (a || a) ≡ a
-or_itself true = refl
-or_itself false = refl
 
 pub both_sides : HoldsBothSides
 both_sides a b d = contains-union message_total a b d
@@ -60,48 +48,26 @@ answer_alike a b same =
 
 -- ---- contradictions
 
-and_first : (a b : Bool) → (a && b) ≡ true → a ≡ true
-and_first true b e = refl
-and_first false b e = e
-
-and_second : (a b : Bool) → (a && b) ≡ true → b ≡ true
-and_second true b e = e
-and_second false b e = absurd (false≢true e)
-
-and_both : (a b : Bool) → a ≡ true → b ≡ true → (a && b) ≡ true
-and_both true b e f = f
-and_both false b e f = e
-
 -- a member that passes the test
 abbrev Witness : (Draft → Bool) → List Draft → Type 0
 Witness p ds = (d : Draft) × (p d ≡ true) × (list_any (eq_by_cmp message_order d) ds ≡ true)
-
-or_right : (a : Bool) → (a || true) ≡ true
-or_right true = refl
-or_right false = refl
 
 witness : (p : Draft → Bool) (ds : List Draft) → list_any p ds ≡ true → Witness p ds
 witness p [] e = absurd (false≢true e)
 witness p (d ∷ ds) e =
     elim (p d) as (λ b. p d ≡ b → (b || list_any p ds) ≡ true → Witness p (d ∷ ds)) [
       | true ↦ λ here _. (d, here, ap (λ (b : Bool). b || list_any (eq_by_cmp message_order d) ds) (ties_itself message_total message_same d))
-      | false ↦ λ _ later. let w = witness p ds later in (w.0, w.1, ap (λ (b : Bool). eq_by_cmp message_order w.0 d || b) w.2 ∙ or_right (eq_by_cmp message_order w.0 d))
+      | false ↦ λ _ later. let w = witness p ds later in (w.0, w.1, ap (λ (b : Bool). eq_by_cmp message_order w.0 d || b) w.2 ∙ or_right (eq_by_cmp message_order w.0 d) true refl)
     ] refl e
 
 found : (p : Draft → Bool) (s : Contents) (d : Draft) → set.contains s d ≡ true → p d ≡ true → list_any p (set.items s) ≡ true
 found p s d held passes = list_any-found (eq_by_cmp message_order) (tie_is message_total message_same) p d (set.items s) (sym (contains-items s d) ∙ held) passes
 
 differ : (a b : Draft) → a ≢ b → not (same_message b a) ≡ true
-differ a b n = elim (same_message b a) as (λ t. same_message b a ≡ t → not t ≡ true) [ true ↦ λ e. absurd (n (sym (same_is b a e))) | false ↦ λ _. refl ] refl
+differ a b n = elim (same_message b a) as (λ t. same_message b a ≡ t → not t ≡ true) [ true ↦ λ e. absurd (n (sym (message_is b a e))) | false ↦ λ _. refl ] refl
 
 apart : (a b : Draft) → not (same_message b a) ≡ true → a ≢ b
-apart a b n e = false≢true (ap not (sym (ap (λ (x : Draft). same_message x a) (sym e) ∙ same_itself a)) ∙ n)
-
-same_identity-is : (i j : Identity) → same_identity i j ≡ true → i ≡ j
-same_identity-is = tie_is identity_total identities_same
-
-identity_itself : (i : Identity) → same_identity i i ≡ true
-identity_itself = ties_itself identity_total identities_same
+apart a b n e = false≢true (ap not (sym (ap (λ (x : Draft). same_message x a) (sym e) ∙ message_itself a)) ∙ n)
 
 same_identity-from : (i j : Identity) → i ≡ j → same_identity i j ≡ true
 same_identity-from i j e = ap (same_identity i) (sym e) ∙ identity_itself i
@@ -120,23 +86,23 @@ told-is s i =
 contradicted_from_told : (s : Contents) (i : Identity) → list_any (tells s i) (set.items s) ≡ true → IsContradicted s i
 contradicted_from_told s i e =
     let one = witness (tells s i) (set.items s) e in
-    let is = sym (tie_is identity_total identities_same i (identity_of one.0) (and_second _ _ one.1)) in
-    let other = witness (is_rival one.0) (set.items s) (and_first _ _ one.1) in
+    let is = sym (tie_is identity_total identities_same i (identity_of one.0) (and_parts _ _ one.1).1) in
+    let other = witness (is_rival one.0) (set.items s) (and_parts _ _ one.1).0 in
     record {
       one = one.0;
       other = other.0;
       one_held = contains-items s one.0 ∙ one.2;
       other_held = contains-items s other.0 ∙ other.2;
-      different = apart one.0 other.0 (and_second _ _ other.1);
+      different = apart one.0 other.0 (and_parts _ _ other.1).1;
       one_has_it = is;
-      other_has_it = same_identity-is (identity_of other.0) (identity_of one.0) (and_first _ _ other.1) ∙ is;
+      other_has_it = identity_is (identity_of other.0) (identity_of one.0) (and_parts _ _ other.1).0 ∙ is;
     }
 
 told_from_contradicted : (s : Contents) (i : Identity) → IsContradicted s i → list_any (tells s i) (set.items s) ≡ true
 told_from_contradicted s i c =
     let disputed = found (is_rival c.one) s c.other c.other_held
-    (and_both _ _ (same_identity-from _ _ (c.other_has_it ∙ sym c.one_has_it)) (differ c.one c.other c.different)) in
-    found (tells s i) s c.one c.one_held (and_both _ _ disputed (same_identity-from _ _ (sym c.one_has_it)))
+    (and_from _ _ (same_identity-from _ _ (c.other_has_it ∙ sym c.one_has_it)) (differ c.one c.other c.different)) in
+    found (tells s i) s c.one c.one_held (and_from _ _ disputed (same_identity-from _ _ (sym c.one_has_it)))
 
 pub contradictions_told : TellsContradictions
 contradictions_told s i = (
@@ -167,9 +133,9 @@ one_is_another : (s : Contents) (m : Draft) → IsContradicted (set.insert s m) 
 one_is_another s m c =
     let passes = λ (d : Draft) (e : identity_of d ≡ identity_of m). same_identity-from (identity_of d) (identity_of m) e in
     elim (same_message c.one m) as (λ b. same_message c.one m ≡ b → has_identity s (identity_of m) ≡ true) [
-      | true ↦ λ e. let is = same_is c.one m e in
+      | true ↦ λ e. let is = message_is c.one m e in
           found (λ held. same_identity (identity_of held) (identity_of m)) s c.other (held_before s m c.other c.other_held (λ f. c.different (is ∙ f))) (passes c.other c.other_has_it)
-      | false ↦ λ e. found (λ held. same_identity (identity_of held) (identity_of m)) s c.one (held_before s m c.one c.one_held (λ f. false≢true (sym e ∙ ap (λ (x : Draft). same_message x m) (sym f) ∙ same_itself m))) (passes c.one c.one_has_it)
+      | false ↦ λ e. found (λ held. same_identity (identity_of held) (identity_of m)) s c.one (held_before s m c.one c.one_held (λ f. false≢true (sym e ∙ ap (λ (x : Draft). same_message x m) (sym f) ∙ message_itself m))) (passes c.one c.one_has_it)
     ] refl
 
 contradicted_by : (s : Contents) (m : Draft) → set.contains s m ≡ false → has_identity s (identity_of m) ≡ true → IsContradicted (set.insert s m) (identity_of m)
@@ -180,10 +146,10 @@ contradicted_by s m absent has =
       one = m;
       other = held.0;
       one_held = contains-insert message_total s m m ∙ ap (λ (b : Bool). b || set.contains s m) (ties_itself message_total message_same m);
-      other_held = contains-insert message_total s m held.0 ∙ ap (λ (b : Bool). eq_by_cmp message_order held.0 m || b) was ∙ or_right (eq_by_cmp message_order held.0 m);
+      other_held = contains-insert message_total s m held.0 ∙ ap (λ (b : Bool). eq_by_cmp message_order held.0 m || b) was ∙ or_right (eq_by_cmp message_order held.0 m) true refl;
       different = λ e. false≢true (sym absent ∙ ap (set.contains s) e ∙ was);
       one_has_it = refl;
-      other_has_it = same_identity-is (identity_of held.0) (identity_of m) held.1;
+      other_has_it = identity_is (identity_of held.0) (identity_of m) held.1;
     }
 
 pub against_answered : AnswersAgainst

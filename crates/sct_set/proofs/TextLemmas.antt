@@ -6,15 +6,13 @@ use Rattle.std.specs.FinSet.{contains-from_list, contains-items, IsAntisymmetric
 use Rattle.std.specs.Cmp.{eq_by_cmp_equiv}
 use Rattle.std.specs.List.{list_any, flat_map}
 use Rattle.std.specs.List.Sorted.{IsStrictlySortedBy}
-use Rattle.std.specs.Ordering.{eq_by_cmp, ordering_then}
+use Rattle.std.specs.Ordering.{eq_by_cmp}
 use Rattle.std.specs.Prelude.{Contains, ◌↔◌}
 use Rattle.std.specs.Cmp.{both_ways}
-use Rattle.std.specs.declared.cmp.Ordering.{Ordering}
-use Rattle.std.specs.declared.cmp.Ordering.TheVariants.{Less, Equal, Greater}
 use Rattle.std.proofs.lemmas.Map.Views.{Contains-from_any, list_any-from_Contains}
 use Rattle.sct_json.specs.Writing.{written_text}
 use Rattle.sct_message.specs.declared.draft.Draft.{Draft}
-use Rattle.sct_message.specs.OrderLaws.{message_total, message_same}
+use Rattle.sct_message.specs.OrderLaws.{both_tie, message_total, message_same}
 use Rattle.sct_message.specs.Order.{message_order}
 use Rattle.sct_message.specs.Ascending.{ascending}
 use Rattle.sct_message.proofs.AscendingLemmas.{ascending-same, ascending_rises, members_ascending}
@@ -24,12 +22,6 @@ use Rattle.sct_set.specs.Contents.{Contents, contents_of}
 use Rattle.sct_set.specs.Laws.{WritesEachOnce}
 use Rattle.sct_set.specs.LineOrder.{line_order_total}
 use Rattle.sct_set.proofs.ContentsLemmas.{any_items, same_contents}
-
--- of two that are compared one after the other, both tie where the whole does
-both_tie : (r s : Ordering) → ordering_then r s ≡ Equal → (r ≡ Equal) × (s ≡ Equal)
-both_tie Less s e = cc
-both_tie Equal s e = (refl, e)
-both_tie Greater s e = cc
 
 -- messages of one place in the text's order are the same
 pub line_order_same : IsAntisymmetric line_order

@@ -7,50 +7,28 @@ use Rattle.std.specs.Global.{Global}
 use Rattle.std.specs.declared.sync.Arc.{Arc}
 use Rattle.std.specs.List.{list_any, slice_get}
 use Rattle.std.specs.List.Sorted.{IsStrictlySortedBy}
-use Rattle.std.proofs.lemmas.Bool.{false≢true}
+use Rattle.std.proofs.lemmas.Bool.{and_parts, false≢true, false_from_ne_true, not-true, or_right}
+use Rattle.std.proofs.lemmas.Map.Views.{any-filter_same}
 use Rattle.sct_message.specs.Ascending.{ascending}
 use Rattle.sct_message.specs.Keys.{identity_of}
 use Rattle.sct_message.specs.Order.{message_order, same_identity, same_message}
-use Rattle.sct_message.specs.OrderLaws.{identity_total, identities_same, message_total, message_same}
+use Rattle.sct_message.specs.OrderLaws.{message_total, message_same}
 use Rattle.sct_message.specs.Sets.{in_order}
 use Rattle.sct_message.specs.declared.draft.Draft.{Draft}
 use Rattle.sct_message.specs.declared.keys.Identity.{Identity}
 use Rattle.sct_message.proofs.AscendingLemmas.{ascending-filter, ascending-same, ascending-sorted}
-use Rattle.sct_message.proofs.Members.{list_any-filter, list_any-found, tie_is}
+use Rattle.sct_message.proofs.Members.{list_any-found}
+use Rattle.sct_message.proofs.SameValues.{identity_is, message_is, message_itself}
+use Rattle.sct_message.proofs.Tests.{or_false}
 use Rattle.sct_set.specs.Contents.{Contents, contents_of}
 use Rattle.sct_set.specs.Contradictions.{is_disputed, is_rival, undisputed_of}
 use Rattle.sct_set.specs.Drafts.{drafts_in, drafts_of}
-use Rattle.sct_set.proofs.ContentsLemmas.{any_items, same_is, same_itself}
-
-and_true : (a b : Bool) → (a && b) ≡ true → (a ≡ true) × (b ≡ true)
-and_true true b e = (refl, e)
-and_true false b e = absurd (false≢true e)
-
-and_false : (a : Bool) → (a && false) ≡ false
-and_false true = refl
-and_false false = refl
-
-never : {X : Type 0} (xs : List X) → list_any (λ x. false) xs ≡ false
-never [] = refl
-never (x ∷ xs) = never xs
-
-and_any : {X : Type 0} (b : Bool) (p : X → Bool) (xs : List X) → list_any (λ x. b && p x) xs ≡ (b && list_any p xs)
-and_any true p xs = refl
-and_any false p xs = never xs
-
-at_same : (p : Draft → Bool) (q m : Draft) → (p m && same_message q m) ≡ (p q && same_message q m)
-at_same p q m =
-    elim (same_message q m) as (λ b. same_message q m ≡ b → (p m && b) ≡ (p q && b)) [
-      | true ↦ λ e. ap (λ (x : Draft). p x && true) (sym (same_is q m e))
-      | false ↦ λ _. and_false (p m) ∙ sym (and_false (p q))
-    ] refl
+use Rattle.sct_set.proofs.ContentsLemmas.{any_items}
 
 -- a message is among those of the set that pass a test where it passes it and is held
 picked : (s : Contents) (p : Draft → Bool) (q : Draft) → list_any (same_message q) (filter p (set.items s)) ≡ (p q && set.contains s q)
 picked s p q =
-    list_any-filter (same_message q) p (set.items s)
-    ∙ ap (λ (r : Draft → Bool). list_any r (set.items s)) (λ i m. at_same p q m i)
-    ∙ and_any (p q) (same_message q) (set.items s)
+    any-filter_same (same_message q) p (p q) (λ m e. ap p (sym (message_is q m e))) (set.items s)
     ∙ ap (λ b. p q && b) (sym (contains-items s q))
 
 sorted_none : ascending message_order [] ≡ []
@@ -68,30 +46,23 @@ none_picked s p none =
     ∙ ascending-same message_total message_same (filter p (set.items s)) [] (λ q. picked s p q ∙ none q)
     ∙ sorted_none
 
-or_false : (a : Bool) → a ≡ (a || false)
-or_false true = refl
-or_false false = refl
-
 -- where just one does
 one_picked : (s : Contents) (p : Draft → Bool) (m : Draft) → ((q : Draft) → (p q && set.contains s q) ≡ same_message q m)
     → filter p (in_order s) ≡ m ∷ []
 one_picked s p m one =
     sym (ascending-filter message_total message_same p (set.items s))
-    ∙ ascending-same message_total message_same (filter p (set.items s)) (m ∷ []) (λ q. picked s p q ∙ one q ∙ or_false (same_message q m))
+    ∙ ascending-same message_total message_same (filter p (set.items s)) (m ∷ []) (λ q. picked s p q ∙ one q ∙ sym (or_false (same_message q m)))
     ∙ sorted_one m
-
-same_identity-is : (i j : Identity) → same_identity i j ≡ true → i ≡ j
-same_identity-is = tie_is identity_total identities_same
 
 -- of two messages of one identity each is disputed, or they are the same
 rivals : (s : Contents) (i : Identity) (m q : Draft) → set.contains s m ≡ true → same_identity (identity_of m) i ≡ true
     → same_identity (identity_of q) i ≡ true → is_disputed s q ≡ false → same_message q m ≡ true
 rivals s i m q held one two sole =
-    let same = ap (λ (j : Identity). same_identity (identity_of m) j) (same_identity-is (identity_of q) i two) ∙ one in
+    let same = ap (λ (j : Identity). same_identity (identity_of m) j) (identity_is (identity_of q) i two) ∙ one in
     elim (same_message m q) as (λ b. same_message m q ≡ b → same_message q m ≡ true) [
-      | true ↦ λ e. ap (λ (x : Draft). same_message q x) (same_is m q e) ∙ same_itself q
+      | true ↦ λ e. ap (λ (x : Draft). same_message q x) (message_is m q e) ∙ message_itself q
       | false ↦ λ e.
-          let found = list_any-found same_message (tie_is message_total message_same) (is_rival q) m (set.items s) (sym (contains-items s m) ∙ held) (λ k. same k && not (e k)) in
+          let found = list_any-found same_message message_is (is_rival q) m (set.items s) (sym (contains-items s m) ∙ held) (λ k. same k && not (e k)) in
           absurd (false≢true (sym sole ∙ found))
     ] refl
 
@@ -99,30 +70,22 @@ module _ (s : Contents) (i : Identity) where
   abbrev counts : Draft → Bool
   counts q = same_identity (identity_of q) i && not (is_disputed s q)
 
-  not_true : (b : Bool) → not b ≡ true → b ≡ false
-  not_true true e = absurd (false≢true e)
-  not_true false e = refl
-
-  is_false : (b : Bool) → (b ≡ true → ⊥) → b ≡ false
-  is_false true h = absurd (h refl)
-  is_false false h = refl
-
   -- nothing of the identity is held
   pub undisputed-none : list_any (λ held. same_identity (identity_of held) i) (set.items s) ≡ false → undisputed_of s i ≡ []
   undisputed-none none =
-      none_picked s counts (λ q. is_false (counts q && set.contains s q) (λ e.
-      let parts = and_true (counts q) (set.contains s q) e in
-      let first = and_true (same_identity (identity_of q) i) (not (is_disputed s q)) parts.0 in
-      false≢true (sym none ∙ list_any-found same_message (tie_is message_total message_same) (λ held. same_identity (identity_of held) i) q (set.items s) (sym (contains-items s q) ∙ parts.1) first.0)))
+      none_picked s counts (λ q. false_from_ne_true (counts q && set.contains s q) (λ e.
+      let parts = and_parts (counts q) (set.contains s q) e in
+      let first = and_parts (same_identity (identity_of q) i) (not (is_disputed s q)) parts.0 in
+      false≢true (sym none ∙ list_any-found same_message message_is (λ held. same_identity (identity_of held) i) q (set.items s) (sym (contains-items s q) ∙ parts.1) first.0)))
 
   -- one that is held is disputed, and so is each
   pub undisputed-disputed : (m : Draft) → set.contains s m ≡ true → same_identity (identity_of m) i ≡ true → is_disputed s m ≡ true → undisputed_of s i ≡ []
   undisputed-disputed m held one disputed =
-      none_picked s counts (λ q. is_false (counts q && set.contains s q) (λ e.
-      let parts = and_true (counts q) (set.contains s q) e in
-      let first = and_true (same_identity (identity_of q) i) (not (is_disputed s q)) parts.0 in
-      let alone = not_true (is_disputed s q) first.1 in
-      let same = same_is q m (rivals s i m q held one first.0 alone) in
+      none_picked s counts (λ q. false_from_ne_true (counts q && set.contains s q) (λ e.
+      let parts = and_parts (counts q) (set.contains s q) e in
+      let first = and_parts (same_identity (identity_of q) i) (not (is_disputed s q)) parts.0 in
+      let alone = not-true (is_disputed s q) first.1 in
+      let same = message_is q m (rivals s i m q held one first.0 alone) in
       false≢true (sym alone ∙ ap (is_disputed s) same ∙ disputed)))
 
   -- one that is held is not disputed, and it is the only one
@@ -130,25 +93,21 @@ module _ (s : Contents) (i : Identity) where
   undisputed-one m held one sole =
       one_picked s counts m (λ q.
       elim (same_message q m) as (λ b. same_message q m ≡ b → (counts q && set.contains s q) ≡ b) [
-        | true ↦ λ e. ap (λ (x : Draft). counts x && set.contains s x) (same_is q m e) ∙ (λ k. (one k && not (sole k)) && held k)
-        | false ↦ λ e. is_false (counts q && set.contains s q) (λ f.
-            let parts = and_true (counts q) (set.contains s q) f in
-            let first = and_true (same_identity (identity_of q) i) (not (is_disputed s q)) parts.0 in
-            false≢true (sym e ∙ rivals s i m q held one first.0 (not_true (is_disputed s q) first.1)))
+        | true ↦ λ e. ap (λ (x : Draft). counts x && set.contains s x) (message_is q m e) ∙ (λ k. (one k && not (sole k)) && held k)
+        | false ↦ λ e. false_from_ne_true (counts q && set.contains s q) (λ f.
+            let parts = and_parts (counts q) (set.contains s q) f in
+            let first = and_parts (same_identity (identity_of q) i) (not (is_disputed s q)) parts.0 in
+            false≢true (sym e ∙ rivals s i m q held one first.0 (not-true (is_disputed s q) first.1)))
       ] refl)
 
--- ---- a table's list of an identity
-
-or_right : (a : Bool) → (a || true) ≡ true
-or_right true = refl
-or_right false = refl
+-- ---- the list of an identity
 
 head_passes : (p : Draft → Bool) (ds rest : List Draft) (d : Draft) → filter p ds ≡ d ∷ rest → (p d ≡ true) × (list_any (same_message d) ds ≡ true)
 head_passes p [] rest d e = cc
 head_passes p (x ∷ ds) rest d e =
     elim (p x) as (λ b. p x ≡ b → cond b (x ∷ filter p ds) (filter p ds) ≡ d ∷ rest → (p d ≡ true) × (list_any (same_message d) (x ∷ ds) ≡ true)) [
-      | true ↦ λ here f. let is : x ≡ d = cc in (ap p (sym is) ∙ here, ap (λ (y : Draft). same_message d y || list_any (same_message d) ds) is ∙ ap (λ b. b || list_any (same_message d) ds) (same_itself d))
-      | false ↦ λ _ f. let r = head_passes p ds rest d f in (r.0, ap (λ b. same_message d x || b) r.1 ∙ or_right (same_message d x))
+      | true ↦ λ here f. let is : x ≡ d = cc in (ap p (sym is) ∙ here, ap (λ (y : Draft). same_message d y || list_any (same_message d) ds) is ∙ ap (λ b. b || list_any (same_message d) ds) (message_itself d))
+      | false ↦ λ _ f. let r = head_passes p ds rest d f in (r.0, ap (λ b. same_message d x || b) r.1 ∙ or_right (same_message d x) true refl)
     ] refl e
 
 none_passes : (p : Draft → Bool) (ds : List Draft) → filter p ds ≡ [] → list_any p ds ≡ false

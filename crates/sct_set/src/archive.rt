@@ -5,37 +5,25 @@ ghost use Rattle.std.specs.Arc.{arc_value};
 ghost use Rattle.std.specs.FinSet as set;
 ghost use Rattle.std.specs.Option.{option_copied, option_to_list};
 ghost use Rattle.sct_message.specs.Order.{message_order};
-ghost use Rattle.sct_set.specs.Archive.{added_where};
 ghost use Rattle.sct_set.specs.Contents.{contents_of, HasNoRepeat};
 ghost use Rattle.sct_set.specs.Drafts.{drafts_in};
 
 use crate::added::Added;
+use crate::arrivals::Arrivals;
 use crate::contradictions::{contradictions, is_disputed_in};
 use crate::fault::SetFault;
 use crate::held::holds;
 use crate::push::push_all;
-use crate::table::Table;
 use crate::text::archive_text;
 use sct_message::{Identity, Message};
 use std::alloc::Global;
 use std::marker::Model;
 use std::sync::Arc;
 
-// The answer for a message that was not held, by whether another of its identity is held.
-fn added_new(against: bool) -> Added
-    ensures { result ≡ added_where against }
-{
-    if against {
-        Added::Against
-    } else {
-        Added::Fresh
-    }
-}
-
 /// Messages, each held once, whatever their identities are.
 #[derive(Drop)]
 pub struct Archive {
-    table: Table,
+    arrivals: Arrivals,
 }
 
 impl Model for Archive {
@@ -48,9 +36,9 @@ impl Model for Archive {
 
     ghost coded = { set.code message.the_row.coded };
 
-    ghost view = { λ a. set.from_list a.table };
+    ghost view = { λ a. set.from_list a.arrivals };
 
-    ghost invariant = { λ a. HasNoRepeat a.table };
+    ghost invariant = { λ a. HasNoRepeat a.arrivals };
 }
 
 impl Archive {
@@ -62,7 +50,7 @@ impl Archive {
         ensures { result ≡ set.empty }
     {
         Archive {
-            table: Table::new(alloc),
+            arrivals: Arrivals::new(alloc),
         }
     }
 
@@ -70,14 +58,14 @@ impl Archive {
     pub fn len(&self) -> usize
         ensures { result ≡ set.len self.now }
     {
-        self.table.len()
+        self.arrivals.len()
     }
 
-    /// Whether the message is held.
+    /// Whether the message is held. Expected O(1) in the number of messages held.
     pub fn holds(&self, message: &Message) -> bool
         ensures { result ≡ set.contains self.now message.now }
     {
-        holds(&self.table, message)
+        holds(&self.arrivals, message)
     }
 
     /// The messages held, each once, in the order in which they were added.
@@ -85,23 +73,23 @@ impl Archive {
         ensures held { contents_of (drafts_in result.now) ≡ self.now }
         ensures once { HasNoRepeat (drafts_in result.now) }
     {
-        self.table.messages()
+        self.arrivals.messages()
     }
 
-    /// Whether another message of this one's identity is held. If so, the identity is
-    /// contradicted, or would be with this message.
-    /// O(messages of that identity).
+    /// Whether a different message of the same identity is held. If so, the identity is
+    /// contradicted, or would be with this message. O(messages of that identity).
     pub fn disputes(&self, message: &Message) -> bool
         ensures { result ≡ is_disputed self.now message.now }
     {
-        is_disputed_in(&self.table, message)
+        is_disputed_in(&self.arrivals, message)
     }
 
     /// The message of an identity, or none if there is no such message or the identity is contradicted.
+    /// O(messages of that identity).
     pub fn undisputed(&self, identity: &Identity) -> Option<&Arc<Message>>
         ensures { option_to_list (option_map arc_value (option_copied result)) ≡ undisputed_of self.now identity.now }
     {
-        let Some(first) = self.table.of(identity).first() else {
+        let Some(first) = self.arrivals.of(identity).first() else {
             return None;
         };
         if self.disputes(first) {
@@ -121,46 +109,45 @@ impl Archive {
         if self.holds(&message) {
             return Ok(Added::Repeat);
         }
-        let against = self.table.push(message)?;
-        Ok(added_new(against))
+        let against = self.arrivals.push(message)?;
+        Ok(Added::of_new(against))
     }
 
-    /// Adds each message of a list. Returns how many of them were not held. O(messages of the list).
-    /// Error: `Memory` (39), with the archive unchanged.
+    /// Adds each message of a list. Returns by how many messages the archive has grown.
+    /// Error: `Memory` (39), with the archive unchanged. Expected O(messages of the list).
     pub fn add_all(&mut self, messages: &[Arc<Message>]) -> Result<u64, SetFault>
         ensures ok { OnOk result (self.new ≡ set.union self.old (contents_of (drafts_in messages.now))) }
         ensures count { IfOk result (λ fresh. set.len self.new ≡ set.len self.old + fresh) }
         ensures err { OnErr result (self.new ≡ self.old) }
     {
-        Ok(push_all(&mut self.table, messages)?)
+        Ok(push_all(&mut self.arrivals, messages)?)
     }
 
-    /// Adds each message of another archive. Returns how many of them were not held. O(messages of the other).
-    /// Error: `Memory` (39), with this archive unchanged.
+    /// Adds each message of another archive. Returns by how many messages this archive has grown.
+    /// Error: `Memory` (39), with this archive unchanged. Expected O(messages of the other archive).
     pub fn merge(&mut self, other: &Archive) -> Result<u64, SetFault>
         ensures ok { OnOk result (self.new ≡ set.union self.old other.now) }
         ensures count { IfOk result (λ fresh. set.len self.new ≡ set.len self.old + fresh) }
         ensures err { OnErr result (self.new ≡ self.old) }
     {
-        Ok(push_all(&mut self.table, other.table.messages())?)
+        Ok(push_all(&mut self.arrivals, other.arrivals.messages())?)
     }
 
-    /// The contradicted identities, ascending, each once. Different messages held have
-    /// such an identity. Error: `Memory` (39).
-    /// It looks at each message held and sorts the identities.
+    /// The contradicted identities, ascending, each once: those that two different messages held have.
+    /// Error: `Memory` (39). O(n + c log c), for n messages held of which c have such an identity.
     pub fn contradictions(&self) -> Result<Vec<Identity>, SetFault>
         ensures { IfOk result (λ identities. identities.items ≡ contradicted_identities self.now) }
     {
-        Ok(contradictions(&self.table)?)
+        Ok(contradictions(&self.arrivals)?)
     }
 
     /// The archive text in bytes: the written text of each message held, sorted by identity and
     /// then by text, with a line feed after each.
-    /// Error: `Memory` (39). O(n log n) in the messages held.
+    /// Error: `Memory` (39). O(n log n) in the number of messages held.
     pub fn text(&self) -> Result<Vec<u8>, SetFault>
         ensures text { IfOk result (λ text. text.items ≡ archive_text_of self.now) }
         ensures again { IfOk result (λ text. AreReadAgain self.now) }
     {
-        archive_text(&self.table)
+        archive_text(&self.arrivals)
     }
 }

@@ -7,7 +7,18 @@ use indexmap::IndexMap;
 use std::alloc::{AllocError, Global};
 use std::hash::Hash;
 
+/// The items at a key, in the order in which they were filed. Expected O(1).
+pub fn items_at<'a, K: Eq + Hash, V>(index: &'a IndexMap<K, Vec<V>>, key: &K) -> &'a [V]
+    ensures { result.now ≡ bucket K.eq index.now key.now }
+{
+    match index.get(key) {
+        Some(items) => items,
+        None => &[],
+    }
+}
+
 /// Gives a key a new list of this one item, in place of any list that it had. If out of memory, no list is changed.
+/// Expected O(1).
 pub fn file_first<K: Eq + Hash + Drop, V: Drop>(
     alloc: Global,
     index: &mut IndexMap<K, Vec<V>>,
@@ -25,7 +36,7 @@ pub fn file_first<K: Eq + Hash + Drop, V: Drop>(
     Ok(())
 }
 
-/// Appends an item to its key's list. If out of memory, no list is changed.
+/// Appends an item to its key's list. If out of memory, no list is changed. Expected O(1).
 pub fn file<K: Eq + Hash + Drop, V: Drop>(
     alloc: Global,
     index: &mut IndexMap<K, Vec<V>>,
@@ -45,7 +56,7 @@ pub fn file<K: Eq + Hash + Drop, V: Drop>(
     Ok(())
 }
 
-/// Removes the last item of a key's list, if the key has one. A list that becomes empty is removed.
+/// Removes the last item of a key's list, if the key has one. A list that becomes empty is removed. Expected O(1).
 pub fn unfile<K: Eq + Hash + Drop, V: Drop>(index: &mut IndexMap<K, Vec<V>>, key: &K)
     ensures taken { (k : K) → bucket K.eq index.new k
         ≡ (if K.eq key.now k then take (length (bucket K.eq index.old k) - 1) (bucket K.eq index.old k)

@@ -1,4 +1,4 @@
-//! The indexes of a table: its messages by identity, and those that are not the first of their identity by digest.
+//! The indexes of a list of messages: the messages by identity, and those that are not the first of their identity by digest.
 
 ghost use Rattle.std.specs.Prelude.{◌≡◌, ◌++◌, ◌∷◌, [], List, nat_eq, OnOk, OnErr};
 ghost use Rattle.std.specs.Arc.{arc_value};
@@ -8,7 +8,7 @@ ghost use Rattle.sct_message.specs.Order.{same_identity};
 ghost use Rattle.sct_set.specs.Digest.{digest_of};
 ghost use Rattle.sct_set.specs.Drafts.{against_in, drafts_alike, drafts_in, drafts_of, finds, IsIndexBy};
 
-use crate::buckets::{file, file_first, unfile};
+use crate::buckets::{file, file_first, items_at, unfile};
 use crate::digest::digest;
 use indexmap::IndexMap;
 use sct_message::{Identity, Message, keys_are_ordered};
@@ -27,10 +27,7 @@ pub fn of_identity<'a>(index: &'a ByIdentity, identity: &Identity) -> &'a [Arc<M
         → drafts_in result.now ≡ drafts_of identity.now ds }
 {
     keys_are_ordered();
-    match index.get(identity) {
-        Some(messages) => messages,
-        None => &[],
-    }
+    items_at(index, identity)
 }
 
 /// Whether there are messages of an identity.
@@ -45,10 +42,7 @@ pub fn of_digest<'a>(index: &'a ByDigest, message: &Message) -> &'a [Arc<Message
     ensures { (ds : List DraftOf) → IsIndexBy digest_of nat_eq index.now ds
         → drafts_in result.now ≡ drafts_alike (digest_of message.now) ds }
 {
-    match index.get(&digest(message)) {
-        Some(messages) => messages,
-        None => &[],
-    }
+    items_at(index, &digest(message))
 }
 
 /// Files a message after the others of its identity. `against` says whether there are others.
@@ -77,7 +71,7 @@ pub fn file_by_identity(
 
 /// Files a message after the others of its digest, if it is not the first of its identity.
 /// If out of memory, the index holds what it held.
-pub fn file_against(
+pub fn file_by_digest(
     alloc: Global,
     index: &mut ByDigest,
     against: bool,
@@ -107,7 +101,7 @@ pub fn unfile_by_identity(index: &mut ByIdentity, message: &Message)
 }
 
 /// Removes a message, which must be the last one filed, if it was not the first of its identity.
-pub fn unfile_against(index: &mut ByDigest, against: bool, message: &Message)
+pub fn unfile_by_digest(index: &mut ByDigest, against: bool, message: &Message)
     ensures { (ds : List DraftOf) → against ≡ finds (identity_of message.now) ds
         → IsIndexBy digest_of nat_eq index.old (against_in (ds ++ message.now ∷ []))
         → IsIndexBy digest_of nat_eq index.new (against_in ds) }

@@ -7,7 +7,7 @@ ghost use Rattle.std.specs.FinSet as set;
 ghost use Rattle.sct_message.specs.Order.{same_message};
 ghost use Rattle.sct_set.specs.Contents.{contents_of};
 
-use crate::table::Table;
+use crate::arrivals::Arrivals;
 use sct_message::Message;
 use std::sync::Arc;
 
@@ -25,12 +25,12 @@ pub fn is_another_among(message: &Message, messages: &[Arc<Message>]) -> bool
     messages.iter().any(|held| **held != *message)
 }
 
-/// Whether a table has a message: as the first of its identity, or among those that came against the first.
-pub fn holds(table: &Table, message: &Message) -> bool
-    ensures { result ≡ set.contains (contents_of table.now) message.now }
+/// Whether a message is held: as the first of its identity, or among those that are not the first of theirs.
+pub fn holds(arrivals: &Arrivals, message: &Message) -> bool
+    ensures { result ≡ set.contains (contents_of arrivals.now) message.now }
 {
-    let Some(first) = table.of(&message.identity()).first() else {
+    let Some(first) = arrivals.of(&message.identity()).first() else {
         return false;
     };
-    **first == *message || is_among(message, table.against(message))
+    **first == *message || is_among(message, arrivals.of_digest(message))
 }

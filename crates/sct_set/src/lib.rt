@@ -3,6 +3,7 @@
 
 mod added;
 mod archive;
+mod arrivals;
 pub mod buckets;
 mod contradictions;
 mod digest;
@@ -11,13 +12,12 @@ mod filing;
 mod held;
 pub mod laws;
 mod line;
-mod ordered;
 mod pieces;
 mod push;
-mod table;
+mod sorted_archive;
 mod text;
 
 pub use added::Added;
 pub use archive::Archive;
 pub use fault::SetFault;
-pub use ordered::Ordered;
+pub use sorted_archive::SortedArchive;

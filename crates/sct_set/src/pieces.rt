@@ -11,8 +11,8 @@ ghost use Rattle.sct_set.specs.Drafts.{drafts_in};
 ghost use Rattle.sct_set.specs.Groups.{AreWritten};
 ghost use Rattle.sct_set.specs.Pieces.{joined};
 
+use crate::arrivals::Arrivals;
 use crate::fault::SetFault;
-use crate::table::Table;
 use crate::text::{identities_of, lines_by};
 use rayon::prelude::*;
 use sct_message::{Identity, Message, keys_are_ordered};
@@ -39,11 +39,11 @@ pub fn identities_in_order<R: Threads + Sync>(
 }
 
 // The lines of the messages of these identities, as one piece.
-fn one_piece(table: &Table, identities: &[Identity]) -> Result<Vec<Vec<u8>>, SetFault>
-    ensures { IfOk result (λ pieces. AreWritten table.now identities.now (joined pieces.items)) }
+fn one_piece(arrivals: &Arrivals, identities: &[Identity]) -> Result<Vec<Vec<u8>>, SetFault>
+    ensures { IfOk result (λ pieces. AreWritten arrivals.now identities.now (joined pieces.items)) }
 {
-    let mut pieces = Vec::new(table.allocator());
-    pieces.push(lines_by(table, identities)?)?;
+    let mut pieces = Vec::new(arrivals.allocator());
+    pieces.push(lines_by(arrivals, identities)?)?;
     Ok(pieces)
 }
 
@@ -51,26 +51,26 @@ fn one_piece(table: &Table, identities: &[Identity]) -> Result<Vec<Vec<u8>>, Set
 #[cycle(halves)]
 pub(crate) fn pieces_by_halves<R: Threads + Sync>(
     rt: &R,
-    table: &Table,
+    arrivals: &Arrivals,
     identities: &[Identity],
     halvings: u32,
 ) -> Result<Vec<Vec<u8>>, SetFault>
-    ensures { IfOk result (λ pieces. AreWritten table.now identities.now (joined pieces.items)) }
+    ensures { IfOk result (λ pieces. AreWritten arrivals.now identities.now (joined pieces.items)) }
 {
     if halvings == 0 {
-        return one_piece(table, identities);
+        return one_piece(arrivals, identities);
     }
     let (front, back) = identities.split_at(identities.len() / 2);
     let (first, second) = join(
         rt,
         || -> Result<Vec<Vec<u8>>, SetFault>
             requires { IsSync R.row × (0 < halvings) }
-            ensures { IfOk result (λ pieces. AreWritten table.entry.now front.entry.now (joined pieces.items)) }
-        { pieces_by_halves(rt, table, front, halvings - 1) },
+            ensures { IfOk result (λ pieces. AreWritten arrivals.entry.now front.entry.now (joined pieces.items)) }
+        { pieces_by_halves(rt, arrivals, front, halvings - 1) },
         || -> Result<Vec<Vec<u8>>, SetFault>
             requires { IsSync R.row × (0 < halvings) }
-            ensures { IfOk result (λ pieces. AreWritten table.entry.now back.entry.now (joined pieces.items)) }
-        { pieces_by_halves(rt, table, back, halvings - 1) },
+            ensures { IfOk result (λ pieces. AreWritten arrivals.entry.now back.entry.now (joined pieces.items)) }
+        { pieces_by_halves(rt, arrivals, back, halvings - 1) },
     );
     let mut pieces = first?;
     let mut more = second?;
@@ -89,16 +89,15 @@ fn halvings<R: Threads>(rt: &R, identities: &[Identity]) -> u32 {
     }
 }
 
-/// The archive text of a table in pieces, from the identities of its messages in order.
+/// The archive text in pieces, from the identities of the messages in order.
 pub fn archive_pieces<R: Threads + Sync>(
     rt: &R,
-    table: &Table,
+    arrivals: &Arrivals,
     identities: &[Identity],
 ) -> Result<Vec<Vec<u8>>, SetFault>
-    requires { identities.now ≡ ascending identity_order (map identity_of table.now) }
-    ensures text { IfOk result (λ pieces. joined pieces.items ≡ archive_text_of (contents_of table.now)) }
-    ensures again { IfOk result (λ pieces. AreReadAgain (contents_of table.now)) }
+    requires { identities.now ≡ ascending identity_order (map identity_of arrivals.now) }
+    ensures text { IfOk result (λ pieces. joined pieces.items ≡ archive_text_of (contents_of arrivals.now)) }
+    ensures again { IfOk result (λ pieces. AreReadAgain (contents_of arrivals.now)) }
 {
-    let pieces = pieces_by_halves(rt, table, identities, halvings(rt, identities))?;
-    Ok(pieces)
+    pieces_by_halves(rt, arrivals, identities, halvings(rt, identities))
 }

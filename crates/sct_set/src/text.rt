@@ -11,9 +11,9 @@ ghost use Rattle.sct_set.specs.Contents.{contents_of};
 ghost use Rattle.sct_set.specs.Drafts.{drafts_in, drafts_of};
 ghost use Rattle.sct_set.specs.Groups.{AreWritten};
 
+use crate::arrivals::Arrivals;
 use crate::fault::SetFault;
 use crate::line::Line;
-use crate::table::Table;
 use sct_json::write_message;
 use sct_message::{Identity, Message, keys_are_ordered};
 use std::alloc::{AllocError, Global};
@@ -36,12 +36,12 @@ pub(crate) fn identities_of(
     Ok(found)
 }
 
-// The identities of the messages of a table, ascending, each once.
-fn identities(table: &Table) -> Result<Vec<Identity>, AllocError>
-    ensures { IfOk result (λ found. found.items ≡ ascending identity_order (map identity_of table.now)) }
+// The identities of the messages, ascending, each once.
+fn identities(arrivals: &Arrivals) -> Result<Vec<Identity>, AllocError>
+    ensures { IfOk result (λ found. found.items ≡ ascending identity_order (map identity_of arrivals.now)) }
 {
     keys_are_ordered();
-    let mut found = identities_of(table.allocator(), table.messages())?;
+    let mut found = identities_of(arrivals.allocator(), arrivals.messages())?;
     found.sort()?;
     found.dedup();
     Ok(found)
@@ -128,23 +128,22 @@ fn room_for(identities: &[Identity]) -> usize {
 }
 
 // The lines of the messages of these identities, one identity after another.
-pub(crate) fn lines_by(table: &Table, identities: &[Identity]) -> Result<Vec<u8>, SetFault>
-    ensures { IfOk result (λ text. AreWritten table.now identities.now text.items) }
+pub(crate) fn lines_by(arrivals: &Arrivals, identities: &[Identity]) -> Result<Vec<u8>, SetFault>
+    ensures { IfOk result (λ text. AreWritten arrivals.now identities.now text.items) }
 {
-    let mut text = Vec::with_capacity(table.allocator(), room_for(identities))?;
+    let mut text = Vec::with_capacity(arrivals.allocator(), room_for(identities))?;
     for identity in identities {
-        push_messages(table.allocator(), &mut text, table.of(identity))?;
+        push_messages(arrivals.allocator(), &mut text, arrivals.of(identity))?;
     }
     Ok(text)
 }
 
-/// The archive text of a table: the written text of each message, sorted by identity and
+/// The archive text: the written text of each message, sorted by identity and
 /// then by text, with a line feed after each.
-pub fn archive_text(table: &Table) -> Result<Vec<u8>, SetFault>
-    ensures text { IfOk result (λ text. text.items ≡ archive_text_of (contents_of table.now)) }
-    ensures again { IfOk result (λ text. AreReadAgain (contents_of table.now)) }
+pub fn archive_text(arrivals: &Arrivals) -> Result<Vec<u8>, SetFault>
+    ensures text { IfOk result (λ text. text.items ≡ archive_text_of (contents_of arrivals.now)) }
+    ensures again { IfOk result (λ text. AreReadAgain (contents_of arrivals.now)) }
 {
-    let identities = identities(table)?;
-    let text = lines_by(table, &identities)?;
-    Ok(text)
+    let identities = identities(arrivals)?;
+    lines_by(arrivals, &identities)
 }

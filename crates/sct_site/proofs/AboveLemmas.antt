@@ -10,9 +10,10 @@ use Rattle.std.specs.declared.cmp.Ordering.TheVariants.{Less, Equal, Greater}
 use Rattle.std.proofs.lemmas.Cmp.{nat_cmp_total}
 use Rattle.sct_message.specs.declared.draft.Draft.{Draft}
 use Rattle.sct_message.specs.Order.{message_order}
-use Rattle.sct_message.specs.OrderLaws.{message_total, message_same}
+use Rattle.sct_message.specs.OrderLaws.{both_tie, message_total, message_same}
 use Rattle.sct_message.proofs.AscendingLemmas.{ascending-same, ascending-sorted}
 use Rattle.sct_message.proofs.Members.{list_any-filter, tie_is}
+use Rattle.sct_message.proofs.Tests.{and_implied}
 use Rattle.sct_delta.specs.Entries.{Placed, is_from, entries_from, log_of, numbered, place_order, IsArrivals, IsDelta}
 use Rattle.sct_delta.specs.Refusals.{IsCut}
 use Rattle.sct_delta.proofs.EntryLemmas.{same_number}
@@ -25,11 +26,6 @@ use Rattle.sct_site.specs.Cores.{logs_of, entry_order, is_above, entries_above}
 pub entry_total : IsTotalOrder entry_order
 entry_total = then_total (on_total (λ (e : Placed). e.origin) nat_cmp_total)
     (then_total (on_total (λ (e : Placed). e.n) nat_cmp_total) (on_total (λ (e : Placed). e.message) message_total))
-
-both_tie : (r s : Ordering) → ordering_then r s ≡ Equal → (r ≡ Equal) × (s ≡ Equal)
-both_tie Less s e = cc
-both_tie Equal s e = (refl, e)
-both_tie Greater s e = cc
 
 pub entry_same : IsAntisymmetric entry_order
 entry_same a b e =
@@ -59,16 +55,11 @@ rises_as_entries (d ∷ ds) rises = (all_less d ds rises.0, rises_as_entries ds 
 
 -- ---- an entry stands in a list where it stands among the entries of its origin
 
-implied : (a b : Bool) → (b ≡ true → a ≡ true) → (a && b) ≡ b
-implied true b h = refl
-implied false true h = h refl
-implied false false h = refl
-
 pub any_of_origin : (q : Placed) (es : List Placed) → list_any (eq_by_cmp entry_order q) (entries_from q.origin es) ≡ list_any (eq_by_cmp entry_order q) es
 any_of_origin q es =
     list_any-filter (eq_by_cmp entry_order q) (is_from q.origin) es
     ∙ ap (λ (p : Placed → Bool). list_any p es)
-    (λ i e. implied (is_from q.origin e) (eq_by_cmp entry_order q e)
+    (λ i e. and_implied (is_from q.origin e) (eq_by_cmp entry_order q e)
     (λ tie. ap (λ (x : Placed). nat_eq x.origin q.origin) (sym (tie_is entry_total entry_same q e tie)) ∙ same_number q.origin) i)
 
 -- ---- the entries above a vector

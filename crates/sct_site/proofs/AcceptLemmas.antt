@@ -10,9 +10,8 @@ use Rattle.sct_message.specs.OrderLaws.{message_total, message_same}
 use Rattle.sct_message.specs.Order.{message_order}
 use Rattle.sct_set.specs.Contents.{Contents, contents_of}
 use Rattle.sct_delta.specs.Entries.{Placed, entries_from, log_of, messages_of, numbered}
-use Rattle.sct_delta.specs.Logs.{log_in}
+use Rattle.sct_delta.specs.Logs.{HeldLogs, log_in}
 use Rattle.sct_delta.specs.Refusals.{first_refusal}
-use Rattle.sct_delta.specs.declared.logs.Logs.{Logs}
 use Rattle.sct_delta.proofs.EntryLemmas.{log-append}
 use Rattle.sct_site.specs.Cores.{Core, logs_of, refusal_by}
 use Rattle.sct_site.specs.Inside.{IsCore}
@@ -31,11 +30,11 @@ pub messages-append : (es ds : List Placed) → messages_of (es ++ ds) ≡ set.u
 messages-append es ds = ap contents_of (map-append (λ (e : Placed). e.message) es ds) ∙ contents-append (map (λ e. e.message) es) (map (λ e. e.message) ds)
 
 -- the logs of a site are those of its arrivals, as functions
-pub logs_are : (logs : Logs) (es : List Placed) → ((o : ℕ) → log_in logs o ≡ log_of o es) → log_in logs ≡ logs_of es
+pub logs_are : (logs : HeldLogs) (es : List Placed) → ((o : ℕ) → log_in logs o ≡ log_of o es) → log_in logs ≡ logs_of es
 logs_are logs es same = λ i o. same o i
 
 -- logs, arrivals and archive with the fresh entries of a delta, which go on where the logs end
-pub IsCore-joined : (number group : ℕ) (old new : Logs) (es fs fresh : List Placed) (s t : Contents)
+pub IsCore-joined : (number group : ℕ) (old new : HeldLogs) (es fs fresh : List Placed) (s t : Contents)
     → IsCore number group old es s
     → new.group ≡ old.group
     → ((o : ℕ) → entries_from o fresh ≡ numbered o (length (log_in old o) + 1) (log_of o fresh))
@@ -55,7 +54,7 @@ IsCore-joined number group old new es fs fresh s t was same follow logged held c
     })
 
 -- the logs of a site refuse what the site refuses
-pub refusal_is : (core : Core) (number group : ℕ) (logs : Logs) (es ds : List Placed) (s : Contents)
+pub refusal_is : (core : Core) (number group : ℕ) (logs : HeldLogs) (es ds : List Placed) (s : Contents)
     → record { number = number; group = group; arrivals = es } ≡ core → IsCore number group logs es s
     → first_refusal number logs.group (log_in logs) ds ≡ refusal_by core ds
 refusal_is core number group logs es ds s view inside =

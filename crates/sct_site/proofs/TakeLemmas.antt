@@ -6,8 +6,7 @@ use Rattle.sct_message.specs.declared.draft.Draft.{Draft}
 use Rattle.sct_set.specs.Contents.{Contents}
 use Rattle.sct_set.proofs.ContentsLemmas.{contents-push}
 use Rattle.sct_delta.specs.Entries.{Placed, log_of, held_from, messages_of}
-use Rattle.sct_delta.specs.Logs.{log_in}
-use Rattle.sct_delta.specs.declared.logs.Logs.{Logs}
+use Rattle.sct_delta.specs.Logs.{HeldLogs, log_in}
 use Rattle.sct_delta.proofs.EntryLemmas.{log-append}
 use Rattle.sct_site.specs.Cores.{Core, is_repeat, next_own, own_entry, took_by, arrivals_taken}
 use Rattle.sct_site.specs.Inside.{IsCore}
@@ -61,7 +60,7 @@ pub next_is : (o : ℕ) (log : List Draft) (es : List Placed) → log ≡ log_of
 next_is o log es is = ap (λ (l : List Draft). length l + 1) is ∙ ap (λ (n : ℕ). n + 1) (length-log o es)
 
 -- logs, arrivals and archive with one own entry more
-pub IsCore-taken : (number group : ℕ) (old new : Logs) (es fs : List Placed) (s t : Contents) (m : Draft)
+pub IsCore-taken : (number group : ℕ) (old new : HeldLogs) (es fs : List Placed) (s t : Contents) (m : Draft)
     → IsCore number group old es s
     → new.group ≡ old.group
     → ((o : ℕ) → log_in new o ≡ cond (nat_eq number o) (log_in old o ++ m ∷ []) (log_in old o))

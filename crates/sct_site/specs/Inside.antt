@@ -1,13 +1,12 @@
 -- The data of a site besides its arrivals, and how it follows from them. Read by an auditor.
 use Rattle.std.specs.Prelude.{◌≡◌, ℕ, true, List}
 use Rattle.sct_delta.specs.Entries.{Placed, IsArrivals, log_of, messages_of}
-use Rattle.sct_delta.specs.Logs.{log_in}
-use Rattle.sct_delta.specs.declared.logs.Logs.{Logs}
+use Rattle.sct_delta.specs.Logs.{HeldLogs, log_in}
 use Rattle.sct_set.specs.Contents.{Contents}
 use Rattle.sct_site.specs.Cores.{is_open}
 
 -- The arrivals are in order, the logs have them by origin, and the archive has their messages and no other.
-pub record IsCore (number group : ℕ) (logs : Logs) (arrivals : List Placed) (archive : Contents) : Type 0 where
+pub record IsCore (number group : ℕ) (logs : HeldLogs) (arrivals : List Placed) (archive : Contents) : Type 0 where
   pub opened : is_open number group ≡ true
   pub one_group : logs.group ≡ group
   pub order : IsArrivals arrivals

@@ -73,7 +73,7 @@ impl SiteCore {
         self.group
     }
 
-    /// The version vector: how many entries of each origin the site holds.
+    /// The version vector: how many entries of each origin the site holds. O(1).
     pub fn vector(&self) -> &Vector
         ensures { (origin : ℕ) → count_in result.now origin ≡ held_from origin self.now.arrivals }
     {
@@ -97,7 +97,8 @@ impl SiteCore {
     }
 
     /// Takes a message. It becomes the next own entry, unless the site holds it from any origin.
-    /// Error: `Memory` (40), with the site unchanged.
+    /// Error: `Memory` (40), with the site unchanged. The cost is one look-up and one addition in the archive and in
+    /// the logs.
     pub fn take(&mut self, message: Arc<Message>) -> Result<Took, DeltaFault>
         ensures answer { IfOk result (λ took. took ≡ took_by self.old (arc_value message)) }
         ensures number { self.new.number ≡ self.old.number }
@@ -141,6 +142,8 @@ impl SiteCore {
     /// - `Gap` (41): the least number of an origin is past the next one;
     /// - `Fork` (42): a number of the delta is held with another message;
     /// - `Memory` (40).
+    ///
+    /// The cost is that of the delta's entries. A held entry is compared once, and a new one is added to the archive.
     pub fn accept(&mut self, delta: &Delta) -> Result<Accepted, DeltaFault>
         ensures answer { IfOk result (λ accepted. accepted.fresh
             ≡ length (fresh_of self.old.arrivals delta.now)) }

@@ -1,6 +1,6 @@
 //! Streams that the program writes to.
-ghost use Rattle.std.specs.Prelude.{◌≡◌, ◌+◌, ◌<◌, ◌≤◌, ◌≢◌, [], ℕ, List, Option, None, length, take, IfOk, IfSome, OnOk, OnErr};
-ghost use Rattle.sct_streams.specs.Stream.{AppendsIfTold};
+ghost use Rattle.std.specs.Prelude.{◌≡◌, ◌+◌, ◌<◌, ◌≤◌, [], length, take, IfOk, OnOk, OnErr};
+ghost use Rattle.sct_streams.specs.Stream.{AppendsIfTold, Output};
 
 use crate::failures::Failures;
 use crate::source::Failed;
@@ -9,21 +9,18 @@ use std::sync::ledger::{Blank, Ledger};
 
 /// A stream that bytes are written to.
 pub trait Sink {
-    /// The bytes that were written, if they are known.
-    ghost held: { Self → Option (List ℕ) };
-
-    /// How many writes have failed.
-    ghost failures: { Self → ℕ };
+    /// The bytes that were written, if they are known, and how many writes have failed.
+    ghost state: { Self → Output };
 
     /// Writes some bytes from the front of the piece, and returns their number. It fails if it takes no byte of a piece
     /// that has bytes. A failed write takes no byte, and is counted.
     fn write(&mut self, piece: &[u8]) -> Result<usize, Failed>
         ensures fits { IfOk result (λ n. n ≤ length piece.now) }
         ensures some { IfOk result (λ n. 0 < length piece.now → 0 < n) }
-        ensures taken { IfOk result (λ n. AppendsIfTold (held self.old) (held self.new) (take n piece.now)) }
-        ensures ok { OnOk result (failures self.new ≡ failures self.old) }
-        ensures failed { OnErr result (failures self.new ≡ failures self.old + 1) }
-        ensures untaken { OnErr result (AppendsIfTold (held self.old) (held self.new) []) };
+        ensures taken { IfOk result (λ n. AppendsIfTold (state self.old).held (state self.new).held (take n piece.now)) }
+        ensures ok { OnOk result ((state self.new).failures ≡ (state self.old).failures) }
+        ensures failed { OnErr result ((state self.new).failures ≡ (state self.old).failures + 1) }
+        ensures untaken { OnErr result (AppendsIfTold (state self.old).held (state self.new).held []) };
 }
 
 /// A writer of std, with a count of its failed writes. An interrupted write counts as a failed one.
@@ -50,9 +47,7 @@ impl<W: io::Write + Drop, L: Ledger> Writing<W, L> {
 }
 
 impl<W: io::Write + Drop, L: Ledger> Sink for Writing<W, L> {
-    ghost held = { λ s. W.contents s.writer };
-
-    ghost failures = { λ s. s.failures };
+    ghost state = { λ s. record { held = W.contents s.writer; failures = s.failures } };
 
     #[tactic(auto, using(crate::proofs::Adapters::write_appends, crate::proofs::Adapters::write_keeps))]
     fn write(&mut self, piece: &[u8]) -> Result<usize, Failed> {

@@ -1,6 +1,6 @@
 //! Streams that the program reads from.
-ghost use Rattle.std.specs.Prelude.{◌≡◌, ◌+◌, ◌≤◌, ℕ, List, Option, None, length, IfOk, IfSome, OnOk, OnErr};
-ghost use Rattle.sct_streams.specs.Stream.{Gives, HasTakenIfTold};
+ghost use Rattle.std.specs.Prelude.{◌≡◌, ◌+◌, ◌≤◌, length, IfOk, IfSome, OnOk, OnErr};
+ghost use Rattle.sct_streams.specs.Stream.{Gives, HasTakenIfTold, Input};
 
 use crate::failures::Failures;
 use std::io;
@@ -12,21 +12,18 @@ pub struct Failed;
 
 /// A stream that bytes are read from.
 pub trait Source {
-    /// The bytes that further reads will give, if they are known.
-    ghost left: { Self → Option (List ℕ) };
-
-    /// How many reads have failed.
-    ghost failures: { Self → ℕ };
+    /// The bytes that further reads will give, if they are known, and how many reads have failed.
+    ghost state: { Self → Input };
 
     /// Reads some bytes into the front of the piece, and returns their number. 0 for a piece that has room is the end.
     /// A failed read takes no byte, and is counted.
     fn read(&mut self, piece: &mut [u8]) -> Result<usize, Failed>
         ensures fits { IfOk result (λ n. n ≤ length piece.new) }
-        ensures given { IfOk result (λ n. IfSome (left self.old)
-            (λ bytes. Gives bytes n (length piece.new) piece.new (left self.new))) }
-        ensures ok { OnOk result (failures self.new ≡ failures self.old) }
-        ensures failed { OnErr result (failures self.new ≡ failures self.old + 1) }
-        ensures untaken { OnErr result (HasTakenIfTold (left self.old) (left self.new) 0) };
+        ensures given { IfOk result (λ n. IfSome (state self.old).left
+            (λ bytes. Gives bytes n (length piece.new) piece.new (state self.new).left)) }
+        ensures ok { OnOk result ((state self.new).failures ≡ (state self.old).failures) }
+        ensures failed { OnErr result ((state self.new).failures ≡ (state self.old).failures + 1) }
+        ensures untaken { OnErr result (HasTakenIfTold (state self.old).left (state self.new).left 0) };
 }
 
 /// A reader of std, with a count of its failed reads. An interrupted read counts as a failed one.
@@ -53,9 +50,7 @@ impl<R: io::Read + Drop, L: Ledger> Reading<R, L> {
 }
 
 impl<R: io::Read + Drop, L: Ledger> Source for Reading<R, L> {
-    ghost left = { λ s. R.remaining s.reader };
-
-    ghost failures = { λ s. s.failures };
+    ghost state = { λ s. record { left = R.remaining s.reader; failures = s.failures } };
 
     #[tactic(auto, using(crate::proofs::Adapters::read_gives, crate::proofs::Adapters::read_keeps))]
     fn read(&mut self, piece: &mut [u8]) -> Result<usize, Failed> {

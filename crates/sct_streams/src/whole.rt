@@ -1,6 +1,6 @@
 //! Reads whole inputs from a source, and writes whole texts to a sink.
 ghost use Rattle.std.specs.Prelude.{◌≡◌, ◌+◌, ◌≤◌, ◌<◌, [], Some, length, vec_len, IsOk, IfOk, IfErr, IfSome, OnOk, OnErr};
-ghost use Rattle.sct_streams.specs.Stream.{AppendsIfTold, AppendsPrefixIfTold, Gives, HasTakenIfTold};
+ghost use Rattle.sct_streams.specs.Stream.{Gives, HasTakenIfTold, IsCutOff, IsWritten};
 ghost use Rattle.sct_streams.specs.Whole.{failed_reads, EndsReading};
 ghost use Rattle.sct_streams.specs.declared.whole.ReadFault.TheVariants as fault;
 
@@ -33,25 +33,25 @@ const PIECE: usize = 65_536;
 fn read_most<R: Source>(source: &mut R, piece: &mut [u8], most: usize) -> Result<usize, Failed>
     requires { most ≤ length piece.old }
     ensures fits { IfOk result (λ n. n ≤ most) }
-    ensures given { IfOk result (λ n. IfSome (R.left source.old)
-        (λ bytes. Gives bytes n most piece.new (R.left source.new))) }
-    ensures ok { OnOk result (R.failures source.new ≡ R.failures source.old) }
-    ensures failed { OnErr result (R.failures source.new ≡ R.failures source.old + 1) }
-    ensures untaken { OnErr result (HasTakenIfTold (R.left source.old) (R.left source.new) 0) }
+    ensures given { IfOk result (λ n. IfSome (R.state source.old).left
+        (λ bytes. Gives bytes n most piece.new (R.state source.new).left)) }
+    ensures ok { OnOk result ((R.state source.new).failures ≡ (R.state source.old).failures) }
+    ensures failed { OnErr result ((R.state source.new).failures ≡ (R.state source.old).failures + 1) }
+    ensures untaken { OnErr result (HasTakenIfTold (R.state source.old).left (R.state source.new).left 0) }
 {
     source.read(&mut piece[..most])
 }
 
-/// Reads all bytes up to the end. `limit` is the greatest number of bytes.
+/// Reads all bytes up to the end. `limit` is the greatest number of bytes. Takes time in proportion to the bytes read.
 /// Errors: `TooLong` if there are more bytes, after one byte past the limit was read; `Failed` if a read fails;
 /// `Memory`. The bytes read so far are then lost.
 pub fn read_all<R: Source>(alloc: Global, source: &mut R, limit: u64) -> Result<Vec<u8>, ReadFault>
-    ensures all { IfOk result (λ v. IfSome (R.left source.old)
-        (λ bytes. (bytes ≡ v.items) × (R.left source.new ≡ Some []))) }
+    ensures all { IfOk result (λ v. IfSome (R.state source.old).left
+        (λ bytes. (bytes ≡ v.items) × ((R.state source.new).left ≡ Some []))) }
     ensures within { IfOk result (λ v. vec_len v ≤ limit) }
-    ensures faults { IfErr result (λ e. EndsReading e limit (R.left source.old) (R.left source.new)) }
-    ensures quiet { OnOk result (R.failures source.new ≡ R.failures source.old) }
-    ensures counted { IfErr result (λ e. R.failures source.new ≡ R.failures source.old + failed_reads e) }
+    ensures faults { IfErr result (λ e. EndsReading e limit (R.state source.old).left (R.state source.new).left) }
+    ensures quiet { OnOk result ((R.state source.new).failures ≡ (R.state source.old).failures) }
+    ensures counted { IfErr result (λ e. (R.state source.new).failures ≡ (R.state source.old).failures + failed_reads e) }
 {
     let mut bytes = Vec::new(alloc);
     let mut piece = [0; PIECE];
@@ -70,14 +70,12 @@ pub fn read_all<R: Source>(alloc: Global, source: &mut R, limit: u64) -> Result<
     Err(ReadFault::TooLong)
 }
 
-/// Writes all of the bytes. Error: `Failed` if a write fails; a prefix of the bytes was
-/// then written. An empty text makes no call.
+/// Writes all of the bytes, by as many writes as the sink needs. Error: `Failed` if a write fails; a prefix of the bytes
+/// was then written. An empty text makes no call.
 #[tactic(auto, using(crate::proofs::Fronts::one_write_more))]
 pub fn write_all<K: Sink>(sink: &mut K, bytes: &[u8]) -> Result<(), Failed>
-    ensures all { OnOk result (AppendsIfTold (K.held sink.old) (K.held sink.new) bytes.now) }
-    ensures prefix { OnErr result (AppendsPrefixIfTold (K.held sink.old) (K.held sink.new) bytes.now) }
-    ensures quiet { OnOk result (K.failures sink.new ≡ K.failures sink.old) }
-    ensures counted { OnErr result (K.failures sink.new ≡ K.failures sink.old + 1) }
+    ensures all { OnOk result (IsWritten (K.state sink.old) (K.state sink.new) (Some bytes.now)) }
+    ensures prefix { OnErr result (IsCutOff (K.state sink.old) (K.state sink.new) (Some bytes.now)) }
     ensures empty { bytes.now ≡ [] → IsOk result × (sink.new ≡ sink.old) }
 {
     let mut done = 0;

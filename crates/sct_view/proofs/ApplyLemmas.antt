@@ -1,36 +1,21 @@
--- What a batch adds to a set, and that what it changes is about keys of the set. Proof plumbing.
-use Rattle.std.proofs.Common.{◌≡◌, ℕ, ◌+◌, ◌*◌, ◌≤◌, Bool, true, false, cond, ◌&&◌, ◌||◌, List, [], ◌∷◌, length, map, refl, sym, ap, ◌∙◌, arith}
+-- What a batch adds to a set. Proof plumbing.
+use Rattle.std.proofs.Common.{◌≡◌, ℕ, ◌+◌, ◌*◌, ◌≤◌, Bool, true, false, cond, ◌||◌, List, [], ◌∷◌, length, refl, sym, ap, ◌∙◌, arith}
 use Rattle.std.specs.FinSet as set
 use Rattle.std.specs.FinSet.{contains-from_list, contains-insert, contains-union, len-insert}
 use Rattle.std.specs.List.{list_any}
-use Rattle.sct_message.specs.Order.{same_message, same_transfer}
+use Rattle.sct_message.specs.Order.{same_message}
 use Rattle.sct_message.specs.OrderLaws.{message_total}
 use Rattle.sct_message.specs.Sets.{MessageSet, in_order}
-use Rattle.sct_message.specs.Transfers.{keys_of}
 use Rattle.sct_message.specs.declared.draft.Draft.{Draft}
-use Rattle.sct_message.specs.declared.keys.TransferKey.{TransferKey}
 use Rattle.sct_set.specs.Contents.{contents_of}
 use Rattle.sct_set.proofs.ContentsLemmas.{same_contents, same_itself, union-none}
-use Rattle.sct_view.specs.Changes.{are_among, change_in, changes_of}
-use Rattle.sct_view.specs.Kept.{case_of, same_key}
 use Rattle.sct_view.specs.Touched.{AreOnAtMost, fresh_of, touched_by}
-use Rattle.sct_view.specs.declared.case.Planned.{Planned}
-use Rattle.sct_view.proofs.ChangeLemmas.{touched_among}
 use Rattle.sct_view.proofs.FewLemmas.{batches_touch_few, contents_in_order, fresh_apart, held_where, in_order_apart, length_in_order}
-use Rattle.sct_view.proofs.SetKeys.{same_key-same, same_transfer-itself}
 use Rattle.sct_view.proofs.SumLemmas.{AreApart}
-use Rattle.sct_view.proofs.TouchedLemmas.{union-fresh}
+use Rattle.std.proofs.lemmas.Bool.{or_right}
+use Rattle.sct_message.proofs.Tests.{or_later}
 
 -- ---- how many messages there are
-
-or_later : (a b c : Bool) → (a || (b || c)) ≡ (b || (a || c))
-or_later true true c = refl
-or_later true false c = refl
-or_later false b c = refl
-
-or_true : (a : Bool) → (a || true) ≡ true
-or_true true = refl
-or_true false = refl
 
 -- one message more on the one side is one more in both
 union-cons : (s : MessageSet) (m : Draft) (ms : List Draft) → set.union s (contents_of (m ∷ ms)) ≡ set.insert (set.union s (contents_of ms)) m
@@ -48,7 +33,7 @@ joined_length s [] apart absent =
     let e : set.len (set.union s (contents_of [])) ≡ set.len s = ap (λ (t : MessageSet). set.len t) (union-none s) in omega arith
 joined_length s (m ∷ ms) apart absent =
     let rest : set.len (set.union s (contents_of ms)) ≡ set.len s + length ms =
-    joined_length s ms apart.1 (λ n among. absent n (ap (λ b. same_message n m || b) among ∙ or_true (same_message n m))) in
+    joined_length s ms apart.1 (λ n among. absent n (ap (λ b. same_message n m || b) among ∙ or_right (same_message n m) true refl)) in
     let away : set.contains (set.union s (contents_of ms)) m ≡ false =
     contains-union message_total s (contents_of ms) m
     ∙ (λ i. absent m (ap (λ b. b || list_any (same_message m) ms) (same_itself m)) i || (contains-from_list message_total ms m ∙ apart.0) i) in
@@ -79,32 +64,3 @@ few_applied s f b touched fresh is counted len before later =
     let all : touched ≡ length (touched_by s (fresh_of s b)) = counted ∙ ap (λ (g : MessageSet). length (touched_by s g)) is in
     let new : fresh ≡ set.len (fresh_of s b) = len ∙ ap (λ (g : MessageSet). set.len g) is in
     omega arith
-
-pub joined : (s b : MessageSet) → set.union s (fresh_of s b) ≡ set.union s b
-joined s b = union-fresh s b
-
-pub fresh_absent : (s b : MessageSet) (m : Draft) → set.contains (fresh_of s b) m ≡ true → set.contains s m ≡ false
-fresh_absent s b m h = fresh_apart s b m h
-
--- ---- what is planned is about keys of the set
-
-module _ (u : MessageSet) (keys : List TransferKey) where
-  pub among_each : (planned : List Planned) (ts : List TransferKey) → map change_in planned ≡ changes_of u ts
-      → ((t : TransferKey) → list_any (same_transfer t) ts ≡ true → list_any (same_transfer t) keys ≡ true)
-      → are_among keys planned ≡ true
-  among_each [] ts e each = refl
-  among_each (p ∷ planned) [] e each = cc
-  among_each (p ∷ planned) (t ∷ ts) e each =
-      let first : change_in p ≡ (t, case_of u t) = cc in
-      let rest : map change_in planned ≡ changes_of u ts = cc in
-      let is : p.transfer ≡ t = ap (λ c. c.0) first in
-      let here : list_any (same_key p.transfer) keys ≡ true =
-      ap (λ (k : TransferKey). list_any (same_key k) keys) is
-      ∙ ap (λ (q : TransferKey → Bool). list_any q keys) (λ i k. same_key-same t k i)
-      ∙ each t (ap (λ b. b || list_any (same_transfer t) ts) (same_transfer-itself t)) in
-      ap (λ b. b && are_among keys planned) here
-      ∙ among_each planned ts rest (λ k among. each k (ap (λ b. same_transfer k t || b) among ∙ or_true (same_transfer k t)))
-
-pub changes_among : (s f : MessageSet) (planned : List Planned) → map change_in planned ≡ changes_of (set.union s f) (touched_by s f)
-    → are_among (keys_of (set.union s f)) planned ≡ true
-changes_among s f planned e = among_each (set.union s f) (keys_of (set.union s f)) planned (touched_by s f) e (touched_among s f)

@@ -1,6 +1,6 @@
 -- The one message of a list that passes a test, found among shared messages. Proof plumbing.
 use Rattle.std.specs.Prelude.{◌≢◌}
-use Rattle.std.proofs.Common.{◌≡◌, ◌∙◌, refl, sym, ap, ℕ, Bool, true, false, cond, List, [], ◌∷◌, length, map, filter, find, Some, None, option_map, arith}
+use Rattle.std.proofs.Common.{◌≡◌, ◌∙◌, refl, sym, ap, ℕ, Bool, true, List, [], ◌∷◌, length, map, filter, find, None, option_map, arith}
 use Rattle.std.specs.List.{count_by}
 use Rattle.std.proofs.lemmas.List.Sums.{length-filter}
 use Rattle.sct_message.specs.Transfers.{sole}
@@ -16,22 +16,13 @@ module _ {X Y : Type 0} (f : X → Y) where
   no_sole (x ∷ []) e = absurd (e (omega arith))
   no_sole (x ∷ (y ∷ ys)) e = refl
 
-module _ {X Y : Type 0} (f : X → Y) (p : Y → Bool) where
-  pub filter-mapped : (xs : List X) → filter p (map f xs) ≡ map f (filter (λ x. p (f x)) xs)
-  filter-mapped [] = refl
-  filter-mapped (x ∷ xs) =
-      elim (p (f x)) as (λ b. cond b (f x ∷ filter p (map f xs)) (filter p (map f xs)) ≡ map f (cond b (x ∷ filter (λ x. p (f x)) xs) (filter (λ x. p (f x)) xs))) [
-        | true ↦ ap (λ (ys : List Y). f x ∷ ys) (filter-mapped xs)
-        | false ↦ filter-mapped xs
-      ]
+  filter-mapped : (p : Y → Bool) (xs : List X) → filter p (map f xs) ≡ map f (filter (λ x. p (f x)) xs)
+  filter-mapped p [] = refl
+  filter-mapped p (x ∷ xs) = grind (arith, filter-mapped p xs)
 
 first_kept : {X : Type 0} (q : X → Bool) (xs : List X) → find q xs ≡ find (λ x. true) (filter q xs)
 first_kept q [] = refl
-first_kept q (x ∷ xs) =
-    elim (q x) as (λ b. cond b (Some x) (find q xs) ≡ find (λ x. true) (cond b (x ∷ filter q xs) (filter q xs))) [
-      | true ↦ refl
-      | false ↦ first_kept q xs
-    ]
+first_kept q (x ∷ xs) = grind (arith, first_kept q xs)
 
 module _ {X Y : Type 0} (f : X → Y) (p : Y → Bool) where
   -- the first that passes is the one that passes, where there is one

@@ -1,39 +1,27 @@
 -- The messages of a transfer, parted, are what a set of messages keeps of it. Proof plumbing.
 use Rattle.std.specs.FinSet as set
 use Rattle.std.specs.FinSet.{contains-items, contains-union}
-use Rattle.std.proofs.Common.{◌≡◌, ◌∙◌, refl, sym, ap, Bool, true, false, cond, not, ◌||◌, List, [], ◌∷◌, ◌++◌, map, filter}
+use Rattle.std.proofs.Common.{◌≡◌, ◌∙◌, refl, sym, ap, Bool, not, ◌&&◌, ◌||◌, List, [], ◌∷◌, ◌++◌, map, filter, arith}
 use Rattle.std.specs.List.{list_any}
-use Rattle.std.specs.Ordering.{eq_by_cmp}
 use Rattle.std.proofs.lemmas.List.Folds.{list_any-append}
+use Rattle.std.proofs.lemmas.Map.Views.{any-filter_same}
 use Rattle.sct_message.specs.Ascending.{ascending}
 use Rattle.sct_message.specs.Keys.{identity_of}
-use Rattle.sct_message.specs.Order.{message_order, identity_order}
+use Rattle.sct_message.specs.Order.{identity_order, same_message}
 use Rattle.sct_message.specs.OrderLaws.{message_total, message_same}
 use Rattle.sct_message.specs.Sets.{MessageSet, in_order, is_contradicted}
 use Rattle.sct_message.specs.Transfers.{is_on, messages_on, asides_of}
 use Rattle.sct_message.specs.declared.draft.Draft.{Draft}
 use Rattle.sct_message.specs.declared.keys.Identity.{Identity}
 use Rattle.sct_message.specs.declared.keys.TransferKey.{TransferKey}
-use Rattle.sct_message.proofs.Members.{same_any}
+use Rattle.sct_message.proofs.Members.{same_any, tie_is}
 use Rattle.sct_case.specs.Statuses.{Standing, transfer_status_of}
 use Rattle.sct_view.specs.Answers.{status_of}
 use Rattle.sct_view.specs.Kept.{case_of, contradicted_on}
 
--- ---- lists
-
 pub filter_swap : {X : Type 0} (p r : X → Bool) (xs : List X) → filter p (filter r xs) ≡ filter r (filter p xs)
 filter_swap p r [] = refl
-filter_swap p r (x ∷ xs) =
-    (elim (p x) as (λ b. p x ≡ b → filter p (cond (r x) (x ∷ filter r xs) (filter r xs)) ≡ filter r (cond b (x ∷ filter p xs) (filter p xs))) [
-      | true ↦ λ e. elim (r x) as (λ c. r x ≡ c → filter p (cond c (x ∷ filter r xs) (filter r xs)) ≡ cond c (x ∷ filter r (filter p xs)) (filter r (filter p xs))) [
-        | true ↦ λ _. ap (λ (b : Bool). cond b (x ∷ filter p (filter r xs)) (filter p (filter r xs))) e ∙ ap (λ (ys : List _). x ∷ ys) (filter_swap p r xs)
-        | false ↦ λ _. filter_swap p r xs
-      ] refl
-      | false ↦ λ e. elim (r x) as (λ c. filter p (cond c (x ∷ filter r xs) (filter r xs)) ≡ filter r (filter p xs)) [
-        | true ↦ ap (λ (b : Bool). cond b (x ∷ filter p (filter r xs)) (filter p (filter r xs))) e ∙ filter_swap p r xs
-        | false ↦ filter_swap p r xs
-      ]
-    ]) refl
+filter_swap p r (x ∷ xs) = grind (arith, filter_swap p r xs)
 
 -- ---- the messages of two sets
 
@@ -41,44 +29,28 @@ filter_swap p r (x ∷ xs) =
 pub any_union : (p : Draft → Bool) (a b : MessageSet) → list_any p (set.items (set.union a b)) ≡ (list_any p (set.items a) || list_any p (set.items b))
 any_union p a b =
     same_any message_total message_same p (set.items (set.union a b)) (set.items a ++ set.items b)
-    (λ q. sym (contains-items (set.union a b) q)
-    ∙ contains-union message_total a b q
-    ∙ (λ n. contains-items a q n || contains-items b q n)
-    ∙ sym (list_any-append (eq_by_cmp message_order q) (set.items a) (set.items b)))
+    (λ q. grind (arith, contains-items (set.union a b) q, contains-union message_total a b q, contains-items a q, contains-items b q, list_any-append (same_message q) (set.items a) (set.items b)))
     ∙ list_any-append p (set.items a) (set.items b)
 
 pub contradicted_in_union : (a b : MessageSet) (m : Draft) → is_contradicted (set.union a b) m ≡ (is_contradicted a m || is_contradicted b m)
 contradicted_in_union a b m = any_union _ a b
 
+-- a message is among those of a list that pass a test where it passes, and is in the list
+pub among_picked : (p : Draft → Bool) (q : Draft) (ms : List Draft) → list_any (same_message q) (filter p ms) ≡ (p q && list_any (same_message q) ms)
+among_picked p q = any-filter_same (same_message q) p (p q) (λ m e. ap p (sym (tie_is message_total message_same q m e)))
+
 -- ---- the messages on a transfer
 
-module _ (a b : MessageSet) (t : TransferKey) where
-  abbrev disputed : Draft → Bool
-  disputed = λ m. is_contradicted a m || is_contradicted b m
-
-  clean_is : (ms clean : List Draft) → ms ≡ filter (is_on t) (in_order (set.union a b)) → clean ≡ filter (λ m. not (disputed m)) ms → clean ≡ messages_on (set.union a b) t
-  clean_is ms clean all c =
-      c
-      ∙ ap (filter (λ m. not (disputed m))) all
-      ∙ filter_swap (λ m. not (disputed m)) (is_on t) (in_order (set.union a b))
-      ∙ ap (λ (p : Draft → Bool). filter (is_on t) (filter p (in_order (set.union a b)))) (λ n m. not (sym (contradicted_in_union a b m) n))
-
-  contradicted_is : (ms contradicted : List Draft) → ms ≡ filter (is_on t) (in_order (set.union a b)) → contradicted ≡ filter disputed ms → contradicted ≡ contradicted_on (set.union a b) t
-  contradicted_is ms contradicted all c =
-      c
-      ∙ ap (filter disputed) all
-      ∙ filter_swap disputed (is_on t) (in_order (set.union a b))
-      ∙ ap (λ (p : Draft → Bool). filter (is_on t) (filter p (in_order (set.union a b)))) (λ n m. sym (contradicted_in_union a b m) n)
-
-  -- a case that was evaluated from all messages on a transfer is what is to be kept of it
-  pub evaluated : (ms clean contradicted : List Draft) (asides : List Identity) (stands : Standing)
-      → ms ≡ filter (is_on t) (in_order (set.union a b)) → clean ≡ filter (λ m. not (disputed m)) ms → contradicted ≡ filter disputed ms
-      → asides ≡ ascending identity_order (map identity_of contradicted) → stands ≡ transfer_status_of t clean asides
-      → record { clean = clean; contradicted = contradicted; stands = stands } ≡ case_of (set.union a b) t
-  unfolding case_of status_of
-  evaluated ms clean contradicted asides stands all c d i s =
-      let first = clean_is ms clean all c in
-      let second = contradicted_is ms contradicted all d in
-      let third : asides ≡ asides_of (set.union a b) t = i ∙ ap (λ (xs : List Draft). ascending identity_order (map identity_of xs)) second in
-      let last : stands ≡ transfer_status_of t (messages_on (set.union a b) t) (asides_of (set.union a b) t) = s ∙ (λ n. transfer_status_of t (first n) (third n)) in
-      λ n. record { clean = first n; contradicted = second n; stands = last n }
+-- a case that was evaluated from all messages on a transfer is what is to be kept of it
+pub evaluated : (s : MessageSet) (t : TransferKey) (ms clean contradicted : List Draft) (asides : List Identity) (stands : Standing)
+    → ms ≡ filter (is_on t) (in_order s) → clean ≡ filter (λ m. not (is_contradicted s m)) ms → contradicted ≡ filter (is_contradicted s) ms
+    → asides ≡ ascending identity_order (map identity_of contradicted) → stands ≡ transfer_status_of t clean asides
+    → record { clean = clean; contradicted = contradicted; stands = stands } ≡ case_of s t
+unfolding case_of status_of
+evaluated s t ms clean contradicted asides stands all c d i e =
+    let parted = λ (p : Draft → Bool). ap (filter p) all ∙ filter_swap p (is_on t) (in_order s) in
+    let first : clean ≡ messages_on s t = c ∙ parted (λ m. not (is_contradicted s m)) in
+    let second : contradicted ≡ contradicted_on s t = d ∙ parted (is_contradicted s) in
+    let third : asides ≡ asides_of s t = i ∙ ap (λ (xs : List Draft). ascending identity_order (map identity_of xs)) second in
+    let last : stands ≡ transfer_status_of t (messages_on s t) (asides_of s t) = e ∙ (λ n. transfer_status_of t (first n) (third n)) in
+    λ n. record { clean = first n; contradicted = second n; stands = last n }

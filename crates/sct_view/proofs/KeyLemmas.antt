@@ -1,27 +1,21 @@
--- Transfers and banks that a table counts as the same are the same. Proof plumbing.
-use Rattle.std.proofs.Common.{◌≡◌, ◌∙◌, sym, ℕ, true, List}
+-- Transfers that a table counts as the same are the same. Proof plumbing.
+use Rattle.std.proofs.Common.{◌≡◌, ◌∙◌, sym, true}
 use Rattle.std.specs.Cmp.{eq_by_cmp_equiv}
-use Rattle.std.specs.Cmp.Lexicographic.{nat_list_cmp_total, texts_ties}
-use Rattle.std.specs.FinSet.{nat_cmp-IsAntisymmetric, slice_cmp-IsAntisymmetric}
-use Rattle.sct_element.specs.Text.{is_text}
 use Rattle.sct_message.specs.Order.{same_transfer}
-use Rattle.sct_message.specs.OrderLaws.{transfer_total, transfers_same, transfer_ties}
+use Rattle.sct_message.specs.OrderLaws.{transfer_total, transfer_ties}
 use Rattle.sct_message.specs.declared.keys.TransferKey.{TransferKey}
-use Rattle.sct_message.proofs.Members.{tie_is, ties_itself}
 use Rattle.sct_view.specs.Kept.{same_key}
+use Rattle.sct_message.proofs.SameValues.{transfer_is, transfer_itself}
 
 -- the test of a table is the test of the order
 pub same_key_is : same_key ≡ same_transfer
 same_key_is = λ n s t. transfer_ties s t n
 
 pub keys_apart : (s t : TransferKey) → same_key s t ≡ true → s ≡ t
-keys_apart s t e = tie_is transfer_total transfers_same s t (sym (transfer_ties s t) ∙ e)
+keys_apart s t same = transfer_is s t (sym (transfer_ties s t) ∙ same)
 
 pub key_itself : (t : TransferKey) → same_key t t ≡ true
-key_itself t = transfer_ties t t ∙ ties_itself transfer_total transfers_same t
+key_itself t = transfer_ties t t ∙ transfer_itself t
 
 pub key_swap : (s t : TransferKey) → same_key s t ≡ same_key t s
 key_swap s t = transfer_ties s t ∙ (eq_by_cmp_equiv transfer_total).symm s t ∙ sym (transfer_ties t s)
-
-pub banks_apart : (p q : List ℕ) → is_text p q ≡ true → p ≡ q
-banks_apart p q e = tie_is nat_list_cmp_total (slice_cmp-IsAntisymmetric nat_cmp-IsAntisymmetric) p q (sym (texts_ties p q) ∙ e)

@@ -1,9 +1,8 @@
 -- The transfers of which a set has a message, and the banks that are told: each stands once. Proof plumbing.
-use Rattle.std.proofs.Common.{◌≡◌, ℕ, ◌+◌, ◌≤◌, Bool, true, false, cond, ◌||◌, List, [], ◌∷◌, length, refl, sym, ap, subst, ◌∙◌, Ordering, arith}
+use Rattle.std.proofs.Common.{◌≡◌, ℕ, ◌≤◌, Bool, true, false, ◌||◌, List, [], ◌∷◌, length, refl, sym, ap, subst, ◌∙◌, Ordering, arith}
 use Rattle.std.specs.FinMap as finite
 use Rattle.std.specs.FinMap.{len-empty, len-entries, len-insert}
 use Rattle.std.specs.FinSet as set
-use Rattle.std.specs.FinSet.{IsAntisymmetric, nat_cmp-IsAntisymmetric, slice_cmp-IsAntisymmetric}
 use Rattle.std.specs.Cmp.{IsTotalOrder, eq_by_cmp_equiv}
 use Rattle.std.specs.Cmp.Lexicographic.{nat_list_cmp_total, texts_ties}
 use Rattle.std.specs.List.{flat_map, list_any, AllByRecursion, IsDistinct}
@@ -13,6 +12,7 @@ use Rattle.std.proofs.lemmas.List.{length-map}
 use Rattle.std.proofs.lemmas.Map.Keys.{IsDistinct-from_sorted}
 use Rattle.sct_element.specs.Text.{is_text}
 use Rattle.sct_message.specs.Ascending.{ascending, alone}
+use Rattle.sct_message.specs.CellsBack.{texts_same}
 use Rattle.sct_message.specs.Keys.{transfers_of}
 use Rattle.sct_message.specs.Order.{same_transfer, text_order, transfer_order}
 use Rattle.sct_message.specs.OrderLaws.{transfer_total, transfers_same, transfer_ties}
@@ -21,9 +21,8 @@ use Rattle.sct_message.specs.Transfers.{is_on, keys_of}
 use Rattle.sct_message.specs.declared.draft.Draft.{Draft}
 use Rattle.sct_message.specs.declared.keys.TransferKey.{TransferKey}
 use Rattle.sct_message.proofs.AscendingLemmas.{any_ascending, ascending_rises}
-use Rattle.sct_message.proofs.Members.{tie_is, ties_itself}
+use Rattle.sct_message.proofs.Tests.{any_flat_map}
 use Rattle.sct_view.specs.Kept.{same_key}
-use Rattle.sct_view.proofs.PartLemmas.{any_flat_map}
 use Rattle.sct_view.proofs.SumLemmas.{AreApart}
 
 -- ---- lists of keys
@@ -41,47 +40,19 @@ apart_from_distinct E (k ∷ ks) h = (none_passes (E k) ks h.0, apart_from_disti
 pub apart_from_rises : {K : Type 0} (R : K → K → Ordering) (ks : List K) → IsStrictlySortedBy R ks → AreApart (eq_by_cmp R) ks
 apart_from_rises R ks h = apart_from_distinct (eq_by_cmp R) ks (IsDistinct-from_sorted R ks h)
 
--- by another test that answers alike
-pub apart_by : {K : Type 0} (E F : K → K → Bool) → ((x y : K) → E x y ≡ F x y) → (ks : List K) → AreApart E ks → AreApart F ks
-apart_by E F alike ks h = subst (λ (G : _ → _ → Bool). AreApart G ks) (λ i x y. alike x y i) h
-
 abbrev map_of : {K : Type 0} (R : K → K → Ordering) → List K → finite.FinMap R (Unit {0})
 map_of R ks = finite.from_entries {R = R} (alone ks)
 
-one_more : (b : Bool) (n m : ℕ) → n ≤ m → cond b n (n + 1) ≤ m + 1
-one_more true n m h = omega arith
-one_more false n m h = omega arith
-
 few_entries : {K : Type 0} {R : K → K → Ordering} (o : IsTotalOrder R) (ks : List K) → finite.len (map_of R ks) ≤ length ks
-few_entries {R = R} o [] = let e : finite.len (map_of R []) ≡ 0 = len-empty R (Unit {0}) in omega arith
-few_entries {R = R} o (k ∷ ks) =
-    let rest : finite.len (map_of R ks) ≤ length ks = few_entries o ks in
-    let e : finite.len (map_of R (k ∷ ks)) ≡ cond (finite.contains_key (map_of R ks) k) (finite.len (map_of R ks)) (finite.len (map_of R ks) + 1) = len-insert o (map_of R ks) k tt in
-    let h : cond (finite.contains_key (map_of R ks) k) (finite.len (map_of R ks)) (finite.len (map_of R ks) + 1) ≤ length ks + 1 = one_more _ _ _ rest in
-    omega arith
+few_entries {R = R} o [] = omega (arith, len-empty R (Unit {0}))
+few_entries {R = R} o (k ∷ ks) = grind (arith, few_entries o ks, len-insert o (map_of R ks) k tt)
 
 -- the ascending list of some keys is no longer than they are
 pub shorter : {K : Type 0} {R : K → K → Ordering} → IsTotalOrder R → (ks : List K) → length (ascending R ks) ≤ length ks
 unfolding ascending
-shorter {R = R} o ks =
-    let few : finite.len (map_of R ks) ≤ length ks = few_entries o ks in
-    let e : length (ascending R ks) ≡ length (finite.entries (map_of R ks)) = length-map (finite.entries (map_of R ks)) (λ e. e.0) in
-    let f : finite.len (map_of R ks) ≡ length (finite.entries (map_of R ks)) = len-entries (map_of R ks) in
-    omega arith
+shorter {R = R} o ks = omega (arith, few_entries o ks, length-map (finite.entries (map_of R ks)) (λ e. e.0), len-entries (map_of R ks))
 
 -- ---- transfers
-
-pub same_transfer-is : (s t : TransferKey) → same_transfer s t ≡ true → s ≡ t
-same_transfer-is = tie_is transfer_total transfers_same
-
-pub same_transfer-itself : (t : TransferKey) → same_transfer t t ≡ true
-same_transfer-itself = ties_itself transfer_total transfers_same
-
-pub keys_rise : (held : MessageSet) → IsStrictlySortedBy transfer_order (keys_of held)
-keys_rise held = ascending_rises transfer_total transfers_same (flat_map transfers_of (set.items held))
-
-pub keys_apart : (held : MessageSet) → AreApart same_transfer (keys_of held)
-keys_apart held = apart_from_rises transfer_order (keys_of held) (keys_rise held)
 
 -- a test is passed by a key exactly where it is passed by a transfer of a message
 pub any_key : (p : TransferKey → Bool) (held : MessageSet)
@@ -95,37 +66,17 @@ on_is t m = λ i. list_any (λ k. (eq_by_cmp_equiv transfer_total).symm k t i) (
 
 -- a transfer is a key of the set where a message of the set is on it
 pub key-is_on : (held : MessageSet) (t : TransferKey) → list_any (same_transfer t) (keys_of held) ≡ list_any (is_on t) (set.items held)
-key-is_on held t =
-    any_key (same_transfer t) held ∙ ap (λ (p : Draft → Bool). list_any p (set.items held)) (λ i m. sym (on_is t m) i)
+key-is_on held t = any_key (same_transfer t) held ∙ (λ i. list_any (λ m. sym (on_is t m) i) (set.items held))
 
 -- ---- banks
-
-pub texts_same : IsAntisymmetric text_order
-texts_same = slice_cmp-IsAntisymmetric nat_cmp-IsAntisymmetric
-
-pub text_is : (s t : List ℕ) → is_text s t ≡ true → s ≡ t
-text_is s t h = tie_is nat_list_cmp_total texts_same s t (sym (texts_ties s t) ∙ h)
-
-pub text_itself : (s : List ℕ) → is_text s s ≡ true
-text_itself s = texts_ties s s ∙ ties_itself nat_list_cmp_total texts_same s
 
 -- an ascending list of banks names none twice
 pub banks_apart : (banks : List (List ℕ)) → AreApart is_text (ascending text_order banks)
 banks_apart banks =
-    apart_by (eq_by_cmp text_order) is_text (λ s t. sym (texts_ties s t)) (ascending text_order banks)
-    (apart_from_rises text_order (ascending text_order banks) (ascending_rises nat_list_cmp_total texts_same banks))
-
--- a test is passed in the ascending list exactly where it is passed in the list
-pub any_bank : (p : List ℕ → Bool) (banks : List (List ℕ)) → list_any p (ascending text_order banks) ≡ list_any p banks
-any_bank p banks = any_ascending nat_list_cmp_total texts_same p banks
+    subst (λ (E : List ℕ → List ℕ → Bool). AreApart E (ascending text_order banks)) (λ i s t. sym (texts_ties s t) i)
+    (apart_from_rises text_order _ (ascending_rises nat_list_cmp_total texts_same banks))
 
 -- ---- the same by the test of a table
 
 pub same_key-same : (s t : TransferKey) → same_key s t ≡ same_transfer s t
 same_key-same s t = transfer_ties s t
-
-pub same_key-is : (s t : TransferKey) → same_key s t ≡ true → s ≡ t
-same_key-is s t h = same_transfer-is s t (sym (same_key-same s t) ∙ h)
-
-pub keys_apart_in_table : (held : MessageSet) → AreApart same_key (keys_of held)
-keys_apart_in_table held = apart_by same_transfer same_key (λ s t. sym (same_key-same s t)) (keys_of held) (keys_apart held)

@@ -1,11 +1,15 @@
 -- What an insert does to a table whose absent keys are read as empty. Proof plumbing.
-use Rattle.std.proofs.Common.{◌≡◌, ◌≤◌, ℕ, Bool, true, false, cond, [], ◌∷◌, length, take, Option, Some, None, is_some, refl, sym, ap, ◌∙◌}
+use Rattle.std.proofs.Common.{◌≡◌, ◌≤◌, ℕ, Bool, true, false, cond, List, [], ◌∷◌, length, take, Option, Some, None, is_some, refl, sym, ap, ◌∙◌}
 use Rattle.std.proofs.lemmas.List.{take-append-le}
+use Rattle.std.specs.Map.{lookup}
 use Rattle.indexmap.specs.IndexMap.{IndexMap, get, insert_entry, Updates}
 use Rattle.indexmap.proofs.CallerLemmas.{insert_entry-new}
+use Rattle.sct_element.specs.Text.{is_text}
 use Rattle.sct_message.specs.declared.keys.TransferKey.{TransferKey}
-use Rattle.sct_view.specs.Kept.{case_at, kept_in, kept_or_none, same_key}
+use Rattle.sct_view.specs.Kept.{case_at, kept_or_none, no_messages, same_key, totals_at, totals_or_none}
+use Rattle.sct_view.specs.Totals.{nothing}
 use Rattle.sct_view.specs.declared.case.Case.{Case}
+use Rattle.sct_view.specs.declared.totals.Totals.{Totals}
 
 pub none_is : {X : Type 0} (o : Option X) → is_some o ≡ false → o ≡ None
 none_is None e = refl
@@ -28,9 +32,16 @@ module _ {K X S : Type 0} (E : K → K → Bool) (old new : IndexMap K X S) (k :
   front_stays absent is n within =
       ap (take n) (is ∙ insert_entry-new E old k v (none_is _ absent)) ∙ take-append-le n old.entries ((k, v) ∷ []) within
 
--- a table shows the case that was put in
-pub shown : {S : Type 0} (old new : IndexMap TransferKey Case S) (t : TransferKey) (case : Case) → Updates same_key old new t (Some case)
-    → (k : TransferKey) → case_at new k ≡ cond (same_key t k) (kept_in case) (case_at old k)
-shown old new t case updates k =
-    ap kept_or_none (updates.0 k)
-    ∙ elim (same_key t k) as (λ b. kept_or_none (cond b (Some case) (get same_key old k)) ≡ cond b (kept_in case) (case_at old k)) [ true ↦ refl | false ↦ refl ]
+-- tables without entries show nothing
+pub no_case_in : {S : Type 0} (cases : IndexMap TransferKey Case S) → cases.entries ≡ [] → (t : TransferKey) → case_at cases t ≡ no_messages
+no_case_in cases e t = ap (λ (es : List (TransferKey × Case)). kept_or_none (lookup (same_key t) es)) e
+
+pub no_totals_in : {S : Type 0} (totals : IndexMap (List ℕ) Totals S) → totals.entries ≡ [] → (p : List ℕ) → totals_at totals p ≡ nothing
+no_totals_in totals e p = ap (λ (es : List (List ℕ × Totals)). totals_or_none (lookup (is_text p) es)) e
+
+-- tables with the same entries show the same
+pub same_cases_in : {S : Type 0} (cases later : IndexMap TransferKey Case S) → later.entries ≡ cases.entries → (t : TransferKey) → case_at later t ≡ case_at cases t
+same_cases_in cases later e t = ap (λ (es : List (TransferKey × Case)). kept_or_none (lookup (same_key t) es)) e
+
+pub same_totals_in : {S : Type 0} (totals later : IndexMap (List ℕ) Totals S) → later.entries ≡ totals.entries → (p : List ℕ) → totals_at later p ≡ totals_at totals p
+same_totals_in totals later e p = ap (λ (es : List (List ℕ × Totals)). totals_or_none (lookup (is_text p) es)) e

@@ -1,6 +1,7 @@
 -- What a batch changes in the tables of a view, for those who prove it: the new case of each transfer that it touches.
-use Rattle.std.specs.Prelude.{ℕ, Bool, List, [], ◌∷◌, ◌++◌, ◌&&◌, not, map, filter, flat_map, if◌then◌else◌}
-use Rattle.std.specs.List.{list_all, list_any}
+use Rattle.std.specs.FinSet as set
+use Rattle.std.specs.Prelude.{ℕ, Bool, Option, None, Some, List, [], ◌∷◌, ◌++◌, ◌&&◌, not, map, filter, flat_map, if◌then◌else◌}
+use Rattle.std.specs.List.{list_all}
 use Rattle.indexmap.specs.IndexMap.{IndexMap}
 use Rattle.sct_message.specs.Keys.{identity_of, transfers_of}
 use Rattle.sct_message.specs.Order.{same_identity}
@@ -11,6 +12,11 @@ use Rattle.sct_view.specs.Kept.{Kept, case_of, is_ready, kept_in, same_key}
 use Rattle.sct_view.specs.declared.case.Case.{Case}
 use Rattle.sct_view.specs.declared.case.Planned.{Planned}
 use Rattle.sct_view.specs.declared.totals.Totals.{Totals}
+
+-- the messages held, with the fresh ones if there are any
+abbrev pub with_fresh : MessageSet → Option MessageSet → MessageSet
+with_fresh held None = held
+with_fresh held (Some fresh) = set.union held fresh
 
 -- a transfer and its new case
 abbrev pub Change : Type 0
@@ -45,7 +51,3 @@ is_ready_for cases totals planned = is_ready cases totals planned.transfer (kept
 
 abbrev pub are_ready : {Y Z : Type 0} → IndexMap TransferKey Case Y → IndexMap (List ℕ) Totals Z → List Planned → Bool
 are_ready cases totals planned = list_all (is_ready_for cases totals) planned
-
--- the transfer of each planned case is one of these
-abbrev pub are_among : List TransferKey → List Planned → Bool
-are_among transfers planned = list_all (λ one. list_any (same_key one.transfer) transfers) planned

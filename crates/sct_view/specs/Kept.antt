@@ -1,8 +1,10 @@
 -- How the tables of a view are read, for those who prove it: as functions from transfers to cases and from banks to
 -- totals. A key that is absent reads as no messages and as zero totals.
-use Rattle.std.specs.Prelude.{◌≡◌, ◌≤◌, ◌<◌, ◌^◌, ◌&&◌, ℕ, Bool, List, [], filter, Option, None, Some, is_some}
-use Rattle.std.specs.List.{list_all}
+use Rattle.std.specs.Prelude.{◌≡◌, ◌≤◌, ◌<◌, ◌^◌, ◌&&◌, ℕ, Bool, false, List, [], filter, Option, None, Some, is_some}
+use Rattle.std.specs.List.{list_all, list_any}
 use Rattle.indexmap.specs.IndexMap.{IndexMap, get}
+use Rattle.sct_message.specs.Ascending.{ascending}
+use Rattle.sct_message.specs.Order.{transfer_order}
 use Rattle.sct_message.specs.Sets.{MessageSet, messages_in, contradicted_messages}
 use Rattle.sct_message.specs.contracts.keys.TransferKeyPartialEq.TheImpl as keys
 use Rattle.sct_element.specs.Text.{is_text}
@@ -11,7 +13,7 @@ use Rattle.sct_message.specs.declared.draft.Draft.{Draft}
 use Rattle.sct_message.specs.declared.keys.TransferKey.{TransferKey}
 use Rattle.sct_case.specs.Statuses.{Standing, Returned, Unknown, told}
 use Rattle.sct_view.specs.Answers.{status_of}
-use Rattle.sct_view.specs.Totals.{nothing, share, totals_over, totals_of, cents_in, beneficiary_in}
+use Rattle.sct_view.specs.Totals.{nothing, share, totals_over, cents_in, beneficiary_in}
 use Rattle.sct_view.specs.declared.case.Case.{Case}
 use Rattle.sct_view.specs.declared.totals.Totals.{Totals}
 
@@ -127,14 +129,13 @@ pub record IsSmall (case : Kept) : Type 0 where
 
 -- ---- the tables
 
--- the totals of each bank are the sums of its shares of these transfers, by their cases
-abbrev pub AreTotalsOver : {Y Z : Type 0} → IndexMap TransferKey Case Y → IndexMap (List ℕ) Totals Z → List TransferKey → Type 0
-AreTotalsOver cases totals transfers = (bank : List ℕ)
-    → totals_at totals bank ≡ totals_over (λ t. share_in bank t (case_at cases t)) transfers
+-- The totals of each bank are the sums of its shares. For any list of transfers outside of which no transfer has
+-- messages, they are the sums over that list, each transfer counted once.
+abbrev pub AreSums : (TransferKey → Kept) → (List ℕ → Totals) → Type 0
+AreSums cases totals = (transfers : List TransferKey)
+    → ((t : TransferKey) → list_any (same_key t) transfers ≡ false → cases t ≡ no_messages)
+    → (bank : List ℕ) → totals bank ≡ totals_over (λ t. share_in bank t (cases t)) (ascending transfer_order transfers)
 
--- The tables are those of a set of messages.
-pub record IsViewOf {Y Z : Type 0} (held : MessageSet) (cases : IndexMap TransferKey Case Y)
-    (totals : IndexMap (List ℕ) Totals Z) : Type 0 where
-  pub cases_are : (transfer : TransferKey) → case_at cases transfer ≡ case_of held transfer
-  pub totals_are : (bank : List ℕ) → totals_at totals bank ≡ totals_of held bank
-  pub small : (transfer : TransferKey) → IsSmall (case_at cases transfer)
+-- The table has the case of each transfer of a set of messages.
+abbrev pub AreCasesOf : {S : Type 0} → MessageSet → IndexMap TransferKey Case S → Type 0
+AreCasesOf held cases = (transfer : TransferKey) → case_at cases transfer ≡ case_of held transfer

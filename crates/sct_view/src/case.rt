@@ -84,6 +84,8 @@ fn beneficiary_named(draft: &Draft) -> Option<&Bic>
 }
 
 impl Case {
+    ghost use Rattle.sct_view.specs.Listed.{has_messages};
+
     /// The instruction of the transfer: its pacs.008, if exactly one clean message is a pacs.008, else none.
     pub fn instruction(&self) -> Option<&Arc<Message>>
         ensures { option_map arc_value (option_copied result) ≡ instruction_in (kept_in self.now) }
@@ -110,5 +112,12 @@ impl Case {
         ensures { option_to_list (option_copied result) ≡ beneficiary_in (instruction_in (kept_in self.now)) }
     {
         beneficiary_named(self.instruction()?.draft())
+    }
+
+    /// Whether the transfer has a message.
+    pub(crate) fn has_messages(&self) -> bool
+        ensures { result ≡ has_messages self.now }
+    {
+        !(self.clean.is_empty() && self.contradicted.is_empty())
     }
 }

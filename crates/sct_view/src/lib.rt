@@ -2,25 +2,18 @@
 //! findings, and the totals of each bank.
 #![tactic(auto)]
 
+mod batch;
+mod build;
+mod by_transfer;
 mod case;
-mod commit;
 mod euros;
 mod evaluation;
-mod filed;
-mod filling;
-mod found;
+mod findings;
 pub mod laws;
 mod listed;
-mod opening;
-mod parts;
-mod plan;
-mod replacing;
-mod replanning;
-mod room;
-mod running;
-mod shares;
 mod status_parts;
 mod status_text;
+mod tables;
 mod totals;
 mod totals_lines;
 mod totals_text;

@@ -2,17 +2,15 @@
 
 ghost use Rattle.std.specs.Prelude.{◌≡◌, ◌++◌, IfOk, OnOk};
 ghost use Rattle.std.specs.List.{flat_map};
-ghost use Rattle.indexmap.specs.IndexMap.{IsUnique};
 ghost use Rattle.sct_message.specs.Sets.{messages_in};
 ghost use Rattle.sct_message.specs.Transfers.{keys_of, instruction_of};
 ghost use Rattle.sct_view.specs.Answers.{cxls_named_by, recalls_of, all_findings_of, transfers_of, is_originator, is_beneficiary, found_on};
-ghost use Rattle.sct_view.specs.Kept.{kept_in, same_key, instruction_in};
-ghost use Rattle.sct_view.specs.Listed.{cxls_in, has_messages, keys_with, recalls_in};
+ghost use Rattle.sct_view.specs.Kept.{kept_in, instruction_in};
+ghost use Rattle.sct_view.specs.Listed.{cxls_in, recalls_in};
 
 use crate::case::Case;
-use crate::found::{findings_in, push_beside};
+use crate::findings::{findings_in, push_beside};
 use crate::view::View;
-use indexmap::IndexMap;
 use sct_case::{CaseFault, Finding};
 use sct_element::{Bic, Id35};
 use sct_message::{Message, RecallKey, TransferKey, keys_are_ordered};
@@ -94,32 +92,6 @@ pub(crate) fn recalls_in(
     Ok(found)
 }
 
-// ---- all transfers
-
-// Whether a case has a message.
-fn has_messages(case: &Case) -> bool
-    ensures { result ≡ has_messages case.now }
-{
-    !(case.clean.is_empty() && case.contradicted.is_empty())
-}
-
-// The transfers whose case has a message, in the order of the table.
-fn keys_kept(
-    alloc: Global,
-    cases: &IndexMap<TransferKey, Case>,
-) -> Result<Vec<TransferKey>, AllocError>
-    ensures keys { IfOk result (λ keys. keys.items ≡ keys_with has_messages cases.now.entries) }
-    ensures unique { IfOk result (λ keys. IsUnique same_key cases.now) }
-{
-    let mut keys = Vec::new(alloc);
-    for (transfer, case) in cases {
-        if has_messages(case) {
-            keys.push(transfer.copy())?;
-        }
-    }
-    Ok(keys)
-}
-
 // ---- the transfers of a bank
 
 fn is_originator(bank: &Bic, transfer: &TransferKey) -> bool
@@ -162,7 +134,7 @@ impl View {
         ensures { IfOk result (λ keys. keys.items ≡ keys_of self.now) }
     {
         keys_are_ordered();
-        let mut keys = keys_kept(self.alloc, &self.cases)?;
+        let mut keys = self.tables.keys(self.alloc)?;
         keys.sort()?;
         keys.dedup();
         Ok(keys)

@@ -6,7 +6,7 @@ ghost use Rattle.std.specs.Thread.{IsSync};
 ghost use Rattle.sct_set.specs.Pieces.{joined};
 ghost use Rattle.sct_view.specs.StatusText.{lines_on, status_text_of};
 
-use crate::parts::halvings;
+use crate::build::halvings;
 use crate::view::View;
 use sct_case::CaseFault;
 use sct_message::TransferKey;

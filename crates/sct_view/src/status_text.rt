@@ -4,7 +4,7 @@ ghost use Rattle.std.specs.Prelude.{◌≡◌, ◌++◌, IfOk, OnOk, string_byte
 ghost use Rattle.std.specs.List.{flat_map};
 ghost use Rattle.sct_view.specs.StatusText.{finding_line, lines_on, recall_line, status_text_of};
 
-use crate::found::findings_in;
+use crate::findings::findings_in;
 use crate::listed::recalls_in;
 use crate::view::View;
 use crate::words::{push_finding_line, push_recall_line, push_status_line};

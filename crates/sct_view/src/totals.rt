@@ -30,6 +30,8 @@ pub struct Totals {
 }
 
 impl Totals {
+    ghost use Rattle.sct_view.specs.Listed.{is_something};
+
     /// All numbers 0.
     pub fn nothing() -> Self
         ensures { result ≡ nothing }
@@ -80,5 +82,22 @@ impl Totals {
         self.received -= share.received;
         self.received_cents -= share.received_cents;
         self.returned_out -= share.returned_out;
+    }
+
+    /// Whether some number is not 0.
+    pub(crate) fn is_something(&self) -> bool
+        ensures { result ≡ is_something self.now }
+    {
+        let is_nothing = self.sent == 0
+            && self.sent_cents == 0
+            && self.returned_in == 0
+            && self.rejected == 0
+            && self.waiting == 0
+            && self.missing == 0
+            && self.contradicted == 0
+            && self.received == 0
+            && self.received_cents == 0
+            && self.returned_out == 0;
+        !is_nothing
     }
 }

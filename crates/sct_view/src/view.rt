@@ -13,13 +13,11 @@ ghost use Rattle.sct_view.specs.Kept.{case_of, kept_or_none};
 ghost use Rattle.sct_view.specs.Totals.{totals_of};
 ghost use Rattle.sct_view.specs.Touched.{AreOnAtMost, touched_in};
 
+use crate::batch::Replanned;
+use crate::build::{filled_in_parts, tables_of};
 use crate::case::Case;
-use crate::commit::commit_all;
-use crate::parts::{filled_in_parts, tables_of};
-use crate::replanning::Replanned;
-use crate::room::make_room;
+use crate::tables::{Tables, make_room};
 use crate::totals::Totals;
-use indexmap::IndexMap;
 use sct_case::{CaseFault, RecallStatus, Status, recall_status_by};
 use sct_element::Bic;
 use sct_message::{Message, RecallKey, TransferKey};
@@ -55,8 +53,7 @@ fn brought_by(plan: &Replanned) -> Applied
 pub struct View {
     pub(crate) alloc: Global,
     pub(crate) archive: Archive,
-    pub(crate) cases: IndexMap<TransferKey, Case>,
-    pub(crate) totals: IndexMap<Bic, Totals>,
+    pub(crate) tables: Tables,
     unknown: Status,
 }
 
@@ -66,7 +63,7 @@ impl Model for View {
     ghost use Rattle.sct_case.specs.Statuses.{told, Unknown};
     ghost use Rattle.sct_message.specs.contracts.messages.Message as message;
     ghost use Rattle.sct_message.specs.Order.{message_order};
-    ghost use Rattle.sct_view.specs.Kept.{IsViewOf};
+    ghost use Rattle.sct_view.specs.Kept.{AreCasesOf};
 
     ghost Value = { set.FinSet message_order };
 
@@ -74,7 +71,7 @@ impl Model for View {
 
     ghost view = { λ v. v.archive };
 
-    ghost invariant = { λ v. IsViewOf v.archive v.cases v.totals × (told v.unknown ≡ Unknown) };
+    ghost invariant = { λ v. AreCasesOf v.archive v.tables.cases × (told v.unknown ≡ Unknown) };
 }
 
 impl View {
@@ -85,8 +82,7 @@ impl View {
         View {
             alloc,
             archive: Archive::new(alloc),
-            cases: IndexMap::new(alloc),
-            totals: IndexMap::new(alloc),
+            tables: Tables::new(alloc),
             unknown: Status::Unknown,
         }
     }
@@ -100,8 +96,7 @@ impl View {
         Ok(View {
             alloc,
             archive,
-            cases: tables.cases,
-            totals: tables.totals,
+            tables,
             unknown: Status::Unknown,
         })
     }
@@ -120,8 +115,7 @@ impl View {
         Ok(View {
             alloc,
             archive: filled.archive,
-            cases: filled.tables.cases,
-            totals: filled.tables.totals,
+            tables: filled.tables,
             unknown: Status::Unknown,
         })
     }
@@ -144,17 +138,11 @@ impl View {
         make_room(
             self.alloc,
             &mut self.archive,
-            &mut self.cases,
-            &mut self.totals,
+            &mut self.tables,
             &plan.fresh,
             &plan.planned,
         )?;
-        commit_all(
-            &self.archive,
-            &mut self.cases,
-            &mut self.totals,
-            plan.planned,
-        );
+        self.tables.commit_all(plan.planned);
         Ok(brought)
     }
 
@@ -162,7 +150,7 @@ impl View {
     pub(crate) fn case_on(&self, transfer: &TransferKey) -> Option<&Case>
         ensures { kept_or_none (option_copied result) ≡ case_of self.now transfer.now }
     {
-        self.cases.get(transfer)
+        self.tables.case(transfer)
     }
 
     /// The status of a transfer; `Unknown` if no message is on it. Expected O(1).
@@ -192,10 +180,7 @@ impl View {
     pub fn totals(&self, bank: &Bic) -> Totals
         ensures { result ≡ totals_of self.now bank.now }
     {
-        match self.totals.get(bank) {
-            Some(totals) => *totals,
-            None => Totals::nothing(),
-        }
+        self.tables.totals(bank)
     }
 
     /// The instruction of a transfer: its pacs.008, if exactly one clean message on it is a pacs.008, else none.

@@ -161,7 +161,7 @@ fn writes_by_identity_and_then_by_text(rt: HostRuntime) {
 // The pieces of the archive text of the messages of the rows, one after another.
 fn text_in_pieces_of(rt: &(impl Threads + Sync), alloc: Global, rows: &[Row]) -> Option<Vec<u8>> {
     let messages = messages_of(alloc, rows)?;
-    let pieces = Ordered::of(rt, alloc, &messages)
+    let pieces = SortedArchive::of(rt, alloc, &messages)
         .ok()?
         .text_in_pieces(rt)
         .ok()?;

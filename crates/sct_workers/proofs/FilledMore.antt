@@ -41,13 +41,6 @@ stand_push number size (i ∷ inputs) (c ∷ cores) input core all one =
 stand_push number size [] (c ∷ cores) input core all one = absurd all
 stand_push number size (i ∷ inputs) [] input core all one = absurd all
 
-pub none_filled : (size : ℕ) (sites : Sites) → sites.cores.items ≡ [] → sites.refusals.text ≡ [] → sites.refusals.count ≡ 0 → AreFilled size [] sites
-none_filled size sites cores told refused = record {
-  stand = subst (AllStand 1 size []) (sym cores) tt;
-  told = told;
-  refused = refused;
-}
-
 pub one_more : (size : ℕ) (inputs : List (List ℕ)) (input : List ℕ) (before after : Sites) (one : Filled) → AreFilled size inputs before
     → IsFilled (length inputs + 1) size input one → after.cores.items ≡ before.cores.items ++ one.core ∷ []
     → after.refusals.text ≡ before.refusals.text ++ one.refusals.text → after.refusals.count ≡ before.refusals.count + one.refusals.count

@@ -53,7 +53,3 @@ same_by_places f (x ∷ xs) (y ∷ ys) many each =
 nothing : {X : Type 0} (xs : List X) → length xs ≡ 0 → xs ≡ []
 nothing [] none = refl
 nothing (x ∷ xs) none = absurd (omega (arith, none))
-
--- what is done where nothing is left
-pub all_done : {X : Type 0} (done rest all : List X) → done ++ rest ≡ all → length rest ≡ 0 → done ≡ all
-all_done done rest all is none = sym (append-nil done) ∙ ap (λ (l : List _). done ++ l) (sym (nothing rest none)) ∙ is

@@ -28,11 +28,6 @@ use Rattle.sct_workers.specs.Faults.{IsNotClosed, IsRefusalToClose, fault_of_des
 use Rattle.sct_workers.specs.Kept.{AllKeep, AllShown, Keeps, MayCome, is_shown, shows}
 use Rattle.sct_workers.specs.Stands.{Stands}
 
--- receipts that may be kept are of the desk
-pub are_ours : (book : Book) (own size : ℕ) (held : MessageSet) (rs : List Told) → AllKeep book own size held rs → AreOurs book own rs
-are_ours book own size held rs kept =
-    All-weaker (Keeps book own size held) (λ r. r.site ≡ own → r.book ≡ book) (λ r keeps _. keeps.of_desk.1) rs kept
-
 -- ---- entries and their places
 
 -- an entry of a list stands at some place

@@ -1,17 +1,17 @@
 -- To hand a delta again changes nothing. Proof plumbing.
-use Rattle.std.proofs.Common.{◌≡◌, ◌∙◌, refl, ap, inl, inr, ℕ, ◌+◌, ◌-◌, Bool, true, false, not, cond, ◌||◌, List, [], ◌∷◌, ◌++◌, filter, length, arith, nat_eq, nat_lt}
+use Rattle.std.proofs.Common.{◌≡◌, ◌∙◌, refl, ap, sym, ℕ, ◌+◌, ◌-◌, Bool, true, false, not, cond, ◌||◌, List, [], ◌∷◌, ◌++◌, length, arith, nat_eq, nat_lt}
 use Rattle.std.specs.Prelude.{Option, Some, None, Ok, Err}
 use Rattle.std.specs.List.{list_any}
 use Rattle.std.proofs.lemmas.Bool.{or_parts}
 use Rattle.std.proofs.lemmas.Bool.Decides.{nat_tests}
 use Rattle.std.proofs.lemmas.List.{append-nil, set-get_or}
-use Rattle.sct_message.specs.declared.draft.Draft.{Draft}
-use Rattle.sct_set.proofs.ContentsLemmas.{same_is, same_itself}
+use Rattle.std.proofs.Math.Bool.{or-true}
+use Rattle.sct_delta.proofs.HeldLemmas.{held_in_logs, passes_none}
 use Rattle.sct_delta.specs.Entries.{Placed, log_of, same_entry, holds, IsArrivals}
-use Rattle.sct_delta.specs.Refusals.{message_at, is_held, is_same_as, is_outside, is_ahead, is_past, is_fork, firsts_after}
+use Rattle.sct_delta.specs.Refusals.{message_at, is_held, is_outside, is_ahead, is_past, is_fork, firsts_after}
 use Rattle.sct_delta.specs.declared.fault.DeltaFault.{DeltaFault}
-use Rattle.sct_delta.proofs.JoinLemmas.{IsPassed, passed, unrefused}
-use Rattle.sct_delta.proofs.TestLemmas.{filter_none}
+use Rattle.sct_delta.proofs.JoinLemmas.{IsPassed, passed, unrefused, kept_is}
+use Rattle.sct_message.proofs.Tests.{none_kept as filter_none}
 use Rattle.sct_site.specs.Cores.{logs_of, arrivals_joined, fresh_of, refusal_by}
 use Rattle.sct_world.specs.Closed.{IsClosed}
 use Rattle.sct_world.specs.Laws.{history, ChangesNothing, HandingAgainChangesNothing}
@@ -21,18 +21,12 @@ use Rattle.sct_world.specs.declared.event.Event.{Event}
 use Rattle.sct_world.specs.declared.event.Event.TheVariants as event
 use Rattle.sct_world.specs.declared.event.Step.TheVariants as step
 use Rattle.sct_world.specs.declared.fault.WorldFault.TheVariants as fault
-use Rattle.sct_world.proofs.HeldLemmas.{or_true, either, same_entry_is, entry_itself, one_place, held_number}
+use Rattle.sct_world.proofs.HeldLemmas.{one_place}
 use Rattle.sct_world.proofs.LawLemmas.{never_loses, closed_history, closed_after, closed_all}
 use Rattle.sct_world.proofs.NoForkLemmas.{within, no_other, not_ahead, kept_first}
 use Rattle.sct_world.proofs.StateLemmas.{held-with_same, sites-after, sites-all, size-after, size-all, there-after, there-all}
 
 -- ---- tests over the entries of a list
-
-pub none_in : (p : Placed → Bool) (ds : List Placed) → ((x : Placed) → holds ds x ≡ true → p x ≡ false) → list_any p ds ≡ false
-none_in p [] never = refl
-none_in p (d ∷ ds) never =
-    λ i. never d (ap (λ (b : Bool). b || holds ds d) (entry_itself d)) i
-    || none_in p ds (λ x held. never x (ap (λ (b : Bool). same_entry d x || b) held ∙ or_true (same_entry d x))) i
 
 none_first : (p : Placed → Bool) (previous : ℕ) (ds : List Placed) → list_any p ds ≡ false → list_any p (firsts_after previous ds) ≡ false
 none_first p previous [] none = refl
@@ -43,42 +37,24 @@ none_first p previous (d ∷ ds) none =
       | false ↦ λ i. parts.0 i || none_first p d.origin ds parts.1 i
     ]
 
-passes_kept : (p : Placed → Bool) (ds : List Placed) (x : Placed) → holds ds x ≡ true → p x ≡ true → holds (filter p ds) x ≡ true
-passes_kept p [] x held passes = held
-passes_kept p (d ∷ ds) x held passes =
-    elim (either (same_entry d x) (holds ds x) held) as (λ c. holds (cond (p d) (d ∷ filter p ds) (filter p ds)) x ≡ true) [
-      | inl here ↦
-          let is : p d ≡ true = ap p (same_entry_is d x here) ∙ passes in
-          ap (λ (b : Bool). holds (cond b (d ∷ filter p ds) (filter p ds)) x) is ∙ ap (λ (b : Bool). b || holds (filter p ds) x) here
-      | inr later ↦
-          elim (p d) as (λ b. holds (cond b (d ∷ filter p ds) (filter p ds)) x ≡ true) [
-            | true ↦ ap (λ (b : Bool). same_entry d x || b) (passes_kept p ds x later passes) ∙ or_true (same_entry d x)
-            | false ↦ passes_kept p ds x later passes
-          ]
-    ]
-
 -- ---- held in the logs and among the arrivals
 
-same_place : (m : Draft) (o : Option Draft) → is_same_as m o ≡ true → o ≡ Some m
-same_place m None same = cc
-same_place m (Some x) same = ap (λ (y : Draft). Some y) (same_is x m same)
-
 stands_held : (es : List Placed) → IsArrivals es → (x : Placed) → is_held (logs_of es) x ≡ true → holds es x ≡ true
-stands_held es arrive x held = held_number es arrive x.origin x.n x.message (same_place x.message (message_at (log_of x.origin es) x.n) held)
+stands_held es arrive x held = held_in_logs es arrive x ∙ held
 
 held_stands : (es : List Placed) → IsArrivals es → (x : Placed) → holds es x ≡ true → is_held (logs_of es) x ≡ true
-held_stands es arrive x held = ap (is_same_as x.message) (one_place es arrive x held) ∙ same_itself x.message
+held_stands es arrive x held = sym (held_in_logs es arrive x) ∙ held
 
 kept_last : (es fs : List Placed) (x : Placed) → holds fs x ≡ true → holds (es ++ fs) x ≡ true
 kept_last [] fs x held = held
-kept_last (e ∷ es) fs x held = ap (λ (b : Bool). same_entry e x || b) (kept_last es fs x held) ∙ or_true (same_entry e x)
+kept_last (e ∷ es) fs x held = ap (λ (b : Bool). same_entry e x || b) (kept_last es fs x held) ∙ or-true (same_entry e x)
 
 -- after a delta was accepted each of its entries is held
 pub joined_holds : (es ds : List Placed) → IsArrivals es → (x : Placed) → holds ds x ≡ true → holds (arrivals_joined es ds) x ≡ true
 joined_holds es ds arrive x in_delta =
     elim (is_held (logs_of es) x) as (λ b. is_held (logs_of es) x ≡ b → holds (arrivals_joined es ds) x ≡ true) [
       | true ↦ λ held. kept_first es (fresh_of es ds) x (stands_held es arrive x held)
-      | false ↦ λ new. kept_last es (fresh_of es ds) x (passes_kept (λ e. not (is_held (logs_of es) e)) ds x in_delta (ap not new))
+      | false ↦ λ new. kept_last es (fresh_of es ds) x (kept_is (λ e. not (is_held (logs_of es) e)) x (ap not new) ds ∙ in_delta)
     ] refl
 
 -- ---- a delta of which each entry is held
@@ -92,16 +68,16 @@ module _ (w : State) (closed : IsClosed w) (s number : ℕ) (d : List Placed) (c
   own x in_delta = closed.held s x (all x in_delta)
 
   all_held : fresh_of (held_at w s) d ≡ []
-  all_held = filter_none (λ e. not (is_held (logs_of (held_at w s)) e)) d (none_in _ d (λ x in_delta. ap not (held_stands (held_at w s) (closed.arrivals s) x (all x in_delta))))
+  all_held = filter_none (λ e. not (is_held (logs_of (held_at w s)) e)) d (passes_none _ d (λ x in_delta. ap not (held_stands (held_at w s) (closed.arrivals s) x (all x in_delta))))
 
   nothing_refused : refusal_by (core_at w s) d ≡ None
   nothing_refused = unrefused s (length w.held) (logs_of (held_at w s)) d (record {
     inside = sites;
-    known = none_in (is_ahead s (logs_of (held_at w s))) d (λ x in_delta. not_ahead w closed s x (own x in_delta));
-    no_gap = none_first (is_past (logs_of (held_at w s))) 0 d (none_in (is_past (logs_of (held_at w s))) d (λ x in_delta.
+    known = passes_none (is_ahead s (logs_of (held_at w s))) d (λ x in_delta. not_ahead w closed s x (own x in_delta));
+    no_gap = none_first (is_past (logs_of (held_at w s))) 0 d (passes_none (is_past (logs_of (held_at w s))) d (λ x in_delta.
         not_past (length (log_of x.origin (held_at w s))) x.n
         (within (log_of x.origin (held_at w s)) x.n x.message (one_place (held_at w s) (closed.arrivals s) x (all x in_delta)))));
-    no_fork = none_in (is_fork (logs_of (held_at w s))) d (λ x in_delta. no_other w closed s x (own x in_delta) (message_at (log_of x.origin (held_at w s)) x.n) refl);
+    no_fork = passes_none (is_fork (logs_of (held_at w s))) d (λ x in_delta. no_other w closed s x (own x in_delta) (message_at (log_of x.origin (held_at w s)) x.n) refl);
   })
 
   -- the world accepts it, and nothing of it is new

@@ -8,6 +8,7 @@ use Rattle.sct_site.specs.Cores.{Core}
 use Rattle.sct_world.specs.States.{State, is_size, is_no_site, held_at, core_at, with_held}
 use Rattle.sct_world.specs.Inside.{cores_from, held_by, state_of, IsWorld}
 use Rattle.sct_world.specs.Closed.{IsClosed}
+use Rattle.sct_world.proofs.StateLemmas.{inside}
 
 -- ---- numbered sites
 
@@ -48,9 +49,6 @@ cores-push n g (suc k) =
     ∙ ap (λ (cs : List Core). record { number = n; group = g; arrivals = [] } ∷ cs) (cores-push (n + 1) g k)
 
 -- ---- one site of a world
-
-inside : (n site : ℕ) → (nat_lt site 1 || nat_lt n site) ≡ false → site - 1 < n
-inside n site there = grind (arith, nat_tests)
 
 its_number : (n site : ℕ) → (nat_lt site 1 || nat_lt n site) ≡ false → 1 + (site - 1) ≡ site
 its_number n site there = grind (arith, nat_tests)

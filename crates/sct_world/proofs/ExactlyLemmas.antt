@@ -1,14 +1,15 @@
 -- Convergence: what a site holds after events is exactly what it took or accepted. An induction over the events.
-use Rattle.std.proofs.Common.{◌≡◌, ◌∙◌, refl, ap, sym, ℕ, zero, suc, ◌-◌, ◌<◌, Bool, arith, true, false, not, cond, ◌||◌, List, [], ◌∷◌, ◌++◌, map, filter, length, nat_eq, nat_lt}
+use Rattle.std.proofs.Common.{◌≡◌, ◌∙◌, refl, ap, sym, ℕ, zero, suc, ◌-◌, Bool, true, false, not, cond, ◌||◌, List, [], ◌∷◌, ◌++◌, map, filter, length, nat_eq, nat_lt}
 use Rattle.std.specs.FinSet as set
 use Rattle.std.specs.FinSet.{contains-union, same_set, contains-from_list}
 use Rattle.std.specs.Prelude.{Option, Some, None, Err}
 use Rattle.std.specs.Ordering.{eq_by_cmp}
 use Rattle.std.specs.Arc.{arc_value}
 use Rattle.std.specs.List.{list_any, slice_get}
-use Rattle.std.proofs.lemmas.Bool.Decides.{nat_tests}
-use Rattle.std.proofs.lemmas.Bool.{false≢true}
+use Rattle.std.proofs.lemmas.Bool.{false≢true, eqb-true}
 use Rattle.std.proofs.lemmas.List.{get_or-replicate, length-replicate}
+use Rattle.std.proofs.lemmas.Option.{same_Some}
+use Rattle.std.proofs.Math.Bool.{or-true}
 use Rattle.sct_message.specs.declared.draft.Draft.{Draft}
 use Rattle.sct_message.specs.OrderLaws.{message_total, message_same}
 use Rattle.sct_message.specs.Order.{message_order, same_message}
@@ -30,7 +31,7 @@ use Rattle.sct_world.specs.declared.event.Event.TheVariants as event
 use Rattle.sct_world.specs.declared.event.Outcome.{Outcome}
 use Rattle.sct_world.specs.declared.event.Outcome.TheVariants as outcome
 use Rattle.sct_world.specs.declared.fault.WorldFault.TheVariants as fault
-use Rattle.sct_world.proofs.StateLemmas.{held-with_same, held-with_other, no_such, sites-after, sites-all, there-after, there-all, IsThere}
+use Rattle.sct_world.proofs.StateLemmas.{held-with_same, held-with_other, no_such, sites-after, sites-all, there-after, there-all, IsThere, inside}
 
 -- ---- sets
 
@@ -39,10 +40,6 @@ union-one s m = union-push s [] m ∙ ap (λ (t : Contents). set.insert t m) (un
 
 union-more : (s : Contents) (xs ys : List Draft) → set.union (set.union s (contents_of xs)) (contents_of ys) ≡ set.union s (contents_of (xs ++ ys))
 union-more s xs ys = associative s (contents_of xs) (contents_of ys) ∙ ap (set.union s) (sym (contents-append xs ys))
-
-or_true : (b : Bool) → (b || true) ≡ true
-or_true true = refl
-or_true false = refl
 
 kept : (a t r s : Bool) → (a || r) ≡ (a || s) → (a || (t || r)) ≡ (a || (t || s))
 kept true t r s e = refl
@@ -56,14 +53,11 @@ left false false r s e also = e
 
 -- ---- a held entry has its message among those held
 
-inside_some : (x y : Draft) → Some x ≡ Some y → x ≡ y
-inside_some x y e = cc
-
 at_first : (x : Draft) (rest : List Draft) (y : Draft) (others : Bool) (k : ℕ) → slice_get (x ∷ rest) k ≡ Some y
     → ((j : ℕ) → slice_get rest j ≡ Some y → others ≡ true) → (same_message x y || others) ≡ true
 at_first x rest y others zero is later =
-    ap (λ (b : Bool). b || others) (ap (same_message x) (sym (inside_some x y is)) ∙ same_itself x)
-at_first x rest y others (suc j) is later = ap (λ (b : Bool). same_message x y || b) (later j is) ∙ or_true (same_message x y)
+    ap (λ (b : Bool). b || others) (ap (same_message x) (sym (same_Some x y is)) ∙ same_itself x)
+at_first x rest y others (suc j) is later = ap (λ (b : Bool). same_message x y || b) (later j is) ∙ or-true (same_message x y)
 
 found : (p : Placed → Bool) (es : List Placed) (k : ℕ) (y : Draft) → slice_get (map (λ e. e.message) (filter p es)) k ≡ Some y
     → list_any (λ d. same_message d y) (map (λ e. e.message) es) ≡ true
@@ -72,7 +66,7 @@ found p (e ∷ es) k y is =
     elim (p e) as (λ b. slice_get (map (λ e. e.message) (cond b (e ∷ filter p es) (filter p es))) k ≡ Some y
     → (same_message e.message y || list_any (λ d. same_message d y) (map (λ e. e.message) es)) ≡ true) [
       | true ↦ λ at. at_first e.message (map (λ e. e.message) (filter p es)) y (list_any (λ d. same_message d y) (map (λ e. e.message) es)) k at (λ j. found p es j y)
-      | false ↦ λ later. ap (λ (b : Bool). same_message e.message y || b) (found p es k y later) ∙ or_true (same_message e.message y)
+      | false ↦ λ later. ap (λ (b : Bool). same_message e.message y || b) (found p es k y later) ∙ or-true (same_message e.message y)
     ] is
 
 at_place : (log : List Draft) (n : ℕ) (y : Draft) → message_at log n ≡ Some y → slice_get log (n - 1) ≡ Some y
@@ -127,9 +121,6 @@ taken_messages core m =
 
 -- ---- one event
 
-same_number : (a b : ℕ) → nat_eq a b ≡ true → a ≡ b
-same_number a b e = grind (arith, nat_tests)
-
 -- what a site holds after another list was put at a site, by whether it is that site
 module _ (i : ℕ) (w : State) (there : is_no_site w i ≡ false) (at : ℕ) (here : is_no_site w at ≡ false) where
   put_is : (arrivals : List Placed) (got : List Draft) → messages_of arrivals ≡ set.union (messages_of (held_at w at)) (contents_of got)
@@ -137,7 +128,7 @@ module _ (i : ℕ) (w : State) (there : is_no_site w i ≡ false) (at : ℕ) (he
   put_is arrivals got is =
       elim (nat_eq at i) as (λ b. nat_eq at i ≡ b → messages_of (held_at (with_held w at arrivals) i) ≡ set.union (messages_of (held_at w i)) (contents_of (cond b got []))) [
         | true ↦ λ same.
-            let site : at ≡ i = same_number at i same in
+            let site : at ≡ i = eqb-true at i same in
             ap (λ (k : ℕ). messages_of (held_at (with_held w at arrivals) k)) (sym site)
             ∙ ap messages_of (held-with_same w at arrivals here)
             ∙ is
@@ -203,13 +194,10 @@ all_got i (e ∷ events) w there D finds =
 
 -- ---- from a world without an entry on
 
-none_opened : (n i : ℕ) → (nat_lt i 1 || nat_lt n i) ≡ false → i - 1 < n
-none_opened n i there = grind (arith, nat_tests)
-
 pub held-opened : (n i : ℕ) → is_no_site (opened n) i ≡ false → held_at (opened n) i ≡ []
 held-opened n i there =
     let none : List Placed = [] in
-    get_or-replicate n (i - 1) none none (none_opened n i (ap (λ (k : ℕ). nat_lt i 1 || nat_lt k i) (sym (length-replicate n none)) ∙ there))
+    get_or-replicate n (i - 1) none none (inside n i (ap (λ (k : ℕ). nat_lt i 1 || nat_lt k i) (sym (length-replicate n none)) ∙ there))
 
 -- each site holds exactly the messages that it took or accepted
 pub exactly : (n : ℕ) (events : List Event) (i : ℕ) → is_no_site (world_after_all (opened n) events) i ≡ false

@@ -1,10 +1,10 @@
 -- What one site hands to another, and why it is refused. Proof plumbing.
-use Rattle.std.proofs.Common.{◌≡◌, ◌≢◌, ◌∙◌, refl, ap, sym, subst, inl, inr, ℕ, ◌+◌, ◌<◌, ◌≤◌, Bool, true, false, not, cond, ◌&&◌, ◌||◌, List, [], ◌∷◌, ◌++◌, filter, length, arith, nat_eq, nat_lt, get_or}
+use Rattle.std.proofs.Common.{◌≡◌, ◌≢◌, ◌∙◌, refl, ap, sym, subst, inl, inr, ℕ, ◌+◌, ◌<◌, ◌≤◌, Bool, true, false, not, cond, ◌||◌, List, [], ◌∷◌, ◌++◌, filter, length, arith, nat_eq, nat_lt, get_or}
 use Rattle.std.specs.Prelude.{Option, Some, None, IfSome, MatchOption, Result, Ok, Err, IfOk, IfErr, slice_set}
 use Rattle.std.specs.Result.{IsErrAnd}
 use Rattle.std.specs.List.{list_any, find}
 use Rattle.std.proofs.lemmas.Bool.Decides.{nat_tests}
-use Rattle.std.proofs.lemmas.Bool.{false≢true}
+use Rattle.std.proofs.lemmas.Bool.{false≢true, ltb-true, and_parts, or_cases, eqb-true, eqb-false}
 use Rattle.std.proofs.lemmas.Option.{slice_get_read, get_or_from_slice_get}
 use Rattle.std.proofs.lemmas.List.{append-nil, get_or-set_same, get_or-set_other, length-set}
 use Rattle.sct_message.specs.declared.draft.Draft.{Draft}
@@ -19,18 +19,19 @@ use Rattle.sct_delta.specs.declared.fault.DeltaFault.{DeltaFault}
 use Rattle.sct_delta.specs.declared.fault.DeltaFault.TheVariants as fault
 use Rattle.sct_delta.proofs.EntryLemmas.{from-append}
 use Rattle.sct_delta.proofs.FittingLemmas.{refused_where_it_does_not_fit}
-use Rattle.sct_delta.proofs.HeldLemmas.{passes_none}
+use Rattle.sct_delta.proofs.HeldLemmas.{passes_none, one_entry}
 use Rattle.sct_delta.proofs.JoinLemmas.{IsPassed, passed}
-use Rattle.sct_delta.proofs.TestLemmas.{filter_none, none_also}
+use Rattle.sct_message.proofs.Tests.{and_implied, none_kept as filter_none}
+use Rattle.sct_delta.proofs.TestLemmas.{none_also}
 use Rattle.sct_site.specs.Cores.{Core, IsSite, logs_of, is_above, entries_above, fresh_of, arrivals_joined, refusal_by}
 use Rattle.sct_site.proofs.AboveLemmas.{entry_total, entry_same}
 use Rattle.sct_site.proofs.ArrivalLemmas.{length-log}
 use Rattle.sct_world.specs.Settling.{no_core, core_in, held_by_some, IsKept, AreKept, IsWhy, IsAhead, HoldApart, HasAll, HasEach, IsWhole, IsWholeOfOne, OfOneGroup}
 use Rattle.sct_world.proofs.AgainLemmas.{joined_holds}
-use Rattle.sct_world.proofs.HeldLemmas.{either, implied, same_entry_is, one_place, held_number}
+use Rattle.sct_world.proofs.HeldLemmas.{one_place, held_number}
 use Rattle.sct_world.proofs.KeptLemmas.{place_some, same_kept}
 use Rattle.sct_world.proofs.LawLemmas.{at_number, not_0}
-use Rattle.sct_world.proofs.NoForkLemmas.{found_in, told_never, or_else, one_of, any_kept, among_above, kept_first, within, number_is, number_other}
+use Rattle.sct_world.proofs.NoForkLemmas.{found_in, told_never, or_else, one_of, any_kept, among_above, kept_first, within}
 
 -- ---- numbers and tests
 
@@ -46,19 +47,12 @@ still_past k n e = grind (arith, nat_tests)
 has_first : (size n : ℕ) → nat_eq n 0 ≡ false → nat_lt size n ≡ false → nat_lt size 1 ≡ false
 has_first size n above within = grind (arith, nat_tests)
 
-is_less : (a b : ℕ) → nat_lt a b ≡ true → a < b
-is_less a b e = grind (arith, nat_tests)
-
-both : (a b : Bool) → (a && b) ≡ true → (a ≡ true) × (b ≡ true)
-both true b e = (refl, e)
-both false b e = cc
-
 kept_passes : (p : Placed → Bool) (ds : List Placed) (e : Placed) → holds (filter p ds) e ≡ true → p e ≡ true
 kept_passes p [] e held = absurd (false≢true held)
 kept_passes p (d ∷ ds) e held =
     elim (p d) as (λ b. p d ≡ b → holds (cond b (d ∷ filter p ds) (filter p ds)) e ≡ true → p e ≡ true) [
-      | true ↦ λ passes some. elim (either (same_entry d e) (holds (filter p ds) e) some) as (λ c. p e ≡ true) [
-        | inl here ↦ ap p (sym (same_entry_is d e here)) ∙ passes
+      | true ↦ λ passes some. elim (or_cases (same_entry d e) (holds (filter p ds) e) some) as (λ c. p e ≡ true) [
+        | inl here ↦ ap p (sym (one_entry d e here)) ∙ passes
         | inr later ↦ kept_passes p ds e later
       ]
       | false ↦ λ fails later. kept_passes p ds e later
@@ -78,7 +72,7 @@ module _ (count : ℕ → ℕ) (empty : (o : ℕ) → count o ≡ 0) (es : List 
   all_above e above =
       any_ascending entry_total entry_same (λ x. same_entry x e) (filter (is_above count) es)
       ∙ list_any-filter (λ x. same_entry x e) (is_above count) es
-      ∙ ap (λ (p : Placed → Bool). list_any p es) (λ i x. implied (is_above count x) (same_entry x e) (λ same. ap (is_above count) (same_entry_is x e same) ∙ above) i)
+      ∙ ap (λ (p : Placed → Bool). list_any p es) (λ i x. and_implied (is_above count x) (same_entry x e) (λ same. ap (is_above count) (one_entry x e same) ∙ above) i)
 
   pub whole_has : (e : Placed) → holds es e ≡ true → holds d e ≡ true
   whole_has e held =
@@ -146,7 +140,7 @@ module _ (cores : List Core) (from to : ℕ) (there : to < length cores) (giver 
     no_fork = λ e in_delta low.
         let above : nat_eq e.n 0 ≡ false = entry_above gives giver.order e (among e in_delta) in
         let none : e.n ≤ 0 = low in
-        absurd (number_other e.n 0 above (omega (arith, none)));
+        absurd (eqb-false e.n 0 above (omega (arith, none)));
   }
 
   no_gap : (log : ℕ → List Draft) → list_any (is_past log) (firsts_after 0 d) ≡ false
@@ -157,9 +151,9 @@ module _ (cores : List Core) (from to : ℕ) (there : to < length cores) (giver 
 
   why_ahead : (e : Placed) → holds d e ≡ true → is_ahead own (logs_of held) e ≡ true → IsAhead cores e.n
   why_ahead e in_delta is =
-      let parts : (nat_eq e.origin own ≡ true) × (nat_lt (length (log_of own held)) e.n ≡ true) = both (nat_eq e.origin own) (nat_lt (length (log_of own held)) e.n) is in
-      let owner : e.origin ≡ own = number_is e.origin own parts.0 in
-      let above : length (log_of own held) < e.n = is_less (length (log_of own held)) e.n parts.1 in
+      let parts : (nat_eq e.origin own ≡ true) × (nat_lt (length (log_of own held)) e.n ≡ true) = and_parts (nat_eq e.origin own) (nat_lt (length (log_of own held)) e.n) is in
+      let owner : e.origin ≡ own = eqb-true e.origin own parts.0 in
+      let above : length (log_of own held) < e.n = ltb-true (length (log_of own held)) e.n parts.1 in
       let count : length (log_of own held) ≡ held_from e.origin held = length-log own held ∙ ap (λ (o : ℕ). held_from o held) (sym owner) in
       record { holder = from; owner = to; entry = e; there = there; held = among e in_delta; number = refl; of_owner = owner; above = omega (arith, above, count) }
 
@@ -204,7 +198,7 @@ module _ (cores : List Core) (from to : ℕ) (there : to < length cores) (giver 
         let in_delta : holds d e ≡ true = any_kept (λ x. not (is_held (logs_of held) x)) (λ x. same_entry x e) d fresh in
         elim (nat_eq e.origin own) as (λ b. nat_eq e.origin own ≡ b → b ≡ false) [
           | true ↦ λ same.
-              let owner : e.origin ≡ own = number_is e.origin own same in
+              let owner : e.origin ≡ own = eqb-true e.origin own same in
               let known : e.n ≤ vector_of (logs_of held) own = fitting.known e in_delta owner in
               let here : is_held (logs_of held) e ≡ true = fitting.no_fork e in_delta (subst (λ (o : ℕ). e.n ≤ vector_of (logs_of held) o) (sym owner) known) in
               absurd (false≢true (sym (ap not here) ∙ kept_passes (λ x. not (is_held (logs_of held) x)) d e fresh))
@@ -235,10 +229,10 @@ module _ (cores : List Core) (from to : ℕ) (there : to < length cores) (giver 
       size = length-set cores to new;
       each = λ k. elim (nat_eq k to) as (λ b. nat_eq k to ≡ b → IsKept cores (core_in cores k) (core_in (slice_set cores to new) k)) [
         | true ↦ λ same.
-            subst (λ (p : ℕ). IsKept cores (core_in cores p) (core_in (slice_set cores to new) p)) (sym (number_is k to same))
+            subst (λ (p : ℕ). IsKept cores (core_in cores p) (core_in (slice_set cores to new) p)) (sym (eqb-true k to same))
             (subst (λ (c : Core). IsKept cores (core_in cores to) c) (sym put) taken)
         | false ↦ λ other.
-            subst (λ (c : Core). IsKept cores (core_in cores k) c) (sym (get_or-set_other cores to k new no_core (number_other k to other))) (same_kept cores k)
+            subst (λ (c : Core). IsKept cores (core_in cores k) c) (sym (get_or-set_other cores to k new no_core (eqb-false k to other))) (same_kept cores k)
       ] refl;
     }
 

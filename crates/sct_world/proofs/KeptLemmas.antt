@@ -3,20 +3,20 @@ use Rattle.std.proofs.Common.{◌≡◌, ◌∙◌, refl, ap, sym, subst, inl, i
 use Rattle.std.proofs.lemmas.Bool.Decides.{nat_tests}
 use Rattle.std.specs.Cmp.{both_ways}
 use Rattle.std.specs.Prelude.{Result, Ok, Err, OnOk, IfErr}
-use Rattle.std.proofs.lemmas.Bool.{false≢true}
+use Rattle.std.proofs.lemmas.Bool.{false≢true, eqb-true, and_parts, or_cases}
+use Rattle.std.proofs.Math.Bool.{or-true}
 use Rattle.sct_delta.specs.Entries.{Placed, entries_from, held_from, holds}
 use Rattle.sct_delta.specs.declared.fault.DeltaFault.{DeltaFault}
 use Rattle.sct_delta.specs.declared.fault.DeltaFault.TheVariants as fault
 use Rattle.sct_site.specs.Cores.{Core}
 use Rattle.sct_world.specs.Settling.{core_in, held_by_some, is_beside, are_one_group, IsKept, AreKept, AreSettled, IsWhy, HasAll, OfOneGroup}
-use Rattle.sct_world.proofs.HeldLemmas.{or_true, either}
 
 -- ---- an entry that some site holds
 
 pub place_some : (cores : List Core) (k : ℕ) (e : Placed) → holds (core_in cores k).arrivals e ≡ true → held_by_some cores e ≡ true
 place_some [] k e held = absurd (false≢true held)
 place_some (c ∷ cores) zero e held = ap (λ (b : Bool). b || held_by_some cores e) held
-place_some (c ∷ cores) (suc k) e held = ap (λ (b : Bool). holds c.arrivals e || b) (place_some cores k e held) ∙ or_true (holds c.arrivals e)
+place_some (c ∷ cores) (suc k) e held = ap (λ (b : Bool). holds c.arrivals e || b) (place_some cores k e held) ∙ or-true (holds c.arrivals e)
 
 -- a site holds the entry
 pub record HolderOf (cores : List Core) (e : Placed) : Type 0 where
@@ -27,7 +27,7 @@ pub record HolderOf (cores : List Core) (e : Placed) : Type 0 where
 pub some_place : (cores : List Core) (e : Placed) → held_by_some cores e ≡ true → HolderOf cores e
 some_place [] e held = absurd (false≢true held)
 some_place (c ∷ cores) e held =
-    elim (either (holds c.arrivals e) (held_by_some cores e) held) as (λ p. HolderOf (c ∷ cores) e) [
+    elim (or_cases (holds c.arrivals e) (held_by_some cores e) held) as (λ p. HolderOf (c ∷ cores) e) [
       | inl here ↦ record { place = 0; there = omega arith; held = here }
       | inr later ↦
           let rest : HolderOf cores e = some_place cores e later in
@@ -96,9 +96,6 @@ why_before a b kept (fault.BadDelta line) why = why
 
 -- ---- place after place
 
-number_is : (a b : ℕ) → nat_eq a b ≡ true → a ≡ b
-number_is a b e = grind (arith, nat_tests)
-
 below : (j k : ℕ) → nat_eq j k ≡ false → j < k + 1 → j < k
 below j k other less = grind (arith, nat_tests)
 
@@ -107,19 +104,13 @@ pub record AreGathered (before now : List Core) (k : ℕ) : Type 0 where
   pub kept : AreKept before now
   pub firsts : (j : ℕ) → j < k → HasAll (core_in before j) (core_in now 0)
 
-pub gathered_first : (cores : List Core) → AreGathered cores cores 1
-gathered_first cores = record {
-  kept = kept_itself cores;
-  firsts = λ j less. let is : 0 ≡ j = omega (arith, less) in subst (λ (p : ℕ). HasAll (core_in cores p) (core_in cores 0)) is (λ e held. held);
-}
-
 pub gathered_more : (before now new : List Core) (k : ℕ) → AreGathered before now k → AreKept now new → HasAll (core_in now k) (core_in new 0) → AreGathered before new (k + 1)
 gathered_more before now new k so_far kept handed = record {
   kept = kept_on before now new so_far.kept kept;
   firsts = λ j less.
       elim (nat_eq j k) as (λ b. nat_eq j k ≡ b → HasAll (core_in before j) (core_in new 0)) [
         | true ↦ λ same.
-            let is : k ≡ j = sym (number_is j k same) in
+            let is : k ≡ j = sym (eqb-true j k same) in
             let was : IsKept before (core_in before k) (core_in now k) = so_far.kept.each k in
             subst (λ (p : ℕ). HasAll (core_in before p) (core_in new 0)) is (λ e held. handed e (was.keeps e held))
         | false ↦ λ other.
@@ -145,7 +136,7 @@ reached_more before now new k so_far kept handed = record {
   firsts = λ j less.
       elim (nat_eq j k) as (λ b. nat_eq j k ≡ b → HasAll (core_in before 0) (core_in new j)) [
         | true ↦ λ same.
-            let is : k ≡ j = sym (number_is j k same) in
+            let is : k ≡ j = sym (eqb-true j k same) in
             let was : IsKept before (core_in before 0) (core_in now 0) = so_far.kept.each 0 in
             subst (λ (p : ℕ). HasAll (core_in before 0) (core_in new p)) is (λ e held. handed e (was.keeps e held))
         | false ↦ λ other.
@@ -156,28 +147,17 @@ reached_more before now new k so_far kept handed = record {
 
 -- ---- sites of one group
 
-both : (a b : Bool) → (a && b) ≡ true → (a ≡ true) × (b ≡ true)
-both true b e = (refl, e)
-both false b e = absurd (false≢true e)
-
 beside_group : (c : Core) (others : List Core) (k : ℕ) → is_beside c others ≡ true → k < length others → (core_in others k).group ≡ c.group
 beside_group c [] k is there = absurd (omega (arith, there))
 beside_group c (x ∷ others) zero is there =
     let parts : ((nat_eq x.group c.group && not (nat_eq x.number c.number)) ≡ true) × (is_beside c others ≡ true)
-    = both (nat_eq x.group c.group && not (nat_eq x.number c.number)) (is_beside c others) is in
-    let first : (nat_eq x.group c.group ≡ true) × (not (nat_eq x.number c.number) ≡ true) = both (nat_eq x.group c.group) (not (nat_eq x.number c.number)) parts.0 in
-    number_is x.group c.group first.0
+    = and_parts (nat_eq x.group c.group && not (nat_eq x.number c.number)) (is_beside c others) is in
+    let first : (nat_eq x.group c.group ≡ true) × (not (nat_eq x.number c.number) ≡ true) = and_parts (nat_eq x.group c.group) (not (nat_eq x.number c.number)) parts.0 in
+    eqb-true x.group c.group first.0
 beside_group c (x ∷ others) (suc k) is there =
     let parts : ((nat_eq x.group c.group && not (nat_eq x.number c.number)) ≡ true) × (is_beside c others ≡ true)
-    = both (nat_eq x.group c.group && not (nat_eq x.number c.number)) (is_beside c others) is in
+    = and_parts (nat_eq x.group c.group && not (nat_eq x.number c.number)) (is_beside c others) is in
     beside_group c others k parts.1 (omega (arith, there))
-
-pub of_one_group : (cores : List Core) → are_one_group cores ≡ true → OfOneGroup cores
-of_one_group [] is place there = absurd (omega (arith, there))
-of_one_group (c ∷ others) is zero there = refl
-of_one_group (c ∷ others) is (suc k) there =
-    let parts : (is_beside c others ≡ true) × (are_one_group others ≡ true) = both (is_beside c others) (are_one_group others) is in
-    beside_group c others k parts.0 (omega (arith, there))
 
 pub group_kept : (a b : List Core) → AreKept a b → OfOneGroup a → OfOneGroup b
 group_kept a b kept one place there =

@@ -1,14 +1,15 @@
 -- A site of a world that has the numbers of a delta has its entries. Proof plumbing.
-use Rattle.std.proofs.Common.{◌≡◌, ◌∙◌, refl, ap, sym, inl, inr, ℕ, ◌-◌, ◌≤◌, Bool, true, false, not, ◌&&◌, List, [], ◌∷◌, length, nat_eq, get_or}
+use Rattle.std.proofs.Common.{◌≡◌, ◌∙◌, refl, ap, sym, inl, inr, ℕ, ◌-◌, ◌≤◌, Bool, true, false, not, List, [], ◌∷◌, length, nat_eq, get_or}
 use Rattle.std.specs.Prelude.{Option, Some, None, Ok}
 use Rattle.std.specs.List.{list_all, list_any}
 use Rattle.std.specs.Option.{is_none}
-use Rattle.std.proofs.lemmas.Bool.{false≢true}
+use Rattle.std.proofs.lemmas.Bool.{false≢true, and_parts, not-false, or_cases}
 use Rattle.sct_message.specs.declared.draft.Draft.{Draft}
 use Rattle.sct_message.specs.Order.{same_message}
 use Rattle.sct_set.proofs.ContentsLemmas.{same_is}
 use Rattle.sct_delta.specs.Entries.{Placed, log_of, same_entry, holds}
 use Rattle.sct_delta.specs.Refusals.{message_at, is_other_than, is_outside}
+use Rattle.sct_delta.proofs.HeldLemmas.{one_entry, passes_none}
 use Rattle.sct_site.specs.Cores.{Core, has_number, has_numbers}
 use Rattle.sct_world.specs.Closed.{IsClosed}
 use Rattle.sct_world.specs.Inside.{state_of, IsWorld}
@@ -16,34 +17,26 @@ use Rattle.sct_world.specs.States.{State, is_no_site, held_at, delta_at}
 use Rattle.sct_world.specs.Histories.{step_at, after_at}
 use Rattle.sct_world.specs.declared.event.Event.TheVariants as event
 use Rattle.sct_world.specs.declared.event.Step.TheVariants as step
-use Rattle.sct_world.proofs.AgainLemmas.{answered_again, left_again, none_in}
-use Rattle.sct_world.proofs.HeldLemmas.{either, same_entry_is, held_number}
+use Rattle.sct_world.proofs.AgainLemmas.{answered_again, left_again}
+use Rattle.sct_world.proofs.HeldLemmas.{held_number}
 use Rattle.sct_world.proofs.NoForkLemmas.{no_other, not_outside}
 use Rattle.sct_world.proofs.WorldLemmas.{at_place, closed_now, found, old_is}
 
 -- ---- what all entries of a list pass, each passes
 
-both : (a b : Bool) → (a && b) ≡ true → (a ≡ true) × (b ≡ true)
-both true b e = (refl, e)
-both false b e = absurd (false≢true e)
-
 each_passes : (p : Placed → Bool) (ds : List Placed) → list_all p ds ≡ true → (x : Placed) → holds ds x ≡ true → p x ≡ true
 each_passes p [] all x held = absurd (false≢true held)
 each_passes p (d ∷ ds) all x held =
-    let parts : (p d ≡ true) × (list_all p ds ≡ true) = both (p d) (list_all p ds) all in
-    elim (either (same_entry d x) (holds ds x) held) as (λ c. p x ≡ true) [
-      | inl here ↦ ap p (sym (same_entry_is d x here)) ∙ parts.0
+    let parts : (p d ≡ true) × (list_all p ds ≡ true) = and_parts (p d) (list_all p ds) all in
+    elim (or_cases (same_entry d x) (holds ds x) held) as (λ c. p x ≡ true) [
+      | inl here ↦ ap p (sym (one_entry d x here)) ∙ parts.0
       | inr later ↦ each_passes p ds parts.1 x later
     ]
 
 -- ---- the entry under a number that is held is the delta's
 
-turned : (b : Bool) → not b ≡ false → b ≡ true
-turned true e = refl
-turned false e = sym e
-
 no_different : (m x : Draft) → is_other_than m (Some x) ≡ false → x ≡ m
-no_different m x e = same_is x m (turned (same_message x m) e)
+no_different m x e = same_is x m (not-false (same_message x m) e)
 
 module _ (w : State) (closed : IsClosed w) (s : ℕ) (d : List Placed) (own : (x : Placed) → holds d x ≡ true → holds (held_at w x.origin) x ≡ true)
     (numbers : has_numbers (held_at w s) d ≡ true) where
@@ -59,7 +52,7 @@ module _ (w : State) (closed : IsClosed w) (s : ℕ) (d : List Placed) (own : (x
       at_number x in_delta (message_at (log_of x.origin (held_at w s)) x.n) refl (each_passes (has_number (held_at w s)) d numbers x in_delta)
 
   pub of_sites : list_any (is_outside (length w.held)) d ≡ false
-  of_sites = none_in (is_outside (length w.held)) d (λ x in_delta. not_outside w closed s x (own x in_delta))
+  of_sites = passes_none (is_outside (length w.held)) d (λ x in_delta. not_outside w closed s x (own x in_delta))
 
 -- ---- the same of a world as it is kept
 

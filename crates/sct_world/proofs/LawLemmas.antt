@@ -4,8 +4,8 @@ use Rattle.std.specs.Prelude.{Option, Some, None, slice_index_or, replicate}
 use Rattle.std.specs.Arc.{arc_value}
 use Rattle.std.specs.List.{slice_get}
 use Rattle.std.proofs.lemmas.Bool.Decides.{nat_tests}
-use Rattle.std.proofs.lemmas.Bool.{false≢true}
-use Rattle.std.proofs.lemmas.Option.{slice_get_cases, get_or_from_slice_get}
+use Rattle.std.proofs.lemmas.Bool.{false≢true, eqb-true}
+use Rattle.std.proofs.lemmas.Option.{slice_get_cases, get_or_from_slice_get, same_Some}
 use Rattle.std.specs.Cmp.{both_ways}
 use Rattle.sct_message.specs.declared.draft.Draft.{Draft}
 use Rattle.sct_delta.specs.Entries.{Placed, log_of, held_from, holds, IsArrivals}
@@ -42,16 +42,13 @@ equal_reports m n events others i j here there same bank day list =
 
 -- ---- a site never loses an entry
 
-number_is : (a b : ℕ) → nat_eq a b ≡ true → a ≡ b
-number_is a b e = grind (arith, nat_tests)
-
 -- another list is put at a site: a site holds what it held, where that list does
 put_keeps : (w : State) (at site : ℕ) (es : List Placed) (e : Placed) → is_no_site w site ≡ false → is_no_site w at ≡ false
     → (holds (held_at w at) e ≡ true → holds es e ≡ true) → holds (held_at w site) e ≡ true → holds (held_at (with_held w at es) site) e ≡ true
 put_keeps w at site es e there here keeps held =
     elim (nat_eq at site) as (λ b. nat_eq at site ≡ b → holds (held_at (with_held w at es) site) e ≡ true) [
       | true ↦ λ same.
-          let is : at ≡ site = number_is at site same in
+          let is : at ≡ site = eqb-true at site same in
           ap (λ (k : ℕ). holds (held_at (with_held w at es) k) e) (sym is)
           ∙ ap (λ (l : List Placed). holds l e) (held-with_same w at es here)
           ∙ keeps (ap (λ (k : ℕ). holds (held_at w k) e) is ∙ held)
@@ -154,9 +151,6 @@ closed_history sites events = closed_all events (opened sites) (closed_opened si
 
 -- ---- equal vectors
 
-inside_some : {X : Type 0} {x y : X} → Some x ≡ Some y → x ≡ y
-inside_some e = cc
-
 -- there is a message at each number of a log
 pub at_number : (log : List Draft) (n : ℕ) → nat_eq n 0 ≡ false → nat_lt (length log) n ≡ false → (P : Type 0) → ((m : Draft) → message_at log n ≡ Some m → P) → P
 at_number log n above inside P some =
@@ -188,7 +182,7 @@ module _ (w : State) (closed : IsClosed w) where
       let there : holds (held_at w j) other ≡ true = held_number (held_at w j) (closed.arrivals j) e.origin e.n m is in
       let mine : message_at (log_of e.origin (held_at w e.origin)) e.n ≡ Some e.message = one_place (held_at w e.origin) (closed.arrivals e.origin) e (closed.held i e held) in
       let theirs : message_at (log_of e.origin (held_at w e.origin)) e.n ≡ Some m = one_place (held_at w e.origin) (closed.arrivals e.origin) other (closed.held j other there) in
-      let message : m ≡ e.message = inside_some (sym theirs ∙ mine) in
+      let message : m ≡ e.message = same_Some m e.message (sym theirs ∙ mine) in
       ap (λ (x : Draft). holds (held_at w j) (record { origin = e.origin; n = e.n; message = x })) (sym message) ∙ there)
 
 pub equal_vectors : EqualVectorsHoldAlike

@@ -1,13 +1,14 @@
 -- In a world no fork comes, and events keep what that rests on. Proof plumbing.
-use Rattle.std.proofs.Common.{◌≡◌, ◌≢◌, ◌∙◌, ◌⊎◌, refl, ap, sym, subst, inl, inr, ℕ, zero, suc, ◌+◌, ◌-◌, ◌<◌, Bool, true, false, not, cond, ◌&&◌, ◌||◌, List, [], ◌∷◌, ◌++◌, filter, length, arith, nat_eq, nat_lt, get_or}
+use Rattle.std.proofs.Common.{◌≡◌, ◌∙◌, ◌⊎◌, refl, ap, sym, subst, inl, inr, ℕ, zero, suc, ◌+◌, ◌-◌, ◌<◌, Bool, true, false, not, cond, ◌&&◌, ◌||◌, List, [], ◌∷◌, ◌++◌, filter, length, arith, nat_eq, nat_lt, get_or}
 use Rattle.std.specs.Prelude.{Option, Some, None, IfSome, slice_set, slice_index_or}
 use Rattle.std.specs.List.{list_any, find, slice_get}
 use Rattle.std.specs.Option.{option_or}
 use Rattle.std.proofs.lemmas.Bool.Decides.{nat_tests}
-use Rattle.std.proofs.lemmas.Bool.{false≢true}
+use Rattle.std.proofs.lemmas.Bool.{false≢true, eqb-true, eqb-false, or_cases}
 use Rattle.std.proofs.lemmas.List.{get_or-set_same, get_or-set_other, length-set}
 use Rattle.std.proofs.lemmas.List.Folds.{list_any-append}
-use Rattle.std.proofs.lemmas.Option.{slice_get_within}
+use Rattle.std.proofs.lemmas.Option.{slice_get_within, same_Some}
+use Rattle.std.proofs.Math.Bool.{or-false, or-true}
 use Rattle.sct_message.specs.declared.draft.Draft.{Draft}
 use Rattle.sct_message.specs.Ascending.{ascending}
 use Rattle.sct_message.specs.Order.{same_message}
@@ -18,6 +19,7 @@ use Rattle.sct_delta.specs.Refusals.{message_at, is_other_than, is_held, is_fork
 use Rattle.sct_delta.specs.declared.fault.DeltaFault.{DeltaFault}
 use Rattle.sct_delta.specs.declared.fault.DeltaFault.TheVariants as fault
 use Rattle.sct_delta.proofs.EntryLemmas.{rises-numbered, run_is}
+use Rattle.sct_delta.proofs.HeldLemmas.{entry_itself, one_entry}
 use Rattle.sct_delta.proofs.JoinLemmas.{passed}
 use Rattle.sct_site.specs.Cores.{logs_of, is_above, entry_order, entries_above, fresh_of, arrivals_joined, arrivals_taken, is_repeat, own_entry, refusal_by}
 use Rattle.sct_site.proofs.AboveLemmas.{entry_total, entry_same, rises_as_entries, from_above}
@@ -25,24 +27,21 @@ use Rattle.sct_site.proofs.ArrivalLemmas.{arrivals-joined, arrivals-push}
 use Rattle.sct_world.specs.Closed.{IsClosed}
 use Rattle.sct_world.specs.Faults.{IsNoFork}
 use Rattle.sct_world.specs.States.{State, is_no_site, held_at, core_at, with_held}
-use Rattle.sct_world.proofs.HeldLemmas.{or_true, either, same_entry_is, entry_itself, one_place, held_number}
-use Rattle.sct_world.proofs.StateLemmas.{held-with_same}
+use Rattle.sct_world.proofs.HeldLemmas.{one_place, held_number}
+use Rattle.sct_world.proofs.StateLemmas.{held-with_same, inside}
 
 -- ---- what a search finds stands in the list
-
-pub inside_some : {X : Type 0} {x y : X} → Some x ≡ Some y → x ≡ y
-inside_some e = cc
 
 pub found_in : (p : Placed → Bool) (ds : List Placed) (e : Placed) → find p ds ≡ Some e → (holds ds e ≡ true) × (p e ≡ true)
 found_in p [] e is = cc
 found_in p (d ∷ ds) e is =
     elim (p d) as (λ b. p d ≡ b → cond b (Some d) (find p ds) ≡ Some e → ((same_entry d e || holds ds e) ≡ true) × (p e ≡ true)) [
       | true ↦ λ passes first.
-          let same : d ≡ e = inside_some first in
+          let same : d ≡ e = same_Some d e first in
           (ap (λ (b : Bool). b || holds ds e) (ap (λ (x : Placed). same_entry x e) same ∙ entry_itself e), ap p (sym same) ∙ passes)
       | false ↦ λ fails later.
           let rest : (holds ds e ≡ true) × (p e ≡ true) = found_in p ds e later in
-          (ap (λ (b : Bool). same_entry d e || b) rest.0 ∙ or_true (same_entry d e), rest.1)
+          (ap (λ (b : Bool). same_entry d e || b) rest.0 ∙ or-true (same_entry d e), rest.1)
     ] refl is
 
 module _ (P : DeltaFault → Type 0) (tells : Placed → DeltaFault) (p : Placed → Bool) (ds : List Placed) where
@@ -82,7 +81,7 @@ module _ (w : State) (closed : IsClosed w) (s : ℕ) where
       let found : Placed = record { origin = e.origin; n = e.n; message = x } in
       let there : message_at (log_of e.origin (held_at w e.origin)) e.n ≡ Some x
       = one_place (held_at w e.origin) (closed.arrivals e.origin) found (closed.held s found (held_number (held_at w s) (closed.arrivals s) e.origin e.n x is)) in
-      let same : x ≡ e.message = inside_some (sym there ∙ one_place (held_at w e.origin) (closed.arrivals e.origin) e own) in
+      let same : x ≡ e.message = same_Some x e.message (sym there ∙ one_place (held_at w e.origin) (closed.arrivals e.origin) e own) in
       ap (λ (y : Draft). not (same_message y e.message)) same ∙ ap not (same_itself e.message)
 
   -- no entry that its origin holds is above the origin's own count
@@ -114,17 +113,8 @@ module _ (w : State) (closed : IsClosed w) (s : ℕ) where
 
 -- ---- one site holds other entries
 
-inside : (n site : ℕ) → (nat_lt site 1 || nat_lt n site) ≡ false → site - 1 < n
-inside n site there = grind (arith, nat_tests)
-
 has_it : (n site : ℕ) → (nat_lt site 1 || nat_lt n site) ≡ false → has_site n site ≡ true
 has_it n site there = grind (arith, nat_tests)
-
-pub number_is : (a b : ℕ) → nat_eq a b ≡ true → a ≡ b
-number_is a b e = grind (arith, nat_tests)
-
-pub number_other : (a b : ℕ) → nat_eq a b ≡ false → a ≢ b
-number_other a b e same = false≢true (sym e ∙ (let is : nat_eq a b ≡ true = grind (arith, nat_tests) in is))
 
 module _ (w : State) (s : ℕ) (there : is_no_site w s ≡ false) (es : List Placed) where
   abbrev Put : ℕ → Type 0
@@ -134,9 +124,9 @@ module _ (w : State) (s : ℕ) (there : is_no_site w s ≡ false) (es : List Pla
   held_where x =
       elim (nat_eq (x - 1) (s - 1)) as (λ b. nat_eq (x - 1) (s - 1) ≡ b → Put x) [
         | true ↦ λ same.
-            let place : x - 1 ≡ s - 1 = number_is (x - 1) (s - 1) same in
+            let place : x - 1 ≡ s - 1 = eqb-true (x - 1) (s - 1) same in
             inl (ap (λ (k : ℕ). get_or (slice_set w.held (s - 1) es) k []) place ∙ get_or-set_same w.held (s - 1) es [] (inside (length w.held) s there), place)
-        | false ↦ λ other. inr (get_or-set_other w.held (s - 1) (x - 1) es [] (number_other (x - 1) (s - 1) other))
+        | false ↦ λ other. inr (get_or-set_other w.held (s - 1) (x - 1) es [] (eqb-false (x - 1) (s - 1) other))
       ] refl
 
 module _ (w : State) (closed : IsClosed w) (s : ℕ) (there : is_no_site w s ≡ false) (es : List Placed) (arrive : IsArrivals es)
@@ -191,23 +181,19 @@ pub kept_first : (es fs : List Placed) (e : Placed) → holds es e ≡ true → 
 kept_first es fs e held = list_any-append (λ x. same_entry x e) es fs ∙ ap (λ (b : Bool). b || holds fs e) held
 
 pub one_of : (es fs : List Placed) (e : Placed) → holds (es ++ fs) e ≡ true → (holds es e ≡ true) ⊎ (holds fs e ≡ true)
-one_of es fs e held = either (holds es e) (holds fs e) (sym (list_any-append (λ x. same_entry x e) es fs) ∙ held)
+one_of es fs e held = or_cases (holds es e) (holds fs e) (sym (list_any-append (λ x. same_entry x e) es fs) ∙ held)
 
 -- a test that is passed in part of a list is passed in it
 pub any_kept : (p q : Placed → Bool) (ds : List Placed) → list_any q (filter p ds) ≡ true → list_any q ds ≡ true
 any_kept p q [] is = is
 any_kept p q (d ∷ ds) is =
     elim (p d) as (λ b. list_any q (cond b (d ∷ filter p ds) (filter p ds)) ≡ true → (q d || list_any q ds) ≡ true) [
-      | true ↦ λ some. elim (either (q d) (list_any q (filter p ds)) some) as (λ c. (q d || list_any q ds) ≡ true) [
+      | true ↦ λ some. elim (or_cases (q d) (list_any q (filter p ds)) some) as (λ c. (q d || list_any q ds) ≡ true) [
         | inl first ↦ ap (λ (b : Bool). b || list_any q ds) first
-        | inr later ↦ ap (λ (b : Bool). q d || b) (any_kept p q ds later) ∙ or_true (q d)
+        | inr later ↦ ap (λ (b : Bool). q d || b) (any_kept p q ds later) ∙ or-true (q d)
       ]
-      | false ↦ λ later. ap (λ (b : Bool). q d || b) (any_kept p q ds later) ∙ or_true (q d)
+      | false ↦ λ later. ap (λ (b : Bool). q d || b) (any_kept p q ds later) ∙ or-true (q d)
     ] is
-
-or_false : (b : Bool) → (b || false) ≡ b
-or_false true = refl
-or_false false = refl
 
 module _ (w : State) (closed : IsClosed w) (s : ℕ) (there : is_no_site w s ≡ false) where
   pub closed_taken : (m : Draft) → IsClosed (with_held w s (arrivals_taken (core_at w s) m))
@@ -220,7 +206,7 @@ module _ (w : State) (closed : IsClosed w) (s : ℕ) (there : is_no_site w s ≡
             (λ e held. kept_first (held_at w s) (own_entry (core_at w s) m ∷ []) e held)
             (λ e held. elim (one_of (held_at w s) (own_entry (core_at w s) m ∷ []) e held) as (λ c. (holds (held_at w e.origin) e ≡ true) ⊎ (e.origin ≡ s)) [
               | inl was ↦ inl (closed.held s e was)
-              | inr new ↦ inr (ap (λ (x : Placed). x.origin) (sym (same_entry_is (own_entry (core_at w s) m) e (sym (or_false (same_entry (own_entry (core_at w s) m) e)) ∙ new))))
+              | inr new ↦ inr (ap (λ (x : Placed). x.origin) (sym (one_entry (own_entry (core_at w s) m) e (sym (or-false (same_entry (own_entry (core_at w s) m) e)) ∙ new))))
             ])
       ]
 

@@ -5,9 +5,11 @@ use Rattle.std.specs.Cmp.{both_ways}
 use Rattle.std.specs.FinSet.{contains-from_list, same_set}
 use Rattle.std.specs.List.{list_any}
 use Rattle.std.specs.Ordering.{eq_by_cmp}
-use Rattle.std.proofs.lemmas.Bool.{false≢true}
+use Rattle.std.proofs.lemmas.Bool.{false≢true, or_cases}
 use Rattle.std.proofs.lemmas.Bool.Decides.{nat_tests}
 use Rattle.std.proofs.lemmas.List.Sorted.{list_any-IsPermutation}
+use Rattle.std.proofs.Math.Bool.{or-true}
+use Rattle.std.proofs.lemmas.Option.{same_Some}
 use Rattle.sct_message.specs.declared.draft.Draft.{Draft}
 use Rattle.sct_message.specs.Order.{message_order}
 use Rattle.sct_message.specs.OrderLaws.{message_total, message_same}
@@ -15,12 +17,13 @@ use Rattle.sct_delta.specs.Entries.{Placed, log_of, held_from, same_entry, holds
 use Rattle.sct_delta.specs.Refusals.{message_at}
 use Rattle.sct_delta.specs.declared.fault.DeltaFault.{DeltaFault}
 use Rattle.sct_delta.specs.declared.fault.DeltaFault.TheVariants as fault
+use Rattle.sct_delta.proofs.HeldLemmas.{entry_itself, one_entry}
 use Rattle.sct_site.specs.Cores.{Core, IsSite}
 use Rattle.sct_site.proofs.ArrivalLemmas.{length-log}
 use Rattle.sct_world.specs.Answers.{texts_of}
 use Rattle.sct_world.specs.Settling.{core_in, AreSettled, IsWhy, HoldApart, IsAhead}
 use Rattle.sct_world.specs.SettlingLaws.{SettledAnswerAlike, SettlesOnce, SettlesInAnyOrder}
-use Rattle.sct_world.proofs.HeldLemmas.{or_true, either, same_entry_is, entry_itself, one_place}
+use Rattle.sct_world.proofs.HeldLemmas.{one_place}
 use Rattle.sct_world.proofs.KeptLemmas.{HolderOf, place_some, some_place}
 use Rattle.sct_world.proofs.NoForkLemmas.{within}
 
@@ -32,18 +35,18 @@ is_it = eq_by_cmp message_order
 in_messages : (q : Draft) (es : List Placed) (e : Placed) → holds es e ≡ true → is_it q e.message ≡ true → list_any (is_it q) (map (λ x. x.message) es) ≡ true
 in_messages q [] e held is = absurd (false≢true held)
 in_messages q (x ∷ es) e held is =
-    elim (either (same_entry x e) (holds es e) held) as (λ c. (is_it q x.message || list_any (is_it q) (map (λ x. x.message) es)) ≡ true) [
-      | inl here ↦ ap (λ (b : Bool). b || list_any (is_it q) (map (λ x. x.message) es)) (ap (λ (p : Placed). is_it q p.message) (same_entry_is x e here) ∙ is)
-      | inr later ↦ ap (λ (b : Bool). is_it q x.message || b) (in_messages q es e later is) ∙ or_true (is_it q x.message)
+    elim (or_cases (same_entry x e) (holds es e) held) as (λ c. (is_it q x.message || list_any (is_it q) (map (λ x. x.message) es)) ≡ true) [
+      | inl here ↦ ap (λ (b : Bool). b || list_any (is_it q) (map (λ x. x.message) es)) (ap (λ (p : Placed). is_it q p.message) (one_entry x e here) ∙ is)
+      | inr later ↦ ap (λ (b : Bool). is_it q x.message || b) (in_messages q es e later is) ∙ or-true (is_it q x.message)
     ]
 
 messages_in : (q : Draft) (fs es : List Placed) → ((e : Placed) → holds es e ≡ true → holds fs e ≡ true)
     → list_any (is_it q) (map (λ x. x.message) es) ≡ true → list_any (is_it q) (map (λ x. x.message) fs) ≡ true
 messages_in q fs [] has is = absurd (false≢true is)
 messages_in q fs (x ∷ es) has is =
-    elim (either (is_it q x.message) (list_any (is_it q) (map (λ x. x.message) es)) is) as (λ c. list_any (is_it q) (map (λ x. x.message) fs) ≡ true) [
+    elim (or_cases (is_it q x.message) (list_any (is_it q) (map (λ x. x.message) es)) is) as (λ c. list_any (is_it q) (map (λ x. x.message) fs) ≡ true) [
       | inl here ↦ in_messages q fs x (has x (ap (λ (b : Bool). b || holds es x) (entry_itself x))) here
-      | inr later ↦ messages_in q fs es (λ e held. has e (ap (λ (b : Bool). same_entry x e || b) held ∙ or_true (same_entry x e))) later
+      | inr later ↦ messages_in q fs es (λ e held. has e (ap (λ (b : Bool). same_entry x e || b) held ∙ or-true (same_entry x e))) later
     ]
 
 same_messages : (es fs : List Placed) → ((e : Placed) → holds es e ≡ holds fs e) → messages_of es ≡ messages_of fs
@@ -67,9 +70,6 @@ any_order some other settled also_settled moved first second i j here there e =
 
 -- ---- settling again
 
-inside_some : {X : Type 0} {x y : X} → Some x ≡ Some y → x ≡ y
-inside_some e = cc
-
 not_both : (a b : ℕ) → nat_lt a b ≡ false → a < b → ⊥
 not_both a b is_not is = absurd (grind (arith, nat_tests))
 
@@ -92,7 +92,7 @@ module _ (before settled : List Core) (are : AreSettled before settled) (sites :
       = one_place (core_in settled h.place).arrivals site.order mine h.held in
       let other : message_at (log_of origin (core_in settled h.place).arrivals) n ≡ Some apart.another
       = one_place (core_in settled h.place).arrivals site.order theirs (all_hold apart.other h.place theirs apart.also_held h.there) in
-      apart.different (inside_some (sym one ∙ other))
+      apart.different (same_Some apart.message apart.another (sym one ∙ other))
 
   never_ahead : (n : ℕ) → IsAhead settled n → ⊥
   never_ahead n ahead =

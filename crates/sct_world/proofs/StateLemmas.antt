@@ -18,7 +18,7 @@ use Rattle.sct_world.specs.declared.fault.WorldFault.TheVariants as fault
 
 -- ---- what one site holds
 
-inside : (n site : ℕ) → (nat_lt site 1 || nat_lt n site) ≡ false → site - 1 < n
+pub inside : (n site : ℕ) → (nat_lt site 1 || nat_lt n site) ≡ false → site - 1 < n
 inside n site there = grind (arith, nat_tests)
 
 elsewhere : (n at site : ℕ) → (nat_lt site 1 || nat_lt n site) ≡ false → (nat_lt at 1 || nat_lt n at) ≡ false → nat_eq at site ≡ false → site - 1 ≢ at - 1

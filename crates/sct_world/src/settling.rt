@@ -120,6 +120,7 @@ fn spread(cores: &mut [SiteCore], empty: &Vector) -> Result<(), DeltaFault>
 /// - `Memory` (40).
 ///
 /// After 42, 43 or 40 each site holds all that it held, and beyond that only entries that another site held.
+/// The cost is that of all entries of all sites: each site cuts its entries for the first, which cuts once for the others.
 pub fn settle(alloc: Global, cores: &mut [SiteCore]) -> Result<(), DeltaFault>
     ensures ok { OnOk result (AreSettled cores.old cores.new) }
     ensures one_group { OnOk result (are_one_group cores.old ≡ true) }

@@ -89,7 +89,7 @@ impl World {
     ghost use Rattle.sct_world.specs.States.{opened, is_no_site, held_at};
 
     /// A world of 1 to 1024 sites, without entries or deltas. Errors: `BadSite` (44) for any
-    /// other number of sites; out of memory (40).
+    /// other number of sites; out of memory (40). O(sites).
     pub fn open(alloc: Global, sites: u16) -> Result<World, WorldFault>
         ensures ok { IfOk result (λ world. world ≡ opened sites) }
         ensures size { OnOk result (is_size sites ≡ true) }
@@ -259,6 +259,8 @@ impl World {
     /// - `NoSuchDelta` (47): no delta of this number was cut;
     /// - `Delta(Gap)` (41): the site refuses the delta for a gap; in a world no site refuses one with 42 to 45;
     /// - `Delta(Memory)` (40).
+    ///
+    /// The cost is that of the site's call: `take`, `cut` or `accept`. A delta whose numbers the site has is not compared.
     #[tactic(auto, unfolding(crate::specs::Histories::step_of, crate::specs::Histories::world_after))]
     pub fn step(&mut self, event: &Event) -> Result<Step, WorldFault>
         ensures answer { IfOk result (λ step. step_of self.old event.now ≡ Ok step) }

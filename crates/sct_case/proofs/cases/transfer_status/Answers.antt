@@ -1,4 +1,4 @@
--- What was found decides; where nothing was found, whether there is a message.
+-- The findings decide; if there is none, whether there is a message.
 use Rattle.std.proofs.Common.{◌∙◌, sym, ap, not}
 use Rattle.std.specs.Prelude.{◌==◌}
 use Rattle.std.specs.Arc.{arc_value}

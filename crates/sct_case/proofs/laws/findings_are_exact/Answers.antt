@@ -1,4 +1,4 @@
--- A finding is told exactly where its relation holds.
+-- A finding is reported exactly if its relation holds.
 use Rattle.sct_case.proofs.Exact.{tells_exactly}
 use Rattle.sct_case.proofs.laws.findings_are_exact.Goals as goal
 

@@ -1,4 +1,4 @@
--- Findings are told in their order, each once.
+-- Findings are reported in their order, each once.
 use Rattle.sct_case.proofs.InOrder.{tells_in_order}
 use Rattle.sct_case.proofs.laws.findings_are_in_order.Goals as goal
 

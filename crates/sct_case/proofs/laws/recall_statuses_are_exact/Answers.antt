@@ -1,4 +1,4 @@
--- Each status of a recall is told exactly where its sentence holds.
+-- Each status of a recall is returned exactly if its sentence holds.
 use Rattle.sct_case.proofs.RecallSentences.{tells_each_recall_status}
 use Rattle.sct_case.proofs.laws.recall_statuses_are_exact.Goals as goal
 

@@ -1,4 +1,4 @@
--- What was found decides; where nothing was found, how the recall stands.
+-- The findings decide; if there is none, what is said of the recall.
 use Rattle.std.proofs.Common.{◌∙◌, subst, sym}
 use Rattle.sct_message.specs.Sets.{messages_in}
 use Rattle.sct_case.specs.Inside.{judged}

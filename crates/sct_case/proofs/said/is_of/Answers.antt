@@ -1,4 +1,4 @@
--- The key is the transfer's where its two parts are.
+-- The key is the transfer's if its two parts are.
 use Rattle.std.proofs.Common.{◌∙◌, nat_eq}
 use Rattle.std.proofs.Math.Bool.{and_comm}
 use Rattle.std.specs.Cmp.Lexicographic.{pointwise}

@@ -10,13 +10,13 @@ pub returns-in-Ok-clause-asked : goal.returns-in-Ok-clause-asked
 returns-in-Ok-clause-asked c =
     let found : HasMatchesOf command_line (map string_bytes c.args.words.now) c.in-Ok.matches =
     subst (λ app. HasMatchesOf app (map string_bytes c.args.words.now) c.in-Ok.matches) c.in_ok-command.ensures c.in-Ok.ensures.matches in
-    asked_by_order (map string_bytes c.args.words.now) _ c.asked_by.result
-    (ap (option_and_then (λ found. order_named found.0 found.1)) (sym (found command_line_is_simple).1)) c.asked_by.ensures
+    asked_by_order (map string_bytes c.args.words.now) _ c.request_of_matches.result
+    (ap (option_and_then (λ found. order_named found.0 found.1)) (sym (found command_line_is_simple).1)) c.request_of_matches.ensures
 
 pub returns-in-Err-clause-asked : goal.returns-in-Err-clause-asked
 returns-in-Err-clause-asked c =
     let is : app_of c.in_ok-command.field-0 ≡ command_line = c.in_ok-command.ensures in
-    asked_by_error (map string_bytes c.args.words.now) c.in-Err.error c.answer_of.result
+    asked_by_error (map string_bytes c.args.words.now) c.in-Err.error c.request_of_error.result
     (subst (λ app. HasKind (fault_of app (map string_bytes c.args.words.now)) c.in-Err.error) is
     (c.in-Err.ensures.kinds (ap is_simple_and_free is ∙ command_line_is_free)))
-    c.answer_of.ensures.kind c.answer_of.ensures.memory
+    c.request_of_error.ensures.kind c.request_of_error.ensures.memory

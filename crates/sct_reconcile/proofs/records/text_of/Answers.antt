@@ -1,7 +1,7 @@
 -- `from_utf8` gives the field itself where it is UTF-8.
 use Rattle.std.proofs.Common.{◌≡◌, false, refl, inl, inr, List, ℕ}
 use Rattle.std.specs.Str.{IsUtf8, is_utf8}
-use Rattle.std.proofs.lemmas.Bool.{cases_Bool}
+use Rattle.std.proofs.lemmas.Bool.{false_from_ne_true}
 use Rattle.std.proofs.lemmas.Str.{IsUtf8-from_is_utf8, is_utf8-from_IsUtf8}
 use Rattle.sct_reconcile.proofs.records.text_of.Goals as goal
 
@@ -10,11 +10,5 @@ returns-in-Ok c =
     let cases = c.in-Ok.ensures.cases in
     rw (is_utf8-from_IsUtf8 c.args.field.now cases.1, cases.0) refl
 
-no_text : (field : List ℕ) → (IsUtf8 field → ⊥) → is_utf8 field ≡ false
-no_text field refused = elim (cases_Bool (is_utf8 field)) [
-  | inl passes ↦ absurd (refused (IsUtf8-from_is_utf8 field passes))
-  | inr fails ↦ fails
-]
-
 pub returns-in-Err : goal.returns-in-Err
-returns-in-Err c = rw (no_text c.args.field.now c.in-Err.ensures.cases.0) refl
+returns-in-Err c = rw (false_from_ne_true _ (λ passes. c.in-Err.ensures.cases.0 (IsUtf8-from_is_utf8 c.args.field.now passes))) refl

@@ -16,4 +16,4 @@ returns c =
     dedup_is _ _ _ c.dedup.ensures.filtered
     ∙ ascending-sort_dedup_plain identity_total identities_same _ c.keys_are_ordered.ensures.identities_equal _ _ c.in_ok-sort.ensures.permutation (subst (λ (R : Identity → Identity → Ordering). IsSorted R c.sort.new.self.items) (λ n i j. c.keys_are_ordered.ensures.identities i j n) c.in_ok-sort.ensures.sorted)
     ∙ ap (ascending identity_order) c.in_ok-identities.ensures
-    ∙ sym (contradicted_identities-contents_of c.args.table.now)
+    ∙ sym (contradicted_identities-contents_of c.args.arrivals.now)

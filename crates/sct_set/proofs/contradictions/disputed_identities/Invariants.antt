@@ -7,4 +7,4 @@ use Rattle.sct_set.specs.Drafts.{drafts_in}
 use Rattle.sct_set.proofs.contradictions.disputed_identities.Given as goal
 
 abbrev pub invariant-loop-message : goal.invariant-loop-message
-invariant-loop-message l = l.found.items ≡ map identity_of (filter (is_disputed (contents_of l.table)) (drafts_in (take l.message-index l.message-items)))
+invariant-loop-message l = l.found.items ≡ map identity_of (filter (is_disputed (contents_of l.arrivals)) (drafts_in (take l.message-index l.message-items)))

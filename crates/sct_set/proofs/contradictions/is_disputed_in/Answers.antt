@@ -5,4 +5,4 @@ use Rattle.sct_set.proofs.ArchiveLemmas.{disputed-is}
 use Rattle.sct_set.proofs.contradictions.is_disputed_in.Goals as goal
 
 pub returns : goal.returns
-returns c = c.is_another_among.ensures ∙ disputed-is _ _ _ (c.of.ensures ∙ ap (λ i. drafts_of i c.args.table.now) c.identity.ensures)
+returns c = c.is_another_among.ensures ∙ disputed-is _ _ _ (c.of.ensures ∙ ap (λ i. drafts_of i c.args.arrivals.now) c.identity.ensures)

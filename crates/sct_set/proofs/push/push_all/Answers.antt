@@ -23,7 +23,7 @@ loop-message-preserved c = record {
       c.in_default.ensures.ok
       ∙ ap (λ s. set.insert s (arc_value c.message-item.result)) c.loop-message.invariant.union
       ∙ sym (union-push _ _ _)
-      ∙ ap (λ ds. set.union (contents_of c.args.table.now) (contents_of ds)) (sym (drafts_in-more _ _ _ c.loop-message-test.true c.message-item.is));
+      ∙ ap (λ ds. set.union (contents_of c.args.arrivals.now) (contents_of ds)) (sym (drafts_in-more _ _ _ c.loop-message-test.true c.message-item.is));
   no_repeat = c.push_new.ensures.no_repeat;
   front = c.push_new.ensures.kept _ c.loop-message.invariant.grows ∙ c.loop-message.invariant.front;
   grows = omega (arith, c.push_new.ensures.grows);

@@ -7,9 +7,9 @@ use Rattle.sct_set.proofs.push.push_all.Given as goal
 
 abbrev pub invariant-loop-message : goal.invariant-loop-message
 invariant-loop-message l = record {
-  union : contents_of l.table ≡ set.union (contents_of l.initial.table) (contents_of (drafts_in (take l.message-index l.messages)));
-  no_repeat : HasNoRepeat l.table;
-  front : take l.before l.table ≡ l.initial.table;
-  grows : l.before ≤ length l.table;
-  before : l.before ≡ length l.initial.table;
+  union : contents_of l.arrivals ≡ set.union (contents_of l.initial.arrivals) (contents_of (drafts_in (take l.message-index l.messages)));
+  no_repeat : HasNoRepeat l.arrivals;
+  front : take l.before l.arrivals ≡ l.initial.arrivals;
+  grows : l.before ≤ length l.arrivals;
+  before : l.before ≡ length l.initial.arrivals;
 }

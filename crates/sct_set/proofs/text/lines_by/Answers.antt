@@ -11,4 +11,4 @@ loop-identity-preserved c =
 
 pub returns : goal.returns
 returns c =
-    subst (λ is. AreWritten c.args.table.now is c.loop-identity.text.items) (take_all c.loop-identity.identity-index c.args.identities.now (omega arith)) c.loop-identity.invariant
+    subst (λ is. AreWritten c.args.arrivals.now is c.loop-identity.text.items) (take_all c.loop-identity.identity-index c.args.identities.now (omega arith)) c.loop-identity.invariant

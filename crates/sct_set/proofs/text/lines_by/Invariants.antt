@@ -4,4 +4,4 @@ use Rattle.sct_set.specs.Groups.{AreWritten}
 use Rattle.sct_set.proofs.text.lines_by.Given as goal
 
 abbrev pub invariant-loop-identity : goal.invariant-loop-identity
-invariant-loop-identity l = AreWritten l.table (take l.identity-index l.identities) l.text.items
+invariant-loop-identity l = AreWritten l.arrivals (take l.identity-index l.identities) l.text.items

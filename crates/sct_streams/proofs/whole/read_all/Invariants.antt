@@ -6,8 +6,8 @@ use Rattle.sct_streams.proofs.whole.read_all.Given as goal
 abbrev pub invariant-loop-piece : goal.invariant-loop-piece
 invariant-loop-piece g l = record {
   within : vec_len l.bytes ≤ l.limit + 1;
-  told : HasReadIfTold (g.R.Source.left l.initial.source) (g.R.Source.left l.source) l.bytes.items;
-  quiet : g.R.Source.failures l.source ≡ g.R.Source.failures l.initial.source;
+  told : HasReadIfTold (g.R.Source.state l.initial.source).left (g.R.Source.state l.source).left l.bytes.items;
+  quiet : (g.R.Source.state l.source).failures ≡ (g.R.Source.state l.initial.source).failures;
 }
 
 abbrev pub decreases-loop-piece : goal.decreases-loop-piece

@@ -1,13 +1,12 @@
 -- The bytes written so far are the front of the text.
-use Rattle.std.proofs.Common.{length, ◌-◌, ◌≡◌, ◌≤◌, take}
-use Rattle.sct_streams.specs.Stream.{AppendsIfTold}
+use Rattle.std.proofs.Common.{length, ◌-◌, ◌≡◌, ◌≤◌, Some, take}
+use Rattle.sct_streams.specs.Stream.{IsWritten}
 use Rattle.sct_streams.proofs.whole.write_all.Given as goal
 
 abbrev pub invariant-loop-done : goal.invariant-loop-done
 invariant-loop-done g l = record {
   within : l.done ≤ length l.bytes;
-  told : AppendsIfTold (g.K.Sink.held l.initial.sink) (g.K.Sink.held l.sink) (take l.done l.bytes);
-  quiet : g.K.Sink.failures l.sink ≡ g.K.Sink.failures l.initial.sink;
+  written : IsWritten (g.K.Sink.state l.initial.sink) (g.K.Sink.state l.sink) (Some (take l.done l.bytes));
   empty : length l.bytes ≡ 0 → l.sink ≡ l.initial.sink;
 }
 

@@ -1,17 +1,19 @@
 -- The messages of the transfer in order, parted, are what is to be kept of it.
 use Rattle.std.proofs.Common.{◌∙◌, ap, map}
+use Rattle.std.specs.Option.{option_copied}
 use Rattle.sct_message.specs.Ascending.{ascending}
 use Rattle.sct_message.specs.Keys.{identity_of}
 use Rattle.sct_message.specs.Order.{identity_order}
 use Rattle.sct_message.specs.Sets.{messages_in}
 use Rattle.sct_case.specs.Statuses.{transfer_status_of}
+use Rattle.sct_view.specs.Changes.{with_fresh}
 use Rattle.sct_view.proofs.EvaluationLemmas.{evaluated}
 use Rattle.sct_view.proofs.evaluation.evaluate.Goals as goal
 
-pub returns-clause-case : goal.returns-clause-case
-returns-clause-case c =
-    let all = ap messages_in c.deref.ensures.value ∙ c.in_ok-sorted.ensures ∙ c.requires.messages in
+pub returns : goal.returns
+returns c =
+    let all = ap messages_in c.deref.ensures.value ∙ c.in_ok-sorted.ensures ∙ c.requires in
     let t = c.args.transfer.now in
-    evaluated c.args.held.now c.args.fresh.now t _ _ _ c.in_ok-asides.asides.items _ all c.in_ok-parted.ensures.clean c.in_ok-parted.ensures.contradicted
+    evaluated (with_fresh c.args.held.now (option_copied c.args.fresh)) t _ _ _ c.in_ok-asides.asides.items _ all c.in_ok-parted.ensures.clean c.in_ok-parted.ensures.contradicted
     (c.in_ok-asides.ensures ∙ ap (λ ms. ascending identity_order (map identity_of (messages_in ms))) c.deref-2.ensures.value)
     (c.in_ok-status.ensures ∙ (λ n. transfer_status_of t (messages_in (c.deref-3.ensures.value n)) (c.deref-4.ensures.value n)))

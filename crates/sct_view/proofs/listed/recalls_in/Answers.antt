@@ -8,7 +8,7 @@ use Rattle.sct_message.specs.Ascending.{ascending}
 use Rattle.sct_message.proofs.AscendingLemmas.{ascending-sort_dedup_plain}
 use Rattle.sct_view.specs.Answers.{cxls_named_by}
 use Rattle.sct_view.specs.Kept.{kept_in}
-use Rattle.sct_view.proofs.ToldLemmas.{texts_same}
+use Rattle.sct_message.specs.CellsBack.{texts_same}
 use Rattle.sct_view.proofs.listed.recalls_in.Goals as goal
 
 pub returns : goal.returns

@@ -1,4 +1,4 @@
--- What is looked up says where the recall stands.
+-- What is looked up gives the status of the recall.
 use Rattle.std.proofs.Common.{◌∙◌, ap}
 use Rattle.std.specs.List.{list_any}
 use Rattle.sct_case.specs.Inside.{judged}

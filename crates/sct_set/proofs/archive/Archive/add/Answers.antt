@@ -23,7 +23,7 @@ invariant_of-self-2 c =
 
 pub returns-clause-answer : goal.returns-clause-answer
 returns-clause-answer c =
-    c.added_new.ensures
+    c.of_new.ensures
     ∙ added-absent _ _ _ (ap (set.contains c.args.self.now) (sym c.deref.ensures) ∙ sym c.holds.ensures ∙ c.if-holds.false)
     (c.in_ok-against.ensures.against ∙ sym (any_items (λ d. same_identity (identity_of d) (identity_of (arc_value c.args.message))) _)
     ∙ ap (λ s. has_identity s (identity_of (arc_value c.args.message))) c.self.view_is)

@@ -1,4 +1,4 @@
--- An empty table has no repeat.
+-- An empty list has no repeat.
 use Rattle.sct_set.proofs.ContentsLemmas.{HasNoRepeat-none}
 use Rattle.sct_set.proofs.archive.Archive.new.Goals as goal
 

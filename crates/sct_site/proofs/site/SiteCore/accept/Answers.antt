@@ -51,19 +51,19 @@ invariant_of-self-2 c =
 -- ---- what the site keeps makes it a site, however the call ends
 
 pub returns-in_err-fresh-clause-site : goal.returns-in_err-fresh-clause-site
-returns-in_err-fresh-clause-site c = site_is c.args.self.now _ _ c.self.inside.logs _ _ c.self.view_is c.self.invariant
+returns-in_err-fresh-clause-site c = site_is c.args.self.now _ _ c.self.inside.logs _ _ c.self.view_is c.self.invariant c.in_err-fresh.ensures.inside
 
 pub returns-in_err-messages-clause-site : goal.returns-in_err-messages-clause-site
-returns-in_err-messages-clause-site c = site_is c.args.self.now _ _ c.self.inside.logs _ _ c.self.view_is c.self.invariant
+returns-in_err-messages-clause-site c = site_is c.args.self.now _ _ c.self.inside.logs _ _ c.self.view_is c.self.invariant c.in_ok-fresh.ensures.inside
 
 pub returns-in_err-reserve-clause-site : goal.returns-in_err-reserve-clause-site
-returns-in_err-reserve-clause-site c = site_is c.args.self.now _ _ c.self.inside.logs _ _ c.self.view_is c.self.invariant
+returns-in_err-reserve-clause-site c = site_is c.args.self.now _ _ c.self.inside.logs _ _ c.self.view_is c.self.invariant c.in_ok-fresh.ensures.inside
 
 pub returns-in_err-reserve-2-clause-site : goal.returns-in_err-reserve-2-clause-site
-returns-in_err-reserve-2-clause-site c = site_is c.args.self.now _ _ c.self.inside.logs _ _ c.self.view_is c.self.invariant
+returns-in_err-reserve-2-clause-site c = site_is c.args.self.now _ _ c.self.inside.logs _ _ c.self.view_is c.self.invariant c.in_ok-fresh.ensures.inside
 
 pub returns-in-Err-clause-site : goal.returns-in-Err-clause-site
-returns-in-Err-clause-site c = site_is c.args.self.now _ _ c.self.inside.logs _ _ c.self.view_is c.self.invariant
+returns-in-Err-clause-site c = site_is c.args.self.now _ _ c.self.inside.logs _ _ c.self.view_is c.self.invariant c.in_ok-fresh.ensures.inside
 
 pub returns-clause-site : goal.returns-clause-site
-returns-clause-site c = site_is c.args.self.now _ _ c.self.inside.logs _ _ c.self.view_is c.self.invariant
+returns-clause-site c = site_is c.args.self.now _ _ c.self.inside.logs _ _ c.self.view_is c.self.invariant c.in_ok-fresh.ensures.inside

@@ -27,4 +27,4 @@ returns-clause-cut c =
 
 pub returns-clause-site : goal.returns-clause-site
 returns-clause-site c =
-    site_is c.args.self.now c.self.inside.number c.self.inside.group c.self.inside.logs c.self.inside.arrivals.items c.self.inside.archive c.self.view_is c.self.invariant
+    site_is c.args.self.now c.self.inside.number c.self.inside.group c.self.inside.logs c.self.inside.arrivals.items c.self.inside.archive c.self.view_is c.self.invariant c.cut.ensures.inside

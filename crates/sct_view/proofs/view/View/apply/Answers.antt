@@ -1,40 +1,32 @@
 -- The planned cases over those that were kept are those of the larger set.
-use Rattle.std.proofs.Common.{◌∙◌, ap, subst, sym, ◌+◌}
+use Rattle.std.proofs.Common.{◌∙◌, ap, map, sym, ◌+◌}
 use Rattle.std.specs.FinSet as set
 use Rattle.sct_message.specs.Sets.{MessageSet, messages_in}
 use Rattle.sct_set.specs.Contents.{contents_of}
-use Rattle.sct_view.specs.Kept.{IsViewOf}
-use Rattle.sct_view.proofs.ApplyLemmas.{few_applied, joined, len_joined}
-use Rattle.sct_view.proofs.StepLemmas.{among_in_room, kept_in_room, view_after}
+use Rattle.sct_view.specs.Changes.{change_in}
+use Rattle.sct_view.specs.Kept.{case_at, case_of}
+use Rattle.sct_view.proofs.ApplyLemmas.{few_applied, len_joined}
+use Rattle.sct_view.proofs.TouchedLemmas.{union-fresh}
+use Rattle.sct_view.proofs.ChangeLemmas.{cases_after}
 use Rattle.sct_view.proofs.view.View.apply.Goals as goal
 
-pub commit_all-requires-clause-among : goal.commit_all-requires-clause-among
-commit_all-requires-clause-among c =
-    among_in_room c.self.inside.cases c.make_room.new.cases c.self.inside.totals c.make_room.new.totals c.args.self.now c.in_ok-plan.plan.fresh
-    c.make_room.new.archive (c.in_ok-make_room.ensures.joined ∙ ap (λ (v : MessageSet). set.union v c.in_ok-plan.plan.fresh) c.self.view_is)
-    (subst (λ (v : MessageSet). IsViewOf v c.self.inside.cases c.self.inside.totals) c.self.view_is c.self.invariant.0)
-    c.in_ok-make_room.ensures.same_cases c.in_ok-make_room.ensures.same_totals c.in_ok-plan.plan.planned.items c.in_ok-plan.ensures.planned
-
-pub commit_all-requires-clause-kept : goal.commit_all-requires-clause-kept
-commit_all-requires-clause-kept c =
-    kept_in_room c.self.inside.cases c.make_room.new.cases c.self.inside.totals c.make_room.new.totals c.self.inside.archive c.in_ok-plan.plan.fresh
-    c.make_room.new.archive c.in_ok-make_room.ensures.joined c.self.invariant.0 c.in_ok-make_room.ensures.same_cases c.in_ok-make_room.ensures.same_totals
-
 pub invariant_of-self-2 : goal.invariant_of-self-2
-invariant_of-self-2 c = (
-  view_after c.self.inside.cases c.make_room.new.cases c.self.inside.totals c.make_room.new.totals c.args.self.now c.in_ok-plan.plan.fresh
-      c.make_room.new.archive (c.in_ok-make_room.ensures.joined ∙ ap (λ (v : MessageSet). set.union v c.in_ok-plan.plan.fresh) c.self.view_is)
-      (subst (λ (v : MessageSet). IsViewOf v c.self.inside.cases c.self.inside.totals) c.self.view_is c.self.invariant.0)
-      c.in_ok-make_room.ensures.same_cases c.in_ok-make_room.ensures.same_totals c.in_ok-plan.plan.planned.items c.in_ok-plan.ensures.planned
-      c.commit_all.new.cases c.commit_all.new.totals c.commit_all.ensures.cases c.commit_all.ensures.kept c.commit_all.ensures.small,
-  c.self.invariant.1,
-)
+invariant_of-self-2 c =
+    let joined_now = c.in_ok-make_room.ensures.joined ∙ ap (λ (v : MessageSet). set.union v c.in_ok-plan.plan.fresh) c.self.view_is in (
+      λ t.
+          c.commit_all.ensures t
+          ∙ cases_after c.args.self.now c.in_ok-plan.plan.fresh (case_at c.make_room.new.tables.cases)
+          (λ k. c.make_room.ensures.same_cases k ∙ c.self.invariant.0 k ∙ ap (λ (v : MessageSet). case_of v k) c.self.view_is)
+          (map change_in c.in_ok-plan.plan.planned.items) c.in_ok-plan.ensures.planned t
+          ∙ ap (λ (v : MessageSet). case_of v t) (sym joined_now),
+      c.self.invariant.1,
+    )
 
 pub returns-clause-ok : goal.returns-clause-ok
 returns-clause-ok c =
     c.in_ok-make_room.ensures.joined
     ∙ (λ n. set.union (c.self.view_is n) (c.in_ok-plan.ensures.fresh n))
-    ∙ joined c.args.self.now (contents_of (messages_in c.args.messages.now))
+    ∙ union-fresh c.args.self.now (contents_of (messages_in c.args.messages.now))
 
 pub returns-clause-fresh : goal.returns-clause-fresh
 returns-clause-fresh c =

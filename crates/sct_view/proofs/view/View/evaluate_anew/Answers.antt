@@ -8,13 +8,13 @@ use Rattle.sct_message.specs.Transfers.{is_on}
 use Rattle.sct_view.specs.Kept.{case_of}
 use Rattle.sct_view.proofs.view.View.evaluate_anew.Goals as goal
 
-pub evaluate-requires-clause-messages : goal.evaluate-requires-clause-messages
-evaluate-requires-clause-messages c =
+pub evaluate-requires : goal.evaluate-requires
+evaluate-requires c =
     ap (ascending message_order) (ap messages_in c.deref.ensures.value ∙ c.in_ok-gathered.ensures)
-    ∙ c.requires.messages
+    ∙ c.requires
     ∙ ap (λ (v : MessageSet). filter (is_on c.args.transfer.now) (in_order (set.union v c.args.fresh.now))) (sym c.self.view_is)
 
-pub returns-clause-planned : goal.returns-clause-planned
-returns-clause-planned c =
-    let case = c.in_ok-case.ensures.case ∙ ap (λ (v : MessageSet). case_of (set.union v c.args.fresh.now) c.args.transfer.now) c.self.view_is in
+pub returns : goal.returns
+returns c =
+    let case = c.in_ok-case.ensures ∙ ap (λ (v : MessageSet). case_of (set.union v c.args.fresh.now) c.args.transfer.now) c.self.view_is in
     λ n. (c.copy.ensures n, case n)

@@ -4,7 +4,7 @@ use Rattle.sct_message.specs.Sets.{messages_in}
 use Rattle.sct_view.proofs.RebuildLemmas.{gathered_kept}
 use Rattle.sct_view.proofs.view.View.evaluate_each.Goals as goal
 
-pub evaluate_anew-requires-clause-messages : goal.evaluate_anew-requires-clause-messages
-evaluate_anew-requires-clause-messages c =
+pub evaluate_anew-requires : goal.evaluate_anew-requires
+evaluate_anew-requires c =
     gathered_kept c.args.self.now c.args.fresh.now c.transfer-item.result _ (messages_in c.messages.result.now) _ refl
     c.messages.ensures.held (c.on_transfer-messages.ensures (messages_in c.messages.result.now) c.in_ok-index.ensures)

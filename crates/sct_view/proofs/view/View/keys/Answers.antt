@@ -14,5 +14,5 @@ returns c =
     dedup_is _ _ _ c.dedup.ensures.filtered
     ∙ ascending-sort_dedup_plain transfer_total transfers_same _ transfer_ties _ _ c.in_ok-sort.ensures.permutation c.in_ok-sort.ensures.sorted
     ∙ ap (ascending transfer_order) c.in_ok-keys.ensures.keys
-    ∙ keys_listed c.self.inside.archive c.self.inside.cases c.in_ok-keys.ensures.unique c.self.invariant.0.cases_are
+    ∙ keys_listed c.self.inside.archive c.self.inside.tables.cases c.in_ok-keys.ensures.unique c.self.invariant.0
     ∙ ap keys_of c.self.view_is

@@ -5,12 +5,12 @@ use Rattle.sct_message.specs.Sets.{MessageSet, messages_in}
 use Rattle.sct_set.specs.Contents.{contents_of}
 use Rattle.sct_view.specs.Changes.{changes_of}
 use Rattle.sct_view.specs.Touched.{fresh_of, touched_by}
-use Rattle.sct_view.proofs.ApplyLemmas.{fresh_absent}
+use Rattle.sct_view.proofs.FewLemmas.{fresh_apart}
 use Rattle.sct_view.proofs.view.View.replan.Goals as goal
 
 pub touched-requires : goal.touched-requires
 touched-requires c = record {
-  fresh = λ m e. fresh_absent c.self.inside.archive _ m (ap (λ (s : MessageSet). set.contains s m) (sym c.in_ok-fresh.ensures) ∙ e);
+  fresh = λ m e. fresh_apart c.self.inside.archive _ m (ap (λ (s : MessageSet). set.contains s m) (sym c.in_ok-fresh.ensures) ∙ e);
 }
 
 pub returns-clause-fresh : goal.returns-clause-fresh

@@ -1,3 +1,0 @@
--- The definitions of runs.
-pub mod Faults
-pub mod Runs
