@@ -3,13 +3,14 @@ import collections, functools, re
 from tests.harness import CRATES, TOP
 
 # A function, with the type and the trait of its `impl` or None, the names of its clauses, None for one without a name, and whether its
-# body does nothing. The ghost members of an `impl` make up one that has no name.
+# body does nothing. The ghost members of an `impl`, and the ghost fields of a type, make up one that has no name.
 Function = collections.namedtuple("Function", "name type trait file clauses is_law")
 
 HEAD = re.compile(r"( *)(?:pub(?:\([a-z]+\))? )?(?:const |unsafe )*fn (\w+)")
 OWNER = re.compile(r"(?:pub(?:\([a-z]+\))? )?(impl|trait)\b(?:<(?:[^<>]|<[^<>]*>)*>)? +(.*?)(?: where .*)?\{?$")
 CLAUSE = re.compile(r" +ensures(?: (\w+))? \{")
-MEMBER = re.compile(r" +ghost (\w+)\b.* ?= ?\{")
+STRUCT = re.compile(r"(?:pub(?:\([a-z]+\))? )?struct (\w+).* \{$")
+MEMBER = re.compile(r" +ghost (\w+)(?:\b.* ?= ?\{|: \{)")
 DERIVED = re.compile(r"#\[derive\((.*)\)\]")
 
 # what a source or a file of definitions gives a name to, and the texts of a source, which name keys of formats
@@ -55,6 +56,8 @@ def functions_of(path, file):
     for place, line in enumerate(lines):
         if OWNER.match(line):
             owner = owner_of(line)
+        elif STRUCT.match(line):
+            owner = (STRUCT.match(line).group(1), None)
         elif line == "}":
             owner = (None, None)
         derived, member, head = DERIVED.match(line), MEMBER.match(line), HEAD.match(line)
