@@ -5,25 +5,11 @@ ghost use Rattle.sct_message.specs.declared.keys.TransferKey.{TransferKey as Tra
 ghost use Rattle.sct_view.specs.Changes.{are_ready, case_after, change_in};
 ghost use Rattle.sct_view.specs.Kept.{case_at, has_case, has_totals, is_ready, kept_in, no_messages, same_key};
 
-use crate::case::{Case, Planned};
+use crate::case::Planned;
 use crate::tables::Tables;
 use crate::tables::shares::{put_shares, take_shares};
-use indexmap::IndexMap;
 use sct_case::CaseFault;
-use sct_message::TransferKey;
 use std::alloc::Global;
-
-/// Replaces the case of a transfer.
-fn replace(cases: &mut IndexMap<TransferKey, Case>, transfer: &TransferKey, case: Case)
-    requires { has_case cases.old transfer.now ≡ true }
-    ensures cases { (t : TransferOf) → case_at cases.new t
-        ≡ (if same_key transfer.now t then kept_in case else case_at cases.old t) }
-    ensures stays { (t : TransferOf) → has_case cases.new t ≡ has_case cases.old t }
-{
-    if let Some(place) = cases.get_mut(transfer) {
-        *place = case;
-    }
-}
 
 impl Tables {
     /// Tables with these cases. A later case of a transfer takes the place of an earlier one. Error: `Memory` (39).
@@ -53,10 +39,10 @@ impl Tables {
             case: anew,
         } = planned;
         let _places = self.cases.len(); // for its clause: fewer than 2^63
-        if let Some(case) = self.cases.get(&transfer) {
+        if let Some(case) = self.cases.get_mut(&transfer) {
             take_shares(&mut self.totals, &transfer, case);
             put_shares(&mut self.totals, &transfer, &anew);
-            replace(&mut self.cases, &transfer, anew);
+            *case = anew;
         }
     }
 

@@ -87,7 +87,7 @@ fn put(totals: &mut IndexMap<Bic, Totals>, bank: &Bic, share: &Totals)
     }
 }
 
-/// Subtracts a share from the totals of a bank.
+/// Subtracts a share from the totals of a bank. The bank is not looked up for a share of nothing.
 fn take(totals: &mut IndexMap<Bic, Totals>, bank: &Bic, share: &Totals)
     requires fits { IsUpTo share.now (totals_at totals.old bank.now) }
     ensures totals { (p : List ℕ)
@@ -95,6 +95,9 @@ fn take(totals: &mut IndexMap<Bic, Totals>, bank: &Bic, share: &Totals)
         ≡ totals_at totals.old p }
     ensures stays { (p : List ℕ) → has_totals totals.new p ≡ has_totals totals.old p }
 {
+    if !share.is_something() {
+        return;
+    }
     if let Some(total) = totals.get_mut(bank) {
         total.take(share);
     }
