@@ -12,7 +12,7 @@ use crate::desk::Desk;
 use crate::fault::DeskFault;
 use crate::held::Held;
 use crate::query::Query;
-use crate::rule::{Notes, Sees, ShownWriter};
+use crate::rule::{ShownWriter, ShowsArrivals, WriterKnowledge};
 use crate::shown::Shown;
 use crate::site::Site;
 use sct_history::{History, Track};
@@ -55,7 +55,7 @@ fn writer<R: Wait>(
     let Ok(writer) = ShownWriter::new(alloc, first, second, places) else {
         return Err(DeskFault::Memory);
     };
-    let (writer, published) = writer.publish_as::<Sees, R>(rt);
+    let (writer, published) = writer.publish_as::<ShowsArrivals, R>(rt);
     match published {
         Ok(()) => Ok(writer),
         Err(_) => {
@@ -80,7 +80,7 @@ fn query(writer: &mut ShownWriter, number: u16, track: &Track) -> Result<Query, 
     let Ok(mut reader) = writer.factory().reader() else {
         return Err(DeskFault::Memory);
     };
-    reader.learn::<Notes>(writer.tell::<Notes>());
+    reader.learn::<WriterKnowledge>(writer.tell::<WriterKnowledge>());
     Ok(Query {
         site: number,
         reader,

@@ -11,7 +11,7 @@ ghost use Rattle.sct_desk.specs.Rules.{GoesOn, handed_over};
 use crate::fault::DeskFault;
 use crate::held::Held;
 use crate::receipt::Receipt;
-use crate::rule::{Sees, ShownWriter};
+use crate::rule::{ShownWriter, ShowsArrivals};
 use crate::shown::Batch;
 use crate::site::Site;
 use core::mem::replace_with;
@@ -85,7 +85,7 @@ fn publish_handed_over<R: Wait>(
     ensures same { OnErr result.1 (drop result.0.behind result.0.log.items
         ≡ drop writer.behind writer.log.items) }
 {
-    writer.publish_as::<Sees, R>(rt)
+    writer.publish_as::<ShowsArrivals, R>(rt)
 }
 
 // Shows queries what was handed over.

@@ -9,7 +9,7 @@ ghost use Rattle.sct_desk.specs.declared.fault.DeskFault.TheVariants as fault;
 use crate::fault::DeskFault;
 use crate::question::Question;
 use crate::receipt::Receipt;
-use crate::rule::{Sees, ShownReader};
+use crate::rule::{ShownReader, ShowsArrivals};
 use sct_history::Track;
 use std::marker::Model;
 
@@ -79,7 +79,7 @@ impl Query {
         } = self;
         // The call is made for its contract: a track's log is a list of arrivals.
         let _known = track.len();
-        let reading = match reader.enter_as::<Sees>() {
+        let reading = match reader.enter_as::<ShowsArrivals>() {
             Ok(reading) => reading,
             Err(reader) => {
                 let query = Query {

@@ -25,9 +25,9 @@ impl Model for Glimpse {
 
 /// The rule: what is published is the view of its arrivals, and each seat knows a beginning of these. A seat
 /// that was just taken knows the empty list.
-pub struct Published;
+pub struct PublishedViewRule;
 
-impl Protocol<Shown, Glimpse> for Published {
+impl Protocol<Shown, Glimpse> for PublishedViewRule {
     ghost use Rattle.sct_desk.specs.Rules.{Keeps, nothing_known};
 
     ghost holds = { Keeps };
@@ -36,9 +36,9 @@ impl Protocol<Shown, Glimpse> for Published {
 }
 
 /// A publication, and the entry of a query.
-pub struct Sees;
+pub struct ShowsArrivals;
 
-impl Outcome<Shown, Glimpse> for Sees {
+impl Outcome<Shown, Glimpse> for ShowsArrivals {
     ghost use Rattle.sct_desk.specs.Rules.{Shows};
 
     ghost then = { Shows };
@@ -46,15 +46,15 @@ impl Outcome<Shown, Glimpse> for Sees {
 
 /// The report of the writer to a reader: all that the writer knows. From then on the
 /// reader knows the longer of the two lists.
-pub struct Notes;
+pub struct WriterKnowledge;
 
-impl Split<Glimpse> for Notes {
+impl Split<Glimpse> for WriterKnowledge {
     ghost left = { λ v. v };
 
     ghost right = { λ v. v };
 }
 
-impl Join<Glimpse> for Notes {
+impl Join<Glimpse> for WriterKnowledge {
     ghost use Rattle.sct_desk.specs.Rules.{longer_known, nothing_known};
 
     ghost both = { longer_known };
@@ -63,7 +63,7 @@ impl Join<Glimpse> for Notes {
 }
 
 /// The writer of a published view.
-pub type ShownWriter = Writer<Shown, Batch, Glimpse, Published>;
+pub type ShownWriter = Writer<Shown, Batch, Glimpse, PublishedViewRule>;
 
 /// A reader of a published view.
-pub type ShownReader = Reader<Shown, Glimpse, Published>;
+pub type ShownReader = Reader<Shown, Glimpse, PublishedViewRule>;
