@@ -10,7 +10,7 @@ from tests import harness
 from tests.faults import growths
 
 TOGETHER = 16
-BEGINS = 10  # the run in which the list was reached when this was written; another costs time and loses nothing
+BEGINS = 4  # the run in which the list was reached when this was written; another costs time and loses nothing
 MOST_RUNS = 64
 SCENE = "no room for the scene"
 LIST = "no room for the list: 39, and nothing has changed: Memory"
