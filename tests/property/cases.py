@@ -48,9 +48,10 @@ def positive(word):
 
 def add_options(parser):
     """Adds the options that choose the cases to a parser of command lines."""
-    parser.add_argument("--seed", type=positive, metavar="N", default=int(datetime.date.today().strftime("%Y%m%d")))
-    parser.add_argument("--cases", type=positive, metavar="N")
-    parser.add_argument("--long", action="store_true")
+    day = int(datetime.date.today().strftime("%Y%m%d"))
+    parser.add_argument("--seed", type=positive, metavar="N", default=day, help="make up the cases from N and not from the date")
+    parser.add_argument("--cases", type=positive, metavar="N", help="make up N cases of each kind")
+    parser.add_argument("--long", action="store_true", help="make up ten times as many cases")
 
 
 def chosen(options):
