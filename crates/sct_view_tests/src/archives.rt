@@ -1,4 +1,5 @@
-//! Archives of the messages of worked examples, with ample memory.
+//! Archives of the messages of worked examples, with ample memory: what adding and merging answers. `examples/cases/archives.txt`
+//! has their texts.
 
 mod refusals;
 mod scenes;
@@ -11,42 +12,6 @@ use sct_set::*;
 use std::alloc::Global;
 use std::process::Abort;
 use std::thread::Threads;
-
-// A credit transfer with banks of 8 characters, with banks of 11, and again with banks of 8.
-static SPELLED: [Row; 3] = [
-    Row::CreditTransfer("M1", "T1", "0.01"),
-    Row::Text(
-        r#"{"MsgNmId":"pacs.008","MsgId":"M1","CreDtTm":"2024-05-02T10:00:00Z","InstgAgt":"BANKDEFFXXX","IntrBkSttlmDt":"2024-05-02","SvcLvl":"SEPA","LclInstrm":"INST","EndToEndId":"E1","TxId":"T1","IntrBkSttlmAmt":"0.01","Ccy":"EUR","ChrgBr":"SLEV","Dbtr":"Anna Weber","DbtrAcct":"DE89370400440532013000","DbtrAgt":"BANKDEFFXXX","CdtrAgt":"BANQFRPPXXX","Cdtr":"Bo Maes","CdtrAcct":"BE68539007547034"}"#,
-    ),
-    Row::CreditTransfer("M1", "T1", "0.01"),
-];
-
-static SPELLED_ANSWERS: [Added; 3] = [Added::Fresh, Added::Repeat, Added::Repeat];
-
-// The written text of all three.
-static WRITTEN: &str =
-    r#"{"Ccy":"EUR","Cdtr":"Bo Maes","CdtrAcct":"BE68539007547034","CdtrAgt":"BANQFRPPXXX","ChrgBr":"SLEV","CreDtTm":"2024-05-02T10:00:00Z","Dbtr":"Anna Weber","DbtrAcct":"DE89370400440532013000","DbtrAgt":"BANKDEFFXXX","EndToEndId":"E1","InstgAgt":"BANKDEFFXXX","IntrBkSttlmAmt":"0.01","IntrBkSttlmDt":"2024-05-02","LclInstrm":"INST","MsgId":"M1","MsgNmId":"pacs.008","SvcLvl":"SEPA","TxId":"T1"}
-"#;
-
-// Two confirmations of one identity, and another message. They are written by identity and then by
-// text, whatever the order of the elements.
-static CONFIRMED: [Row; 3] = [
-    Row::Text(
-        r#"{"MsgNmId":"pacs.002","MsgId":"C1","CreDtTm":"2024-05-02T10:00:02Z","InstgAgt":"BANQFRPP","OrgnlMsgId":"M1","OrgnlMsgNmId":"pacs.008","OrgnlTxId":"T1","TxSts":"ACCP","DbtrAgt":"BANKDEFF"}"#,
-    ),
-    Row::Text(
-        r#"{"MsgNmId":"pacs.002","MsgId":"B9","CreDtTm":"2024-05-02T10:00:02Z","InstgAgt":"BANQFRPP","OrgnlMsgId":"M1","OrgnlMsgNmId":"pacs.008","OrgnlTxId":"T1","TxSts":"ACCP","DbtrAgt":"BANKDEFF"}"#,
-    ),
-    Row::Text(
-        r#"{"MsgNmId":"pacs.002.001.10","MsgId":"C1","CreDtTm":"2024-05-02T09:00:02Z","InstgAgt":"BANQFRPP","OrgnlMsgId":"M1","OrgnlMsgNmId":"pacs.008","OrgnlTxId":"T1","TxSts":"ACCP","DbtrAgt":"BANKDEFF"}"#,
-    ),
-];
-
-static CONFIRMED_WRITTEN: &str =
-    r#"{"CreDtTm":"2024-05-02T10:00:02Z","DbtrAgt":"BANKDEFFXXX","InstgAgt":"BANQFRPPXXX","MsgId":"B9","MsgNmId":"pacs.002","OrgnlMsgId":"M1","OrgnlMsgNmId":"pacs.008","OrgnlTxId":"T1","TxSts":"ACCP"}
-{"CreDtTm":"2024-05-02T09:00:02Z","DbtrAgt":"BANKDEFFXXX","InstgAgt":"BANQFRPPXXX","MsgId":"C1","MsgNmId":"pacs.002.001.10","OrgnlMsgId":"M1","OrgnlMsgNmId":"pacs.008","OrgnlTxId":"T1","TxSts":"ACCP"}
-{"CreDtTm":"2024-05-02T10:00:02Z","DbtrAgt":"BANKDEFFXXX","InstgAgt":"BANQFRPPXXX","MsgId":"C1","MsgNmId":"pacs.002","OrgnlMsgId":"M1","OrgnlMsgNmId":"pacs.008","OrgnlTxId":"T1","TxSts":"ACCP"}
-"#;
 
 // Messages, which are added one after another, and the answers of the archive.
 static COMING: [Row; 9] = [
@@ -96,9 +61,9 @@ fn add_each(rt: &impl Abort, alloc: Global, rows: &[Row], wanted: &[Added]) -> A
 }
 
 // Compares the archive text.
-fn expect_text(rt: &impl Abort, archive: &Archive, wanted: &str) {
+fn expect_text(rt: &impl Abort, archive: &Archive, wanted: &[u8]) {
     let text = archive.text().expect(rt, "a text");
-    assert_eq!(rt; text.as_slice(), wanted.as_bytes());
+    assert_eq!(rt; text.as_slice(), wanted);
 }
 
 // One identity is contradicted, that of the confirmations C1.
@@ -134,15 +99,9 @@ fn text_of_both(
 fn an_empty_archive_says_nothing(rt: HostRuntime) {
     let archive = Archive::new(rt.alloc());
     assert_eq!(rt; archive.len(), 0);
-    expect_text(&rt, &archive, "");
+    expect_text(&rt, &archive, b"");
     let found = archive.contradictions().expect(&rt, "contradictions");
     assert!(rt; found.is_empty());
-}
-
-#[test]
-fn takes_a_message_once_however_its_banks_are_written(rt: HostRuntime) {
-    let archive = add_each(&rt, rt.alloc(), &SPELLED, &SPELLED_ANSWERS);
-    expect_text(&rt, &archive, WRITTEN);
 }
 
 #[test]
@@ -150,12 +109,6 @@ fn tells_how_each_message_comes(rt: HostRuntime) {
     let archive = add_each(&rt, rt.alloc(), &COMING, &COMING_ANSWERS);
     assert_eq!(rt; archive.len(), 6);
     expect_contradicted(&rt, &archive);
-}
-
-#[test]
-fn writes_by_identity_and_then_by_text(rt: HostRuntime) {
-    let archive = archive_of(rt.alloc(), &CONFIRMED).expect(&rt, "an archive");
-    expect_text(&rt, &archive, CONFIRMED_WRITTEN);
 }
 
 // The pieces of the archive text of the messages of the rows, one after another.
@@ -174,10 +127,9 @@ fn text_in_pieces_of(rt: &(impl Threads + Sync), alloc: Global, rows: &[Row]) ->
 
 #[test]
 fn writes_the_same_in_pieces(rt: HostRuntime) {
-    let text = text_in_pieces_of(&rt, rt.alloc(), &CONFIRMED).expect(&rt, "a text");
-    assert_eq!(rt; text.as_slice(), CONFIRMED_WRITTEN.as_bytes());
-    let text = text_in_pieces_of(&rt, rt.alloc(), &SPELLED).expect(&rt, "a text");
-    assert_eq!(rt; text.as_slice(), WRITTEN.as_bytes());
+    let text = text_in_pieces_of(&rt, rt.alloc(), &SHARING).expect(&rt, "a text");
+    let archive = archive_of(rt.alloc(), &SHARING).expect(&rt, "an archive");
+    expect_text(&rt, &archive, &text);
 }
 
 #[test]
