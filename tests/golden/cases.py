@@ -4,7 +4,7 @@ A file has one case after another: a line `== TITLE`, the lines of the input, af
 write to standard output, and after `-- refused` what each of them must write to standard error. For the command `report BANK DAY`
 the list of the bank follows a line `-- list`.
 
-Each case is run as it is, and without the line feed at its end. It is also run with one more member in each object at the begin of a
+Each case is run as it is, and without the line feed at its end. It is also run with one more member in each object at the beginning of a
 line, which is not a text and changes nothing: the program reads such an object in another way. If no line is refused, a case is also
 run with its lines in the opposite order, and with each line twice. The answer must be the same. The events of a script keep their
 order.

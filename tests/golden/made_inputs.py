@@ -40,7 +40,7 @@ def numbered(count):
     return [transaction(f"R{number}") for number in range(1, count + 1)]
 
 
-def told(name, *lines):
+def refused_lines(name, *lines):
     """Lines that are refused, each with its fault, and no other lines."""
     data = "".join(line + "\n" for line, _ in lines)
     refused = "".join(f"line {number}: {fault}\n" for number, (_, fault) in enumerate(lines, start=1))
@@ -74,19 +74,19 @@ def deep():
     """Lists in lists: as a line, at a key that no message has, and in a list of transactions."""
     nested = lambda depth: "[" * depth + "]" * depth
     at_a_key = lambda depth: TRANSFER.replace("{", '{"Foo":' + nested(depth) + ",", 1)
-    yield told("lists that nest", (nested(127), "32"), (nested(128), "31"))
-    yield told("an extra key that nests", (at_a_key(126), '37 "Foo"'), (at_a_key(127), "31"))
-    yield told("a list of transactions that nests", (listed(nested(125)), "46 1"), (listed(nested(126)), "31"))
+    yield refused_lines("lists that nest", (nested(127), "32"), (nested(128), "31"))
+    yield refused_lines("an extra key that nests", (at_a_key(126), '37 "Foo"'), (at_a_key(127), "31"))
+    yield refused_lines("a list of transactions that nests", (listed(nested(125)), "46 1"), (listed(nested(126)), "31"))
 
 
 def many_members():
     """Objects of many members."""
     many = TRANSFER.replace("{", "{" + '"Ccy":"USD",' * 10_000, 1)
     yield Made("a key 10,000 times, of which the last counts", "status", many.encode(), PENDING.encode(), b"")
-    yield told("an extra key before these", (many.replace('"Ccy"', '"Cxy"', 1), '37 "Cxy"'))
+    yield refused_lines("an extra key before these", (many.replace('"Ccy"', '"Cxy"', 1), '37 "Cxy"'))
     keys = "".join(f'"x{number}":1,"X{number}":[],' for number in range(5_000))
     one = transaction().replace('"DbtrAgt"', keys + '"DbtrAgt"')
-    yield told("10,000 extra keys of a transaction", (listed(one), '56 1 37 "X0"'))
+    yield refused_lines("10,000 extra keys of a transaction", (listed(one), '56 1 37 "X0"'))
 
 
 # ---- long lists of transactions
@@ -94,9 +94,9 @@ def many_members():
 def counted():
     """Lists of one element many times, and a last one."""
     repeated = lambda element, count, last: listed(*[element] * count, last)
-    yield told("lists of 100 elements", (repeated("{}", 99, "{}"), "56 1 34 CxlId"), (repeated("{}", 99, "7"), "46 100"),
+    yield refused_lines("lists of 100 elements", (repeated("{}", 99, "{}"), "56 1 34 CxlId"), (repeated("{}", 99, "7"), "46 100"),
                (repeated("[]", 99, "{}"), "46 1"))
-    yield told("lists of more elements", (repeated("{}", 100, "{}"), "46 0"), (repeated("7", 100, "{}"), "46 0"),
+    yield refused_lines("lists of more elements", (repeated("{}", 100, "{}"), "46 0"), (repeated("7", 100, "{}"), "46 0"),
                (repeated("{}", 100, "7"), "46 0"), (repeated("{}", 100_000, "{}"), "46 0"), (repeated("[[]]", 100_000, "7"), "46 0"),
                (listed(*numbered(101)), "46 0"))
     most = listed(*numbered(100)) + "\n"
@@ -108,13 +108,13 @@ def rules():
     first, second = transaction(), transaction("R2")
     other_transfer, other_bank = transaction(OrgnlTxId="T2"), transaction(DbtrAgt="BANKNL2A")
     dollars, about_return = transaction("R0", Ccy="USD"), transaction("R00", OrgnlMsgNmId="pacs.004")
-    yield told("a recall that is named twice", *[(listed(*elements), "38 22") for elements in (
+    yield refused_lines("a recall that is named twice", *[(listed(*elements), "38 22") for elements in (
         [first, first], [first, transaction(OrgnlMsgNmId="pacs.008.001.08", OrgnlIntrBkSttlmAmt="8.00", Rsn="DUPL")],
         [second, first, second], [first, other_transfer, first], [first, other_bank, first],
         *[[*numbered(99), transaction(cxl)] for cxl in ("R1", "R50", "R99")])])
-    yield told("dollars in any transaction", *[(listed(*elements), "38 11") for elements in (
+    yield refused_lines("dollars in any transaction", *[(listed(*elements), "38 11") for elements in (
         [first, dollars], [dollars, first], [*numbered(99), dollars], [about_return, dollars], [first, first, dollars])])
-    yield told("an original of another kind in any transaction", *[(listed(*elements), "38 21") for elements in (
+    yield refused_lines("an original of another kind in any transaction", *[(listed(*elements), "38 21") for elements in (
         [first, about_return], [about_return, first], [*numbered(99), about_return], [first, first, about_return])])
     for name, elements in (("another transfer", [first, other_transfer]), ("another bank", [first, other_bank]),
                            ("a space after the identification", [first, transaction("R1 ")]),

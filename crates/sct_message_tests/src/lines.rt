@@ -132,7 +132,7 @@ fn reads_lines(rt: HostRuntime) {
 }
 
 // `count` spaces, followed by a text.
-fn behind_spaces(alloc: Global, count: usize, text: &[u8]) -> Result<Vec<u8>, AllocError> {
+fn after_spaces(alloc: Global, count: usize, text: &[u8]) -> Result<Vec<u8>, AllocError> {
     let mut bytes = Vec::new(alloc);
     for _ in 0..count {
         bytes.push(b' ')?;
@@ -170,7 +170,7 @@ fn reads_by_halves_as(
 #[test]
 fn reads_two_parts_as_the_whole(rt: HostRuntime) -> Result<(), AllocError> {
     for count in 0..=PARTS.input.len() {
-        let late = behind_spaces(rt.alloc(), count, PARTS.input)?;
+        let late = after_spaces(rt.alloc(), count, PARTS.input)?;
         assert!(rt; reads_by_halves_as(&rt, rt.alloc(), &late, 1, &PARTS));
         let early = before_spaces(rt.alloc(), PARTS.input, count)?;
         assert!(rt; reads_by_halves_as(&rt, rt.alloc(), &early, 1, &PARTS));
