@@ -131,15 +131,19 @@ fn assert_transfer(rt: &impl Abort, message: &Message) {
     assert!(rt; message.transfer(1).is_none() && message.transfer(usize::MAX).is_none());
 }
 
-/// Asserts that a draft is a status request of this recall.
+/// Asserts that a request is about this recall.
+fn assert_request(rt: &impl Abort, request: &StatusRequest, recall: Option<&str>) {
+    let key = request.cancellation_id.as_ref();
+    assert!(rt; key.map(|key| key.text()) == recall);
+}
+
 fn assert_kept(rt: &impl Abort, draft: &Draft, recall: Option<&str>) {
     assert_eq!(rt; draft.kind(), Kind::Pacs028);
     assert_eq!(rt; draft.head().message_name.text(), "pacs.028");
-    let Draft::StatusRequest(request) = draft else {
-        panic!(rt; "a draft of another kind");
-    };
-    let key = request.cancellation_id.as_ref();
-    assert!(rt; key.map(|key| key.text()) == recall);
+    match draft {
+        Draft::StatusRequest(request) => assert_request(rt, request, recall),
+        _ => assert!(rt; false),
+    }
 }
 
 /// Asserts that a message is filed by these keys, the last one the identification of its recall.

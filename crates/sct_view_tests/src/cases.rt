@@ -171,7 +171,7 @@ fn told_of_recalls(
 fn assert_recalls(rt: &impl Abort, told: &[(Id35, RecallStatus)], wanted: &[RecallStatus; 3]) {
     assert_eq!(rt; told.len(), 3);
     for (recall, status) in told.iter().zip(wanted) {
-        assert!(rt; recall.1 == *status, "at {}", recall.0.text());
+        assert!(rt; recall.1 == *status);
     }
 }
 
