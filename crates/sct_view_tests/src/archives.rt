@@ -1,7 +1,6 @@
 //! Archives of the messages of worked examples, with ample memory: what adding and merging answers. `examples/cases/archives.txt`
 //! has their texts.
 
-mod refusals;
 mod scenes;
 
 use indexmap::IndexMap;
