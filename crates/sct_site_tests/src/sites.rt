@@ -2,7 +2,8 @@
 
 mod scenes;
 
-use scenes::{Row, accepted, are_held, delta_of, refusal, site_of, taken};
+use crate::deltas::scenes::{Row, delta_of};
+use scenes::{accepted, are_held, refusal, site_of, taken};
 use sct_delta::DeltaFault;
 use sct_site::*;
 use std::alloc::Global;

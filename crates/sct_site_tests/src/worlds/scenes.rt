@@ -1,6 +1,7 @@
 //! Events for tests of worlds.
 
-use sct_delta::{Delta, DeltaFault, Entry, Vector};
+use crate::deltas::scenes::{Row, delta_of};
+use sct_delta::{DeltaFault, Vector};
 use sct_json::read_message;
 use sct_message::Message;
 use sct_site::SiteCore;
@@ -104,18 +105,6 @@ fn confirmation_of(alloc: Global, id: &str) -> Option<Arc<Message>> {
     message_of(alloc, &text)
 }
 
-// The confirmation as the first entry of site 1.
-fn delta_of(alloc: Global, id: &str) -> Option<Delta> {
-    let mut entries = Vec::new(alloc);
-    let entry = Entry {
-        origin: 1,
-        n: 1,
-        message: confirmation_of(alloc, id)?,
-    };
-    entries.push(entry).ok()?;
-    Delta::of(entries).ok()
-}
-
 // Makes the site take the confirmations of these identifications.
 fn take_all(alloc: Global, site: &mut SiteCore, ids: &[&str]) -> Option<()> {
     for id in ids {
@@ -125,9 +114,9 @@ fn take_all(alloc: Global, site: &mut SiteCore, ids: &[&str]) -> Option<()> {
 }
 
 // Makes the site accept the confirmation as the first entry of site 1, if there is one.
-fn accept_first(alloc: Global, site: &mut SiteCore, id: Option<&str>) -> Option<()> {
+fn accept_first(alloc: Global, site: &mut SiteCore, id: Option<&'static str>) -> Option<()> {
     if let Some(id) = id {
-        site.accept(&delta_of(alloc, id)?).ok()?;
+        site.accept(&delta_of(alloc, &[Row(1, 1, id)])?).ok()?;
     }
     Some(())
 }
