@@ -16,7 +16,7 @@ mod refusals;
 mod shortage;
 
 pub use intake::{Intake, read_line, read_lines_after};
-pub use lines::{first_line, is_blank_line, lines_tile_the_text};
+pub use lines::{first_line, is_blank_line, lines_tile_the_text, whole_lines_stay};
 pub use parts::{read_lines, read_lines_by_halves};
 pub use refusal_text::push_json_fault;
 pub use refusals::{Reason, Refusals};
