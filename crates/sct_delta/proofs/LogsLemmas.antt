@@ -1,5 +1,5 @@
 -- What a caller sees of logs is what shelf and vector keep. Proof plumbing.
-use Rattle.std.proofs.Common.{◌≡◌, ◌∙◌, refl, ap, ℕ, ◌≤◌, map, cond, arith, length, Option, Some, None}
+use Rattle.std.proofs.Common.{◌≡◌, ◌∙◌, refl, ap, ℕ, ◌≤◌, List, map, cond, arith, All, length, Option, Some, None}
 use Rattle.std.specs.Prelude.{is_some}
 use Rattle.std.specs.BTreeMap.{get, is_at}
 use Rattle.std.specs.Global.{Vec, Global}

@@ -9,7 +9,7 @@ use Rattle.sct_delta.specs.Entries.{Placed, entries_from, held_from, holds}
 use Rattle.sct_delta.specs.declared.fault.DeltaFault.{DeltaFault}
 use Rattle.sct_delta.specs.declared.fault.DeltaFault.TheVariants as fault
 use Rattle.sct_site.specs.Cores.{Core}
-use Rattle.sct_world.specs.Settling.{core_in, held_by_some, is_beside, IsKept, AreKept, AreSettled, IsWhy, HasAll, OfOneGroup}
+use Rattle.sct_world.specs.Settling.{core_in, held_by_some, is_beside, are_one_group, IsKept, AreKept, AreSettled, IsWhy, HasAll, OfOneGroup}
 
 -- ---- an entry that some site holds
 
