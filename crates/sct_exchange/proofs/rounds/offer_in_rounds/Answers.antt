@@ -1,5 +1,5 @@
 -- Each round leaves fewer files, and the last one accepts none.
-use Rattle.std.proofs.Common.{◌≡◌, ◌<◌, ◌∙◌, ap, sym, subst, length, true, false, List, ℕ}
+use Rattle.std.proofs.Common.{◌≡◌, ◌<◌, ◌∙◌, ap, sym, subst, length, true, List, ℕ}
 use Rattle.sct_exchange.specs.Rounds.{Numbered, Offers, accepts_some, exchanged, numbered_files}
 use Rattle.sct_exchange.proofs.RoundLemmas.{ComesToTheSame, after_round, at_end, at_start, round_fewer}
 use Rattle.sct_exchange.proofs.rounds.offer_in_rounds.Goals as goal

@@ -1,10 +1,9 @@
 -- One file more is told if it is refused.
-use Rattle.std.proofs.Common.{◌≡◌, ◌+◌, ◌∙◌, ◌++◌, ap, sym, take, List}
+use Rattle.std.proofs.Common.{◌≡◌, ◌+◌, ◌∙◌, ◌++◌, ap, sym, take}
 use Rattle.std.specs.Prelude.{Option}
 use Rattle.std.proofs.lemmas.List.{append-nil}
 use Rattle.sct_delta.specs.declared.fault.DeltaFault.{DeltaFault}
 use Rattle.sct_exchange.specs.Rounds.{refused_by}
-use Rattle.sct_exchange.specs.declared.refused.RefusedFile.{RefusedFile}
 use Rattle.sct_exchange.proofs.RoundLemmas.{refused_next, told_of}
 use Rattle.sct_exchange.proofs.rounds.refusals.Goals as goal
 use Rattle.sct_exchange.proofs.rounds.refusals.Goals.{in-Some+in_ok-push, in_default}

@@ -1,5 +1,5 @@
 -- The vector counts what is held of each origin.
-use Rattle.std.proofs.Common.{◌≡◌, ◌∙◌, ap, ℕ}
+use Rattle.std.proofs.Common.{◌∙◌, ap}
 use Rattle.sct_delta.specs.VectorText.{vector_text}
 use Rattle.sct_exchange.proofs.texts.write_held.Goals as goal
 
