@@ -13,8 +13,8 @@ from tests import harness
 from tests.golden.shown import place, shell
 from tests.golden.titled import titled
 from tests.harness import EXAMPLES, Case, case, reported
-from tests.inputs import files_of, instruction
-from tests.oracle.status import archive_text, read_message, written
+from tests.inputs import delta, files_of, instruction
+from tests.oracle.status import archive_text, read_message
 
 FOLDER = EXAMPLES / "exchange"
 SHELLS = ["sh", "dash", "bash"]
@@ -38,12 +38,6 @@ def command_lines():
 
 
 # ---- cases that are made up
-
-def delta(origin, first, number):
-    """The text of a delta of one entry, an instruction."""
-    line = written(read_message(instruction(number).encode()))
-    return f"delta 2\norigin {origin} {first} 1\n{line}\nend 1\n".encode()
-
 
 def archive(numbers):
     """The archive text of some instructions."""
