@@ -7,7 +7,7 @@ Usage: tests/oracle/exchange.py site SITE SITES JOURNAL [DELTA]..
 It takes the words of the program, writes what the program must write, and ends as it must. It has no help, and after `fault 64` no
 text of clap. A site is a list of messages for each origin. A delta is a list of runs, each an origin, a first number and messages.
 """
-import collections, functools, os, pathlib, re, sys
+import collections, contextlib, functools, os, pathlib, re, sys
 sys.path.insert(0, str(pathlib.Path(__file__).resolve().parents[2]))
 from tests.oracle.status import Refused, archive_text, lines_of, read_message, written
 
@@ -276,16 +276,23 @@ def answer(words, at="."):
     return text, "".join(ended.refused), 1 if ended.refused else 0
 
 
+def write(stream, text):
+    """Writes a text to a stream, whole or as much as there is room for."""
+    data = text.encode()
+    while data:
+        data = data[os.write(stream, data):]
+
+
 def main():
     text, refused, status = answer(sys.argv[1:])
     try:
-        for stream, part in ((sys.stderr, refused), (sys.stdout, text)):
-            stream.buffer.write(part.encode())
-            stream.buffer.flush()
+        write(2, refused)
+        write(1, text)
     except OSError:
-        os.write(2, b"fault 63\n")
         status = 2
-    os._exit(status)
+        with contextlib.suppress(OSError):
+            write(2, "fault 63\n")
+    sys.exit(status)
 
 
 if __name__ == "__main__":
