@@ -5,10 +5,12 @@ Usage: python3 -m tests.property.hubs [--seed N] [--cases N]   (default: the num
 A hub has 2 to 5 sites. Their journals grow, with blank lines, refused lines, repeats, messages of other sites and lines that break off.
 A site asks with its vector, as it is, as it was or as it never was. What another one cuts for it is lost, comes late, twice or in another
 form, or is cut short or damaged. Each command is compared with tests/oracle/exchange.py: the two outputs to the byte, and the status.
-At the end the sites give each other all that is lacking. Then all print one archive text, which has the messages of all journals.
+No delta is refused with 42, 43 or 44, and sites with equal vectors print equal archive texts. At the end the sites give each other all
+that is lacking. Then all print one archive text, which has the messages of all journals.
 
-In one hub of five a journal loses or changes lines, a delta is damaged so that it still is one, or the sites have other groups. There only
-the answers are compared. What has to be met in 300 hubs and was not counts as failed. The seed is printed: with it all is the same again.
+One hub of five is not honest: a journal loses or changes lines, a delta is damaged so that it still is one, or a site has another group.
+There only the answers are compared. What has to be met in 300 hubs and was not counts as failed. The seed is printed: with it all is the
+same again.
 """
 import argparse, collections, concurrent.futures, datetime, os, pathlib, random, re, tempfile
 from tests import harness
@@ -18,8 +20,9 @@ from tests.property.messages import Pool, shuffled
 
 CASES, STEPS, ENOUGH = 300, range(8, 33), 300
 REFUSED_LINES = [b"", b" \t\r", b"{}", b"foo", b"[]", b'{"MsgNmId":"pacs.008"}', b"\xff"]
+NO_VECTORS = ["", "1", "1:", "2:1,1:1", "1:1,1:1", "0:1", "1:01", "1:1,", "1025:1"]
 TO_MEET = ["41", "42", "43", "44", "45", "a refused line", "fault 62", "fault 64", "two rounds", "three rounds", "an empty vector",
-           "a delta twice", "an early delta that comes", "form 1", "equal bytes", "a message of two sites"]
+           "a delta twice", "a late delta", "form 1", "equal vectors", "equal bytes", "a message of two sites"]
 
 Answer = collections.namedtuple("Answer", "text status")
 
@@ -38,6 +41,7 @@ class Hub:
         self.texts = [shuffled(r, pool.message()) for _ in range(r.randint(5, 60))]
         self.given = {site: [] for site in self.numbers()}  # the files that each site was sent
         self.late, self.asked, self.files = [], {site: "-" for site in self.numbers()}, 0
+        self.archives = {}  # the archive text that was printed at each vector
         for site in self.numbers():
             self.journal(site).touch()
 
@@ -63,7 +67,10 @@ class Hub:
         errors = found.errors.split(b"\n")[0] + b"\n" if status == 2 else found.errors
         if (found.text, errors, found.status) != (text.encode(), refused.encode(), status):
             raise Differs(f"{words}\n wanted {text!r}, {refused!r}, {status}\n found {found}")
-        self.met.update(re.findall(r"^(?:file \d+: )?(\d+|fault \d+)", refused, re.M))
+        why = re.findall(r"^(?:file \d+: )?(\d+|fault \d+)", refused, re.M)
+        if self.honest and {"42", "43", "44"}.intersection(why):
+            raise Differs(f"{words} is refused with {why}")
+        self.met.update(why)
         self.met["a refused line"] += refused.startswith("file 1 line")
         return Answer(text, status)
 
@@ -129,6 +136,7 @@ class Hub:
         self.site(taker)
 
     def in_form_1(self, text):
+        """The text of the same delta in form 1."""
         self.met["form 1"] += 1
         runs, lines = exchange.delta_in(text), text.split(b"\n")
         messages = [line for line in lines if line.startswith(b"{")]
@@ -149,7 +157,7 @@ class Hub:
         if self.late:
             site, name = self.late.pop(self.r.randrange(len(self.late)))
             self.given[site].insert(self.r.randint(0, len(self.given[site])), name)
-            self.met["an early delta that comes"] += 1
+            self.met["a late delta"] += 1
             self.site(site)
 
     def site(self, site):
@@ -158,9 +166,12 @@ class Hub:
         r.shuffle(files)
         files += r.sample(files, r.choice([0, 0, 1])) if files else []
         files = files[r.choice([0, 0, 0, 1]):]
-        self.at(site, r.choice(["site", "site", "vector"]), files=files)
-        rounds = exchange.exchanged(site, self.sites, self.journal(site).read_bytes(),
-                                    [pathlib.Path(self.folder, name).read_bytes() for name in files]).rounds
+        text, vector = (self.at(site, command, files=files) for command in ("site", "vector"))
+        self.met["equal vectors"] += vector in self.archives
+        if self.honest and self.archives.setdefault(vector, text) != text:
+            raise Differs(f"two archive texts at {vector}")
+        texts = [pathlib.Path(self.folder, name).read_bytes() for name in files]
+        rounds = exchange.exchanged(site, self.sites, self.journal(site).read_bytes(), texts).rounds
         self.met["two rounds"] += rounds == 2
         self.met["three rounds"] += rounds > 2
 
@@ -175,9 +186,10 @@ class Hub:
         """Words that ask for nothing, and a file that is not there."""
         r, site = self.r, self.r.choice(self.numbers())
         journal = self.journal(site).name
-        self.run(*r.choice([("site", 0, self.sites, journal), ("vector", self.sites + 1, self.sites, journal), ("site", site, 1025, journal),
-                            ("cut", site, self.sites, r.choice(["", "1", "1:", "2:1,1:1", "1:1,1:1", "0:1", "1:01", "1:1,", "1025:1"]), journal),
-                            ("site", site, self.sites, journal, "nowhere"), ("cut", site, self.sites, "-", "nowhere")]))
+        self.run(*r.choice([
+            ("site", 0, self.sites, journal), ("vector", self.sites + 1, self.sites, journal), ("site", site, 1025, journal),
+            ("cut", site, self.sites, r.choice(NO_VECTORS), journal), ("site", site, self.sites, journal, "nowhere"),
+            ("cut", site, self.sites, "-", "nowhere")]))
 
     def spoil(self):
         """What no honest hub has: a journal loses or changes a line, and the site is sent all that another one has; or a smaller group."""
@@ -196,7 +208,8 @@ class Hub:
     def day(self):
         """All that happens, and what has to hold in the end."""
         r = self.r
-        things = [self.append] * 5 + [self.send] * 8 + [self.arrive] * 3 + [self.stream, self.forget, self.mistake] + [self.spoil] * 3 * (not self.honest)
+        things = [self.append] * 5 + [self.send] * 8 + [self.arrive] * 3 + [self.stream, self.forget, self.mistake]
+        things += [] if self.honest else [self.spoil] * 3
         for _ in range(r.choice(STEPS)):
             r.choice(things)()
         if self.honest:
@@ -219,9 +232,10 @@ class Hub:
 def is_delta(text):
     """Whether a text is a delta text."""
     try:
-        return bool(exchange.delta_in(text)) or True
+        exchange.delta_in(text)
     except exchange.BadDelta:
         return False
+    return True
 
 
 def messages_in(journal):
