@@ -4,7 +4,7 @@ The program is the one that `rt run` and the gate leave in crates/sct_sites, and
 The variables SCT_SITES and SCT_TEST_DRIVER may name other programs. A run may be limited: in processors, in memory, in the bytes that
 it writes to a file, and in seconds. One of its allocations may be refused.
 """
-import collections, os, pathlib, re, resource, shutil, struct, subprocess, sys, tempfile
+import collections, os, pathlib, resource, shutil, struct, subprocess, sys, tempfile
 from concurrent.futures import ThreadPoolExecutor
 
 TOP = pathlib.Path(__file__).resolve().parents[1]
@@ -98,24 +98,6 @@ def spent(words, data=None, **streams):
     status = run(words, data, **{"stdout": subprocess.DEVNULL, "stderr": subprocess.DEVNULL, **streams}).status
     after = resource.getrusage(resource.RUSAGE_CHILDREN)
     return after.ru_utime + after.ru_stime - before.ru_utime - before.ru_stime, status
-
-
-def driver_answers(cases, *flags):
-    """What the test driver answers to each case: its text and the status that it ends with. A case has a name, words and an input.
-
-    `rt try` builds the driver once for all of them, and proves nothing.
-    """
-    with tempfile.TemporaryDirectory() as folder:
-        for name, (words, data) in cases.items():
-            pathlib.Path(folder, name).write_bytes(data)
-            pathlib.Path(folder, name + ".args").write_text("\n".join(words) + "\n")
-        answer = run([command("rt"), "try", *flags, "--cases", folder], cwd=CRATES / "sct_test_driver")
-    out, errors = answer.text.decode(), answer.errors.decode()
-    texts = dict(re.findall(r"^== (\w+)\n(.*?)(?=^== \w+\n|\Z)", out, re.M | re.S))
-    statuses = dict(re.findall(r"^case=(\w+) run=ended status=(\d+) ", errors, re.M))
-    if not set(cases) == set(texts) == set(statuses):
-        stop(f"{len(statuses)} cases of {len(cases)} ended:\n{out[-2000:]}{errors[-2000:]}")
-    return {name: (texts[name], int(statuses[name])) for name in cases}
 
 
 # ---- runs with one allocation refused

@@ -1,17 +1,19 @@
 """run.py: runs the checks of the gate that follow `rt ci`, one after another.
 
-Usage: tests/run.py [WORD ..]   (a kind or the name of a check; without a word all checks run)
-
-A check is the module tests/KIND/NAME.py, whose last line is 'N passed, M failed'. A line reports what each check does, its numbers
+A word names a kind of checks or one check. Without a word all checks run. A check is the module tests/KIND/NAME.py, whose last line is 'N passed, M failed'. A line reports what each check does, its numbers
 and its seconds. What a failed check printed follows, and the status that it ended with. A check that ends with another status than 0,
 or prints no numbers, has failed at least once. The last line is 'N passed, M failed' of all checks. The exit status is 0 if none
 has failed. harness.py has the variables that name other programs than those of the gate.
+
+--seed, --cases and --long are handed to the property checks (tests/property/cases.py). A check is skipped, and has not passed, if the
+machine lacks a Debian package that it needs. --install installs such packages first.
 """
-import os, pathlib, re, subprocess, sys, time
+import argparse, os, pathlib, re, shutil, subprocess, sys, time
 if sys.version_info < (3, 8):
     sys.exit("run: this needs Python 3.8 or later")
 sys.path.insert(0, str(pathlib.Path(__file__).resolve().parents[1]))
 from tests import harness
+from tests.property import cases
 
 CHECKS = {
     "documents": {
@@ -51,24 +53,50 @@ CHECKS = {
         "hubs": "compares made-up hubs of sites that exchange files with the definitions",
     },
 }
+# the Debian packages that a check needs beside Python and the toolchain
+PACKAGES = {name: ["gcc"] for name in ["archive_growths", "view_growths", "desk_growths", "forms", "allocations", "group_memory"]}
 VARIABLES = ["SCT_SITES", "SCT_TEST_DRIVER"]
+
+
+def options():
+    """What the command line asks for."""
+    parser = argparse.ArgumentParser(description=__doc__, formatter_class=argparse.RawDescriptionHelpFormatter)
+    cases.add_options(parser)
+    parser.add_argument("--install", action="store_true", help="install the Debian packages that the checks need")
+    parser.add_argument("words", nargs="*", metavar="WORD")
+    return parser.parse_intermixed_args()
 
 
 def modules(words):
     """The checks that the words name, each with its module and with what it does. Without a word these are all checks."""
     known = {word for kind, checks in CHECKS.items() for word in (kind, *checks)}
     if not known.issuperset(words):
-        sys.exit(f"{__doc__}\nThe words are: " + " ".join(f"{kind} ({', '.join(checks)})" for kind, checks in CHECKS.items()))
+        harness.stop("the words are " + ", ".join(f"{kind} ({', '.join(checks)})" for kind, checks in CHECKS.items()))
     for kind, checks in CHECKS.items():
         for name, does in checks.items():
             if not words or kind in words or name in words:
-                yield name, f"tests.{kind}.{name}", does
+                yield name, kind, does
 
 
-def ran(module):
+def lacking(name):
+    """The packages that a check needs and the machine lacks. None if it has no Debian packages."""
+    if shutil.which("dpkg-query") is None:
+        return []
+    status = lambda package: harness.run(["dpkg-query", "--show", "--showformat=${Status}", package]).text
+    return [package for package in PACKAGES.get(name, []) if status(package) != b"install ok installed"]
+
+
+def install(packages):
+    """Installs packages, if there are any."""
+    for words in [["update"], ["install", "--yes", "--no-install-recommends", *packages]] if packages else []:
+        if subprocess.run(["apt-get", *words]).returncode:
+            harness.stop(f"apt-get {' '.join(words)} failed")
+
+
+def ran(module, words):
     """How much of a check passed, how much failed, and the lines that it printed, with how it ended."""
     paths = {name: os.path.abspath(os.environ[name]) for name in VARIABLES if os.environ.get(name)}
-    done = subprocess.run([sys.executable, "-u", "-m", module], cwd=harness.TOP, env={**os.environ, **paths},
+    done = subprocess.run([sys.executable, "-u", "-m", module, *words], cwd=harness.TOP, env={**os.environ, **paths},
                           stdout=subprocess.PIPE, stderr=subprocess.STDOUT)
     text = done.stdout.decode(errors="replace")
     numbers = re.search(r"^(\d+) passed, (\d+) failed\n\Z", text, re.M)
@@ -78,11 +106,16 @@ def ran(module):
     return passed, failed, text.splitlines() + [f"ended with status {done.returncode}"]
 
 
-def checked(name, module, does):
+def checked(name, kind, does, made):
     """How much of a check passed and how much failed, which is printed too."""
-    print(f"{name} {does}: ", end="", flush=True)
+    words = made.words() if kind == "property" else []
+    print(f"{name} {does}{', with ' * bool(words)}{' '.join(words)}: ", end="", flush=True)
+    missing = lacking(name)
+    if missing:
+        print(f"skipped: the machine lacks packages: apt-get install {' '.join(missing)}", flush=True)
+        return 0, 0
     began = time.monotonic()
-    passed, failed, lines = ran(module)
+    passed, failed, lines = ran(f"tests.{kind}.{name}", words)
     print(f"{passed} passed, {failed} failed, {time.monotonic() - began:.0f} seconds", flush=True)
     for line in lines if failed else []:
         print(f"  {line}", flush=True)
@@ -90,11 +123,11 @@ def checked(name, module, does):
 
 
 def main():
-    words = sys.argv[1:]
-    chosen = list(modules(words))
-    for name in () if words else ("rt", "cc"):
-        harness.command(name)
-    harness.end_with([checked(*one) for one in chosen])
+    asked = options()
+    chosen = list(modules(asked.words))
+    if asked.install:
+        install(sorted({package for name, _, _ in chosen for package in lacking(name)}))
+    harness.end_with([checked(*one, cases.chosen(asked)) for one in chosen])
 
 
 if __name__ == "__main__":

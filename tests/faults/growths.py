@@ -1,12 +1,21 @@
-"""growths.py: calls of the test driver with one allocation refused in each case.
+"""growths.py: what the test driver prints if a growth of a call is refused, with each of its allocations refused in turn.
 
-`rt try --cases` refuses the allocation of one number in each case. The cases differ in how many allocations come first. So each growth
-of a call is refused in one of them: the growths begin after one that is refused too early, and end before one that is refused too
-late.
+Each number of an allocation has a run of its own, up to the greatest count that was seen. If the allocation is a growth of a call, the
+driver must print the number of the fault, and then what it should: that nothing has changed, and what the same call brings if it is
+made again. If the allocation is one of the driver itself, it prints a beginning of what it prints with ample memory, and ends with 1.
+The growths of a call come one after another. Between them may be allocations that do no harm if they are refused.
 """
-import json
+import collections, json, tempfile
 from bench.generate import samples
 from tests import harness
+
+# what the driver is asked, and what it prints with ample memory; what it prints if a growth of a call is refused, by the call and then
+# by the number of the fault; and how many refused allocations between the growths of a call do no harm
+Trial = collections.namedtuple("Trial", "name words lines ample refused harmless", defaults=[0])
+
+# the call whose growth was refused, and the number of the fault
+Mark = collections.namedtuple("Mark", "call fault")
+HARMLESS, ENDED = Mark(None, "no harm"), Mark(None, "the driver ended")
 
 
 def instruction(number, transfer, amount):
@@ -17,30 +26,53 @@ def acceptance(number, transfer):
     return json.dumps(samples.confirmation(MsgId=number, OrgnlTxId=transfer))
 
 
-def marks_of(number, cases, mark_of):
-    """What each case met if the allocation with this number is refused, or None if its answer is wrong, which is printed.
-
-    A case is known by its key, and has words and lines.
-    """
-    inputs = {f"case{place:03d}": (words, ("\n".join(lines) + "\n").encode()) for place, (words, lines) in enumerate(cases.values())}
-    found = {}
-    for case, (text, status) in zip(cases, harness.driver_answers(inputs, "--fail-alloc", str(number)).values()):
-        found[case] = mark_of(case, text, status)
-        if found[case] is None:
-            print(f"with --fail-alloc {number}, case {case}: {text!r}, status {status}")
-    return found
-
-
-def are_whole(refused, most, spared=()):
-    """Whether the growths are refused one after another, and the cases go from after the last to before the first.
-
-    Spared are the cases between them in which the call answered as with ample memory, though an allocation was refused.
-    """
-    between = range(refused[0], refused[-1] + 1)
-    return 0 < refused[0] and refused[-1] < most and sorted({*refused, *spared}) == list(between)
+def mark_of(trial, run):
+    """What a run met, or None if its answer is wrong."""
+    text, status = run.answer.text.decode(errors="replace"), run.answer.status
+    if (text, status) == (trial.ample, 0):
+        return HARMLESS
+    if not harness.is_refused(run):
+        return None
+    if status == 1 and trial.ample.startswith(text):
+        return ENDED
+    marks = [Mark(call, fault) for call, texts in trial.refused.items() for fault, wanted in texts.items() if wanted == text]
+    return marks[0] if marks and status == 0 else None
 
 
-def end(name, right, failed):
-    """Ends a check with how many refusals of growths were answered as they should be, and how many failed. One at least was met."""
-    print(f"{right} refusals of growths of {name}" if right else f"no growth of {name} was refused", flush=True)
-    harness.end(right, failed + (not right))
+def is_whole(trial, marks, call):
+    """Whether the growths of a call were refused one after another, and each of its faults was met."""
+    numbers = [number for number, mark in marks.items() if mark and mark.call == call]
+    if {marks[number].fault for number in numbers} != set(trial.refused[call]):
+        return False
+    between = [marks[number] for number in range(numbers[0], numbers[-1]) if number not in numbers]
+    return between == [HARMLESS] * trial.harmless
+
+
+def print_failures(trial, runs, marks):
+    """Prints each wrong answer, how many runs had it, and which allocation the first of them had refused."""
+    numbers = collections.defaultdict(list)
+    for run in runs:
+        if marks[run.number] is None:
+            numbers[run.answer].append(run.number)
+    for answer, them in numbers.items():
+        print(f"{trial.name}, {len(them)} runs, the first with {them[0]}: {tuple(answer)}")
+
+
+def tried(driver, library, trial):
+    """How many refused growths were answered as they must be, and how many runs failed or calls were not met."""
+    runs = harness.each_refused(library, [driver, *trial.words], "".join(f"{line}\n" for line in trial.lines).encode())
+    marks = {run.number: mark_of(trial, run) for run in runs}
+    print_failures(trial, runs, marks)
+    counts = collections.Counter(mark for mark in marks.values() if mark and mark.call)
+    missed = [call for call in trial.refused if not is_whole(trial, marks, call)]
+    print(f"{trial.name}: " + ", ".join(f"{times} of {call} answered by {fault}" for (call, fault), times in counts.items())
+          + "".join(f", {call} is not met one after another" for call in missed), flush=True)
+    return sum(counts.values()), list(marks.values()).count(None) + len(missed)
+
+
+def end(trials):
+    """Ends the check that tries these, with how many refused growths were answered as they must be, and how many failed."""
+    driver = harness.program("sct_test_driver")
+    with tempfile.TemporaryDirectory() as folder:
+        library = harness.refuser(folder)
+        harness.end_with([tried(driver, library, trial) for trial in trials])

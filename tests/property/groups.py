@@ -11,7 +11,7 @@ from tests.oracle.status import archive_text, read_message, transactions_of, wri
 from tests.property.messages import Pool, shuffled
 from tests.property.tries import Try
 
-MANY, SEED = 300, 20261124
+MANY = 300
 TO_MEET = ["SETTLED", "REFUSED|42", "REFUSED|43", "REFUSED|44", "no site", "one site", "two sites of one number",
            "sites of two groups", "a fork in what is not settled", "entries handed over before a refusal",
            "a recall of several transactions"]

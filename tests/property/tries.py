@@ -1,38 +1,15 @@
-"""tries.py: tries of the test driver, which is built once for many of them.
+"""tries.py: tries of the test driver, many of which go through one run.
 
-A try asks the driver something, in the form that the driver's word has, and has the text that it must print. Tries of one word go
-through one run after another, as many in a run as it has room and time for.
+A try asks the driver something, in the form that the driver's word has, and has the text that it must print. Runs go side by side.
 """
-import collections
+import collections, os
+from concurrent.futures import ThreadPoolExecutor
 from tests import harness
 
-MOST_BYTES, MOST_TRIES = 900000, 100  # `rt try` shows no output past 1 MiB
-SECONDS = "600"  # a run takes a few seconds of a processor, and the machine may have other work
+TOGETHER = 100
+SECONDS = 600  # a run takes a second of a processor, and the machine may have other work
 
 Try = collections.namedtuple("Try", "name asked wanted")  # a text, the bytes of the input, and the text that must be printed
-
-
-def runs(tries):
-    """The tries in lists, each for one run."""
-    together, size = [[]], 0
-    for one in tries:
-        size += len(one.wanted.encode())
-        if size > MOST_BYTES or len(together[-1]) == MOST_TRIES:
-            together.append([])
-            size = len(one.wanted.encode())
-        together[-1].append(one)
-    return together
-
-
-def printed(asked):
-    """What the driver prints of each pair of a word and an input."""
-    cases = {f"run{number:03d}": ([word], data) for number, (word, data) in enumerate(asked)}
-    texts = []
-    for name, (text, status) in harness.driver_answers(cases, "--seconds", SECONDS).items():
-        if status:
-            harness.stop(f"{name} of the driver ended with {status}:\n{text[-2000:]}")
-        texts.append(text)
-    return texts
 
 
 def first_that_differs(tries, text):
@@ -44,12 +21,22 @@ def first_that_differs(tries, text):
     return len(tries), text
 
 
-def passed(tries, text):
+def passed(tries, answer):
     """How many tries of a run passed. After the first that differs nothing is compared, and nothing has passed."""
-    place, rest = first_that_differs(tries, text)
+    place, rest = first_that_differs(tries, answer.text.decode(errors="replace"))
     if place < len(tries):
         print(f"{tries[place].name}: DIFFERS\n asked {tries[place].asked!r}\n wanted {tries[place].wanted!r}\n printed {rest[:2000]!r}")
-    elif rest:
-        print(f"{tries[-1].name}: more is printed after it\n {rest[:2000]!r}")
+    elif rest or answer.errors or answer.status:
         place -= 1
+        print(f"{tries[place].name}: more is printed after it\n {rest[:2000]!r}")
+    if answer.errors or answer.status:
+        print(f" {answer.errors[-2000:]!r}, status {answer.status}")
     return place
+
+
+def answered(driver, word, tries):
+    """How many tries of a word the driver answers as it must."""
+    parts = [tries[place:place + TOGETHER] for place in range(0, len(tries), TOGETHER)]
+    with ThreadPoolExecutor(len(os.sched_getaffinity(0))) as pool:
+        ask = lambda part: harness.run([driver, word], b"".join(one.asked for one in part), seconds=SECONDS)
+        return sum(map(passed, parts, pool.map(ask, parts)))

@@ -12,7 +12,7 @@ from tests.oracle.status import (
 from tests.property.messages import Pool, in_other_form, parts, written_out
 from tests.property.tries import Try
 
-MANY, SEED = 300, 20240502
+MANY = 300
 TAKEN_BACK = "a batch took back what was counted as sent"
 SEVERAL = "a recall of several transfers"
 TWICE = "one transfer in two transactions of a recall"

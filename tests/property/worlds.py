@@ -11,7 +11,7 @@ from tests.oracle.replay import answer
 from tests.property.messages import Pool, parts, shuffled, written_out
 from tests.property.tries import Try
 
-MANY, SEED = 1000, 20261123
+MANY = 1000
 SEPARATOR = "\x1e"
 SEVERAL = "a recall of several transactions"
 REASONS = ["64", "31", "32", "33", "34", "35", "36", "37", "38", "46 0", "46 1", "46 2", "56 1", "56 2 34", "56 2 35", "56 2 36",

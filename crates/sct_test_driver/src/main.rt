@@ -1,5 +1,9 @@
-//! A test program. It does what standard input says at views, worlds, groups of sites and desks, and prints
+//! A test program. It does what standard input says at archives, views, worlds, groups of sites and desks, and prints
 //! the answers. Its first word says at which.
+//!
+//! `archives`: lines. A message, in its JSON form, goes into the list. `add` adds the list to the archive, and prints
+//! `added` and how many of its messages were fresh; but if it is out of memory it prints the number of the fault. `tell`
+//! prints how many messages the archive holds, how many of the list it holds, and the archive text.
 //!
 //! `views`: lines. A message, in its JSON form, goes into the batch. An empty line applies the batch to the view,
 //! and prints how many of its messages were fresh and how many transfers it touched. `try` does the same; but if
@@ -16,8 +20,8 @@
 //! `hold <origin> <number> <JSON text>` makes it accept that one entry. `settle` settles the sites, prints how it ended
 //! and what each site then holds, as a delta text and as an archive text, and starts again without sites.
 //!
-//! `calls N`: lines, which are done at one desk of site 1, alone in its group, after N allocations. `group N`: the same
-//! in a group of N sites. An empty line does nothing. The other lines:
+//! `group N`: lines, which are done at one desk of site 1 in a group of N sites. An empty line does nothing. The other
+//! lines:
 //! - a JSON text is read as the message, and `read` is printed;
 //! - `take` takes the message, and prints `taken` and its number, or `repeat`, and the
 //!   receipt: its from, count and carried;
@@ -44,12 +48,14 @@
 //! A line that the program cannot read ends it.
 #![tactic(auto)]
 
+mod archives;
 mod desks;
 mod groups;
 mod views;
 mod worlds;
 
 use anyhow::{Result, bail};
+use archives::try_archives;
 use desks::try_desks;
 use groups::try_groups;
 use std::alloc::Global;
@@ -71,13 +77,14 @@ fn try_words<R: Threads + Wait + Clock + Sync, B: BufRead + Drop, W: Write>(
 ) -> Result<()> {
     match words {
         [_, word] => match word.as_str() {
+            "archives" => try_archives(alloc, reader, out),
             "views" => try_views(alloc, reader, out),
             "worlds" => try_worlds(alloc, reader, out),
             "groups" => try_groups(alloc, reader, out),
             _ => bail!("no trial of that name"),
         },
         [_, word, number] => try_desks(rt, alloc, word.as_str(), number.parse()?, reader, out),
-        _ => bail!("a word says what is tried, and a number stands behind it where it is desks"),
+        _ => bail!("a word says what is tried, and a number after it if it is desks"),
     }
 }
 
