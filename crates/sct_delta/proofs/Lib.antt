@@ -21,6 +21,7 @@ pub mod RoomLemmas
 pub mod ShapeLemmas
 pub mod TestLemmas
 pub mod TextLemmas
+pub mod VectorTextLemmas
 pub mod WritingLemmas
 pub mod WrongLineLemmas
 pub mod MendedLemmas

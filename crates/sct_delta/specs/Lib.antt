@@ -14,3 +14,4 @@ pub mod TextLines
 pub mod EntryText
 pub mod GroupText
 pub mod DeltaText
+pub mod VectorText

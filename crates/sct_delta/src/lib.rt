@@ -27,5 +27,6 @@ pub use text::laws::{
 };
 pub use text::numbers::number_of;
 pub use text::reading::read_delta;
+pub use text::vectors::{a_written_vector_is_read_back, read_vector, write_vector};
 pub use text::writing::write_delta;
 pub use vector::{Vector, vectors_are_equal_by_their_counts};

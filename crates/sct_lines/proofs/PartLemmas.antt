@@ -1,11 +1,15 @@
 -- A text cut behind a line feed, and what is read of its two parts. Proof plumbing.
-use Rattle.std.proofs.Common.{ℕ, ◌≡◌, ◌+◌, ◌<◌, suc, zero, ◌++◌, ◌∷◌, [], List, true, false, cond, ◌==◌, length, take, drop, get_or, filter, refl, sym, ap, ◌∙◌, arith, add-one, append_assoc, length-append}
+use Rattle.std.proofs.Common.{ℕ, ◌≡◌, ◌+◌, ◌<◌, suc, zero, ◌++◌, ◌∷◌, [], List, true, false, cond, ◌==◌, length, take, drop, get_or, filter, not, refl, sym, ap, ◌∙◌, arith, add-one, append_assoc, length-append, eqb-true}
+use Rattle.std.specs.List.{filter_map}
+use Rattle.std.specs.Result.{result_ok}
 use Rattle.std.proofs.lemmas.List.Sums.{length-filter}
 use Rattle.memchr.specs.Find.{is_byte, places}
 use Rattle.memchr.proofs.lemmas.CallerLemmas.{length-places}
 use Rattle.sct_message.specs.Sets.{messages_in}
 use Rattle.sct_lines.specs.declared.intake.Intake.{Intake}
-use Rattle.sct_lines.specs.Lines.{lines_of, numbered_from, onto_first, refusals_among}
+use Rattle.sct_json.specs.Reading.{message_in}
+use Rattle.sct_lines.specs.LineLaws.{IsOfWholeLines, MessagesStay, WholeLinesStay}
+use Rattle.sct_lines.specs.Lines.{is_blank, lines_of, messages_among, messages_read, numbered_from, onto_first, refusals_among}
 use Rattle.sct_lines.specs.Parts.{refusals_after, IsReadAfter}
 use Rattle.sct_lines.proofs.LineLemmas.{is_feed, messages_by_line, numbered-cons, numbered_none, refusals_by_line, told_by_line}
 
@@ -72,6 +76,28 @@ cut_at_feed (byte ∷ bytes) (suc at) within feed =
     let cut : IsCutAt bytes (take (suc at) bytes) (drop (suc at) bytes) = simp add-one at (cut_at_feed bytes at (omega arith) feed) in
     simp add-one (cut_later byte bytes (take (suc at) bytes) (drop (suc at) bytes) (lines_of_some (take (suc at) bytes) cut.some) cut)
 
+-- ---- a text of whole lines, and more
+
+feed_ends : (byte : ℕ) → IsOfWholeLines (byte ∷ []) → byte ≡ 10
+feed_ends byte whole =
+    elim (byte == 10) as (λ feed. (byte == 10) ≡ feed → cond feed (10 ∷ []) (byte ∷ 10 ∷ []) ≡ byte ∷ [] → byte ≡ 10) [
+      | true ↦ λ feed e. eqb-true byte 10 feed
+      | false ↦ λ other e. cc
+    ] refl whole
+
+whole_cut : (text more : List ℕ) → 0 < length text → IsOfWholeLines text → IsCutAt (text ++ more) text more
+whole_cut [] more some whole = absurd (omega arith)
+whole_cut (byte ∷ []) more some whole = cut_here byte more (feed_ends byte whole)
+whole_cut (byte ∷ next ∷ bytes) more some whole =
+    let rest : IsOfWholeLines (next ∷ bytes) = cc in
+    cut_later byte (next ∷ bytes ++ more) (next ∷ bytes) more (lines_of_some (next ∷ bytes) (omega arith))
+    (whole_cut (next ∷ bytes) more (omega arith) rest)
+
+pub lines_stay : WholeLinesStay
+unfolding lines_of
+lines_stay [] more whole = refl
+lines_stay (byte ∷ bytes) more whole = (whole_cut (byte ∷ bytes) more (omega arith) whole).lines
+
 -- ---- what is read of both parts
 
 pub numbered-append : (first : ℕ) (some more : List (List ℕ)) → numbered_from first (some ++ more) ≡ numbered_from first some ++ numbered_from (first + length some) more
@@ -104,3 +130,28 @@ read_in_two shown before text front back first second both lines one two message
       told = told ∙ rw (one.told, two.told, numbered) (sym ((told_by_line shown).append some more));
       refused = omega (arith, refused, one.refused, two.refused, count);
     }
+
+-- ---- messages do not depend on the numbers of their lines
+
+renumbered_line : (first other : ℕ) (line : List ℕ) → messages_among (numbered_from first (line ∷ [])) ≡ messages_among (numbered_from other (line ∷ []))
+unfolding messages_among numbered_from
+renumbered_line first other line =
+    elim (is_blank line) as (λ blank. filter_map (λ (l : ℕ × List ℕ). result_ok (message_in l.1)) (cond (not blank) ((first, line) ∷ []) [])
+    ≡ filter_map (λ (l : ℕ × List ℕ). result_ok (message_in l.1)) (cond (not blank) ((other, line) ∷ []) []))
+    [ true ↦ refl | false ↦ refl ]
+
+renumbered : (first other : ℕ) (lines : List (List ℕ)) → messages_among (numbered_from first lines) ≡ messages_among (numbered_from other lines)
+renumbered first other [] = ap messages_among (numbered_none first ∙ sym (numbered_none other))
+renumbered first other (line ∷ lines) =
+    ap messages_among (numbered-cons first line lines)
+    ∙ messages_by_line.append (numbered_from first (line ∷ [])) (numbered_from (first + 1) lines)
+    ∙ (λ i. renumbered_line first other line i ++ renumbered (first + 1) (other + 1) lines i)
+    ∙ sym (messages_by_line.append (numbered_from other (line ∷ [])) (numbered_from (other + 1) lines))
+    ∙ ap messages_among (sym (numbered-cons other line lines))
+
+pub messages_stay : MessagesStay
+messages_stay text more whole =
+    ap (λ ls. messages_among (numbered_from 1 ls)) (lines_stay text more whole)
+    ∙ ap messages_among (numbered-append 1 (lines_of text) (lines_of more))
+    ∙ messages_by_line.append (numbered_from 1 (lines_of text)) (numbered_from (1 + length (lines_of text)) (lines_of more))
+    ∙ ap (λ ms. messages_read text ++ ms) (renumbered (1 + length (lines_of text)) 1 (lines_of more))

@@ -1,8 +1,8 @@
 //! JSON lines of messages. A text is cut at its line feeds, and each line is read as a message or refused.
 //!
 //! [`read_lines`] reads a whole input, in as many threads as there are processors, and returns its [`Intake`]: the messages
-//! and the [`Refusals`]. [`read_lines_by_halves`] reads it in as many parts as the caller says. [`read_lines_after`] reads
-//! it in one thread, and writes a text before each line of its report.
+//! and the [`Refusals`]. [`read_lines_by_halves`] reads it in as many parts as the caller says. [`read_file_lines`] writes
+//! a text before each line of its report, such as `file 1 `. [`read_lines_after`] does so too, and reads in one thread.
 //!
 //! [`first_line`], [`is_blank_line`] and [`read_line`] are the steps of it, for crates that read lines of another kind too.
 //! Such a crate says by [`Reason`] why it refuses a line. The only error is that a call is out of memory.
@@ -16,7 +16,7 @@ mod refusals;
 mod shortage;
 
 pub use intake::{Intake, read_line, read_lines_after};
-pub use lines::{first_line, is_blank_line, lines_tile_the_text};
-pub use parts::{read_lines, read_lines_by_halves};
+pub use lines::{first_line, is_blank_line, lines_tile_the_text, whole_lines_stay};
+pub use parts::{read_file_lines, read_lines, read_lines_by_halves};
 pub use refusal_text::push_json_fault;
 pub use refusals::{Reason, Refusals};

@@ -1,7 +1,7 @@
 //! A text as its lines.
 ghost use Rattle.std.specs.Prelude.{◌≡◌, ◌<◌, ◌==◌, ◌∷◌, [], length, slice_index, IfSome, IfNone};
 ghost use Rattle.std.specs.List.{position_from};
-ghost use Rattle.sct_lines.specs.LineLaws.{LinesMakeTheText, NoLineHasAFeed};
+ghost use Rattle.sct_lines.specs.LineLaws.{LinesMakeTheText, MessagesStay, NoLineHasAFeed, WholeLinesStay};
 ghost use Rattle.sct_lines.specs.Lines.{is_blank, lines_of};
 
 use memchr::memchr;
@@ -10,6 +10,12 @@ use memchr::memchr;
 pub fn lines_tile_the_text()
     ensures whole { LinesMakeTheText }
     ensures parted { NoLineHasAFeed }
+{}
+
+/// A law: if a text is empty or ends with a line feed, more text after it changes neither its lines nor its messages.
+pub fn whole_lines_stay()
+    ensures lines { WholeLinesStay }
+    ensures messages { MessagesStay }
 {}
 
 // The place of the first line feed.

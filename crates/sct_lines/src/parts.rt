@@ -1,7 +1,7 @@
 //! An input read in parts, each in a thread of its own where one can be made.
 ghost use Rattle.std.specs.Prelude.{◌≡◌, ◌+◌, ◌<◌, ◌≤◌, ◌++◌, ◌==◌, ◌^◌, [], filter, length, slice_index, IfOk, IfSome};
 ghost use Rattle.std.specs.Thread.{IsSync};
-ghost use Rattle.sct_lines.specs.Lines.{lines_of, messages_read, refusals_told, told_text_of};
+ghost use Rattle.sct_lines.specs.Lines.{lines_of, messages_read, refusals_told, told_after, told_text_of};
 ghost use Rattle.sct_lines.specs.Parts.{IsReadAfter};
 ghost use Rattle.sct_message.specs.Sets.{messages_in};
 
@@ -76,36 +76,48 @@ pub(crate) fn cut_from(text: &[u8], place: usize) -> Option<(&[u8], &[u8])>
 }
 
 // Reads a part of an input, which follows `before` lines. Its halves, and the halves of these, are read in threads of their
-// own. If one of them is out of memory, the others end early.
+// own. `label` is written before each line that reports a refused one. If one of the threads is out of memory, the others
+// end early.
 #[cycle(halves)]
 fn read_by_halves<R: Threads + Sync>(
     rt: &R,
     alloc: Global,
+    label: &str,
     before: u64,
     part: &[u8],
     halvings: u32,
     shortage: &Shortage,
 ) -> Result<Intake, AllocError>
     requires { before + length part.now < 2 ^ 64 }
-    ensures { IfOk result (IsReadAfter [] before part.now) }
+    ensures { IfOk result (IsReadAfter label.now before part.now) }
 {
     if halvings == 0 {
-        return read_part(alloc, "", before, part, shortage);
+        return read_part(alloc, label, before, part, shortage);
     }
     let Some((front, back)) = cut_from(part, part.len() / 2) else {
-        return read_part(alloc, "", before, part, shortage);
+        return read_part(alloc, label, before, part, shortage);
     };
     let before_back = before + count_by_halves(rt, front, halvings);
     let (first, second) = join(
         rt,
         || -> Result<Intake, AllocError>
             requires { IsSync R.row × (0 < halvings) × (before + length front.now < 2 ^ 64) }
-            ensures { IfOk result (IsReadAfter [] before front.entry.now) }
-        { shortage.noted(read_by_halves(rt, alloc, before, front, halvings - 1, shortage)) },
+            ensures { IfOk result (IsReadAfter label.entry.now before front.entry.now) }
+        { shortage.noted(read_by_halves(rt, alloc, label, before, front, halvings - 1, shortage)) },
         || -> Result<Intake, AllocError>
             requires { IsSync R.row × (0 < halvings) × (before_back + length back.now < 2 ^ 64) }
-            ensures { IfOk result (IsReadAfter [] before_back back.entry.now) }
-        { shortage.noted(read_by_halves(rt, alloc, before_back, back, halvings - 1, shortage)) },
+            ensures { IfOk result (IsReadAfter label.entry.now before_back back.entry.now) }
+        {
+            shortage.noted(read_by_halves(
+                rt,
+                alloc,
+                label,
+                before_back,
+                back,
+                halvings - 1,
+                shortage,
+            ))
+        },
     );
     let mut intake = first?;
     intake.append(second?)?;
@@ -137,7 +149,15 @@ pub fn read_lines_by_halves<R: Threads + Sync>(
     ensures refused { IfOk result (λ intake. intake.refusals.count ≡ length (refusals_told input.now)) }
 {
     let shortage = Shortage::none();
-    read_by_halves(rt, alloc, 0, input, halvings.min(MOST_HALVINGS), &shortage)
+    read_by_halves(
+        rt,
+        alloc,
+        "",
+        0,
+        input,
+        halvings.min(MOST_HALVINGS),
+        &shortage,
+    )
 }
 
 /// Reads the lines of an input, which count from 1, in as many threads as there are processors. The only error is that it
@@ -152,4 +172,22 @@ pub fn read_lines<R: Threads + Sync>(
     ensures refused { IfOk result (λ intake. intake.refusals.count ≡ length (refusals_told input.now)) }
 {
     read_lines_by_halves(rt, alloc, input, halvings(rt, input))
+}
+
+/// Reads the lines of a file as [`read_lines`] reads those of an input. `label` is written before each line that reports a
+/// refused one, such as `file 1 `.
+pub fn read_file_lines<R: Threads + Sync>(
+    rt: &R,
+    alloc: Global,
+    label: &str,
+    input: &[u8],
+) -> Result<Intake, AllocError>
+    ensures messages { IfOk result (λ intake. messages_in intake.messages.items ≡ messages_read input.now) }
+    ensures told { IfOk result (λ intake. intake.refusals.text
+        ≡ told_after label.now (refusals_told input.now)) }
+    ensures refused { IfOk result (λ intake. intake.refusals.count ≡ length (refusals_told input.now)) }
+{
+    let shortage = Shortage::none();
+    let halvings = halvings(rt, input).min(MOST_HALVINGS);
+    read_by_halves(rt, alloc, label, 0, input, halvings, &shortage)
 }

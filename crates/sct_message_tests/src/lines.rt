@@ -1,13 +1,24 @@
-//! Lines on worked examples, with ample memory.
-mod inputs;
+//! Lines with ample memory. `examples/cases/lines.txt` has what is read of them, and `tests/golden/made_inputs.py` lines that end
+//! otherwise.
 
-use inputs::{INPUTS, Input, PARTED, PARTS, TOLD};
 use sct_json::{JsonFault, write_message};
 use sct_lines::*;
 use sct_message::Message;
 use std::alloc::{AllocError, Global};
 use std::sync::Arc;
 use std::thread::Threads;
+
+type Parts = Option<(&'static [u8], &'static [u8])>;
+
+static PARTED: [(&[u8], Parts); 7] = [
+    (b"", None),
+    (b"\n", Some((b"", b""))),
+    (b"one", Some((b"one", b""))),
+    (b"one\n", Some((b"one", b""))),
+    (b"one\ntwo\n", Some((b"one", b"two\n"))),
+    (b"\r\n\n", Some((b"\r", b"\n"))),
+    (b"\n\nthree", Some((b"", b"\nthree"))),
+];
 
 #[test]
 fn parts_off_the_first_line(rt: HostRuntime) {
@@ -32,6 +43,18 @@ fn told_of(alloc: Global, line: &[u8]) -> Result<String, AllocError> {
     Ok(text)
 }
 
+/// A line that is read, and one that is refused for a key that has to be escaped.
+static TOLD: [(&[u8], &str); 2] = [
+    (
+        b"{\"MsgNmId\":\"pacs.002\",\"MsgId\":\"C1\",\"CreDtTm\":\"2024-05-02T10:00:02Z\",\"InstgAgt\":\"BANQFRPP\",\"OrgnlMsgId\":\"M1\",\"OrgnlMsgNmId\":\"pacs.008\",\"OrgnlTxId\":\"T1\",\"TxSts\":\"ACCP\",\"DbtrAgt\":\"BANKDEFF\"}",
+        "read",
+    ),
+    (
+        b"{\"MsgNmId\":\"pacs.002\",\"MsgId\":\"C1\",\"CreDtTm\":\"2024-05-02T10:00:02Z\",\"InstgAgt\":\"BANQFRPP\",\"OrgnlMsgId\":\"M1\",\"OrgnlMsgNmId\":\"pacs.008\",\"OrgnlTxId\":\"T1\",\"TxSts\":\"ACCP\",\"DbtrAgt\":\"BANKDEFF\",\"Note\\\"s\":\"\"}",
+        "37 \"Note\\\"s\"",
+    ),
+];
+
 #[test]
 fn tells_why_a_line_is_refused(rt: HostRuntime) -> Result<(), AllocError> {
     for (line, told) in &TOLD {
@@ -50,6 +73,30 @@ fn tells_a_refused_line_by_its_number(rt: HostRuntime) -> Result<(), AllocError>
     assert_eq!(rt; refusals.count(), 2);
     Ok(())
 }
+
+/// An input, the written messages of its lines, the text that reports its refused lines, and their number.
+struct Input {
+    input: &'static [u8],
+    messages: &'static [u8],
+    told: &'static str,
+    refused: u64,
+}
+
+/// Two messages around a refused line, the later one first, and one of them twice.
+static INPUT: Input = Input {
+    input: b"{\"MsgNmId\":\"pacs.002\",\"MsgId\":\"C2\",\"CreDtTm\":\"2024-05-02T10:00:03Z\",\"InstgAgt\":\"BANQFRPP\",\"OrgnlMsgId\":\"M1\",\"OrgnlMsgNmId\":\"pacs.008\",\"OrgnlTxId\":\"T1\",\"TxSts\":\"ACCP\",\"DbtrAgt\":\"BANKDEFF\"}\nfoo\n{\"MsgNmId\":\"pacs.002\",\"MsgId\":\"C1\",\"CreDtTm\":\"2024-05-02T10:00:02Z\",\"InstgAgt\":\"BANQFRPP\",\"OrgnlMsgId\":\"M1\",\"OrgnlMsgNmId\":\"pacs.008\",\"OrgnlTxId\":\"T1\",\"TxSts\":\"ACCP\",\"DbtrAgt\":\"BANKDEFF\"}\n{\"MsgNmId\":\"pacs.002\",\"MsgId\":\"C1\",\"CreDtTm\":\"2024-05-02T10:00:02Z\",\"InstgAgt\":\"BANQFRPP\",\"OrgnlMsgId\":\"M1\",\"OrgnlMsgNmId\":\"pacs.008\",\"OrgnlTxId\":\"T1\",\"TxSts\":\"ACCP\",\"DbtrAgt\":\"BANKDEFF\"}\n",
+    messages: b"{\"CreDtTm\":\"2024-05-02T10:00:03Z\",\"DbtrAgt\":\"BANKDEFFXXX\",\"InstgAgt\":\"BANQFRPPXXX\",\"MsgId\":\"C2\",\"MsgNmId\":\"pacs.002\",\"OrgnlMsgId\":\"M1\",\"OrgnlMsgNmId\":\"pacs.008\",\"OrgnlTxId\":\"T1\",\"TxSts\":\"ACCP\"}\n{\"CreDtTm\":\"2024-05-02T10:00:02Z\",\"DbtrAgt\":\"BANKDEFFXXX\",\"InstgAgt\":\"BANQFRPPXXX\",\"MsgId\":\"C1\",\"MsgNmId\":\"pacs.002\",\"OrgnlMsgId\":\"M1\",\"OrgnlMsgNmId\":\"pacs.008\",\"OrgnlTxId\":\"T1\",\"TxSts\":\"ACCP\"}\n{\"CreDtTm\":\"2024-05-02T10:00:02Z\",\"DbtrAgt\":\"BANKDEFFXXX\",\"InstgAgt\":\"BANQFRPPXXX\",\"MsgId\":\"C1\",\"MsgNmId\":\"pacs.002\",\"OrgnlMsgId\":\"M1\",\"OrgnlMsgNmId\":\"pacs.008\",\"OrgnlTxId\":\"T1\",\"TxSts\":\"ACCP\"}\n",
+    told: "line 2: 31\n",
+    refused: 1,
+};
+
+/// Refused lines and blank ones on both sides of a message, and no last line feed.
+static PARTS: Input = Input {
+    input: b"foo\r\n\n \t\r\n[]\r\n{\"MsgNmId\":\"pacs.002\",\"MsgId\":\"C1\",\"CreDtTm\":\"2024-05-02T10:00:02Z\",\"InstgAgt\":\"BANQFRPP\",\"OrgnlMsgId\":\"M1\",\"OrgnlMsgNmId\":\"pacs.008\",\"OrgnlTxId\":\"T1\",\"TxSts\":\"ACCP\",\"DbtrAgt\":\"BANKDEFF\"}\r\n\n{}\n\r\n{\"MsgNmId\":\"pacs.002\"}",
+    messages: b"{\"CreDtTm\":\"2024-05-02T10:00:02Z\",\"DbtrAgt\":\"BANKDEFFXXX\",\"InstgAgt\":\"BANQFRPPXXX\",\"MsgId\":\"C1\",\"MsgNmId\":\"pacs.002\",\"OrgnlMsgId\":\"M1\",\"OrgnlMsgNmId\":\"pacs.008\",\"OrgnlTxId\":\"T1\",\"TxSts\":\"ACCP\"}\n",
+    told: "line 1: 31\nline 4: 32\nline 7: 33\nline 9: 34 MsgId\n",
+    refused: 4,
+};
 
 // The written texts of the messages, each with a line feed after it.
 fn written(alloc: Global, messages: &[Arc<Message>]) -> Option<Vec<u8>> {
@@ -81,16 +128,14 @@ fn reads_as(rt: &(impl Threads + Sync), alloc: Global, row: &Input) -> bool {
 
 #[test]
 fn reads_lines(rt: HostRuntime) {
-    for row in &INPUTS {
-        assert!(rt; reads_as(&rt, rt.alloc(), row));
-    }
+    assert!(rt; reads_as(&rt, rt.alloc(), &INPUT));
 }
 
-// A byte `count` times, followed by a text.
-fn behind(alloc: Global, byte: u8, count: usize, text: &[u8]) -> Result<Vec<u8>, AllocError> {
+// `count` spaces, followed by a text.
+fn after_spaces(alloc: Global, count: usize, text: &[u8]) -> Result<Vec<u8>, AllocError> {
     let mut bytes = Vec::new(alloc);
     for _ in 0..count {
-        bytes.push(byte)?;
+        bytes.push(b' ')?;
     }
     bytes.extend_from_slice(text)?;
     Ok(bytes)
@@ -125,7 +170,7 @@ fn reads_by_halves_as(
 #[test]
 fn reads_two_parts_as_the_whole(rt: HostRuntime) -> Result<(), AllocError> {
     for count in 0..=PARTS.input.len() {
-        let late = behind(rt.alloc(), b' ', count, PARTS.input)?;
+        let late = after_spaces(rt.alloc(), count, PARTS.input)?;
         assert!(rt; reads_by_halves_as(&rt, rt.alloc(), &late, 1, &PARTS));
         let early = before_spaces(rt.alloc(), PARTS.input, count)?;
         assert!(rt; reads_by_halves_as(&rt, rt.alloc(), &early, 1, &PARTS));
@@ -138,30 +183,6 @@ fn reads_many_parts_as_the_whole(rt: HostRuntime) {
     for halvings in 0..8 {
         assert!(rt; reads_by_halves_as(&rt, rt.alloc(), PARTS.input, halvings, &PARTS));
     }
-}
-
-// The refused lines of an input of a number of line feeds followed by `foo`.
-fn told_behind(
-    rt: &(impl Threads + Sync),
-    alloc: Global,
-    feeds: usize,
-) -> Result<String, AllocError> {
-    let input = behind(alloc, b'\n', feeds, b"foo")?;
-    let (text, _) = read_lines(rt, alloc, &input)?.refusals.into_parts();
-    Ok(text)
-}
-
-#[test]
-fn counts_on_from_part_to_part(rt: HostRuntime) -> Result<(), AllocError> {
-    assert_eq!(rt;
-        told_behind(&rt, rt.alloc(), 65_532)?.as_str(),
-        "line 65533: 31\n"
-    );
-    assert_eq!(rt;
-        told_behind(&rt, rt.alloc(), 200_000)?.as_str(),
-        "line 200001: 31\n"
-    );
-    Ok(())
 }
 
 #[test]

@@ -1,4 +1,4 @@
-//! Reasons by the reason table.
+//! Reasons by the reason table. `examples/cases/reasons.txt` has those that are usual for a rejection, and for the refusal of a recall.
 
 use sct_reason::*;
 use std::process::Abort;
@@ -10,15 +10,7 @@ static LISTED: [&str; 40] = [
     "RR03", "RR04", "TECH", "TM01",
 ];
 
-static REJECTIONS: [&str; 30] = [
-    "AB05", "AB06", "AB07", "AB08", "AB09", "AB10", "AC01", "AC04", "AC06", "AG01", "AG02", "AG09",
-    "AG10", "AG11", "AM02", "AM04", "AM05", "AM09", "AM23", "BE04", "FF01", "MD07", "MS02", "MS03",
-    "RC01", "RR01", "RR02", "RR03", "RR04", "TM01",
-];
-
 static RECALLS: [&str; 6] = ["DUPL", "TECH", "FRAD", "CUST", "AC03", "AM09"];
-
-static REFUSALS: [&str; 7] = ["AC04", "AM04", "ARDT", "CUST", "LEGL", "NOAS", "NOOR"];
 
 static RETURNS: [&str; 1] = ["FOCR"];
 
@@ -59,17 +51,6 @@ fn assert_row(rt: &impl Abort, purpose: Use, row: &[&str]) {
 }
 
 #[test]
-fn reads_and_writes_each_listed_code(rt: HostRuntime) {
-    for code in &LISTED {
-        let reason = reason(&rt, code);
-        assert_eq!(rt; reason.text(), *code);
-        assert_eq!(rt; reason.copy().text(), *code);
-        assert!(rt; !is_unlisted(&reason), "{code}");
-        assert!(rt; OtherCode::read(code).is_none(), "{code}");
-    }
-}
-
-#[test]
 fn reads_and_writes_other_codes(rt: HostRuntime) {
     for code in &UNLISTED {
         let reason = reason(&rt, code);
@@ -85,6 +66,14 @@ fn reads_and_writes_other_codes(rt: HostRuntime) {
 }
 
 #[test]
+fn listed_codes_are_no_other_codes(rt: HostRuntime) {
+    for code in &LISTED {
+        assert!(rt; !is_unlisted(&reason(&rt, code)), "{code}");
+        assert!(rt; OtherCode::read(code).is_none(), "{code}");
+    }
+}
+
+#[test]
 fn refuses_what_is_no_code(rt: HostRuntime) {
     for text in &REFUSED {
         assert!(rt; Reason::read(text).is_none(), "{text}");
@@ -94,33 +83,25 @@ fn refuses_what_is_no_code(rt: HostRuntime) {
 
 #[test]
 fn tells_usual_reasons(rt: HostRuntime) {
-    assert_row(&rt, Use::Reject, &REJECTIONS);
     assert_row(&rt, Use::Recall, &RECALLS);
-    assert_row(&rt, Use::Refusal, &REFUSALS);
     assert_row(&rt, Use::Return, &RETURNS);
 }
 
-#[test]
-fn tells_the_uses_of_a_wrong_amount(rt: HostRuntime) {
-    assert!(rt; Reason::AM09.is_usual(Use::Reject));
-    assert!(rt; Reason::AM09.is_usual(Use::Recall));
-    assert!(rt; !Reason::AM09.is_usual(Use::Refusal));
-    assert!(rt; !Reason::AM09.is_usual(Use::Return));
-}
+static CLASSES: [(&str, RecallClass); 8] = [
+    ("TECH", RecallClass::Bank),
+    ("DUPL", RecallClass::Bank),
+    ("FRAD", RecallClass::Bank),
+    ("CUST", RecallClass::Originator),
+    ("AC03", RecallClass::Originator),
+    ("AM09", RecallClass::Originator),
+    ("AC04", RecallClass::Unlisted),
+    ("ZZ9", RecallClass::Unlisted),
+];
 
 #[test]
 fn tells_who_asks_for_a_recall(rt: HostRuntime) {
-    for (code, class) in [
-        ("TECH", RecallClass::Bank),
-        ("DUPL", RecallClass::Bank),
-        ("FRAD", RecallClass::Bank),
-        ("CUST", RecallClass::Originator),
-        ("AC03", RecallClass::Originator),
-        ("AM09", RecallClass::Originator),
-        ("AC04", RecallClass::Unlisted),
-        ("ZZ9", RecallClass::Unlisted),
-    ] {
-        assert_eq!(rt; reason(&rt, code).recall_class(), class, "{code}");
+    for (code, class) in &CLASSES {
+        assert_eq!(rt; reason(&rt, code).recall_class(), *class, "{code}");
     }
 }
 

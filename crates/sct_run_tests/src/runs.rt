@@ -2,7 +2,7 @@
 mod inputs;
 
 use crate::gates::{HeldAccepts, InStep, Meeting, Shut};
-use inputs::{ROWS, Row};
+use inputs::{Row, TWO_SITES};
 use sct_engine::{ProgramFault, run_sites};
 use sct_workers::{FreeGate, Gate};
 use std::alloc::{AllocError, Global};
@@ -38,20 +38,17 @@ fn fits<G: Gate + Sync, R: Threads + Wait + Sync>(
 
 #[test]
 fn brings_inputs_to_one_answer(rt: HostRuntime) {
-    for row in &ROWS {
-        assert!(rt; fits(&rt, rt.alloc(), &FreeGate, row));
-    }
+    assert!(rt; fits(&rt, rt.alloc(), &FreeGate, &TWO_SITES));
 }
 
-// The second row has an instruction and its confirmation at site 1, and another instruction at site 2.
 #[test]
 fn a_run_in_step(rt: HostRuntime) {
-    assert!(rt; fits(&rt, rt.alloc(), &InStep::new(), &ROWS[1]));
+    assert!(rt; fits(&rt, rt.alloc(), &InStep::new(), &TWO_SITES));
 }
 
 #[test]
 fn a_run_that_meets(rt: HostRuntime) {
-    assert!(rt; fits(&rt, rt.alloc(), &Meeting::new(), &ROWS[1]));
+    assert!(rt; fits(&rt, rt.alloc(), &Meeting::new(), &TWO_SITES));
 }
 
 // The fault of a run of the row's inputs under the gate, if it has one.
@@ -68,7 +65,7 @@ fn fault_under<G: Gate + Sync, R: Threads + Wait + Sync>(
 #[test]
 fn a_gate_that_stays_shut_ends_a_run(rt: HostRuntime) -> Result<(), AllocError> {
     assert_eq!(rt;
-        fault_under(&rt, rt.alloc(), &Shut, &ROWS[1])?,
+        fault_under(&rt, rt.alloc(), &Shut, &TWO_SITES)?,
         Some(ProgramFault::Held)
     );
     Ok(())
@@ -77,7 +74,7 @@ fn a_gate_that_stays_shut_ends_a_run(rt: HostRuntime) -> Result<(), AllocError> 
 #[test]
 fn held_comes_before_what_a_run_lacks(rt: HostRuntime) -> Result<(), AllocError> {
     assert_eq!(rt;
-        fault_under(&rt, rt.alloc(), &HeldAccepts, &ROWS[1])?,
+        fault_under(&rt, rt.alloc(), &HeldAccepts, &TWO_SITES)?,
         Some(ProgramFault::Held)
     );
     Ok(())

@@ -59,6 +59,10 @@ unfoldable pub arrivals_taken : Core → Draft → List Placed
 arrivals_taken core message =
     if is_repeat core message then core.arrivals else core.arrivals ++ own_entry core message ∷ []
 
+-- the site after a take
+abbrev pub core_taken : Core → Draft → Core
+core_taken core message = record { number = core.number; group = core.group; arrivals = arrivals_taken core message }
+
 -- ---- accepting a delta
 
 -- the first reason why the site does not accept the delta, if there is one
@@ -72,6 +76,10 @@ fresh_of arrivals delta = fresh_in (logs_of arrivals) delta
 -- the arrivals after an accepted delta
 abbrev pub arrivals_joined : List Placed → List Placed → List Placed
 arrivals_joined arrivals delta = arrivals ++ fresh_of arrivals delta
+
+-- the site after an accepted delta
+abbrev pub core_joined : Core → List Placed → Core
+core_joined core delta = record { number = core.number; group = core.group; arrivals = arrivals_joined core.arrivals delta }
 
 -- an entry of the same origin and number is held, whatever its message
 abbrev pub has_number : List Placed → Placed → Bool

@@ -135,6 +135,14 @@ impl SiteCore {
         self.logs.has_numbers(delta)
     }
 
+    /// Why the site does not accept a delta, as by [`SiteCore::accept`]. None if it does. It does not allocate.
+    /// O(entries of the delta).
+    pub fn refusal(&self, delta: &Delta) -> Option<DeltaFault>
+        ensures { result ≡ refusal_by self.now delta.now }
+    {
+        self.logs.fits(self.number, delta).err()
+    }
+
     /// Accepts another site's delta. The entries that the site does not hold are added, in the delta's order.
     /// If the delta is refused, nothing changes. The first of these errors is returned:
     /// - `BadSite` (44): the group does not have an origin of the delta;

@@ -1,8 +1,8 @@
 //! Logs, deltas, vectors and the delta text on worked examples, with ample memory.
 
-pub(crate) mod forms;
+mod forms;
 mod logs;
-mod scenes;
+pub(crate) mod scenes;
 mod shapes;
 mod texts;
 mod wrong;

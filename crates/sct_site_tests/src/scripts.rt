@@ -1,85 +1,58 @@
-//! Scripts on worked examples, with ample memory.
-mod scripts;
-mod worked;
+//! Scripts with ample memory. `examples/cases/scripts.txt` has the lines that are refused, and how events end.
 
-use scripts::{ENDED, Ended, NO_SCRIPTS, REFUSED, Refused, TAKEN, Taken};
 use sct_script::*;
 use std::alloc::Global;
-use worked::{ANSWER, SCRIPT};
 
-// Whether the refused lines of a script are reported as the row says.
-fn is_refused(alloc: Global, row: &Refused) -> bool {
-    let Ok(script) = read_script(alloc, row.script) else {
-        return false;
-    };
-    script.refusals.text().as_bytes() == row.told
-        && script.refusals.count() == row.refused
-        && script.events.is_empty()
+// A site takes a message and hands it to the other. The last line is refused.
+static SCRIPT: &[u8] =
+    b"sites 2\ntake 1 {\"MsgNmId\":\"pacs.002\",\"MsgId\":\"C1\",\"CreDtTm\":\"2024-05-02T10:00:02Z\",\"InstgAgt\":\"BANQFRPP\",\"OrgnlMsgId\":\"M1\",\"OrgnlMsgNmId\":\"pacs.008\",\"OrgnlTxId\":\"T1\",\"TxSts\":\"ACCP\",\"DbtrAgt\":\"BANKDEFF\"}\ncut 1 -\nhand 1 2\ntake 1\n";
+
+static ANSWER: &[u8] =
+    b"E|1|TAKEN|1\nE|2|CUT|1|1\nE|3|ACCEPTED|1\nS|1\n{\"CreDtTm\":\"2024-05-02T10:00:02Z\",\"DbtrAgt\":\"BANKDEFFXXX\",\"InstgAgt\":\"BANQFRPPXXX\",\"MsgId\":\"C1\",\"MsgNmId\":\"pacs.002\",\"OrgnlMsgId\":\"M1\",\"OrgnlMsgNmId\":\"pacs.008\",\"OrgnlTxId\":\"T1\",\"TxSts\":\"ACCP\"}\nT|BANKDEFFXXX|T1|MISSING\nBANKDEFFXXX|0|0.00|0.00|0|0|1|0|0|0.00|0.00\nS|2\n{\"CreDtTm\":\"2024-05-02T10:00:02Z\",\"DbtrAgt\":\"BANKDEFFXXX\",\"InstgAgt\":\"BANQFRPPXXX\",\"MsgId\":\"C1\",\"MsgNmId\":\"pacs.002\",\"OrgnlMsgId\":\"M1\",\"OrgnlMsgNmId\":\"pacs.008\",\"OrgnlTxId\":\"T1\",\"TxSts\":\"ACCP\"}\nT|BANKDEFFXXX|T1|MISSING\nBANKDEFFXXX|0|0.00|0.00|0|0|1|0|0|0.00|0.00\n";
+
+// The sites and the number of events of the script, if its refused line is reported.
+fn sizes(alloc: Global) -> Option<(u16, usize)> {
+    let script = read_script(alloc, SCRIPT).ok()?;
+    if script.refusals.text() != "line 5: 64\n" || script.refusals.count() != 1 {
+        return None;
+    }
+    Some((script.sites, script.events.len()))
 }
 
 #[test]
-fn tells_refused_lines(rt: HostRuntime) {
-    for row in &REFUSED {
-        assert!(rt; is_refused(rt.alloc(), row));
-    }
+fn reads_a_script(rt: HostRuntime) {
+    assert_eq!(rt; sizes(rt.alloc()), Some((2, 3)));
 }
 
-// Whether the script has the sites and the events of the row, and no refused line.
-fn is_taken(alloc: Global, row: &Taken) -> bool {
-    let Ok(script) = read_script(alloc, row.script) else {
-        return false;
-    };
-    script.sites == row.sites && script.events.len() == row.events && script.refusals.count() == 0
-}
-
-#[test]
-fn takes_events(rt: HostRuntime) {
-    for row in &TAKEN {
-        assert!(rt; is_taken(rt.alloc(), row));
-    }
-}
-
-#[test]
-fn reads_no_script_without_a_number_of_sites(rt: HostRuntime) {
-    for input in &NO_SCRIPTS {
-        assert!(rt; matches!(read_script(rt.alloc(), input), Err(ScriptFault::NoScript)));
-    }
-}
-
-// Whether the answer to the script begins with this.
-fn is_answered(alloc: Global, script: &[u8], begins: &[u8]) -> bool {
-    let Ok(script) = read_script(alloc, script) else {
-        return false;
-    };
-    match replay(alloc, script.sites, &script.events) {
-        Ok(text) => text.starts_with(begins),
-        Err(_) => false,
-    }
-}
-
-#[test]
-fn tells_how_events_end(rt: HostRuntime) {
-    for row in &ENDED {
-        let Ended { script, outcomes } = row;
-        assert!(rt; is_answered(rt.alloc(), script, outcomes));
-    }
+// The answer to the script.
+fn answer(alloc: Global) -> Option<Vec<u8>> {
+    let script = read_script(alloc, SCRIPT).ok()?;
+    replay(alloc, script.sites, &script.events).ok()
 }
 
 #[test]
 fn replays_a_script(rt: HostRuntime) {
-    let script = read_script(rt.alloc(), SCRIPT).expect(&rt, "a script");
-    let text = replay(rt.alloc(), script.sites, &script.events).expect(&rt, "a text");
+    let text = answer(rt.alloc()).expect(&rt, "a text");
     assert_eq!(rt; text.as_slice(), ANSWER);
 }
 
 #[test]
+fn reads_no_script_without_a_number_of_sites(rt: HostRuntime) {
+    assert!(rt;
+        matches!(
+            read_script(rt.alloc(), b"cut 1 -\n"),
+            Err(ScriptFault::NoScript)
+        )
+    );
+}
+
+// The number by which a replay of no event is refused.
+fn refusal_at(alloc: Global, sites: u16) -> Option<u8> {
+    Some(replay(alloc, sites, &[]).err()?.number())
+}
+
+#[test]
 fn replays_nothing_at_no_site(rt: HostRuntime) {
-    for sites in [0, 1025] {
-        assert_eq!(rt;
-            replay(rt.alloc(), sites, &[])
-                .err()
-                .map(|refusal| refusal.number()),
-            Some(44)
-        );
-    }
+    assert_eq!(rt; refusal_at(rt.alloc(), 0), Some(44));
+    assert_eq!(rt; refusal_at(rt.alloc(), 1025), Some(44));
 }

@@ -8,7 +8,7 @@ mod settling;
 use scenes::{Line, events_of};
 use sct_delta::DeltaFault;
 use sct_world::*;
-use std::process::Abort;
+use std::alloc::Global;
 
 // Deltas come to site 2 out of order and again, and to site 3 in order. One of the deltas was never cut.
 static NIGHT: [Line; 14] = [
@@ -55,24 +55,6 @@ static NIGHT_OUTCOMES: [Outcome; 14] = [
     Outcome::Refused(WorldFault::BadSite),
 ];
 
-// Asserts that the archive text of each of three sites is that of the first, and is not empty.
-fn expect_alike(rt: &impl Abort, world: &World) {
-    let first = world
-        .archive(1)
-        .expect(rt, "site 1")
-        .text()
-        .expect(rt, "a text");
-    assert!(rt; !first.is_empty());
-    for site in [2, 3] {
-        let text = world
-            .archive(site)
-            .expect(rt, "a site")
-            .text()
-            .expect(rt, "a text");
-        assert_eq!(rt; text.as_slice(), first.as_slice());
-    }
-}
-
 // The archive text of each of three sites: the transfer and its confirmation.
 static NIGHT_ARCHIVE: &str = concat!(
     r#"{"Ccy":"EUR","Cdtr":"Bo Maes","CdtrAcct":"BE68539007547034","CdtrAgt":"BANQFRPPXXX","ChrgBr":"SLEV","CreDtTm":"2024-05-02T10:00:00Z","Dbtr":"Anna Weber","DbtrAcct":"DE89370400440532013000","DbtrAgt":"BANKDEFFXXX","EndToEndId":"E1","InstgAgt":"BANKDEFFXXX","IntrBkSttlmAmt":"1.00","IntrBkSttlmDt":"2024-05-02","LclInstrm":"INST","MsgId":"M1","MsgNmId":"pacs.008","SvcLvl":"SEPA","TxId":"T1"}"#,
@@ -86,61 +68,73 @@ static NIGHT_STATUSES: &str = "T|BANKDEFFXXX|T1|ACCEPTED\n";
 static NIGHT_TOTALS: &str =
     "BANKDEFFXXX|1|1.00|0.00|0|0|0|0|0|0.00|0.00\nBANQFRPPXXX|0|0.00|0.00|0|0|0|0|1|1.00|0.00\n";
 
-fn expect_night(rt: &impl Abort, answers: &Answers) {
-    assert_eq!(rt; answers.archive.as_slice(), NIGHT_ARCHIVE.as_bytes());
-    assert_eq!(rt; answers.statuses.as_slice(), NIGHT_STATUSES.as_bytes());
-    assert_eq!(rt; answers.totals.as_slice(), NIGHT_TOTALS.as_bytes());
+// Whether a site has the archive text of the night.
+fn holds_night(world: &World, site: u16) -> Option<bool> {
+    let text = world.archive(site).ok()?.text().ok()?;
+    Some(text.as_slice() == NIGHT_ARCHIVE.as_bytes())
 }
 
-// Asserts the outcome of the event in the world.
-fn expect_outcome(rt: &impl Abort, world: &mut World, event: &Event, wanted: &Outcome) {
-    match (world.step(event), wanted) {
-        (Ok(step), Outcome::Done(done)) => assert_eq!(rt; step, *done),
-        (Err(refusal), Outcome::Refused(refused)) => assert_eq!(rt; refusal, *refused),
-        _ => assert!(rt; false),
+// Whether each of three sites has it.
+fn hold_alike(world: &World) -> Option<bool> {
+    Some(holds_night(world, 1)? && holds_night(world, 2)? && holds_night(world, 3)?)
+}
+
+// Whether these are the answers of a site after the night.
+fn is_night(answers: &Answers) -> bool {
+    answers.archive.as_slice() == NIGHT_ARCHIVE.as_bytes()
+        && answers.statuses.as_slice() == NIGHT_STATUSES.as_bytes()
+        && answers.totals.as_slice() == NIGHT_TOTALS.as_bytes()
+}
+
+fn answers_by_night(world: &World, site: u16) -> bool {
+    match world.answers(site) {
+        Ok(answers) => is_night(&answers),
+        Err(_) => false,
     }
+}
+
+// The outcomes of events in a world, one after another.
+fn outcomes_in(alloc: Global, world: &mut World, events: &[Event]) -> Option<Vec<Outcome>> {
+    let mut outcomes = Vec::new(alloc);
+    for event in events {
+        let outcome = match world.step(event) {
+            Ok(step) => Outcome::Done(step),
+            Err(refusal) => Outcome::Refused(refusal),
+        };
+        outcomes.push(outcome).ok()?;
+    }
+    Some(outcomes)
+}
+
+// The number by which a world of so many sites is refused.
+fn refusal_of(alloc: Global, sites: u16) -> Option<u8> {
+    Some(World::open(alloc, sites).err()?.number())
 }
 
 #[test]
 fn worlds_have_1_to_1024_sites(rt: HostRuntime) {
-    for sites in [0, 1025] {
-        let refusal = World::open(rt.alloc(), sites)
-            .err()
-            .expect(&rt, "a refusal");
-        assert_eq!(rt; refusal.number(), 44);
-    }
+    assert_eq!(rt; refusal_of(rt.alloc(), 0), Some(44));
+    assert_eq!(rt; refusal_of(rt.alloc(), 1025), Some(44));
     let world = World::open(rt.alloc(), 1024).expect(&rt, "a world");
     assert_eq!(rt; world.sites(), 1024);
-    assert!(rt; world.archive(0).is_err());
-    assert!(rt; world.archive(1025).is_err());
+    assert!(rt; world.archive(0).is_err() && world.archive(1025).is_err());
 }
 
 #[test]
 fn a_night_at_three_sites_by_steps(rt: HostRuntime) {
     let events = events_of(rt.alloc(), &NIGHT).expect(&rt, "events");
     let mut world = World::open(rt.alloc(), 3).expect(&rt, "a world");
-    assert_eq!(rt; events.len(), NIGHT_OUTCOMES.len());
-    for (event, wanted) in events.iter().zip(&NIGHT_OUTCOMES) {
-        expect_outcome(&rt, &mut world, event, wanted);
-    }
-    expect_alike(&rt, &world);
+    let outcomes = outcomes_in(rt.alloc(), &mut world, &events).expect(&rt, "outcomes");
+    assert_eq!(rt; outcomes.as_slice(), NIGHT_OUTCOMES.as_slice());
+    assert_eq!(rt; hold_alike(&world), Some(true));
 }
 
 #[test]
 fn a_night_at_three_sites_in_one_run(rt: HostRuntime) {
     let events = events_of(rt.alloc(), &NIGHT).expect(&rt, "events");
     let ran = run(rt.alloc(), 3, &events).expect(&rt, "a run");
-    assert_eq!(rt; ran.outcomes.len(), NIGHT_OUTCOMES.len());
-    for (outcome, wanted) in ran.outcomes.iter().zip(&NIGHT_OUTCOMES) {
-        assert_eq!(rt; *outcome, *wanted);
-    }
-    expect_alike(&rt, &ran.world);
-}
-
-// Asserts the answers of a site after the night.
-fn expect_answers(rt: &impl Abort, world: &World, site: u16) {
-    let answers = world.answers(site).expect(rt, "answers");
-    expect_night(rt, &answers);
+    assert_eq!(rt; ran.outcomes.as_slice(), NIGHT_OUTCOMES.as_slice());
+    assert_eq!(rt; hold_alike(&ran.world), Some(true));
 }
 
 #[test]
@@ -148,17 +142,15 @@ fn three_sites_answer_alike(rt: HostRuntime) {
     let events = events_of(rt.alloc(), &NIGHT).expect(&rt, "events");
     let ran = run(rt.alloc(), 3, &events).expect(&rt, "a run");
     for site in 1..4 {
-        expect_answers(&rt, &ran.world, site);
+        assert!(rt; answers_by_night(&ran.world, site));
     }
-    assert!(rt; ran.world.answers(0).is_err());
-    assert!(rt; ran.world.answers(4).is_err());
+    assert!(rt; ran.world.answers(0).is_err() && ran.world.answers(4).is_err());
 }
 
 #[test]
 fn a_site_answers_after_a_night(rt: HostRuntime) {
     let events = events_of(rt.alloc(), &NIGHT).expect(&rt, "events");
     let after = answers_after(rt.alloc(), 3, &events, 2).expect(&rt, "answers");
-    expect_night(&rt, &after.answers);
-    assert!(rt; after.contradictions.is_empty());
+    assert!(rt; is_night(&after.answers) && after.contradictions.is_empty());
     assert!(rt; answers_after(rt.alloc(), 3, &events, 4).is_err());
 }

@@ -1,52 +1,15 @@
-//! Archives of the messages of worked examples, with ample memory.
+//! Archives of the messages of worked examples, with ample memory: what adding and merging answers. `examples/cases/archives.txt`
+//! has their texts.
 
-mod refusals;
 mod scenes;
 
 use indexmap::IndexMap;
 use scenes::{Row, answers_to, archive_of, messages_of};
-use sct_message::Kind;
+use sct_message::{Identity, Kind};
 use sct_set::buckets::{file, unfile};
 use sct_set::*;
 use std::alloc::Global;
-use std::process::Abort;
 use std::thread::Threads;
-
-// A credit transfer with banks of 8 characters, with banks of 11, and again with banks of 8.
-static SPELLED: [Row; 3] = [
-    Row::CreditTransfer("M1", "T1", "0.01"),
-    Row::Text(
-        r#"{"MsgNmId":"pacs.008","MsgId":"M1","CreDtTm":"2024-05-02T10:00:00Z","InstgAgt":"BANKDEFFXXX","IntrBkSttlmDt":"2024-05-02","SvcLvl":"SEPA","LclInstrm":"INST","EndToEndId":"E1","TxId":"T1","IntrBkSttlmAmt":"0.01","Ccy":"EUR","ChrgBr":"SLEV","Dbtr":"Anna Weber","DbtrAcct":"DE89370400440532013000","DbtrAgt":"BANKDEFFXXX","CdtrAgt":"BANQFRPPXXX","Cdtr":"Bo Maes","CdtrAcct":"BE68539007547034"}"#,
-    ),
-    Row::CreditTransfer("M1", "T1", "0.01"),
-];
-
-static SPELLED_ANSWERS: [Added; 3] = [Added::Fresh, Added::Repeat, Added::Repeat];
-
-// The written text of all three.
-static WRITTEN: &str =
-    r#"{"Ccy":"EUR","Cdtr":"Bo Maes","CdtrAcct":"BE68539007547034","CdtrAgt":"BANQFRPPXXX","ChrgBr":"SLEV","CreDtTm":"2024-05-02T10:00:00Z","Dbtr":"Anna Weber","DbtrAcct":"DE89370400440532013000","DbtrAgt":"BANKDEFFXXX","EndToEndId":"E1","InstgAgt":"BANKDEFFXXX","IntrBkSttlmAmt":"0.01","IntrBkSttlmDt":"2024-05-02","LclInstrm":"INST","MsgId":"M1","MsgNmId":"pacs.008","SvcLvl":"SEPA","TxId":"T1"}
-"#;
-
-// Two confirmations of one identity, and another message. They are written by identity and then by
-// text, whatever the order of the elements.
-static CONFIRMED: [Row; 3] = [
-    Row::Text(
-        r#"{"MsgNmId":"pacs.002","MsgId":"C1","CreDtTm":"2024-05-02T10:00:02Z","InstgAgt":"BANQFRPP","OrgnlMsgId":"M1","OrgnlMsgNmId":"pacs.008","OrgnlTxId":"T1","TxSts":"ACCP","DbtrAgt":"BANKDEFF"}"#,
-    ),
-    Row::Text(
-        r#"{"MsgNmId":"pacs.002","MsgId":"B9","CreDtTm":"2024-05-02T10:00:02Z","InstgAgt":"BANQFRPP","OrgnlMsgId":"M1","OrgnlMsgNmId":"pacs.008","OrgnlTxId":"T1","TxSts":"ACCP","DbtrAgt":"BANKDEFF"}"#,
-    ),
-    Row::Text(
-        r#"{"MsgNmId":"pacs.002.001.10","MsgId":"C1","CreDtTm":"2024-05-02T09:00:02Z","InstgAgt":"BANQFRPP","OrgnlMsgId":"M1","OrgnlMsgNmId":"pacs.008","OrgnlTxId":"T1","TxSts":"ACCP","DbtrAgt":"BANKDEFF"}"#,
-    ),
-];
-
-static CONFIRMED_WRITTEN: &str =
-    r#"{"CreDtTm":"2024-05-02T10:00:02Z","DbtrAgt":"BANKDEFFXXX","InstgAgt":"BANQFRPPXXX","MsgId":"B9","MsgNmId":"pacs.002","OrgnlMsgId":"M1","OrgnlMsgNmId":"pacs.008","OrgnlTxId":"T1","TxSts":"ACCP"}
-{"CreDtTm":"2024-05-02T09:00:02Z","DbtrAgt":"BANKDEFFXXX","InstgAgt":"BANQFRPPXXX","MsgId":"C1","MsgNmId":"pacs.002.001.10","OrgnlMsgId":"M1","OrgnlMsgNmId":"pacs.008","OrgnlTxId":"T1","TxSts":"ACCP"}
-{"CreDtTm":"2024-05-02T10:00:02Z","DbtrAgt":"BANKDEFFXXX","InstgAgt":"BANQFRPPXXX","MsgId":"C1","MsgNmId":"pacs.002","OrgnlMsgId":"M1","OrgnlMsgNmId":"pacs.008","OrgnlTxId":"T1","TxSts":"ACCP"}
-"#;
 
 // Messages, which are added one after another, and the answers of the archive.
 static COMING: [Row; 9] = [
@@ -86,76 +49,53 @@ static THIRD: [Row; 1] = [Row::StatusReport("C1", "T2")];
 // Another site that shares the second message of the second site, and has one more.
 static SHARING: [Row; 2] = [Row::StatusReport("C1", "T1"), Row::StatusReport("C2", "T2")];
 
-// Adds messages to an empty archive, and compares the answers.
-fn add_each(rt: &impl Abort, alloc: Global, rows: &[Row], wanted: &[Added]) -> Archive {
-    let mut archive = Archive::new(alloc);
-    let list = messages_of(alloc, rows).expect(rt, "a list");
-    let answers = answers_to(alloc, &mut archive, &list).expect(rt, "answers");
-    assert_eq!(rt; answers.as_slice(), wanted);
-    archive
+// Whether one identity is contradicted, that of the confirmations C1.
+fn is_contradicted_once(archive: &Archive) -> bool {
+    match archive.contradictions() {
+        Ok(found) => is_that_of_c1(&found),
+        Err(_) => false,
+    }
 }
 
-// Compares the archive text.
-fn expect_text(rt: &impl Abort, archive: &Archive, wanted: &str) {
-    let text = archive.text().expect(rt, "a text");
-    assert_eq!(rt; text.as_slice(), wanted.as_bytes());
+fn is_that_of_c1(found: &[Identity]) -> bool {
+    match found {
+        [one] => {
+            one.sender.text() == "BANQFRPPXXX"
+                && one.kind == Kind::Pacs002
+                && one.msg_id.text() == "C1"
+        }
+        _ => false,
+    }
 }
 
-// One identity is contradicted, that of the confirmations C1.
-fn expect_contradicted(rt: &impl Abort, archive: &Archive) {
-    let found = archive.contradictions().expect(rt, "contradictions");
-    assert_eq!(rt; found.len(), 1);
-    assert_eq!(rt; found[0].sender.text(), "BANQFRPPXXX");
-    assert_eq!(rt; found[0].kind, Kind::Pacs002);
-    assert_eq!(rt; found[0].msg_id.text(), "C1");
+// How many messages of an archive of the rows are new to the archive, which is merged with it.
+fn merged(alloc: Global, archive: &mut Archive, rows: &[Row]) -> Option<u64> {
+    let other = archive_of(alloc, rows)?;
+    archive.merge(&other).ok()
 }
 
-// Merges an archive of the messages of the rows, and compares how many were new.
-fn merge_rows(rt: &impl Abort, alloc: Global, archive: &mut Archive, rows: &[Row], wanted: u64) {
-    let other = archive_of(alloc, rows).expect(rt, "another archive");
-    let new = archive.merge(&other).expect(rt, "memory");
-    assert_eq!(rt; new, wanted);
-}
-
-// The archive text of two sites after a merge.
-fn text_of_both(
-    rt: &impl Abort,
-    alloc: Global,
-    one: &[Row],
-    other: &[Row],
-    wanted: u64,
-) -> Vec<u8> {
-    let mut archive = archive_of(alloc, one).expect(rt, "an archive");
-    merge_rows(rt, alloc, &mut archive, other, wanted);
-    archive.text().expect(rt, "a text")
+// Whether two archives have one text.
+fn are_alike(one: &Archive, other: &Archive) -> Option<bool> {
+    Some(one.text().ok()?.as_slice() == other.text().ok()?.as_slice())
 }
 
 #[test]
 fn an_empty_archive_says_nothing(rt: HostRuntime) {
     let archive = Archive::new(rt.alloc());
     assert_eq!(rt; archive.len(), 0);
-    expect_text(&rt, &archive, "");
+    let text = archive.text().expect(&rt, "a text");
     let found = archive.contradictions().expect(&rt, "contradictions");
-    assert!(rt; found.is_empty());
-}
-
-#[test]
-fn takes_a_message_once_however_its_banks_are_written(rt: HostRuntime) {
-    let archive = add_each(&rt, rt.alloc(), &SPELLED, &SPELLED_ANSWERS);
-    expect_text(&rt, &archive, WRITTEN);
+    assert!(rt; text.is_empty() && found.is_empty());
 }
 
 #[test]
 fn tells_how_each_message_comes(rt: HostRuntime) {
-    let archive = add_each(&rt, rt.alloc(), &COMING, &COMING_ANSWERS);
+    let mut archive = Archive::new(rt.alloc());
+    let list = messages_of(rt.alloc(), &COMING).expect(&rt, "a list");
+    let answers = answers_to(rt.alloc(), &mut archive, &list).expect(&rt, "answers");
+    assert_eq!(rt; answers.as_slice(), COMING_ANSWERS.as_slice());
     assert_eq!(rt; archive.len(), 6);
-    expect_contradicted(&rt, &archive);
-}
-
-#[test]
-fn writes_by_identity_and_then_by_text(rt: HostRuntime) {
-    let archive = archive_of(rt.alloc(), &CONFIRMED).expect(&rt, "an archive");
-    expect_text(&rt, &archive, CONFIRMED_WRITTEN);
+    assert!(rt; is_contradicted_once(&archive));
 }
 
 // The pieces of the archive text of the messages of the rows, one after another.
@@ -172,70 +112,94 @@ fn text_in_pieces_of(rt: &(impl Threads + Sync), alloc: Global, rows: &[Row]) ->
     Some(text)
 }
 
+fn text_of(alloc: Global, rows: &[Row]) -> Option<Vec<u8>> {
+    archive_of(alloc, rows)?.text().ok()
+}
+
 #[test]
 fn writes_the_same_in_pieces(rt: HostRuntime) {
-    let text = text_in_pieces_of(&rt, rt.alloc(), &CONFIRMED).expect(&rt, "a text");
-    assert_eq!(rt; text.as_slice(), CONFIRMED_WRITTEN.as_bytes());
-    let text = text_in_pieces_of(&rt, rt.alloc(), &SPELLED).expect(&rt, "a text");
-    assert_eq!(rt; text.as_slice(), WRITTEN.as_bytes());
+    let text = text_in_pieces_of(&rt, rt.alloc(), &SHARING).expect(&rt, "a text");
+    let whole = text_of(rt.alloc(), &SHARING).expect(&rt, "a text");
+    assert_eq!(rt; text.as_slice(), whole.as_slice());
+}
+
+// How many messages are new in the first site, in the second, in the second again, and in the third.
+fn new_in_turn(alloc: Global, archive: &mut Archive) -> Option<(u64, u64, u64, u64)> {
+    let first = merged(alloc, archive, &FIRST)?;
+    let second = merged(alloc, archive, &SECOND)?;
+    let again = merged(alloc, archive, &SECOND)?;
+    Some((first, second, again, merged(alloc, archive, &THIRD)?))
 }
 
 #[test]
 fn merges_count_what_is_new(rt: HostRuntime) {
     let mut archive = Archive::new(rt.alloc());
-    merge_rows(&rt, rt.alloc(), &mut archive, &FIRST, 1);
-    merge_rows(&rt, rt.alloc(), &mut archive, &SECOND, 1);
-    merge_rows(&rt, rt.alloc(), &mut archive, &SECOND, 0);
-    merge_rows(&rt, rt.alloc(), &mut archive, &THIRD, 1);
+    assert_eq!(rt; new_in_turn(rt.alloc(), &mut archive), Some((1, 1, 0, 1)));
     assert_eq!(rt; archive.len(), 3);
-    expect_contradicted(&rt, &archive);
+    assert!(rt; is_contradicted_once(&archive));
+}
+
+// The archive of two sites, if this many messages of the second are new.
+fn archive_of_both(alloc: Global, one: &[Row], other: &[Row], new: u64) -> Option<Archive> {
+    let mut archive = archive_of(alloc, one)?;
+    if merged(alloc, &mut archive, other)? != new {
+        return None;
+    }
+    Some(archive)
 }
 
 #[test]
 fn merges_in_another_order_write_the_same(rt: HostRuntime) {
-    let text = text_of_both(&rt, rt.alloc(), &SECOND, &THIRD, 1);
-    let same = text_of_both(&rt, rt.alloc(), &THIRD, &SECOND, 2);
-    assert_eq!(rt; text.as_slice(), same.as_slice());
+    let archive = archive_of_both(rt.alloc(), &SECOND, &THIRD, 1).expect(&rt, "an archive");
+    let other = archive_of_both(rt.alloc(), &THIRD, &SECOND, 2).expect(&rt, "an archive");
+    assert_eq!(rt; are_alike(&archive, &other), Some(true));
+}
+
+// The archive of the first site, merged with the second and then with the third.
+fn first_in_turn(alloc: Global) -> Option<Archive> {
+    let mut archive = archive_of_both(alloc, &FIRST, &SECOND, 1)?;
+    match merged(alloc, &mut archive, &THIRD)? {
+        1 => Some(archive),
+        _ => None,
+    }
 }
 
 // The archive of the first site, merged with all messages of the second and the third.
-fn first_with_the_others(rt: &impl Abort, alloc: Global) -> Archive {
-    let mut archive = archive_of(alloc, &FIRST).expect(rt, "an archive");
-    let mut others = archive_of(alloc, &SECOND).expect(rt, "another archive");
-    merge_rows(rt, alloc, &mut others, &THIRD, 1);
-    let new = archive.merge(&others).expect(rt, "memory");
-    assert_eq!(rt; new, 2);
-    archive
+fn first_with_the_others(alloc: Global) -> Option<Archive> {
+    let mut archive = archive_of(alloc, &FIRST)?;
+    let others = archive_of_both(alloc, &SECOND, &THIRD, 1)?;
+    match archive.merge(&others).ok()? {
+        2 => Some(archive),
+        _ => None,
+    }
 }
 
 #[test]
 fn merges_of_merges_write_the_same(rt: HostRuntime) {
-    let mut archive = archive_of(rt.alloc(), &FIRST).expect(&rt, "an archive");
-    merge_rows(&rt, rt.alloc(), &mut archive, &SECOND, 1);
-    merge_rows(&rt, rt.alloc(), &mut archive, &SECOND, 0);
-    merge_rows(&rt, rt.alloc(), &mut archive, &THIRD, 1);
-    let other = first_with_the_others(&rt, rt.alloc());
-    let text = archive.text().expect(&rt, "a text");
-    let same = other.text().expect(&rt, "a text");
-    assert_eq!(rt; text.as_slice(), same.as_slice());
+    let archive = first_in_turn(rt.alloc()).expect(&rt, "an archive");
+    let other = first_with_the_others(rt.alloc()).expect(&rt, "an archive");
+    assert_eq!(rt; are_alike(&archive, &other), Some(true));
     assert_eq!(rt; (archive.len(), other.len()), (3, 3));
-    expect_contradicted(&rt, &other);
+    assert!(rt; is_contradicted_once(&other));
 }
 
 #[test]
 fn a_shared_message_is_not_new(rt: HostRuntime) {
-    let mut archive = archive_of(rt.alloc(), &SECOND).expect(&rt, "an archive");
-    merge_rows(&rt, rt.alloc(), &mut archive, &SHARING, 1);
+    let archive = archive_of_both(rt.alloc(), &SECOND, &SHARING, 1).expect(&rt, "an archive");
     assert_eq!(rt; archive.len(), 3);
+}
+
+// How many messages of a list of the second site are new to the first, and how many it has then.
+fn sizes_after_a_list(alloc: Global) -> Option<(u64, usize)> {
+    let mut archive = archive_of(alloc, &FIRST)?;
+    let list = messages_of(alloc, &SECOND)?;
+    let new = archive.add_all(&list).ok()?;
+    Some((new, archive.len()))
 }
 
 #[test]
 fn adds_what_is_new_of_a_list(rt: HostRuntime) {
-    let mut archive = archive_of(rt.alloc(), &FIRST).expect(&rt, "an archive");
-    let list = messages_of(rt.alloc(), &SECOND).expect(&rt, "a list");
-    let new = archive.add_all(&list).expect(&rt, "memory");
-    assert_eq!(rt; new, 1);
-    assert_eq!(rt; archive.len(), 2);
+    assert_eq!(rt; sizes_after_a_list(rt.alloc()), Some((1, 2)));
 }
 
 #[test]

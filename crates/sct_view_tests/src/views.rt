@@ -1,14 +1,11 @@
-//! Batches that are applied to a view of no message, and all answers of the view afterwards, with ample memory.
+//! Batches that are applied to a view of no message, with how much each brings, and what the view then lists, with ample memory.
 
-mod scenes;
-
-use scenes::{apply_texts, recall};
+use crate::texts::messages_of;
 use sct_case::{Finding, RecallStatus, Status};
-use sct_element::Bic;
-use sct_message::TransferKey;
+use sct_element::{Bic, Id35};
+use sct_message::{RecallKey, TransferKey};
 use sct_view::*;
 use std::alloc::Global;
-use std::process::Abort;
 use std::test::Fail;
 
 /// A transfer and a recall of it, and the statuses of both.
@@ -77,6 +74,17 @@ const SENT: Totals = Totals {
     returned_out: 0,
 };
 
+// A recall of a transfer of Anna Weber's bank.
+fn recall(tx: &str, cxl: &str) -> Result<RecallKey, Fail> {
+    Ok(RecallKey {
+        transfer: TransferKey {
+            debtor_agent: Bic::read("BANKDEFF")?,
+            tx: Id35::read(tx)?,
+        },
+        cxl: Id35::read(cxl)?,
+    })
+}
+
 // The word of a status of the scenes, which has neither an amount nor a reason.
 fn word(status: &Status) -> &'static str {
     match status {
@@ -101,27 +109,15 @@ fn recall_word(status: &RecallStatus) -> &'static str {
     }
 }
 
-// Asserts that a batch of messages has this many fresh ones, and touches this many transfers.
-fn assert_applied(
-    rt: &impl Abort,
+// Whether a batch of messages has this many fresh ones, and touches this many transfers.
+fn brings(
     alloc: Global,
     view: &mut View,
     texts: &[&str],
     wanted: (u64, u64),
-) -> Result<(), Fail> {
-    let applied = apply_texts(alloc, view, texts)?;
-    assert!(rt; (applied.fresh, applied.touched) == wanted);
-    Ok(())
-}
-
-fn assert_status_text(rt: &impl Abort, view: &View, wanted: &str) -> Result<(), Fail> {
-    assert!(rt; view.status_text()?.as_slice() == wanted.as_bytes());
-    Ok(())
-}
-
-fn assert_totals_text(rt: &impl Abort, view: &View, wanted: &str) -> Result<(), Fail> {
-    assert!(rt; view.totals_text()?.as_slice() == wanted.as_bytes());
-    Ok(())
+) -> Result<bool, Fail> {
+    let applied = view.apply(&messages_of(alloc, texts)?)?;
+    Ok((applied.fresh, applied.touched) == wanted)
 }
 
 // Appends a word, after a space.
@@ -195,50 +191,57 @@ fn listed(alloc: Global, view: &View) -> Result<Vec<u8>, Fail> {
     Ok(text)
 }
 
-fn assert_listed(rt: &impl Abort, alloc: Global, view: &View, wanted: &str) -> Result<(), Fail> {
-    assert!(rt; listed(alloc, view)?.as_slice() == wanted.as_bytes());
-    Ok(())
+fn lists(alloc: Global, view: &View, wanted: &str) -> Result<bool, Fail> {
+    Ok(listed(alloc, view)?.as_slice() == wanted.as_bytes())
 }
 
-fn assert_at(rt: &impl Abort, view: &View, wanted: &Standing) -> Result<(), Fail> {
+fn has_texts(view: &View) -> Result<bool, Fail> {
+    let (status, totals) = (view.status_text()?, view.totals_text()?);
+    Ok(status.as_slice() == STATUS.as_bytes() && totals.as_slice() == TOTALS.as_bytes())
+}
+
+fn stands(view: &View, wanted: &Standing) -> Result<bool, Fail> {
     let key = recall(wanted.0, wanted.1)?;
-    assert!(rt; word(view.status(&key.transfer)) == wanted.2);
-    assert!(rt; recall_word(&view.recall(&key)) == wanted.3);
-    Ok(())
+    Ok(word(view.status(&key.transfer)) == wanted.2 && recall_word(&view.recall(&key)) == wanted.3)
 }
 
-fn assert_standing(rt: &impl Abort, view: &View, rows: &[Standing]) -> Result<(), Fail> {
+fn all_stand(view: &View, rows: &[Standing]) -> Result<bool, Fail> {
     for wanted in rows {
-        assert_at(rt, view, wanted)?;
+        if !stands(view, wanted)? {
+            return Ok(false);
+        }
     }
-    Ok(())
+    Ok(true)
 }
 
-// Asserts the totals of one bank, and those of a bank that no message names.
-fn assert_sums(rt: &impl Abort, view: &View) -> Result<(), Fail> {
-    assert!(rt; view.totals(&Bic::read("BANKDEFF")?) == SENT);
-    assert!(rt; view.totals(&Bic::read("BANKBEBB")?) == Totals::nothing());
-    Ok(())
+// Whether the totals of one bank are these, and a bank that no message names has none.
+fn has_sums(view: &View) -> Result<bool, Fail> {
+    let (sent, nothing) = (Bic::read("BANKDEFF")?, Bic::read("BANKBEBB")?);
+    Ok(view.totals(&sent) == SENT && view.totals(&nothing) == Totals::nothing())
 }
 
-fn assert_answers(rt: &impl Abort, alloc: Global, view: &View) -> Result<(), Fail> {
-    assert_status_text(rt, view, STATUS)?;
-    assert_totals_text(rt, view, TOTALS)?;
-    assert_listed(rt, alloc, view, LISTED)?;
-    assert_standing(rt, view, &STANDING)?;
-    assert_sums(rt, view)
+fn answers(alloc: Global, view: &View) -> Result<bool, Fail> {
+    Ok(
+        has_texts(view)?
+            && lists(alloc, view, LISTED)?
+            && all_stand(view, &STANDING)?
+            && has_sums(view)?,
+    )
 }
 
-fn assert_scene(rt: &impl Abort, alloc: Global, view: &mut View) -> Result<(), Fail> {
-    assert_applied(rt, alloc, view, &FIRST, (17, 7))?;
-    assert_applied(rt, alloc, view, &LATER, (1, 1))?;
-    assert_answers(rt, alloc, view)
+fn answers_after_batches(alloc: Global, view: &mut View) -> Result<bool, Fail> {
+    Ok(
+        brings(alloc, view, &FIRST, (17, 7))?
+            && brings(alloc, view, &LATER, (1, 1))?
+            && answers(alloc, view)?,
+    )
 }
 
 #[test]
 fn answers_on_messages_of_all_kinds(rt: HostRuntime) -> Result<(), Fail> {
     let mut view = View::new(rt.alloc());
-    assert_scene(&rt, rt.alloc(), &mut view)
+    assert!(rt; answers_after_batches(rt.alloc(), &mut view)?);
+    Ok(())
 }
 
 // Two transfers that are accepted.
@@ -259,65 +262,35 @@ static RECALLED_AGAIN: [&str; 1] = [
     r#"{"MsgNmId":"camt.056","MsgId":"K1","CreDtTm":"2024-05-03T09:00:00Z","InstgAgt":"BANKDEFF","CxlId":"R3","OrgnlMsgId":"M1","OrgnlMsgNmId":"pacs.008","OrgnlTxId":"T3","OrgnlIntrBkSttlmAmt":"1.00","Ccy":"EUR","Rsn":"FRAD","DbtrAgt":"BANKDEFF"}"#,
 ];
 
-const RECALLED_STATUS: &str =
-    "T|BANKDEFFXXX|T1|ACCEPTED\nR|BANKDEFFXXX|T1|R1|OPEN\nT|BANKDEFFXXX|T2|CONTRADICTED\nF|BANKDEFFXXX|T2|AmountDiffers\nR|BANKDEFFXXX|T2|R2|CONTRADICTED\n";
-
-const RECALLED_TOTALS: &str =
-    "BANKDEFFXXX|1|100.00|0.00|0|0|0|1|0|0.00|0.00\nBANQFRPPXXX|0|0.00|0.00|0|0|0|0|1|100.00|0.00\n";
-
-const RECALLED_AGAIN_STATUS: &str =
-    "T|BANKDEFFXXX|T1|CONTRADICTED\nF|BANKDEFFXXX|T1|Identity|BANKDEFFXXX|camt.056|K1\nR|BANKDEFFXXX|T1|R1|CONTRADICTED\nT|BANKDEFFXXX|T2|CONTRADICTED\nF|BANKDEFFXXX|T2|Identity|BANKDEFFXXX|camt.056|K1\nR|BANKDEFFXXX|T2|R2|CONTRADICTED\nT|BANKDEFFXXX|T3|CONTRADICTED\nF|BANKDEFFXXX|T3|Identity|BANKDEFFXXX|camt.056|K1\nR|BANKDEFFXXX|T3|R3|CONTRADICTED\n";
-
-const RECALLED_AGAIN_TOTALS: &str = "BANKDEFFXXX|0|0.00|0.00|0|0|0|3|0|0.00|0.00\n";
-
 const RECALLED_LISTED: &str =
     " BANKDEFFXXX T1 M1 R1\n BANKDEFFXXX T2 M2 R2\n BANKDEFFXXX T1 T2\n BANQFRPPXXX T1 T2\n T2 AmountDiffers\n";
 
 const RECALLED_AGAIN_LISTED: &str =
     " BANKDEFFXXX T1 M1 R1\n BANKDEFFXXX T2 M2 R2\n BANKDEFFXXX T3 R3\n BANKDEFFXXX T1 T2 T3\n T1 K1\n T2 K1\n T3 K1\n";
 
-// Each recall is under its own transfer, and not under the other one.
-static RECALLED_STANDING: [Standing; 3] = [
-    ("T1", "R1", "ACCEPTED", "OPEN"),
-    ("T1", "R2", "ACCEPTED", "UNKNOWN"),
-    ("T3", "R3", "UNKNOWN", "UNKNOWN"),
-];
-
-static RECALLED_AGAIN_STANDING: [Standing; 4] = [
-    ("T1", "R1", "CONTRADICTED", "CONTRADICTED"),
-    ("T2", "R2", "CONTRADICTED", "CONTRADICTED"),
-    ("T3", "R3", "CONTRADICTED", "CONTRADICTED"),
-    ("T4", "R3", "UNKNOWN", "UNKNOWN"),
-];
-
-// Asserts that a recall touches both transfers that it names.
-fn assert_recalled(rt: &impl Abort, alloc: Global, view: &mut View) -> Result<(), Fail> {
-    assert_applied(rt, alloc, view, &RECALLED, (1, 2))?;
-    assert_status_text(rt, view, RECALLED_STATUS)?;
-    assert_totals_text(rt, view, RECALLED_TOTALS)?;
-    assert_listed(rt, alloc, view, RECALLED_LISTED)?;
-    assert_standing(rt, view, &RECALLED_STANDING)
+// Whether a recall touches both transfers that it names.
+fn is_recalled(alloc: Global, view: &mut View) -> Result<bool, Fail> {
+    Ok(brings(alloc, view, &RECALLED, (1, 2))? && lists(alloc, view, RECALLED_LISTED)?)
 }
 
-// Asserts that a recall under its identity contradicts it, and touches these two transfers and its own.
-fn assert_recalled_again(rt: &impl Abort, alloc: Global, view: &mut View) -> Result<(), Fail> {
-    assert_applied(rt, alloc, view, &RECALLED_AGAIN, (1, 3))?;
-    assert_status_text(rt, view, RECALLED_AGAIN_STATUS)?;
-    assert_totals_text(rt, view, RECALLED_AGAIN_TOTALS)?;
-    assert_listed(rt, alloc, view, RECALLED_AGAIN_LISTED)?;
-    assert_standing(rt, view, &RECALLED_AGAIN_STANDING)
+// Whether a recall under its identity contradicts it, and touches these two transfers and its own.
+fn is_recalled_again(alloc: Global, view: &mut View) -> Result<bool, Fail> {
+    Ok(brings(alloc, view, &RECALLED_AGAIN, (1, 3))? && lists(alloc, view, RECALLED_AGAIN_LISTED)?)
 }
 
-fn assert_recalls(rt: &impl Abort, alloc: Global, view: &mut View) -> Result<(), Fail> {
-    assert_applied(rt, alloc, view, &ACCEPTED, (4, 2))?;
-    assert_recalled(rt, alloc, view)?;
-    assert_recalled_again(rt, alloc, view)
+fn recalls_touch(alloc: Global, view: &mut View) -> Result<bool, Fail> {
+    Ok(
+        brings(alloc, view, &ACCEPTED, (4, 2))?
+            && is_recalled(alloc, view)?
+            && is_recalled_again(alloc, view)?,
+    )
 }
 
 #[test]
-fn answers_on_a_recall_of_two_transfers(rt: HostRuntime) -> Result<(), Fail> {
+fn touches_each_transfer_of_a_recall(rt: HostRuntime) -> Result<(), Fail> {
     let mut view = View::new(rt.alloc());
-    assert_recalls(&rt, rt.alloc(), &mut view)
+    assert!(rt; recalls_touch(rt.alloc(), &mut view)?);
+    Ok(())
 }
 
 // A confirmation of the second transfer under the identity of the first one's, and then one of a third transfer.
@@ -329,16 +302,6 @@ static CONFIRMED_A_THIRD_TIME: [&str; 1] = [
     r#"{"MsgNmId":"pacs.002","MsgId":"C1","CreDtTm":"2024-05-02T10:00:02Z","InstgAgt":"BANQFRPP","OrgnlMsgId":"M1","OrgnlMsgNmId":"pacs.008","OrgnlTxId":"T3","TxSts":"ACCP","DbtrAgt":"BANKDEFF"}"#,
 ];
 
-const ACCEPTED_TOTALS: &str =
-    "BANKDEFFXXX|2|150.00|0.00|0|0|0|0|0|0.00|0.00\nBANQFRPPXXX|0|0.00|0.00|0|0|0|0|2|150.00|0.00\n";
-
-const CONFIRMED_AGAIN_STATUS: &str =
-    "T|BANKDEFFXXX|T1|CONTRADICTED\nF|BANKDEFFXXX|T1|Identity|BANQFRPPXXX|pacs.002|C1\nT|BANKDEFFXXX|T2|CONTRADICTED\nF|BANKDEFFXXX|T2|Identity|BANQFRPPXXX|pacs.002|C1\n";
-
-const CONFIRMED_AGAIN_TOTALS: &str = "BANKDEFFXXX|0|0.00|0.00|0|0|0|2|0|0.00|0.00\n";
-
-const CONFIRMED_A_THIRD_TIME_TOTALS: &str = "BANKDEFFXXX|0|0.00|0.00|0|0|0|3|0|0.00|0.00\n";
-
 // The beneficiary bank is not listed: all its totals are 0.
 const CONFIRMED_AGAIN_LISTED: &str =
     " BANKDEFFXXX T1 M1\n BANKDEFFXXX T2 M2\n BANKDEFFXXX T1 T2\n T1 C1\n T2 C1\n";
@@ -346,37 +309,31 @@ const CONFIRMED_AGAIN_LISTED: &str =
 // The bank still has the same transfers.
 const TRANSFERS_OF_THE_OTHER: &str = " BANQFRPPXXX T1 T2\n";
 
-fn assert_transfers_of(
-    rt: &impl Abort,
-    alloc: Global,
-    view: &View,
-    bank: &str,
-    wanted: &str,
-) -> Result<(), Fail> {
+fn has_transfers(alloc: Global, view: &View, bank: &str, wanted: &str) -> Result<bool, Fail> {
     let mut text = Vec::new(alloc);
     push_bank(&mut text, view, &Bic::read(bank)?)?;
-    assert!(rt; text.as_slice() == wanted.as_bytes());
-    Ok(())
+    Ok(text.as_slice() == wanted.as_bytes())
 }
 
-fn assert_contradicted(rt: &impl Abort, alloc: Global, view: &View) -> Result<(), Fail> {
-    assert_status_text(rt, view, CONFIRMED_AGAIN_STATUS)?;
-    assert_totals_text(rt, view, CONFIRMED_AGAIN_TOTALS)?;
-    assert_listed(rt, alloc, view, CONFIRMED_AGAIN_LISTED)?;
-    assert_transfers_of(rt, alloc, view, "BANQFRPP", TRANSFERS_OF_THE_OTHER)
+fn is_contradicted(alloc: Global, view: &View) -> Result<bool, Fail> {
+    Ok(
+        lists(alloc, view, CONFIRMED_AGAIN_LISTED)?
+            && has_transfers(alloc, view, "BANQFRPP", TRANSFERS_OF_THE_OTHER)?,
+    )
 }
 
-fn assert_confirmed(rt: &impl Abort, alloc: Global, view: &mut View) -> Result<(), Fail> {
-    assert_applied(rt, alloc, view, &ACCEPTED, (4, 2))?;
-    assert_totals_text(rt, view, ACCEPTED_TOTALS)?;
-    assert_applied(rt, alloc, view, &CONFIRMED_AGAIN, (1, 2))?;
-    assert_contradicted(rt, alloc, view)?;
-    assert_applied(rt, alloc, view, &CONFIRMED_A_THIRD_TIME, (1, 1))?;
-    assert_totals_text(rt, view, CONFIRMED_A_THIRD_TIME_TOTALS)
+fn loses_its_totals(alloc: Global, view: &mut View) -> Result<bool, Fail> {
+    Ok(
+        brings(alloc, view, &ACCEPTED, (4, 2))?
+            && brings(alloc, view, &CONFIRMED_AGAIN, (1, 2))?
+            && is_contradicted(alloc, view)?
+            && brings(alloc, view, &CONFIRMED_A_THIRD_TIME, (1, 1))?,
+    )
 }
 
 #[test]
 fn a_bank_without_totals_is_not_listed(rt: HostRuntime) -> Result<(), Fail> {
     let mut view = View::new(rt.alloc());
-    assert_confirmed(&rt, rt.alloc(), &mut view)
+    assert!(rt; loses_its_totals(rt.alloc(), &mut view)?);
+    Ok(())
 }

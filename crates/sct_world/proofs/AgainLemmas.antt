@@ -1,18 +1,16 @@
 -- To hand a delta again changes nothing. Proof plumbing.
-use Rattle.std.proofs.Common.{◌≡◌, ◌∙◌, refl, ap, sym, ℕ, ◌+◌, ◌-◌, Bool, true, false, not, cond, ◌||◌, List, [], ◌∷◌, ◌++◌, length, arith, nat_eq, nat_lt}
+use Rattle.std.proofs.Common.{◌≡◌, ◌∙◌, refl, ap, ℕ, ◌+◌, ◌-◌, Bool, true, false, not, cond, List, [], ◌++◌, length}
 use Rattle.std.specs.Prelude.{Option, Some, None, Ok, Err}
 use Rattle.std.specs.List.{list_any}
-use Rattle.std.proofs.lemmas.Bool.{or_parts}
-use Rattle.std.proofs.lemmas.Bool.Decides.{nat_tests}
 use Rattle.std.proofs.lemmas.List.{append-nil, set-get_or}
-use Rattle.std.proofs.Math.Bool.{or-true}
-use Rattle.sct_delta.proofs.HeldLemmas.{held_in_logs, passes_none}
-use Rattle.sct_delta.specs.Entries.{Placed, log_of, same_entry, holds, IsArrivals}
-use Rattle.sct_delta.specs.Refusals.{message_at, is_held, is_outside, is_ahead, is_past, is_fork, firsts_after}
+use Rattle.sct_delta.proofs.HeldLemmas.{passes_none}
+use Rattle.sct_delta.specs.Entries.{Placed, log_of, holds}
+use Rattle.sct_delta.specs.Refusals.{message_at, is_held, is_outside, is_ahead, is_past, is_fork}
 use Rattle.sct_delta.specs.declared.fault.DeltaFault.{DeltaFault}
-use Rattle.sct_delta.proofs.JoinLemmas.{IsPassed, passed, unrefused, kept_is}
+use Rattle.sct_delta.proofs.JoinLemmas.{IsPassed, passed, unrefused}
 use Rattle.sct_message.proofs.Tests.{none_kept as filter_none}
 use Rattle.sct_site.specs.Cores.{logs_of, arrivals_joined, fresh_of, refusal_by}
+use Rattle.sct_site.proofs.HeldLemmas.{held_stands, joined_holds, none_first, not_past, one_place, within}
 use Rattle.sct_world.specs.Closed.{IsClosed}
 use Rattle.sct_world.specs.Laws.{history, ChangesNothing, HandingAgainChangesNothing}
 use Rattle.sct_world.specs.States.{State, is_no_site, held_at, core_at, with_held, delta_at}
@@ -21,46 +19,11 @@ use Rattle.sct_world.specs.declared.event.Event.{Event}
 use Rattle.sct_world.specs.declared.event.Event.TheVariants as event
 use Rattle.sct_world.specs.declared.event.Step.TheVariants as step
 use Rattle.sct_world.specs.declared.fault.WorldFault.TheVariants as fault
-use Rattle.sct_world.proofs.HeldLemmas.{one_place}
 use Rattle.sct_world.proofs.LawLemmas.{never_loses, closed_history, closed_after, closed_all}
-use Rattle.sct_world.proofs.NoForkLemmas.{within, no_other, not_ahead, kept_first}
+use Rattle.sct_world.proofs.NoForkLemmas.{no_other, not_ahead}
 use Rattle.sct_world.proofs.StateLemmas.{held-with_same, sites-after, sites-all, size-after, size-all, there-after, there-all}
 
--- ---- tests over the entries of a list
-
-none_first : (p : Placed → Bool) (previous : ℕ) (ds : List Placed) → list_any p ds ≡ false → list_any p (firsts_after previous ds) ≡ false
-none_first p previous [] none = refl
-none_first p previous (d ∷ ds) none =
-    let parts : (p d ≡ false) × (list_any p ds ≡ false) = or_parts (p d) (list_any p ds) none in
-    elim (nat_eq d.origin previous) as (λ b. list_any p (cond b (firsts_after previous ds) (d ∷ firsts_after d.origin ds)) ≡ false) [
-      | true ↦ none_first p previous ds parts.1
-      | false ↦ λ i. parts.0 i || none_first p d.origin ds parts.1 i
-    ]
-
--- ---- held in the logs and among the arrivals
-
-stands_held : (es : List Placed) → IsArrivals es → (x : Placed) → is_held (logs_of es) x ≡ true → holds es x ≡ true
-stands_held es arrive x held = held_in_logs es arrive x ∙ held
-
-held_stands : (es : List Placed) → IsArrivals es → (x : Placed) → holds es x ≡ true → is_held (logs_of es) x ≡ true
-held_stands es arrive x held = sym (held_in_logs es arrive x) ∙ held
-
-kept_last : (es fs : List Placed) (x : Placed) → holds fs x ≡ true → holds (es ++ fs) x ≡ true
-kept_last [] fs x held = held
-kept_last (e ∷ es) fs x held = ap (λ (b : Bool). same_entry e x || b) (kept_last es fs x held) ∙ or-true (same_entry e x)
-
--- after a delta was accepted each of its entries is held
-pub joined_holds : (es ds : List Placed) → IsArrivals es → (x : Placed) → holds ds x ≡ true → holds (arrivals_joined es ds) x ≡ true
-joined_holds es ds arrive x in_delta =
-    elim (is_held (logs_of es) x) as (λ b. is_held (logs_of es) x ≡ b → holds (arrivals_joined es ds) x ≡ true) [
-      | true ↦ λ held. kept_first es (fresh_of es ds) x (stands_held es arrive x held)
-      | false ↦ λ new. kept_last es (fresh_of es ds) x (kept_is (λ e. not (is_held (logs_of es) e)) x (ap not new) ds ∙ in_delta)
-    ] refl
-
 -- ---- a delta of which each entry is held
-
-not_past : (length n : ℕ) → nat_lt length n ≡ false → nat_lt (length + 1) n ≡ false
-not_past length n e = grind (arith, nat_tests)
 
 module _ (w : State) (closed : IsClosed w) (s number : ℕ) (d : List Placed) (cut : delta_at w.deltas number ≡ Some d)
     (sites : list_any (is_outside (length w.held)) d ≡ false) (all : (x : Placed) → holds d x ≡ true → holds (held_at w s) x ≡ true) where

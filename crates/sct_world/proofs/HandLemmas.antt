@@ -4,7 +4,7 @@ use Rattle.std.specs.Prelude.{Option, Some, None, IfSome, MatchOption, Result, O
 use Rattle.std.specs.Result.{IsErrAnd}
 use Rattle.std.specs.List.{list_any, find}
 use Rattle.std.proofs.lemmas.Bool.Decides.{nat_tests}
-use Rattle.std.proofs.lemmas.Bool.{false≢true, ltb-true, and_parts, or_cases, eqb-true, eqb-false}
+use Rattle.std.proofs.lemmas.Bool.{false≢true, ltb-true, and_parts, eqb-true, eqb-false}
 use Rattle.std.proofs.lemmas.Option.{slice_get_read, get_or_from_slice_get}
 use Rattle.std.proofs.lemmas.List.{append-nil, get_or-set_same, get_or-set_other, length-set}
 use Rattle.sct_message.specs.declared.draft.Draft.{Draft}
@@ -26,12 +26,9 @@ use Rattle.sct_delta.proofs.TestLemmas.{none_also}
 use Rattle.sct_site.specs.Cores.{Core, IsSite, logs_of, is_above, entries_above, fresh_of, arrivals_joined, refusal_by}
 use Rattle.sct_site.proofs.AboveLemmas.{entry_total, entry_same}
 use Rattle.sct_site.proofs.ArrivalLemmas.{length-log}
+use Rattle.sct_site.proofs.HeldLemmas.{among_above, any_kept, at_number, found_in, held_number, joined_holds, kept_first, kept_passes, not_0, one_of, one_place, or_else, told_never, within}
 use Rattle.sct_world.specs.Settling.{no_core, core_in, held_by_some, IsKept, AreKept, IsWhy, IsAhead, HoldApart, HasAll, HasEach, IsWhole, IsWholeOfOne, OfOneGroup}
-use Rattle.sct_world.proofs.AgainLemmas.{joined_holds}
-use Rattle.sct_world.proofs.HeldLemmas.{one_place, held_number}
 use Rattle.sct_world.proofs.KeptLemmas.{place_some, same_kept}
-use Rattle.sct_world.proofs.LawLemmas.{at_number, not_0}
-use Rattle.sct_world.proofs.NoForkLemmas.{found_in, told_never, or_else, one_of, any_kept, among_above, kept_first, within}
 
 -- ---- numbers and tests
 
@@ -46,17 +43,6 @@ still_past k n e = grind (arith, nat_tests)
 
 has_first : (size n : ℕ) → nat_eq n 0 ≡ false → nat_lt size n ≡ false → nat_lt size 1 ≡ false
 has_first size n above within = grind (arith, nat_tests)
-
-kept_passes : (p : Placed → Bool) (ds : List Placed) (e : Placed) → holds (filter p ds) e ≡ true → p e ≡ true
-kept_passes p [] e held = absurd (false≢true held)
-kept_passes p (d ∷ ds) e held =
-    elim (p d) as (λ b. p d ≡ b → holds (cond b (d ∷ filter p ds) (filter p ds)) e ≡ true → p e ≡ true) [
-      | true ↦ λ passes some. elim (or_cases (same_entry d e) (holds (filter p ds) e) some) as (λ c. p e ≡ true) [
-        | inl here ↦ ap p (sym (one_entry d e here)) ∙ passes
-        | inr later ↦ kept_passes p ds e later
-      ]
-      | false ↦ λ fails later. kept_passes p ds e later
-    ] refl held
 
 -- ---- the whole of what a site holds
 

@@ -11,6 +11,7 @@ use Rattle.sct_delta.specs.Entries.{Placed, log_of, same_entry, holds}
 use Rattle.sct_delta.specs.Refusals.{message_at, is_other_than, is_outside}
 use Rattle.sct_delta.proofs.HeldLemmas.{one_entry, passes_none}
 use Rattle.sct_site.specs.Cores.{Core, has_number, has_numbers}
+use Rattle.sct_site.proofs.HeldLemmas.{held_number}
 use Rattle.sct_world.specs.Closed.{IsClosed}
 use Rattle.sct_world.specs.Inside.{state_of, IsWorld}
 use Rattle.sct_world.specs.States.{State, is_no_site, held_at, delta_at}
@@ -18,7 +19,6 @@ use Rattle.sct_world.specs.Histories.{step_at, after_at}
 use Rattle.sct_world.specs.declared.event.Event.TheVariants as event
 use Rattle.sct_world.specs.declared.event.Step.TheVariants as step
 use Rattle.sct_world.proofs.AgainLemmas.{answered_again, left_again}
-use Rattle.sct_world.proofs.HeldLemmas.{held_number}
 use Rattle.sct_world.proofs.NoForkLemmas.{no_other, not_outside}
 use Rattle.sct_world.proofs.WorldLemmas.{at_place, closed_now, found, old_is}
 

@@ -1,11 +1,10 @@
 -- The laws of worlds.
-use Rattle.std.proofs.Common.{◌≡◌, ◌∙◌, refl, ap, sym, subst, inl, inr, ℕ, zero, suc, ◌-◌, ◌≤◌, Bool, true, false, cond, List, [], ◌∷◌, ◌++◌, length, arith, nat_eq, nat_lt, get_or}
+use Rattle.std.proofs.Common.{◌≡◌, ◌∙◌, refl, ap, sym, subst, ℕ, zero, suc, ◌-◌, true, false, cond, List, [], ◌∷◌, ◌++◌, length, arith, nat_eq, nat_lt, get_or}
 use Rattle.std.specs.Prelude.{Option, Some, None, slice_index_or, replicate}
 use Rattle.std.specs.Arc.{arc_value}
 use Rattle.std.specs.List.{slice_get}
-use Rattle.std.proofs.lemmas.Bool.Decides.{nat_tests}
 use Rattle.std.proofs.lemmas.Bool.{false≢true, eqb-true}
-use Rattle.std.proofs.lemmas.Option.{slice_get_cases, get_or_from_slice_get, same_Some}
+use Rattle.std.proofs.lemmas.Option.{get_or_from_slice_get, same_Some}
 use Rattle.std.specs.Cmp.{both_ways}
 use Rattle.sct_message.specs.declared.draft.Draft.{Draft}
 use Rattle.sct_delta.specs.Entries.{Placed, log_of, held_from, holds, IsArrivals}
@@ -16,6 +15,7 @@ use Rattle.sct_site.specs.Cores.{Core, is_repeat, own_entry, arrivals_taken, arr
 use Rattle.sct_site.proofs.ArrivalLemmas.{length-log}
 use Rattle.sct_message.specs.Sets.{MessageSet}
 use Rattle.sct_reconcile.specs.Reports.{report_of, report_text_of}
+use Rattle.sct_site.proofs.HeldLemmas.{at_number, held_number, kept_first, not_0, one_place, within}
 use Rattle.sct_world.specs.Answers.{texts_of}
 use Rattle.sct_world.specs.Closed.{IsClosed}
 use Rattle.sct_world.specs.Laws.{history, EqualSetsHoldAlike, EqualSetsAnswerAlike, EqualSetsReportAlike, NeverLosesAnEntry, EqualVectorsHoldAlike}
@@ -24,8 +24,7 @@ use Rattle.sct_world.specs.Histories.{site_of, after_accepted, after_handed, aft
 use Rattle.sct_world.specs.declared.event.Event.{Event}
 use Rattle.sct_world.specs.declared.event.Event.TheVariants as event
 use Rattle.sct_world.proofs.ExactlyLemmas.{exactly}
-use Rattle.sct_world.proofs.HeldLemmas.{one_place, held_number}
-use Rattle.sct_world.proofs.NoForkLemmas.{closed_taken, closed_joined, closed_cut, kept_first, within}
+use Rattle.sct_world.proofs.NoForkLemmas.{closed_taken, closed_joined, closed_cut}
 use Rattle.sct_world.proofs.StateLemmas.{held-with_same, held-with_other, sites-after}
 
 -- ---- equal sets
@@ -150,23 +149,6 @@ pub closed_history : (sites : ℕ) (events : List Event) → IsClosed (history s
 closed_history sites events = closed_all events (opened sites) (closed_opened sites)
 
 -- ---- equal vectors
-
--- there is a message at each number of a log
-pub at_number : (log : List Draft) (n : ℕ) → nat_eq n 0 ≡ false → nat_lt (length log) n ≡ false → (P : Type 0) → ((m : Draft) → message_at log n ≡ Some m → P) → P
-at_number log n above inside P some =
-    elim ((slice_get_cases log (n - 1)).1) as (λ c. P) [
-      | inl found ↦ some found.0 (ap (λ (b : Bool). cond b None (slice_get log (n - 1))) above ∙ found.2)
-      | inr past ↦
-          let outside : length log ≤ n - 1 = past.0 in
-          let never : nat_lt (length log) n ≡ true = grind (arith, nat_tests) in
-          absurd (false≢true (sym inside ∙ never))
-    ]
-
-pub not_0 : (log : List Draft) (n : ℕ) (m : Draft) → message_at log n ≡ Some m → nat_eq n 0 ≡ false
-not_0 log n m is = elim (nat_eq n 0) as (λ b. cond b None (slice_get log (n - 1)) ≡ Some m → b ≡ false) [
-  | true ↦ λ e. cc
-  | false ↦ λ e. refl
-] is
 
 module _ (w : State) (closed : IsClosed w) where
   -- what one site holds a site with as many entries of that origin holds too

@@ -3,7 +3,6 @@ pub mod AgainLemmas
 pub mod CoreLemmas
 pub mod ExactlyLemmas
 pub mod HandLemmas
-pub mod HeldLemmas
 pub mod KeptLemmas
 pub mod KnownLemmas
 pub mod LawLemmas

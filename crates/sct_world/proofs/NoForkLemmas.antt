@@ -1,77 +1,29 @@
 -- In a world no fork comes, and events keep what that rests on. Proof plumbing.
-use Rattle.std.proofs.Common.{◌≡◌, ◌∙◌, ◌⊎◌, refl, ap, sym, subst, inl, inr, ℕ, zero, suc, ◌+◌, ◌-◌, ◌<◌, Bool, true, false, not, cond, ◌&&◌, ◌||◌, List, [], ◌∷◌, ◌++◌, filter, length, arith, nat_eq, nat_lt, get_or}
+use Rattle.std.proofs.Common.{◌≡◌, ◌∙◌, ◌⊎◌, refl, ap, sym, subst, inl, inr, ℕ, zero, suc, ◌+◌, ◌-◌, true, false, not, cond, ◌&&◌, ◌||◌, List, [], ◌∷◌, ◌++◌, length, arith, nat_eq, nat_lt, get_or}
 use Rattle.std.specs.Prelude.{Option, Some, None, IfSome, slice_set, slice_index_or}
-use Rattle.std.specs.List.{list_any, find, slice_get}
-use Rattle.std.specs.Option.{option_or}
+use Rattle.std.specs.List.{find}
 use Rattle.std.proofs.lemmas.Bool.Decides.{nat_tests}
-use Rattle.std.proofs.lemmas.Bool.{false≢true, eqb-true, eqb-false, or_cases}
+use Rattle.std.proofs.lemmas.Bool.{eqb-true, eqb-false}
 use Rattle.std.proofs.lemmas.List.{get_or-set_same, get_or-set_other, length-set}
-use Rattle.std.proofs.lemmas.List.Folds.{list_any-append}
-use Rattle.std.proofs.lemmas.Option.{slice_get_within, same_Some}
-use Rattle.std.proofs.Math.Bool.{or-false, or-true}
+use Rattle.std.proofs.lemmas.Option.{same_Some}
+use Rattle.std.proofs.Math.Bool.{or-false}
 use Rattle.sct_message.specs.declared.draft.Draft.{Draft}
-use Rattle.sct_message.specs.Ascending.{ascending}
 use Rattle.sct_message.specs.Order.{same_message}
-use Rattle.sct_message.proofs.AscendingLemmas.{any_ascending, ascending-filter, ascending-sorted}
 use Rattle.sct_set.proofs.ContentsLemmas.{same_itself}
-use Rattle.sct_delta.specs.Entries.{Placed, is_from, log_of, same_entry, holds, IsArrivals, IsRun}
-use Rattle.sct_delta.specs.Refusals.{message_at, is_other_than, is_held, is_fork, is_ahead, is_past, is_outside, has_site, firsts_after, told, first_refusal, outside_refusal, ahead_refusal, gap_refusal, vector_of}
-use Rattle.sct_delta.specs.declared.fault.DeltaFault.{DeltaFault}
+use Rattle.sct_delta.specs.Entries.{Placed, log_of, same_entry, holds, IsArrivals, IsRun}
+use Rattle.sct_delta.specs.Refusals.{message_at, is_other_than, is_held, is_fork, is_ahead, is_past, is_outside, has_site, firsts_after, first_refusal, outside_refusal, ahead_refusal, gap_refusal, vector_of}
 use Rattle.sct_delta.specs.declared.fault.DeltaFault.TheVariants as fault
-use Rattle.sct_delta.proofs.EntryLemmas.{rises-numbered, run_is}
-use Rattle.sct_delta.proofs.HeldLemmas.{entry_itself, one_entry}
+use Rattle.sct_delta.proofs.HeldLemmas.{one_entry}
 use Rattle.sct_delta.proofs.JoinLemmas.{passed}
-use Rattle.sct_site.specs.Cores.{logs_of, is_above, entry_order, entries_above, fresh_of, arrivals_joined, arrivals_taken, is_repeat, own_entry, refusal_by}
-use Rattle.sct_site.proofs.AboveLemmas.{entry_total, entry_same, rises_as_entries, from_above}
+use Rattle.sct_site.specs.Cores.{logs_of, entries_above, fresh_of, arrivals_joined, arrivals_taken, is_repeat, own_entry, refusal_by}
 use Rattle.sct_site.proofs.ArrivalLemmas.{arrivals-joined, arrivals-push}
+use Rattle.sct_site.proofs.HeldLemmas.{among_above, any_kept, held_number, kept_first, one_of, one_place, or_else, run_above, told_all, told_never, within}
 use Rattle.sct_world.specs.Closed.{IsClosed}
 use Rattle.sct_world.specs.Faults.{IsNoFork}
 use Rattle.sct_world.specs.States.{State, is_no_site, held_at, core_at, with_held}
-use Rattle.sct_world.proofs.HeldLemmas.{one_place, held_number}
 use Rattle.sct_world.proofs.StateLemmas.{held-with_same, inside}
 
--- ---- what a search finds stands in the list
-
-pub found_in : (p : Placed → Bool) (ds : List Placed) (e : Placed) → find p ds ≡ Some e → (holds ds e ≡ true) × (p e ≡ true)
-found_in p [] e is = cc
-found_in p (d ∷ ds) e is =
-    elim (p d) as (λ b. p d ≡ b → cond b (Some d) (find p ds) ≡ Some e → ((same_entry d e || holds ds e) ≡ true) × (p e ≡ true)) [
-      | true ↦ λ passes first.
-          let same : d ≡ e = same_Some d e first in
-          (ap (λ (b : Bool). b || holds ds e) (ap (λ (x : Placed). same_entry x e) same ∙ entry_itself e), ap p (sym same) ∙ passes)
-      | false ↦ λ fails later.
-          let rest : (holds ds e ≡ true) × (p e ≡ true) = found_in p ds e later in
-          (ap (λ (b : Bool). same_entry d e || b) rest.0 ∙ or-true (same_entry d e), rest.1)
-    ] refl is
-
-module _ (P : DeltaFault → Type 0) (tells : Placed → DeltaFault) (p : Placed → Bool) (ds : List Placed) where
-  told_all : ((e : Placed) → P (tells e)) → (o : Option Placed) → IfSome (told tells o) P
-  told_all all None = tt
-  told_all all (Some e) = all e
-
-  pub told_never : ((e : Placed) → holds ds e ≡ true → p e ≡ false) → IfSome (told tells (find p ds)) P
-  told_never never =
-      elim (find p ds) as (λ o. find p ds ≡ o → IfSome (told tells o) P) [
-        | None ↦ λ is. tt
-        | Some e ↦ λ is.
-            let found : (holds ds e ≡ true) × (p e ≡ true) = found_in p ds e is in
-            absurd (false≢true (sym (never e found.0) ∙ found.1))
-      ] refl
-
-pub or_else : (P : DeltaFault → Type 0) (a b : Option DeltaFault) → IfSome a P → IfSome b P → IfSome (option_or a b) P
-or_else P None b p q = q
-or_else P (Some f) b p q = p
-
 -- ---- no fork
-
-pub within : (log : List Draft) (n : ℕ) (m : Draft) → message_at log n ≡ Some m → nat_lt (length log) n ≡ false
-within log n m is =
-    elim (nat_eq n 0) as (λ b. nat_eq n 0 ≡ b → cond b None (slice_get log (n - 1)) ≡ Some m → nat_lt (length log) n ≡ false) [
-      | true ↦ λ zero e. cc
-      | false ↦ λ above e.
-          let below : n - 1 < length log = slice_get_within log (n - 1) m e in
-          grind (arith, nat_tests)
-    ] refl is
 
 module _ (w : State) (closed : IsClosed w) (s : ℕ) where
   -- what is held at the number of an entry is this entry
@@ -177,24 +129,6 @@ module _ (w : State) (closed : IsClosed w) (s : ℕ) (there : is_no_site w s ≡
 
 -- ---- a take, an accepted delta, a cut
 
-pub kept_first : (es fs : List Placed) (e : Placed) → holds es e ≡ true → holds (es ++ fs) e ≡ true
-kept_first es fs e held = list_any-append (λ x. same_entry x e) es fs ∙ ap (λ (b : Bool). b || holds fs e) held
-
-pub one_of : (es fs : List Placed) (e : Placed) → holds (es ++ fs) e ≡ true → (holds es e ≡ true) ⊎ (holds fs e ≡ true)
-one_of es fs e held = or_cases (holds es e) (holds fs e) (sym (list_any-append (λ x. same_entry x e) es fs) ∙ held)
-
--- a test that is passed in part of a list is passed in it
-pub any_kept : (p q : Placed → Bool) (ds : List Placed) → list_any q (filter p ds) ≡ true → list_any q ds ≡ true
-any_kept p q [] is = is
-any_kept p q (d ∷ ds) is =
-    elim (p d) as (λ b. list_any q (cond b (d ∷ filter p ds) (filter p ds)) ≡ true → (q d || list_any q ds) ≡ true) [
-      | true ↦ λ some. elim (or_cases (q d) (list_any q (filter p ds)) some) as (λ c. (q d || list_any q ds) ≡ true) [
-        | inl first ↦ ap (λ (b : Bool). b || list_any q ds) first
-        | inr later ↦ ap (λ (b : Bool). q d || b) (any_kept p q ds later) ∙ or-true (q d)
-      ]
-      | false ↦ λ later. ap (λ (b : Bool). q d || b) (any_kept p q ds later) ∙ or-true (q d)
-    ] is
-
 module _ (w : State) (closed : IsClosed w) (s : ℕ) (there : is_no_site w s ≡ false) where
   pub closed_taken : (m : Draft) → IsClosed (with_held w s (arrivals_taken (core_at w s) m))
   unfolding arrivals_taken
@@ -219,19 +153,6 @@ module _ (w : State) (closed : IsClosed w) (s : ℕ) (there : is_no_site w s ≡
         | inl was ↦ inl (closed.held s e was)
         | inr new ↦ inl (closed.cut k e (any_kept (λ x. not (is_held (logs_of (held_at w s)) x)) (λ x. same_entry x e) (slice_index_or w.deltas k []) new))
       ])
-
--- what is cut runs on as the arrivals do, and is among them
-run_above : (count : ℕ → ℕ) (es : List Placed) → IsArrivals es → (o : ℕ) → IsRun o (entries_above count es)
-unfolding entries_above
-run_above count es arrive o =
-    run_is o (count o + 1) _ (entries_above count es) (omega arith)
-    (sym (ascending-filter entry_total entry_same (is_from o) (filter (is_above count) es))
-    ∙ ap (ascending entry_order) (from_above count es arrive o)
-    ∙ ascending-sorted entry_total entry_same _ (rises_as_entries _ (rises-numbered o (count o + 1) _)))
-
-pub among_above : (count : ℕ → ℕ) (es : List Placed) (e : Placed) → holds (entries_above count es) e ≡ true → holds es e ≡ true
-unfolding entries_above
-among_above count es e held = any_kept (is_above count) (λ x. same_entry x e) es (sym (any_ascending entry_total entry_same (λ x. same_entry x e) (filter (is_above count) es)) ∙ held)
 
 last_or : (ds : List (List Placed)) (x : List Placed) (k : ℕ) → (get_or (ds ++ x ∷ []) k [] ≡ get_or ds k []) ⊎ (get_or (ds ++ x ∷ []) k [] ≡ x)
 last_or [] x zero = inr refl

@@ -1,62 +1,24 @@
 -- The laws of settled sites.
-use Rattle.std.proofs.Common.{◌≡◌, ◌∙◌, refl, ap, sym, inl, inr, ℕ, ◌<◌, Bool, true, false, ◌||◌, List, [], ◌∷◌, map, length, arith, nat_lt}
+use Rattle.std.proofs.Common.{◌≡◌, ◌∙◌, refl, ap, sym, ℕ, ◌<◌, true, false, List, length, arith, nat_lt}
 use Rattle.std.specs.Prelude.{Some}
 use Rattle.std.specs.Cmp.{both_ways}
-use Rattle.std.specs.FinSet.{contains-from_list, same_set}
-use Rattle.std.specs.List.{list_any}
-use Rattle.std.specs.Ordering.{eq_by_cmp}
-use Rattle.std.proofs.lemmas.Bool.{false≢true, or_cases}
 use Rattle.std.proofs.lemmas.Bool.Decides.{nat_tests}
 use Rattle.std.proofs.lemmas.List.Sorted.{list_any-IsPermutation}
-use Rattle.std.proofs.Math.Bool.{or-true}
 use Rattle.std.proofs.lemmas.Option.{same_Some}
-use Rattle.sct_message.specs.declared.draft.Draft.{Draft}
-use Rattle.sct_message.specs.Order.{message_order}
-use Rattle.sct_message.specs.OrderLaws.{message_total, message_same}
-use Rattle.sct_delta.specs.Entries.{Placed, log_of, held_from, same_entry, holds, messages_of}
+use Rattle.sct_delta.specs.Entries.{Placed, log_of, held_from, holds}
 use Rattle.sct_delta.specs.Refusals.{message_at}
 use Rattle.sct_delta.specs.declared.fault.DeltaFault.{DeltaFault}
 use Rattle.sct_delta.specs.declared.fault.DeltaFault.TheVariants as fault
-use Rattle.sct_delta.proofs.HeldLemmas.{entry_itself, one_entry}
 use Rattle.sct_site.specs.Cores.{Core, IsSite}
 use Rattle.sct_site.proofs.ArrivalLemmas.{length-log}
+use Rattle.sct_site.proofs.HeldLemmas.{one_place, within}
+use Rattle.sct_site.proofs.MessageLemmas.{same_messages}
 use Rattle.sct_world.specs.Answers.{texts_of}
 use Rattle.sct_world.specs.Settling.{core_in, AreSettled, IsWhy, HoldApart, IsAhead}
 use Rattle.sct_world.specs.SettlingLaws.{SettledAnswerAlike, SettlesOnce, SettlesInAnyOrder}
-use Rattle.sct_world.proofs.HeldLemmas.{one_place}
 use Rattle.sct_world.proofs.KeptLemmas.{HolderOf, place_some, some_place}
-use Rattle.sct_world.proofs.NoForkLemmas.{within}
 
--- ---- the same entries have the same messages
-
-abbrev is_it : Draft → Draft → Bool
-is_it = eq_by_cmp message_order
-
-in_messages : (q : Draft) (es : List Placed) (e : Placed) → holds es e ≡ true → is_it q e.message ≡ true → list_any (is_it q) (map (λ x. x.message) es) ≡ true
-in_messages q [] e held is = absurd (false≢true held)
-in_messages q (x ∷ es) e held is =
-    elim (or_cases (same_entry x e) (holds es e) held) as (λ c. (is_it q x.message || list_any (is_it q) (map (λ x. x.message) es)) ≡ true) [
-      | inl here ↦ ap (λ (b : Bool). b || list_any (is_it q) (map (λ x. x.message) es)) (ap (λ (p : Placed). is_it q p.message) (one_entry x e here) ∙ is)
-      | inr later ↦ ap (λ (b : Bool). is_it q x.message || b) (in_messages q es e later is) ∙ or-true (is_it q x.message)
-    ]
-
-messages_in : (q : Draft) (fs es : List Placed) → ((e : Placed) → holds es e ≡ true → holds fs e ≡ true)
-    → list_any (is_it q) (map (λ x. x.message) es) ≡ true → list_any (is_it q) (map (λ x. x.message) fs) ≡ true
-messages_in q fs [] has is = absurd (false≢true is)
-messages_in q fs (x ∷ es) has is =
-    elim (or_cases (is_it q x.message) (list_any (is_it q) (map (λ x. x.message) es)) is) as (λ c. list_any (is_it q) (map (λ x. x.message) fs) ≡ true) [
-      | inl here ↦ in_messages q fs x (has x (ap (λ (b : Bool). b || holds es x) (entry_itself x))) here
-      | inr later ↦ messages_in q fs es (λ e held. has e (ap (λ (b : Bool). same_entry x e || b) held ∙ or-true (same_entry x e))) later
-    ]
-
-same_messages : (es fs : List Placed) → ((e : Placed) → holds es e ≡ holds fs e) → messages_of es ≡ messages_of fs
-same_messages es fs same =
-    same_set message_total message_same _ _ (λ q.
-    contains-from_list message_total (map (λ x. x.message) es) q
-    ∙ both_ways _ _
-    (messages_in q fs es (λ e held. sym (same e) ∙ held))
-    (messages_in q es fs (λ e held. same e ∙ held))
-    ∙ sym (contains-from_list message_total (map (λ x. x.message) fs) q))
+-- ---- settled sites answer alike
 
 pub settled_alike : SettledAnswerAlike
 settled_alike before after settled i j here there =

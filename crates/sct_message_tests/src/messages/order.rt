@@ -1,8 +1,7 @@
-//! Messages and keys in their orders.
+//! Messages in their order. The archive text and the status text show the orders of keys.
 
 use super::recalls::{LIST, ListTexts, TX, TxTexts, lists};
 use super::texts::{REQUEST, RequestTexts, requests};
-use sct_element::{Bic, ElementFault, Id35};
 use sct_message::*;
 use std::process::Abort;
 use std::test::Fail;
@@ -138,99 +137,5 @@ static LISTS: [ListTexts; 10] = [
 #[test]
 fn orders_recalls_by_head_and_then_by_transactions(rt: HostRuntime) -> Result<(), Fail> {
     assert_ascending(&rt, &lists(rt.alloc(), &LISTS)?);
-    Ok(())
-}
-
-fn transfer_key(bank: &str, tx: &str) -> Result<TransferKey, ElementFault> {
-    Ok(TransferKey {
-        debtor_agent: Bic::read(bank)?,
-        tx: Id35::read(tx)?,
-    })
-}
-
-fn recall_key(bank: &str, tx: &str, cxl: &str) -> Result<RecallKey, ElementFault> {
-    Ok(RecallKey {
-        transfer: transfer_key(bank, tx)?,
-        cxl: Id35::read(cxl)?,
-    })
-}
-
-fn identity(sender: &str, kind: Kind, msg_id: &str) -> Result<Identity, ElementFault> {
-    Ok(Identity {
-        sender: Bic::read(sender)?,
-        kind,
-        msg_id: Id35::read(msg_id)?,
-    })
-}
-
-/// Asserts that the key at this place compares with each of the ascending keys as their places do.
-fn assert_key_place<K: Ord>(rt: &impl Abort, ascending: &[K], place: usize, key: &K) {
-    for (at, other) in ascending.iter().enumerate() {
-        assert_eq!(rt; key.cmp(other), place.cmp(&at), "at {place} and {at}");
-        assert!(rt; (key == other) == (place == at));
-    }
-}
-
-fn assert_keys_ascend<K: Ord>(rt: &impl Abort, keys: &[K]) {
-    for (place, key) in keys.iter().enumerate() {
-        assert_key_place(rt, keys, place, key);
-    }
-}
-
-static IDENTITIES: [(&str, Kind, &str); 9] = [
-    ("BANKDEFF", Kind::Camt029, "M9"),
-    ("BANKDEFF", Kind::Camt056, "M9"),
-    ("BANKDEFF", Kind::Pacs002, "M2"),
-    ("BANKDEFF", Kind::Pacs004, "M1"),
-    ("BANKDEFF", Kind::Pacs008, "M1"),
-    ("BANKDEFF", Kind::Pacs008, "M10"),
-    ("BANKDEFF", Kind::Pacs008, "M2"),
-    ("BANKDEFF", Kind::Pacs028, "M0"),
-    ("BANQFRPP", Kind::Camt029, "M1"),
-];
-
-#[test]
-fn orders_identities_by_sender_kind_and_id(rt: HostRuntime) -> Result<(), Fail> {
-    let mut keys = Vec::new(rt.alloc());
-    for (sender, kind, msg_id) in &IDENTITIES {
-        keys.push(identity(sender, *kind, msg_id)?)?;
-    }
-    assert_keys_ascend(&rt, &keys);
-    Ok(())
-}
-
-static TRANSFERS: [(&str, &str); 5] = [
-    ("BANKDEFF", "T1"),
-    ("BANKDEFF", "T1 "),
-    ("BANKDEFF", "T10"),
-    ("BANKDEFF", "T9"),
-    ("BANQFRPP", "T0"),
-];
-
-#[test]
-fn orders_transfer_keys_by_bank_and_id(rt: HostRuntime) -> Result<(), Fail> {
-    let mut keys = Vec::new(rt.alloc());
-    for (bank, tx) in &TRANSFERS {
-        keys.push(transfer_key(bank, tx)?)?;
-    }
-    assert_keys_ascend(&rt, &keys);
-    Ok(())
-}
-
-static RECALLS: [(&str, &str, &str); 5] = [
-    ("BANKDEFF", "T1", "R1"),
-    ("BANKDEFF", "T1", "R10"),
-    ("BANKDEFF", "T1", "R2"),
-    ("BANKDEFF", "T1 ", "R0"),
-    ("BANQFRPP", "T0", "R0"),
-];
-
-#[test]
-fn orders_recall_keys_by_transfer_and_id(rt: HostRuntime) -> Result<(), Fail> {
-    let mut keys = Vec::new(rt.alloc());
-    for (bank, tx, cxl) in &RECALLS {
-        keys.push(recall_key(bank, tx, cxl)?)?;
-    }
-    assert_keys_ascend(&rt, &keys);
     Ok(())
 }

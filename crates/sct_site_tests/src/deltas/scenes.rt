@@ -39,8 +39,8 @@ pub(crate) fn entries_of(alloc: Global, rows: &[Row]) -> Option<Vec<Entry>> {
     Some(entries)
 }
 
-// A delta of the entries of the rows.
-fn delta_of(alloc: Global, rows: &[Row]) -> Option<Delta> {
+/// A delta of the entries of the rows.
+pub(crate) fn delta_of(alloc: Global, rows: &[Row]) -> Option<Delta> {
     Delta::of(entries_of(alloc, rows)?).ok()
 }
 
@@ -59,7 +59,8 @@ fn is_entry(entry: &Entry, row: &Row) -> bool {
     entry.origin == row.0 && entry.n == row.1 && entry.message.identity().msg_id.text() == row.2
 }
 
-fn are_entries(entries: &[Entry], rows: &[Row]) -> bool {
+/// Whether these are the entries of the rows.
+pub(crate) fn are_entries(entries: &[Entry], rows: &[Row]) -> bool {
     if entries.len() != rows.len() {
         return false;
     }

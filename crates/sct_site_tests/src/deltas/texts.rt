@@ -6,7 +6,6 @@ use super::wrong;
 use sct_delta::*;
 use sct_json::write_message;
 use std::alloc::Global;
-use std::process::Abort;
 
 // The delta of the entries.
 fn delta_of(alloc: Global, rows: &[(u16, u64, &str)]) -> Option<Delta> {
@@ -95,8 +94,62 @@ fn refused(alloc: Global, text: &[u8]) -> (u8, u64) {
     }
 }
 
-fn expect_wrong(rt: &impl Abort, alloc: Global, text: &str, line: u64) {
-    assert!(rt; refused(alloc, text.as_bytes()) == (45, line), "at {text}");
+// The first of the texts that is not refused at its line.
+fn first_passed(alloc: Global, rows: &[(&'static str, u64)]) -> Option<&'static str> {
+    for (text, line) in rows {
+        if refused(alloc, text.as_bytes()) != (45, *line) {
+            return Some(*text);
+        }
+    }
+    None
+}
+
+// Whether a text with one message in it is refused at a line.
+fn is_refused_around(alloc: Global, front: &str, back: &str, line: u64) -> bool {
+    match joined(alloc, front, INSTRUCTION, back) {
+        Some(text) => refused(alloc, text.as_bytes()) == (45, line),
+        None => false,
+    }
+}
+
+// The first front of the texts with one message that are not refused at their lines.
+fn first_passed_around(
+    alloc: Global,
+    rows: &[(&'static str, &'static str, u64)],
+) -> Option<&'static str> {
+    for (front, back, line) in rows {
+        if !is_refused_around(alloc, front, back, *line) {
+            return Some(*front);
+        }
+    }
+    None
+}
+
+// A text with two messages in it.
+fn text_of_two(alloc: Global, front: &str, middle: &str, back: &str) -> Option<String> {
+    let first = joined(alloc, front, INSTRUCTION, middle)?;
+    joined(alloc, first.as_str(), CONFIRMATION, back)
+}
+
+// Whether a text with two messages in it is refused at a line.
+fn is_refused_with_two(alloc: Global, front: &str, middle: &str, back: &str, line: u64) -> bool {
+    match text_of_two(alloc, front, middle, back) {
+        Some(text) => refused(alloc, text.as_bytes()) == (45, line),
+        None => false,
+    }
+}
+
+// The first middle of the texts with two messages that are not refused at their lines.
+fn first_passed_of_two(
+    alloc: Global,
+    rows: &[(&'static str, &'static str, &'static str, u64)],
+) -> Option<&'static str> {
+    for (front, middle, back, line) in rows {
+        if !is_refused_with_two(alloc, front, middle, back, *line) {
+            return Some(*middle);
+        }
+    }
+    None
 }
 
 #[test]
@@ -172,69 +225,66 @@ fn reads_any_text_of_a_message(rt: HostRuntime) {
 
 #[test]
 fn reports_the_first_wrong_line(rt: HostRuntime) {
-    for (text, line) in &wrong::TEXTS {
-        expect_wrong(&rt, rt.alloc(), text, *line);
-    }
-    for (text, line) in &wrong::GROUP_TEXTS {
-        expect_wrong(&rt, rt.alloc(), text, *line);
-    }
+    assert_eq!(rt; first_passed(rt.alloc(), &wrong::HEADS), None);
+    assert_eq!(rt; first_passed(rt.alloc(), &wrong::ENDS), None);
 }
 
-// A text with one message in it.
-fn expect_wrong_around(rt: &impl Abort, alloc: Global, front: &str, back: &str, line: u64) {
-    let text = joined(alloc, front, INSTRUCTION, back).expect(rt, "a text");
-    expect_wrong(rt, alloc, text.as_str(), line);
+#[test]
+fn reports_the_first_wrong_line_of_form_2(rt: HostRuntime) {
+    assert_eq!(rt; first_passed(rt.alloc(), &wrong::GROUP_HEADS), None);
+    assert_eq!(rt; first_passed(rt.alloc(), &wrong::GROUP_TEXTS), None);
 }
 
 #[test]
 fn reports_the_wrong_line_of_one_entry(rt: HostRuntime) {
-    let alloc = rt.alloc();
-    for (front, back, line) in &wrong::ENTRIES {
-        expect_wrong_around(&rt, alloc, front, back, *line);
-    }
-    for (front, back, line) in &wrong::GROUPS {
-        expect_wrong_around(&rt, alloc, front, back, *line);
-    }
+    assert_eq!(rt; first_passed_around(rt.alloc(), &wrong::ENTRIES), None);
+    assert_eq!(rt; first_passed_around(rt.alloc(), &wrong::ENTRY_ENDS), None);
+}
+
+#[test]
+fn reports_the_wrong_line_of_one_entry_of_form_2(rt: HostRuntime) {
+    assert_eq!(rt;
+        first_passed_around(rt.alloc(), &wrong::GROUP_NUMBERS),
+        None
+    );
+    assert_eq!(rt; first_passed_around(rt.alloc(), &wrong::GROUPS), None);
 }
 
 #[test]
 fn reports_the_wrong_line_of_two_entries(rt: HostRuntime) {
-    let alloc = rt.alloc();
-    for (first, second, line) in &wrong::PAIRS {
-        let front = joined(alloc, first, INSTRUCTION, second).expect(&rt, "a text");
-        let text = joined(alloc, front.as_str(), CONFIRMATION, "\nend 2\n").expect(&rt, "a text");
-        expect_wrong(&rt, alloc, text.as_str(), *line);
-    }
-    for (first, second, back, line) in &wrong::GROUP_PAIRS {
-        let front = joined(alloc, first, INSTRUCTION, second).expect(&rt, "a text");
-        let text = joined(alloc, front.as_str(), CONFIRMATION, back).expect(&rt, "a text");
-        expect_wrong(&rt, alloc, text.as_str(), *line);
-    }
+    assert_eq!(rt; first_passed_of_two(rt.alloc(), &wrong::PAIRS), None);
+    assert_eq!(rt; first_passed_of_two(rt.alloc(), &wrong::GROUP_PAIRS), None);
 }
 
-// Asserts that each proper prefix of a text is wrong in its last line.
-fn expect_no_front(rt: &impl Abort, alloc: Global, bytes: &[u8]) {
+// Whether each proper prefix of a text is wrong in its last line.
+fn is_wrong_in_front(alloc: Global, bytes: &[u8]) -> bool {
     let mut line = 1u64;
     for end in 0..bytes.len() {
-        assert!(rt; refused(alloc, &bytes[..end]) == (45, line));
+        if refused(alloc, &bytes[..end]) != (45, line) {
+            return false;
+        }
         if bytes[end] == b'\n' {
             line = line.saturating_add(1);
         }
     }
+    true
 }
+
+// Three entries of two sites, and the origin lines of form 2, each with the number of its messages.
+static BROKEN_OFF: [(u16, u64, &str); 3] = [
+    (1, 2, CONFIRMATION),
+    (1, 3, INSTRUCTION),
+    (5, 1, CONFIRMATION),
+];
+
+static BROKEN_OFF_GROUPS: [(&str, usize); 2] = [("origin 1 2 2", 2), ("origin 5 1 1", 1)];
 
 #[test]
 fn refuses_a_text_that_breaks_off(rt: HostRuntime) {
     let alloc = rt.alloc();
-    let rows = [
-        (1, 2, CONFIRMATION),
-        (1, 3, INSTRUCTION),
-        (5, 1, CONFIRMATION),
-    ];
-    let heads = [("origin 1 2 2", 2), ("origin 5 1 1", 1)];
-    let entries = form_1_of(alloc, &rows).expect(&rt, "a text");
-    let groups = form_2_of(alloc, &heads, &rows).expect(&rt, "a text");
-    assert!(rt; reads(alloc, groups.as_bytes(), &rows) == Some(true));
-    expect_no_front(&rt, alloc, entries.as_bytes());
-    expect_no_front(&rt, alloc, groups.as_bytes());
+    let entries = form_1_of(alloc, &BROKEN_OFF).expect(&rt, "a text");
+    let groups = form_2_of(alloc, &BROKEN_OFF_GROUPS, &BROKEN_OFF).expect(&rt, "a text");
+    assert!(rt; reads(alloc, groups.as_bytes(), &BROKEN_OFF) == Some(true));
+    assert!(rt; is_wrong_in_front(alloc, entries.as_bytes()));
+    assert!(rt; is_wrong_in_front(alloc, groups.as_bytes()));
 }

@@ -1,7 +1,7 @@
 //! Texts that are not a form of any delta, each with its first wrong line: those of form 1, and then those of form 2.
 
-/// Texts without a message.
-pub static TEXTS: [(&str, u64); 32] = [
+/// First lines that are wrong.
+pub static HEADS: [(&str, u64); 12] = [
     ("", 1),
     ("\n", 1),
     ("x", 1),
@@ -14,6 +14,10 @@ pub static TEXTS: [(&str, u64); 32] = [
     ("Delta 1\nend 0\n", 1),
     ("delta 1\r\nend 0\r\n", 1),
     ("end 0\n", 1),
+];
+
+/// Texts without a message whose end is wrong.
+pub static ENDS: [(&str, u64); 20] = [
     ("delta 1\n", 2),
     ("delta 1\nend 0", 2),
     ("delta 1\nend", 2),
@@ -36,8 +40,8 @@ pub static TEXTS: [(&str, u64); 32] = [
     ("delta 1\nend 0\n\n", 3),
 ];
 
-/// Texts with one message: the text before it and the text after it.
-pub static ENTRIES: [(&str, &str, u64); 25] = [
+/// Texts with one message, whose entry is wrong: the text before it and the text after it.
+pub static ENTRIES: [(&str, &str, u64); 18] = [
     ("delta 1\nentry 65 1 ", "\nend 1\n", 2),
     ("delta 1\nentry 0 1 ", "\nend 1\n", 2),
     ("delta 1\nentry 70000 1 ", "\nend 1\n", 2),
@@ -56,6 +60,10 @@ pub static ENTRIES: [(&str, &str, u64); 25] = [
     ("delta 1\nEntry 1 1 ", "\nend 1\n", 2),
     ("delta 1\n entry 1 1 ", "\nend 1\n", 2),
     ("delta 1\nentry 1 1", "\nend 1\n", 2),
+];
+
+/// Texts with one message, whose end is wrong.
+pub static ENTRY_ENDS: [(&str, &str, u64); 7] = [
     ("delta 1\nentry 1 1 ", "}\nend 1\n", 2),
     ("delta 1\nentry 1 1 ", "", 2),
     ("delta 1\nentry 1 1 ", "\n", 3),
@@ -65,20 +73,25 @@ pub static ENTRIES: [(&str, &str, u64); 25] = [
     ("delta 1\nentry 1 1 ", "\nend 1\nend 1\n", 4),
 ];
 
-/// Texts with two messages, by origin and number of both entries.
-pub static PAIRS: [(&str, &str, u64); 8] = [
-    ("delta 1\nentry 1 2 ", "\nentry 1 4 ", 3),
-    ("delta 1\nentry 1 2 ", "\nentry 1 2 ", 3),
-    ("delta 1\nentry 1 2 ", "\nentry 1 1 ", 3),
-    ("delta 1\nentry 2 1 ", "\nentry 1 1 ", 3),
-    ("delta 1\nentry 2 1 ", "\nentry 3 0 ", 3),
-    ("delta 1\nentry 2 1 ", "\nentry 65 1 ", 3),
-    ("delta 1\nentry 1 18446744073709551615 ", "\nentry 1 0 ", 3),
-    ("delta 1\nentry 2 0 ", "\nentry 2 1 ", 2),
+/// Texts with two messages: the text before the first, between them, and after the second.
+pub static PAIRS: [(&str, &str, &str, u64); 8] = [
+    ("delta 1\nentry 1 2 ", "\nentry 1 4 ", "\nend 2\n", 3),
+    ("delta 1\nentry 1 2 ", "\nentry 1 2 ", "\nend 2\n", 3),
+    ("delta 1\nentry 1 2 ", "\nentry 1 1 ", "\nend 2\n", 3),
+    ("delta 1\nentry 2 1 ", "\nentry 1 1 ", "\nend 2\n", 3),
+    ("delta 1\nentry 2 1 ", "\nentry 3 0 ", "\nend 2\n", 3),
+    ("delta 1\nentry 2 1 ", "\nentry 65 1 ", "\nend 2\n", 3),
+    (
+        "delta 1\nentry 1 18446744073709551615 ",
+        "\nentry 1 0 ",
+        "\nend 2\n",
+        3,
+    ),
+    ("delta 1\nentry 2 0 ", "\nentry 2 1 ", "\nend 2\n", 2),
 ];
 
-/// Texts of form 2 without a message.
-pub static GROUP_TEXTS: [(&str, u64); 36] = [
+/// Texts of form 2 without a message, up to the end line.
+pub static GROUP_HEADS: [(&str, u64); 20] = [
     ("delta 2", 1),
     ("delta 02\nend 0\n", 1),
     ("delta  2\nend 0\n", 1),
@@ -99,6 +112,10 @@ pub static GROUP_TEXTS: [(&str, u64); 36] = [
     ("delta 2\nend  0\n", 2),
     ("delta 2\nEND 0\n", 2),
     ("delta 2\nend 18446744073709551616\n", 2),
+];
+
+/// Texts of form 2 with no message after an origin line.
+pub static GROUP_TEXTS: [(&str, u64); 16] = [
     ("delta 2\nentry 1 1 {}\nend 1\n", 2),
     ("delta 2\norigin\nend 0\n", 2),
     ("delta 2\norigin 1\nend 0\n", 2),
@@ -117,8 +134,8 @@ pub static GROUP_TEXTS: [(&str, u64); 36] = [
     ("delta 2\nend 0\n\n", 3),
 ];
 
-/// Texts of form 2 with one message: the text before it and the text after it.
-pub static GROUPS: [(&str, &str, u64); 41] = [
+/// Texts of form 2 with one message, whose origin line has a wrong number.
+pub static GROUP_NUMBERS: [(&str, &str, u64); 19] = [
     ("delta 2\norigin 1025 1 1\n", "\nend 1\n", 2),
     ("delta 2\norigin 0 1 1\n", "\nend 1\n", 2),
     ("delta 2\norigin 70000 1 1\n", "\nend 1\n", 2),
@@ -138,6 +155,10 @@ pub static GROUPS: [(&str, &str, u64); 41] = [
     ("delta 2\norigin 1 1 18446744073709551617\n", "\nend 1\n", 2),
     ("delta 2\norigin 1 18446744073709551615 2\n", "\nend 1\n", 2),
     ("delta 2\norigin 1 2 18446744073709551615\n", "\nend 1\n", 2),
+];
+
+/// Texts of form 2 with one message, and with other wrong lines.
+pub static GROUPS: [(&str, &str, u64); 22] = [
     ("delta 2\norigin  1 1 1\n", "\nend 1\n", 2),
     ("delta 2\norigin 1  1 1\n", "\nend 1\n", 2),
     ("delta 2\norigin 1 1  1\n", "\nend 1\n", 2),
@@ -162,7 +183,7 @@ pub static GROUPS: [(&str, &str, u64); 41] = [
     ("delta 2\norigin 1 1 1\n", "\nend 1\nend 1\n", 5),
 ];
 
-/// Texts of form 2 with two messages: the text before the first, between them, and after the second.
+/// Texts of form 2 with two messages.
 pub static GROUP_PAIRS: [(&str, &str, &str, u64); 13] = [
     (
         "delta 2\norigin 1 1 1\n",

@@ -1,12 +1,12 @@
 //! Events for tests of worlds.
 
-use sct_delta::{Delta, DeltaFault, Entry, Vector};
+use crate::deltas::scenes::{Row, delta_of};
+use sct_delta::{DeltaFault, Vector};
 use sct_json::read_message;
 use sct_message::Message;
 use sct_site::SiteCore;
 use sct_world::*;
 use std::alloc::{AllocError, Global};
-use std::process::Abort;
 use std::sync::Arc;
 
 /// An event, by the parts that vary.
@@ -105,18 +105,6 @@ fn confirmation_of(alloc: Global, id: &str) -> Option<Arc<Message>> {
     message_of(alloc, &text)
 }
 
-// The confirmation as the first entry of site 1.
-fn delta_of(alloc: Global, id: &str) -> Option<Delta> {
-    let mut entries = Vec::new(alloc);
-    let entry = Entry {
-        origin: 1,
-        n: 1,
-        message: confirmation_of(alloc, id)?,
-    };
-    entries.push(entry).ok()?;
-    Delta::of(entries).ok()
-}
-
 // Makes the site take the confirmations of these identifications.
 fn take_all(alloc: Global, site: &mut SiteCore, ids: &[&str]) -> Option<()> {
     for id in ids {
@@ -126,9 +114,9 @@ fn take_all(alloc: Global, site: &mut SiteCore, ids: &[&str]) -> Option<()> {
 }
 
 // Makes the site accept the confirmation as the first entry of site 1, if there is one.
-fn accept_first(alloc: Global, site: &mut SiteCore, id: Option<&str>) -> Option<()> {
+fn accept_first(alloc: Global, site: &mut SiteCore, id: Option<&'static str>) -> Option<()> {
     if let Some(id) = id {
-        site.accept(&delta_of(alloc, id)?).ok()?;
+        site.accept(&delta_of(alloc, &[Row(1, 1, id)])?).ok()?;
     }
     Some(())
 }
@@ -149,48 +137,40 @@ fn sites_of(alloc: Global, lives: &[Life]) -> Option<Vec<SiteCore>> {
     Some(sites)
 }
 
-// Asserts that the site holds this many entries of the sites 1, 2 and 3, and that its archive has this text.
-fn expect_site(rt: &impl Abort, site: &SiteCore, counts: &[u64; 3], text: &[u8]) {
+// Whether the site holds this many entries of the sites 1, 2 and 3, and its archive has this text.
+fn holds(site: &SiteCore, counts: &[u64; 3], text: &[u8]) -> Option<bool> {
     let vector = site.vector();
-    assert_eq!(rt; vector.get(1), counts[0]);
-    assert_eq!(rt; vector.get(2), counts[1]);
-    assert_eq!(rt; vector.get(3), counts[2]);
-    let own = site.archive().text().expect(rt, "a text");
-    assert_eq!(rt; own.as_slice(), text);
+    let held = [vector.get(1), vector.get(2), vector.get(3)];
+    Some(held == *counts && site.archive().text().ok()?.as_slice() == text)
 }
 
-// Asserts that each site holds this many entries of the sites 1, 2 and 3, and that all
-// archives have the text of the first.
-fn expect_alike(rt: &impl Abort, sites: &[SiteCore], counts: &[u64; 3]) {
-    let first = sites.first().expect(rt, "a site");
-    let text = first.archive().text().expect(rt, "a text");
+// Whether each site holds this many entries of the sites 1, 2 and 3, and all archives have the text of the first.
+fn hold_alike(sites: &[SiteCore], counts: &[u64; 3]) -> Option<bool> {
+    let text = sites.first()?.archive().text().ok()?;
     for site in sites {
-        expect_site(rt, site, counts, &text);
+        if !holds(site, counts, &text)? {
+            return Some(false);
+        }
     }
+    Some(true)
 }
 
-/// Settles the sites, and settles them again. Asserts that each holds this many entries of the sites 1, 2 and 3.
-pub(crate) fn expect_settled(rt: &impl Abort, alloc: Global, lives: &[Life], counts: &[u64; 3]) {
-    let mut sites = sites_of(alloc, lives).expect(rt, "sites");
-    settle(alloc, &mut sites).expect(rt, "memory");
-    expect_alike(rt, &sites, counts);
-    settle(alloc, &mut sites).expect(rt, "memory");
-    expect_alike(rt, &sites, counts);
+/// Whether each of the sites holds this many entries of the sites 1, 2 and 3 after they are settled, and after they are settled
+/// again.
+pub(crate) fn are_settled(alloc: Global, lives: &[Life], counts: &[u64; 3]) -> Option<bool> {
+    let mut sites = sites_of(alloc, lives)?;
+    settle(alloc, &mut sites).ok()?;
+    let once = hold_alike(&sites, counts)?;
+    settle(alloc, &mut sites).ok()?;
+    Some(once && hold_alike(&sites, counts)?)
 }
 
-/// Asserts that the sites cannot be settled, and that each has this many arrivals afterwards.
-pub(crate) fn expect_unsettled(
-    rt: &impl Abort,
-    alloc: Global,
-    lives: &[Life],
-    wanted: &DeltaFault,
-    arrivals: &[usize],
-) {
-    let mut sites = sites_of(alloc, lives).expect(rt, "sites");
-    let refusal = settle(alloc, &mut sites).err().expect(rt, "a refusal");
-    assert_eq!(rt; refusal, *wanted);
-    assert_eq!(rt; sites.len(), arrivals.len());
-    for (site, count) in sites.iter().zip(arrivals) {
-        assert_eq!(rt; site.arrivals().len(), *count);
+/// Why two sites cannot be settled, and how many arrivals each has afterwards.
+pub(crate) fn refused(alloc: Global, lives: &[Life; 2]) -> Option<(DeltaFault, usize, usize)> {
+    let mut sites = sites_of(alloc, lives)?;
+    let refusal = settle(alloc, &mut sites).err()?;
+    match sites.as_slice() {
+        [one, other] => Some((refusal, one.arrivals().len(), other.arrivals().len())),
+        _ => None,
     }
 }

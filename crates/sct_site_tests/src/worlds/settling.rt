@@ -1,6 +1,6 @@
 //! Sites that were filled apart and are settled, or cannot be settled, with ample memory.
 
-use super::scenes::{Life, expect_settled, expect_unsettled};
+use super::scenes::{Life, are_settled, refused};
 use sct_delta::DeltaFault;
 use sct_world::settle;
 
@@ -33,13 +33,16 @@ static AHEAD: [Life; 2] = [Life(1, 2, &[], None), Life(2, 2, &[], Some("C9"))];
 
 #[test]
 fn two_sites_are_settled(rt: HostRuntime) {
-    expect_settled(&rt, rt.alloc(), &TWO, &[1, 1, 0]);
+    assert_eq!(rt; are_settled(rt.alloc(), &TWO, &[1, 1, 0]), Some(true));
 }
 
 #[test]
 fn three_sites_are_settled_in_any_order(rt: HostRuntime) {
-    expect_settled(&rt, rt.alloc(), &THREE, &[2, 1, 3]);
-    expect_settled(&rt, rt.alloc(), &THREE_TURNED, &[2, 1, 3]);
+    assert_eq!(rt; are_settled(rt.alloc(), &THREE, &[2, 1, 3]), Some(true));
+    assert_eq!(rt;
+        are_settled(rt.alloc(), &THREE_TURNED, &[2, 1, 3]),
+        Some(true)
+    );
 }
 
 #[test]
@@ -49,19 +52,24 @@ fn no_site_is_settled(rt: HostRuntime) {
 
 #[test]
 fn sites_of_two_groups_or_of_one_number_stay_apart(rt: HostRuntime) {
-    let bad = DeltaFault::BadSite;
-    expect_unsettled(&rt, rt.alloc(), &SAME_NUMBER, &bad, &[1, 1]);
-    expect_unsettled(&rt, rt.alloc(), &OTHER_GROUP, &bad, &[1, 1]);
+    assert_eq!(rt;
+        refused(rt.alloc(), &SAME_NUMBER),
+        Some((DeltaFault::BadSite, 1, 1))
+    );
+    assert_eq!(rt;
+        refused(rt.alloc(), &OTHER_GROUP),
+        Some((DeltaFault::BadSite, 1, 1))
+    );
 }
 
 #[test]
 fn a_fork_is_told(rt: HostRuntime) {
     let fork = DeltaFault::Fork { origin: 1, n: 1 };
-    expect_unsettled(&rt, rt.alloc(), &FORK, &fork, &[1, 1]);
+    assert_eq!(rt; refused(rt.alloc(), &FORK), Some((fork, 1, 1)));
 }
 
 #[test]
 fn an_entry_ahead_of_its_owner_is_told(rt: HostRuntime) {
     let ahead = DeltaFault::OwnAhead { n: 1 };
-    expect_unsettled(&rt, rt.alloc(), &AHEAD, &ahead, &[0, 1]);
+    assert_eq!(rt; refused(rt.alloc(), &AHEAD), Some((ahead, 0, 1)));
 }

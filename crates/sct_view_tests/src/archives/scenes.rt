@@ -13,8 +13,6 @@ pub(crate) enum Row {
     CreditTransfer(&'static str, &'static str, &'static str),
     /// A status report that confirms: its identification and its transfer.
     StatusReport(&'static str, &'static str),
-    /// Any text.
-    Text(&'static str),
 }
 
 // Appends the message of a text. None only if it is out of memory.
@@ -26,7 +24,6 @@ fn push_message(alloc: Global, messages: &mut Vec<Arc<Message>>, text: &str) -> 
 // Appends the message of a row.
 fn push_row(alloc: Global, messages: &mut Vec<Arc<Message>>, row: Row) -> Option<()> {
     let text = match row {
-        Row::Text(text) => return push_message(alloc, messages, text),
         Row::CreditTransfer(id, tx, amount) => format!(in alloc;
             r#"{{"MsgNmId":"pacs.008","MsgId":"{id}","CreDtTm":"2024-05-02T10:00:00Z","InstgAgt":"BANKDEFF","IntrBkSttlmDt":"2024-05-02","SvcLvl":"SEPA","LclInstrm":"INST","EndToEndId":"E1","TxId":"{tx}","IntrBkSttlmAmt":"{amount}","Ccy":"EUR","ChrgBr":"SLEV","Dbtr":"Anna Weber","DbtrAcct":"DE89370400440532013000","DbtrAgt":"BANKDEFF","CdtrAgt":"BANQFRPP","Cdtr":"Bo Maes","CdtrAcct":"BE68539007547034"}}"#
         ),
