@@ -1,9 +1,10 @@
 """run.py: runs the checks of the gate that follow `rt ci`, one after another.
 
-A word names a kind of checks or one check. Without a word all checks run. A check is the module tests/KIND/NAME.py, whose last line is 'N passed, M failed'. A line reports what each check does, its numbers
-and its seconds. What a failed check printed follows, and the status that it ended with. A check that ends with another status than 0,
-or prints no numbers, has failed at least once. The last line is 'N passed, M failed' of all checks. The exit status is 0 if none
-has failed. harness.py has the variables that name other programs than those of the gate.
+A word names a kind of checks or one check. Without a word all checks run. A check is the module tests/KIND/NAME.py, whose last line
+is 'N passed, M failed'. A line reports what each check does, its numbers and its seconds. What a failed check printed follows, and the
+status that it ended with. A check that ends with another status than 0, or prints no numbers, has failed at least once. The last line
+is 'N passed, M failed' of all checks. The exit status is 0 if none has failed. harness.py has the variables that name other programs
+than those of the gate.
 
 --seed, --cases and --long are handed to the property checks (tests/property/cases.py). A check is skipped, and has not passed, if the
 machine lacks a Debian package that it needs. --install installs such packages first.
@@ -67,8 +68,8 @@ def options():
     return parser.parse_intermixed_args()
 
 
-def modules(words):
-    """The checks that the words name, each with its module and with what it does. Without a word these are all checks."""
+def chosen_by(words):
+    """The checks that the words name, each with its kind and with what it does. Without a word these are all checks."""
     known = {word for kind, checks in CHECKS.items() for word in (kind, *checks)}
     if not known.issuperset(words):
         harness.stop("the words are " + ", ".join(f"{kind} ({', '.join(checks)})" for kind, checks in CHECKS.items()))
@@ -87,8 +88,8 @@ def lacking(name):
 
 
 def install(packages):
-    """Installs packages, if there are any."""
-    for words in [["update"], ["install", "--yes", "--no-install-recommends", *packages]] if packages else []:
+    """Installs packages of Debian."""
+    for words in ["update"], ["install", "--yes", "--no-install-recommends", *packages]:
         if subprocess.run(["apt-get", *words]).returncode:
             harness.stop(f"apt-get {' '.join(words)} failed")
 
@@ -106,10 +107,10 @@ def ran(module, words):
     return passed, failed, text.splitlines() + [f"ended with status {done.returncode}"]
 
 
-def checked(name, kind, does, made):
+def checked(name, kind, does, made_up):
     """How much of a check passed and how much failed, which is printed too."""
-    words = made.words() if kind == "property" else []
-    print(f"{name} {does}{', with ' * bool(words)}{' '.join(words)}: ", end="", flush=True)
+    words = made_up.words() if kind == "property" else []
+    print(f"{name} {does}" + (f", with {' '.join(words)}: " if words else ": "), end="", flush=True)
     missing = lacking(name)
     if missing:
         print(f"skipped: the machine lacks packages: apt-get install {' '.join(missing)}", flush=True)
@@ -124,9 +125,10 @@ def checked(name, kind, does, made):
 
 def main():
     asked = options()
-    chosen = list(modules(asked.words))
-    if asked.install:
-        install(sorted({package for name, _, _ in chosen for package in lacking(name)}))
+    chosen = list(chosen_by(asked.words))
+    packages = sorted({package for name, _, _ in chosen for package in lacking(name)})
+    if asked.install and packages:
+        install(packages)
     harness.end_with([checked(*one, cases.chosen(asked)) for one in chosen])
 
 
