@@ -61,8 +61,8 @@ fi
 folder=$1
 shift
 [ ! -e "$folder" ] || stop "$folder is there already"
+case "$folder $*" in *=*) stop "awk takes no path with = in it: $folder $*" ;; esac
 for file in "$@"; do
-    case $file in *=*) stop "awk takes no path with = in it: $file" ;; esac
     [ -f "$file" ] && [ -r "$file" ] || stop "there is no file $file that can be read"
     grep -q '[^[:space:]]' < "$file" || warn "$file has no message"
 done

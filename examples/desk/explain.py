@@ -6,7 +6,7 @@ tables of CODES.md, which is looked for beside this script, and then in the fold
 
 Usage: explain.py [FILE..]   (without FILE it reads standard input)
 """
-import csv, pathlib, re, signal, sys
+import pathlib, re, signal, sys
 
 HERE = pathlib.Path(__file__).resolve().parent
 # the sections of the page whose numbers mean something else than in a refused line
@@ -17,6 +17,7 @@ RESULTS = "Results of a report"
 # a number of a refused line, after the place of a transaction if it has one; for 36 and 38 the number at the end says more
 REFUSAL = re.compile(r"(?:line \d+|file \d+(?: line \d+)?|.+?:\d+): (?:(56) \d+ )?(?:36 \w+ (\d+)|38 (\d+)|(\d\d))\b")
 FAULT = re.compile(r"fault (\d+)(?: (\d+))?")
+RESULT = re.compile(r'[A-Z0-9]{11},(?:[^",]+|"[^"]+"),([A-Z_]+),')  # the first three fields of a row of a report
 
 
 def page():
@@ -75,8 +76,8 @@ class Codes:
             return [self.row(section, fields[place])] if len(fields) > place else []
         if fields[0] == "E" and fields[2:3] == ["REFUSED"]:
             return [self.row(OUTCOMES, " ".join(fields[2:4]))]
-        fields = next(csv.reader([line]), []) if line.count(",") >= 6 else []
-        return [self.row(RESULTS, fields[2])] if len(fields) == 7 else []
+        result = RESULT.match(line)
+        return [self.row(RESULTS, result[1])] if result else []
 
     def of(self, line):
         """What the page says of a line: a text for each of its codes that calls for something."""

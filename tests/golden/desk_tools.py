@@ -86,6 +86,9 @@ def warnings(folder, commands):
         text = "".join(f"desk.sh: WARNING: {warning}\n" for warning in warned)
         command = f"{before}; sh desk/desk.sh warned{place} {files}"
         yield answers(f"desk.sh warns on {files}", command, (text, status), folder, commands)
+    for words in ("x=1 bank-day.archive", "new bank-day.archive x=1"):
+        right = (f"desk.sh: awk takes no path with = in it: {words}\n", 2)
+        yield answers(f"desk.sh takes no {words}", f"sh desk/desk.sh {words}", right, folder, commands)
     (folder / "desk" / "explain.py").unlink()
     shell("sh desk/desk.sh plain bank-day.archive desk/iso20022.jsonl", folder, commands)
     right = (folder / "desk" / "day" / "day.mend").read_bytes().splitlines(True)[0]
@@ -178,7 +181,7 @@ def keeps_all(folder):
 EXPLAINED = [("fault 62", ["Read"]), ("fault 64", ["Usage"]), ("fault 66 42", ["Refused", "Fork"]), ("line 3: 64", ["NoEvent"]),
              ("file 2 line 11: 36 CdtrAgt 1", ["BadBic"]), ("line 1: 56 2 38 22", ["At", "RepeatedRecall"]),
              ("line 1: 56 9 36 CxlId 3", ["At", "BadId"]), ('a b.jsonl:7: 37 "Purp": {"a":": 31"}', ["Extra"]),
-             ("{}", []), ("line 5", []), ("", []), ("T|HANSDEHHXXX|T1|ACCEPTED", []), ("line 8: 99", [])]
+             ("{}", []), (6 * "x," + 200000 * "y", []), ("line 5", []), ("", []), ("T|HANSDEHHXXX|T1|ACCEPTED", []), ("line 8: 99", [])]
 
 
 def explained(folder, commands):
@@ -197,7 +200,7 @@ def explained(folder, commands):
         text, _ = shell(explain + "< lines", folder, commands)
         below = text.splitlines()[1:]
         is_right = text.startswith(line + "\n") and [one.strip().partition(":")[0] for one in below] == right
-        yield reported(f"explain {line}", is_right, text)
+        yield reported(f"explain {line[:60]}", is_right, text)
     for line, remedy in [("line 2: 36 DbtrAcct 2", "BadIban: remove spaces; ask the sender if the check digits are wrong"),
                          ("F|BANKDEFFXXX|T1|TwoReturns", "ask the beneficiary bank what it paid back"),
                          ("R|BANKDEFFXXX|T1|R1|CHASED", "remind the beneficiary bank"),
