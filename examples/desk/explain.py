@@ -9,11 +9,9 @@ Usage: explain.py [FILE..]   (without FILE it reads standard input)
 import pathlib, re, signal, sys
 
 HERE = pathlib.Path(__file__).resolve().parent
-# the sections of the page whose numbers mean something else than in a refused line
-FAULTS, OUTCOMES = "Faults", "Outcomes of a replay"
+FAULTS, OUTCOMES, RESULTS = "Faults", "Outcomes of a replay", "Results of a report"
 # the sections on the lines of a status text, by the letter of the line and the field that has the word
 STATUSES = {"T": ("Statuses of a transfer", 3), "F": ("Findings", 3), "R": ("Statuses of a recall", 4)}
-RESULTS = "Results of a report"
 # a number of a refused line, after the place of a transaction if it has one; for 36 and 38 the number at the end says more
 REFUSAL = re.compile(r"(?:line \d+|file \d+(?: line \d+)?|.+?:\d+): (?:(56) \d+ )?(?:36 \w+ (\d+)|38 (\d+)|(\d\d))\b")
 FAULT = re.compile(r"fault (\d+)(?: (\d+))?")
@@ -61,9 +59,8 @@ class Codes:
     def __init__(self, text):
         self.sections = tables(text)
         self.numbers = {}
-        for section, rows in self.sections.items():
-            if section not in (FAULTS, OUTCOMES):
-                self.numbers = {**{number: row for number, row in rows.items() if "Number" in row}, **self.numbers}
+        for rows in self.sections.values():  # a number of a refused line comes before the same number of a fault
+            self.numbers = {**{number: row for number, row in rows.items() if "Number" in row}, **self.numbers}
 
     def row(self, section, word):
         return self.sections.get(section, {}).get(word)
