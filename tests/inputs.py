@@ -2,6 +2,7 @@
 import json, pathlib
 from bench.generate import messages, samples
 from tests.harness import case
+from tests.oracle.status import read_message, written
 
 
 def instruction(number):
@@ -12,6 +13,12 @@ def instruction(number):
 def confirmation(number):
     """The line of the confirmation of the instruction with this number."""
     return samples.line(samples.confirmation(MsgId=f"C{number}", OrgnlMsgId=f"M{number}", OrgnlTxId=f"T{number}"))
+
+
+def delta(origin, first, *numbers):
+    """The text of a delta of instructions with these numbers, which are the entries of an origin from the first on."""
+    lines = "".join(written(read_message(instruction(number).encode())) + "\n" for number in numbers)
+    return f"delta 2\norigin {origin} {first} {len(numbers)}\n{lines}end {len(numbers)}\n".encode()
 
 
 def returned():
@@ -58,3 +65,12 @@ def two_files(folder):
     texts = [(instruction(1) + confirmation(1)).encode(), instruction(2).encode()]
     text = b"T|BANKDEFFXXX|T1|ACCEPTED\nT|BANKDEFFXXX|T2|PENDING\n"
     return case("run of two files", ["run", *files_of(folder, "small", texts)], b"", text, b"")
+
+
+def exchanging(folder):
+    """The words of `site`, `vector` and `cut` at site 2 of two. Its journal has a message, a refused line and a repeat. Of the two deltas
+    of site 1 the later one is given first, so that it is accepted in a second round."""
+    texts = [(instruction(1) + "{}\n" + instruction(1)).encode(), delta(1, 2, 3, 4), delta(1, 1, 2)]
+    files = files_of(folder, "exchanged", texts)
+    for command, more in (("site", []), ("vector", []), ("cut", ["1:1"])):
+        yield [command, "2", "2", *more, *files]

@@ -25,6 +25,7 @@ CHECKS = {
         "examples": "runs the program on the examples",
         "cases": "runs the program on the small cases, each in several orders",
         "command_lines": "runs the command lines of the program and of the test driver",
+        "exchanges": "runs the program on the files of sites that exchange deltas, and the hub of three sites",
         "lists": "runs the program on bad lists and on a list of 5,000 rows",
         "failing_streams": "runs the program on streams that fail after each byte",
         "long_inputs": "runs the program on long inputs and sixteen files, on 1, 2, 4 and 8 processors",
@@ -50,6 +51,7 @@ CHECKS = {
     },
     "property": {
         "made_up": "compares made-up sets, worlds and groups with the definitions",
+        "hubs": "compares made-up hubs of sites that exchange files with the definitions",
     },
 }
 # the Debian packages that a check needs beside Python and the toolchain

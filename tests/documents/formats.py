@@ -4,9 +4,10 @@ Section 2 has messages that are all read. A row of section 5 names one of them, 
 Section 3 has names of kinds, each given to the message of its kind, and reasons, each shown for a rejection and for the refusal of a
 recall, with `?` or without. No answer shows which codes are usual for a recall. Sections 6 and 8 have written forms and an archive
 text. Section 11 has refused lines of scripts, and a script. Sections 12 and 13 have lines of examples/hub-morning.refused and
-examples/hub-morning.run-refused. Section 14 has bad lists and a report. A row in other words than those of the tables stops the check.
+examples/hub-morning.run-refused. Section 14 has bad lists and a report. Section 10 has a delta in both forms, and section 15 what a site
+refuses of files of examples/exchange/cases/. A row in other words than those of the tables stops the check.
 """
-import json, pathlib, re, tempfile
+import json, os, pathlib, re, tempfile
 from bench.generate import samples
 from tests.documents.pages import Page, answered, codes
 from tests.harness import EXAMPLES, stop
@@ -198,9 +199,27 @@ def report(program, page, _):
     yield text.line, (text.text, "", 0), reported(program, rows.text, lines)
 
 
+# ---- sections 10 and 15: deltas, and a site of several machines
+
+def deltas(program, page, _):
+    """The two texts of one delta, which begins with entry 2 of site 1: each is a delta text, and is early for a site without entries."""
+    for block in [block for block in page.blocks("10. Delta text") if "<" not in block.text]:
+        with tempfile.NamedTemporaryFile("w") as file:
+            file.write(block.text)
+            file.flush()
+            yield block.line, ("-\n", "file 2: 41 1 0 2\n", 1), answered(program, ["vector", "2", "2", os.devnull, file.name], "")
+
+
+def refused_files(program, page, _):
+    """What a site refuses of a journal and two deltas."""
+    *_, block = page.blocks("15. A site of several machines: `site`, `vector`, `cut`")
+    files = [str(EXAMPLES / "exchange" / "cases" / name) for name in ("bad", "e2", "empty")]
+    yield block.line, ("2:1\n", block.text, 1), answered(program, ["vector", "2", "2", *files], "")
+
+
 # ---- the page
 
-PARTS = [refusals, written_forms, kinds, reasons, script_lines, script, example_lines, bad_lists, report]
+PARTS = [refusals, written_forms, kinds, reasons, script_lines, script, example_lines, bad_lists, report, deltas, refused_files]
 
 
 def examples(program):

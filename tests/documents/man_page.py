@@ -26,17 +26,21 @@ sct_sites \\- answers on the SEPA Instant messages of a clearing hub
 \\fBsct_sites report\\fR \\fIBANK DAY LIST\\fR < \\fIMESSAGES\\fR
 \\fBsct_sites replay\\fR < \\fISCRIPT\\fR
 \\fBsct_sites run\\fR \\fIFILE\\fR ...
+\\fBsct_sites site\\fR \\fISITE SITES JOURNAL\\fR [\\fIDELTA\\fR ...]
+\\fBsct_sites vector\\fR \\fISITE SITES JOURNAL\\fR [\\fIDELTA\\fR ...]
+\\fBsct_sites cut\\fR \\fISITE SITES HAVE JOURNAL\\fR [\\fIDELTA\\fR ...]
 .fi
 .SH DESCRIPTION
 .B sct_sites
 reads messages about SEPA Instant Credit Transfers, one JSON object a line, and answers on all of them together:
 the status of each transfer and of each recall, what contradicts itself, the totals of each bank,
 and how the list of a bank differs from the messages.
+Sites on several machines give each other files, and then answer alike.
 It keeps nothing between two runs.
 .SH WHAT YOU SEE
 """
 FOOT = """.SH SEE ALSO
-README.md, docs/FORMATS.md, docs/MODEL.md, docs/DESK.md and docs/PARTICIPANTS.md of the source.
+README.md, docs/FORMATS.md, docs/MODEL.md, docs/DESK.md, docs/EXCHANGE.md and docs/PARTICIPANTS.md of the source.
 """
 
 

@@ -9,7 +9,8 @@ allocation from run to run, and may not come. On made-up transfers and in `run` 
 import collections, tempfile
 from tests import harness
 from tests.harness import EXAMPLES, NO_WORKER, OUT_OF_MEMORY, Answer, case, is_refused
-from tests.inputs import confirmation, instruction, returned, two_files
+from tests.inputs import confirmation, exchanging, instruction, returned, two_files
+from tests.oracle import exchange
 from tests.oracle import status as definitions
 
 READ = ["hub-morning.jsonl", "recall-batch.jsonl"]
@@ -39,13 +40,16 @@ def small_cases():
 
 
 def commands(folder):
-    """What is run. The two small files go into the folder."""
+    """What is run. The small files of `run`, and of the commands of sites that exchange deltas, go into the folder."""
     data = small_input()
     for word in definitions.TEXT:
         text, refused, status = definitions.answer(word, data)
         yield Command([word], data, 1, Answer(text.encode(), refused.encode(), status), [OUT_OF_MEMORY])
     for one in small_cases():
         yield Command(one.words, one.input, 1, Answer(one.text, one.refused, one.status), [OUT_OF_MEMORY], 1)
+    for words in exchanging(folder):
+        text, refused, status = exchange.answer(words)
+        yield Command(words, b"", 1, Answer(text.encode(), refused.encode(), status), [OUT_OF_MEMORY], 1)
     run = two_files(folder)
     yield Command(run.words, b"", ROUNDS, Answer(run.text, run.refused, run.status), [OUT_OF_MEMORY, NO_WORKER])
 

@@ -1,11 +1,16 @@
 """failing_streams.py: the program ends as it must if a stream fails after any number of bytes.
 
 A read that fails is 62, and nothing is written. A write that fails is 63, and what was written is a prefix of the right text. If the
-error output fails too, the exit status alone reports it. No bytes are written of an empty text.
+error output fails too, the exit status alone reports it. No bytes are written of an empty text. For sites that exchange deltas, a
+journal or a delta opens and then fails, and the outputs are full.
 """
 import os, pty, tempfile, tty
 from tests import harness
-from tests.inputs import instruction
+from tests.inputs import exchanging, instruction
+from tests.oracle import exchange
+
+MOST_ROOMS = 100  # in so many sizes at most a file is full
+FAILING = "/proc/self/mem"  # a file that opens, and of which the first read fails
 
 
 def front_then_failure(front):
@@ -25,10 +30,10 @@ def after_failing_read(program, front):
     return answer
 
 
-def into_little_room(program, data, room, full):
-    """The answer of `status` if one output, stdout or stderr, has room for so many bytes."""
+def into_little_room(program, data, room, full, words=("status",)):
+    """The answer of a command if one output, stdout or stderr, has room for so many bytes."""
     with tempfile.TemporaryFile() as file:
-        text, errors, status = harness.run([program, "status"], data, room=room, **{full: file})
+        text, errors, status = harness.run([program, *words], data, room=room, **{full: file})
         file.seek(0)
         held = file.read()
     return (held, errors, status) if full == "stdout" else (text, held, status)
@@ -49,8 +54,28 @@ def runs(program):
     }
 
 
+def rooms(text):
+    """Some sizes of a file that are too small for a text."""
+    return range(0, len(text), 1 + len(text) // MOST_ROOMS)
+
+
+def exchanges(program, folder):
+    """Whether each run of a site that exchanges deltas ends as it must, by what fails."""
+    found = {"a journal or a delta of which a read fails": [
+        harness.run([program, "vector", "1", "2", *files]) == (b"", b"fault 62\n", 2) for files in ([FAILING], [os.devnull, FAILING])]}
+    for words in exchanging(folder):
+        text, refused = (part.encode() for part in exchange.answer(words)[:2])
+        found[f"{words[0]}, an output that is full"] = [
+            into_little_room(program, b"", room, "stdout", words) == (text[:room], refused + b"fault 63\n", 2) for room in rooms(text)]
+        found[f"{words[0]}, an error output that is full"] = [
+            into_little_room(program, b"", room, "stderr", words) == (b"", refused[:room], 2) for room in rooms(refused)]
+    return found
+
+
 def main():
-    of_each = runs(harness.program())
+    program = harness.program()
+    with tempfile.TemporaryDirectory() as folder:
+        of_each = {**runs(program), **exchanges(program, folder)}
     harness.end_of([harness.reported(f"{name}, in {len(right)} ways", all(right)) for name, right in of_each.items()])
 
 

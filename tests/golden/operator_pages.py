@@ -7,7 +7,7 @@ from tests import harness
 from tests.golden.shown import copied, is_printed, place, shell, shown
 from tests.harness import TOP
 
-PAGES = ["CODES.md", "DESK.md", "PARTICIPANTS.md"]
+PAGES = ["CODES.md", "DESK.md", "EXCHANGE.md", "PARTICIPANTS.md"]
 
 
 def page_runs(name, program):

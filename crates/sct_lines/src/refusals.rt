@@ -1,5 +1,5 @@
 //! Refused lines: the text that reports them, and how many they are.
-ghost use Rattle.std.specs.Prelude.{◌≡◌, ◌+◌, ◌++◌, [], OnOk, string_bytes};
+ghost use Rattle.std.specs.Prelude.{◌≡◌, ◌≤◌, ◌+◌, ◌++◌, [], length, OnOk, string_bytes};
 ghost use Rattle.sct_lines.specs.Refused.{reporting_line};
 
 use std::alloc::{AllocError, Global};
@@ -63,10 +63,11 @@ impl Refusals {
         self.count
     }
 
-    /// The text that reports the lines, and how many they are.
+    /// The text that reports the lines, and how many they are: not more than the text has bytes.
     pub fn into_parts(self) -> (String, u64)
         ensures text { string_bytes result.0 ≡ self.text }
         ensures count { result.1 ≡ self.count }
+        ensures most { result.1 ≤ length (string_bytes result.0) }
     {
         let Refusals { text, count } = self;
         (text, count)
