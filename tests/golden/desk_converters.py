@@ -88,24 +88,29 @@ NAMED = [("<RslvdCase><Id>CASE-6</Id></RslvdCase>", "<Sts><Conf>", "HH-S502"),
 
 def correlations(folder, commands, convert):
     """Whether an answer to one of two recalls of a transfer has the CxlId of the recall that it names."""
-    text = xml("camt.056.xml")
+    second = xml("camt.056.xml")
     for old, new in SECOND:
-        text = text.replace(old, new)
-    (folder / "second.xml").write_text(text, encoding="utf-8")
+        second = second.replace(old, new)
+    (folder / "second.xml").write_text(second, encoding="utf-8")
     command = convert + "changed.xml desk/iso20022/camt.056.xml second.xml"
+    lacks = "from_iso20022: changed.xml: OrgnlCxlId is left out; recalls of HH-0502: HH-R502, HH-S502"
     for named, mark, key in NAMED:
         (folder / "changed.xml").write_text(xml("camt.029.xml").replace(mark, named + mark), encoding="utf-8")
         text, status = shell(command, folder, commands)
         lines = text.splitlines()
         made = json.loads(lines[0]).get("OrgnlCxlId")
-        why = [] if key else ["from_iso20022: changed.xml: OrgnlCxlId is left out; recalls of HH-0502: HH-R502, HH-S502"]
-        right = (made, lines[3:], status) == (key, why, 0 if key else 1)
+        right = (made, lines[3:], status) == (key, [] if key else [lacks], 0 if key else 1)
         yield reported(f"from_iso20022 correlates {named or 'nothing'} before {mark}", right, text)
     request = xml("pacs.028.xml").replace("<OrgnlMsgId>HH0311-K5<", "<OrgnlMsgId>HH0311-K6<")
     (folder / "changed.xml").write_text(request, encoding="utf-8")
     text, status = shell(command, folder, commands)
     right = status == 0 and json.loads(text.splitlines()[1])["OrgnlCxlId"] == "HH-S502"
     yield reported("from_iso20022 correlates a request", right, text)
+    # the second recall has the MsgId of the instruction, which the answer names
+    (folder / "second.xml").write_text(second.replace(">HH0311-K6<", ">HH0310-20<"), encoding="utf-8")
+    (folder / "changed.xml").write_text(xml("camt.029.xml"), encoding="utf-8")
+    right = (lacks + "\n", 1)
+    yield answers("from_iso20022 takes no instruction for a recall", f"{command} > /dev/null", right, folder, commands)
 
 
 # ---- list_from_csv.py
@@ -117,6 +122,7 @@ SAVED = ("DbtrAgt;TxId;Amt;Sts\r\nLUTEFRPP;LU,10;70,00;PENDING\r\nLUTEFRPP;0012;
 CSVS = {"semicolons": SAVED.format("").encode(), "a byte order mark": b"\xef\xbb\xbf" + SAVED.format(".").encode(),
         "Windows-1252": SAVED.format("\u00a0").encode("cp1252"), "UTF-8 with no-break spaces": SAVED.format("\u202f").encode(),
         "UTF-16": SAVED.format("'").encode("utf-16"), "a line sep=": b"sep=;\r\n" + SAVED.format(" ").encode(),
+        "a line sep=|": b"sep=|\n" + SAVED.format("").replace(";", "|").encode(),
         "tabs": SAVED.format("").replace(";", "\t").encode(), "a list": LIST.encode(), "blank lines": b"\n" + LIST.encode() + b"\n",
         "commas and quotes": LIST.replace("1250.50", '"1250,50"').encode(), "carriage returns": LIST.replace("\n", "\r").encode()}
 WRONG_CSVS = [(ROW.format("T1", "10"), "row 1: the header is not DbtrAgt,TxId,Amt,Sts"),
@@ -125,6 +131,7 @@ WRONG_CSVS = [(ROW.format("T1", "10"), "row 1: the header is not DbtrAgt,TxId,Am
               (HEADER + ROW.format("T1", "0,00"), "row 2: '0.00' is not an amount such as 12.50"),
               (HEADER + ROW.format("T1", "-10"), "row 2: '-10' is not an amount such as 12.50"),
               (HEADER + ROW.format("T1", "10") + ROW.format("T_2", "10"), "row 3: 'T_2' is not an identification"),
+              *((HEADER + ROW.format(text, "10"), f"row 2: {text!r} is not an identification") for text in ("/T", "T/", "T//1", 36 * "T")),
               (HEADER + ROW.format("T1", "10").lower(), "row 2: 'lutefrpp' is not a BIC of 8 or 11 capitals and digits"),
               (HEADER + ROW.format("T1", "10;x"), "row 2: it has 5 fields"),
               (HEADER + ROW.format("T1", "10").replace("ACCEPTED", "ACCP"),

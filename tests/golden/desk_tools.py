@@ -131,7 +131,7 @@ def reports(folder, commands):
 MISTYPED = [(f"{name}={text}", f"{name}={text}", f"a {what}") for name, what, texts in [
     ("keep since", "day such as 2025-03-10", ["2025-3-11", "yesterday", "11.03.2025", "2025-02-31", "2025-03-11T00:00:00Z", "now"]),
     ("open_recalls day", "day such as 2025-03-10", ["20.03.2025", "2025-13-01"]),
-    ("waiting before", "time such as 2025-03-10T12:00:00Z", ["10.03.2025", "yesterday", "2025-03-10T25:00:00Z", "2025-03-1012:00"]),
+    ("waiting before", "time such as 2025-03-10T12:00:00Z", ["10.03.2025", "yesterday", "2025-03-10T25:00:00Z", "2025-03-1012:00", "2025-03-10T12:00Zulu"]),
     ("bank bank", "BIC of 8 or 11 capitals and digits", ["suomfihh", "SUOMFIH", "SUOMFIHHX"])] for text in texts]
 
 
@@ -179,6 +179,7 @@ def keeps_all(folder):
 
 # lines, and for each what is below it, without what the page says of it
 EXPLAINED = [("fault 62", ["Read"]), ("fault 64", ["Usage"]), ("fault 66 42", ["Refused", "Fork"]), ("line 3: 64", ["NoEvent"]),
+             ("file 2: 43 2", ["OwnAhead"]),
              ("file 2 line 11: 36 CdtrAgt 1", ["BadBic"]), ("line 1: 56 2 38 22", ["At", "RepeatedRecall"]),
              ("line 1: 56 9 36 CxlId 3", ["At", "BadId"]), ('a b.jsonl:7: 37 "Purp": {"a":": 31"}', ["Extra"]),
              ("{}", []), (6 * "x," + 200000 * "y", []), ("line 5", []), ("", []), ("T|HANSDEHHXXX|T1|ACCEPTED", []), ("line 8: 99", [])]
