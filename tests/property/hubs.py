@@ -195,8 +195,8 @@ class Hub:
         """What no honest hub has: a journal loses or changes a line, and the site is sent all that another one has; or a smaller group."""
         r, draw = self.r, self.r.random()
         giver, site = r.sample(self.numbers(), 2)
-        if draw < 0.2:
-            self.run("site", 1, r.randint(1, self.sites), self.journal(site).name, *self.given[site])
+        if draw < 0.3:
+            self.run("site", 1, r.randint(1, self.sites - 1), self.journal(site).name, *self.given[site])
             return
         lines = self.journal(site).read_bytes().split(b"\n")
         place = r.randrange(len(lines))

@@ -1,5 +1,5 @@
 -- The answer of a run, by what its sites came to. Proof plumbing.
-use Rattle.std.proofs.Common.{◌≡◌, ◌≢◌, ◌<◌, ◌∙◌, sym, ap, subst, ℕ, List, length}
+use Rattle.std.proofs.Common.{◌≡◌, ◌<◌, ◌∙◌, sym, ap, subst, ℕ, List, length}
 use Rattle.std.specs.Prelude.{Result, Ok, Err, IfErr, IfOk, OnOk, string_bytes}
 use Rattle.sct_workers.specs.declared.fault.WorkFault.{WorkFault}
 use Rattle.sct_view.specs.StatusText.{status_text_of}
@@ -12,8 +12,7 @@ use Rattle.sct_engine.specs.Fault.{fault_of_work}
 use Rattle.sct_engine.specs.Runs.{set_of_all, IsSettledAnswer, IsSettlingFault, RunEndsWhere}
 use Rattle.sct_engine.specs.declared.runs.RunAnswer.{RunAnswer}
 use Rattle.sct_engine.specs.declared.fault.ProgramFault.{ProgramFault}
-use Rattle.sct_engine.specs.declared.fault.ProgramFault.TheVariants as fault
-use Rattle.sct_engine.proofs.RunLemmas.{no_usage, run_ends, settling_ends}
+use Rattle.sct_engine.proofs.RunLemmas.{run_ends, settling_ends}
 use Rattle.sct_engine.proofs.UnionLemmas.{union_is}
 
 -- what a run over these inputs answers

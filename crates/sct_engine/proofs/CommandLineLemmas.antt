@@ -7,7 +7,7 @@ use Rattle.clap.proofs.OnLiterals.{clap_on_literals}
 use Rattle.sct_engine.specs.declared.fault.ProgramFault.{ProgramFault}
 use Rattle.sct_engine.specs.declared.fault.ProgramFault.TheVariants as fault
 use Rattle.sct_engine.specs.declared.request.Request.{Request}
-use Rattle.sct_engine.specs.declared.request.Request.TheVariants.{Run, Reconcile, Settle, Help, Mistake}
+use Rattle.sct_engine.specs.declared.request.Request.TheVariants.{Run, Reconcile, Settle, Exchange, Help, Mistake}
 use Rattle.sct_engine.specs.CommandLine.{command_line, order_asked, AnswersKind, AsksFor, AreAsking}
 use Rattle.sct_engine.specs.Request.{IsOrdered, Order}
 
@@ -26,6 +26,7 @@ asked_in_place : (words : List Text) (e : Error) (request : Request) → HasKind
 asked_in_place words e (Run job) has answers = absurd answers.0
 asked_in_place words e (Reconcile order) has answers = absurd answers.0
 asked_in_place words e (Settle files) has answers = absurd answers.0
+asked_in_place words e (Exchange request) has answers = absurd answers.0
 asked_in_place words e (Help text) (inl same) answers = absurd (answers.1 same)
 asked_in_place words e (Help text) (inr among) answers = (kind_of e, (among, answers.0))
 asked_in_place words e (Mistake text) (inl same) answers = absurd (answers.1 same)
@@ -43,6 +44,7 @@ asked_in_order words None request is ordered = absurd ordered
 asked_in_order words (Some order) (Run job) is ordered = is ∙ sym ordered
 asked_in_order words (Some order) (Reconcile with) is ordered = is ∙ sym ordered
 asked_in_order words (Some order) (Settle files) is ordered = is ∙ sym ordered
+asked_in_order words (Some order) (Exchange request) is ordered = is ∙ sym ordered
 asked_in_order words (Some order) (Help text) is ordered = cc
 asked_in_order words (Some order) (Mistake text) is ordered = cc
 

@@ -13,7 +13,7 @@ use Rattle.sct_engine.specs.declared.fault.ProgramFault.{ProgramFault}
 use Rattle.sct_engine.specs.declared.fault.ProgramFault.TheVariants as fault
 
 -- the file of one path more
-one_more : (gives : List ℕ → Option (List ℕ)) (paths inputs : List (List ℕ)) (path bytes : List ℕ) → AreGiven gives paths inputs → IsGiven gives path bytes
+pub one_more : (gives : List ℕ → Option (List ℕ)) (paths inputs : List (List ℕ)) (path bytes : List ℕ) → AreGiven gives paths inputs → IsGiven gives path bytes
     → AreGiven gives (paths ++ path ∷ []) (inputs ++ bytes ∷ [])
 one_more gives [] [] path bytes so_far now = (now, tt)
 one_more gives (p ∷ ps) (b ∷ bs) path bytes so_far now = (so_far.0, one_more gives ps bs path bytes so_far.1 now)

@@ -3,6 +3,7 @@ mod AgainLemmas
 mod AnswerLemmas
 mod CommandLineLemmas
 mod FileLemmas
+mod GatherLemmas
 mod PieceLemmas
 mod Prefixes
 mod RunFaults

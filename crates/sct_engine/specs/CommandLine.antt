@@ -11,7 +11,8 @@ use Rattle.sct_engine.specs.declared.fault.ProgramFault.{ProgramFault}
 use Rattle.sct_engine.specs.declared.fault.ProgramFault.TheVariants as fault
 use Rattle.sct_engine.specs.declared.request.Request.{Request}
 use Rattle.sct_engine.specs.declared.request.Request.TheVariants.{Help, Mistake}
-use Rattle.sct_engine.specs.Request.{is_mistake, job, order_named, order_of, report, sites, Order}
+use Rattle.sct_engine.specs.Places.{counts_in, delta, messages, place_named, vector, Wanted}
+use Rattle.sct_engine.specs.Request.{exchange, is_mistake, job, order_named, order_of, report, sites, Order}
 
 -- a command that requires one of its subcommands
 abbrev pub wanting_one : App → App
@@ -43,9 +44,35 @@ run_command = with_rule (new_app (codes "run")) (wanted_words (codes "FILE"))
 abbrev pub comparing_commands : App
 comparing_commands = with_subcommand (with_subcommand listing_commands (new_app (codes "totals")).top) report_command.top
 
+-- the program with the commands `replay` and `run` added
+abbrev pub running_commands : App
+running_commands = with_subcommand (with_subcommand comparing_commands (new_app (codes "replay")).top) run_command.top
+
+-- any number of words, also none
+abbrev pub optional_words : Text → Rule
+optional_words name = record (new_rule name) { action = Some Append }
+
+-- the number of a site and the number of sites
+abbrev pub place_command : Text → App
+place_command name = with_rule (with_rule (new_app name) (wanted_word (codes "SITE"))) (wanted_word (codes "SITES"))
+
+-- the files of a site added: its journal, and any number of deltas
+abbrev pub files_of_a_site : App → App
+files_of_a_site app = with_rule (with_rule app (wanted_word (codes "JOURNAL"))) (optional_words (codes "DELTA"))
+
+abbrev pub site_command : App
+site_command = files_of_a_site (place_command (codes "site"))
+
+abbrev pub vector_command : App
+vector_command = files_of_a_site (place_command (codes "vector"))
+
+-- the version vector comes before the files
+abbrev pub cut_command : App
+cut_command = files_of_a_site (with_rule (place_command (codes "cut")) (wanted_word (codes "HAVE")))
+
 -- the program's command line as clap sees it: one command for each order, and one of them is required
 abbrev pub command_line : App
-command_line = with_subcommand (with_subcommand comparing_commands (new_app (codes "replay")).top) run_command.top
+command_line = with_subcommand (with_subcommand (with_subcommand running_commands site_command.top) vector_command.top) cut_command.top
 
 -- the order of the command that clap finds in the words; the first word is the program's name
 abbrev pub order_asked : List Text → Option Order
@@ -85,6 +112,11 @@ abbrev pub report_from : Text → Text → Text → Option Order
 report_from bank day list =
     option_and_then (λ b. option_and_then (λ d. Some (report b d list)) (written_day day)) (written_bic bank)
 
+-- a command on one site is ordered if its numbers are those of a site in a group
+abbrev pub exchange_at : Wanted → Text → Text → Text → List Text → Option Order
+exchange_at wanted number group journal deltas =
+    option_and_then (λ place. Some (exchange wanted place.0 place.1 journal deltas)) (place_named number group)
+
 -- each command asks for its order, whatever the program is called; and, after `--`, whatever the arguments are
 pub record CommandsAskForTheirOrders : Type 0 where
   pub status : (program : Text) → AskFor (program ∷ codes "status" ∷ []) (Some (job Status))
@@ -96,3 +128,16 @@ pub record CommandsAskForTheirOrders : Type 0 where
   pub one_file : (program file : Text) → AskFor (program ∷ codes "run" ∷ codes "--" ∷ file ∷ []) (Some (sites (file ∷ [])))
   pub two_files : (program file other : Text)
       → AskFor (program ∷ codes "run" ∷ codes "--" ∷ file ∷ other ∷ []) (Some (sites (file ∷ other ∷ [])))
+  pub site : (program number group journal : Text)
+      → AskFor (program ∷ codes "site" ∷ codes "--" ∷ number ∷ group ∷ journal ∷ []) (exchange_at messages number group journal [])
+  pub site_with_deltas : (program number group journal one other : Text)
+      → AskFor (program ∷ codes "site" ∷ codes "--" ∷ number ∷ group ∷ journal ∷ one ∷ other ∷ [])
+      (exchange_at messages number group journal (one ∷ other ∷ []))
+  pub vector : (program number group journal : Text)
+      → AskFor (program ∷ codes "vector" ∷ codes "--" ∷ number ∷ group ∷ journal ∷ []) (exchange_at vector number group journal [])
+  pub cut : (program number group have journal one : Text)
+      → AskFor (program ∷ codes "cut" ∷ codes "--" ∷ number ∷ group ∷ have ∷ journal ∷ one ∷ [])
+      (option_and_then (λ counts. exchange_at (delta counts) number group journal (one ∷ [])) (counts_in have))
+  pub cut_all : (program : Text)
+      → AskFor (program ∷ codes "cut" ∷ codes "1" ∷ codes "2" ∷ codes "-" ∷ codes "journal" ∷ [])
+      (option_and_then (λ counts. exchange_at (delta counts) (codes "1") (codes "2") (codes "journal") []) (counts_in (codes "-")))

@@ -3,7 +3,9 @@ pub mod Again
 pub mod CommandLine
 pub mod Ending
 pub mod Engine
+pub mod Exchanging
 pub mod Fault
+pub mod Places
 pub mod Request
 pub mod Run
 pub mod Runs

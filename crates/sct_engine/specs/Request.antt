@@ -8,10 +8,12 @@ use Rattle.sct_engine.specs.declared.jobs.Job.{Job}
 use Rattle.sct_engine.specs.declared.jobs.Job.TheVariants.{Status, Archive, Totals, Replay}
 use Rattle.sct_engine.specs.declared.fault.ProgramFault.{ProgramFault}
 use Rattle.sct_engine.specs.declared.fault.ProgramFault.TheVariants as fault
+use Rattle.sct_engine.specs.Places.{Wanted, messages, vector, delta, deltas_ordered, have_ordered, place_ordered, wanted_of}
 use Rattle.sct_engine.specs.Runs.{are_sites}
+use Rattle.sct_engine.specs.declared.places.SiteCommand.{SiteCommand}
 use Rattle.sct_engine.specs.declared.request.Reconciliation.{Reconciliation}
 use Rattle.sct_engine.specs.declared.request.Request.{Request}
-use Rattle.sct_engine.specs.declared.request.Request.TheVariants.{Run, Reconcile, Settle, Help, Mistake}
+use Rattle.sct_engine.specs.declared.request.Request.TheVariants.{Run, Reconcile, Settle, Exchange, Help, Mistake}
 
 -- the job that a word of the command line asks for
 abbrev pub job_named : List ℕ → Option Job
@@ -23,21 +25,28 @@ job_named word =
     else None
 
 -- The order of a command: a job on standard input; to compare standard input with a bank's list for a day, in the file
--- at a path; or to settle the sites that are filled from the files at some paths.
+-- at a path; to settle the sites that are filled from the files at some paths; or what is wanted of a site, with its
+-- number, the number of sites, the path of its journal and the paths of deltas.
 pub data Order : Type 0 where
   job : Job → Order
   report : Text → Text → Text → Order
   sites : List Text → Order
+  exchange : Wanted → ℕ → ℕ → Text → List Text → Order
 
 -- the order with a bank, a day and a list
 abbrev pub report_with : Reconciliation → Order
 report_with reconciliation = report reconciliation.bank reconciliation.day reconciliation.list.now
+
+-- the order of a command on one site
+abbrev pub exchange_with : SiteCommand → Order
+exchange_with request = exchange (wanted_of request.wanting) request.site request.sites request.journal.now (map (λ path. path.now) request.deltas.items)
 
 -- the order of a request, if it is neither help nor a mistake
 abbrev pub order_of : Request → Option Order
 order_of (Run work) = Some (job work)
 order_of (Reconcile reconciliation) = Some (report_with reconciliation)
 order_of (Settle files) = Some (sites (map (λ path. path.now) files.items))
+order_of (Exchange request) = Some (exchange_with request)
 order_of (Help text) = None
 order_of (Mistake text) = None
 
@@ -58,11 +67,24 @@ sites_from files = if are_sites (length files) then Some (sites files) else None
 abbrev pub sites_ordered : List Row → Option Order
 sites_ordered given = option_and_then sites_from (all_of (codes "FILE") given)
 
+-- the order of a command on one site from the values of its arguments, if the site is one of a group
+abbrev pub exchange_from : Wanted → List Row → Option Order
+exchange_from wanted given =
+    option_and_then (λ place. option_map (λ journal. exchange wanted place.0 place.1 journal (deltas_ordered given))
+    (first_of (codes "JOURNAL") given)) (place_ordered given)
+
+-- the order of `cut` from the values of its arguments
+abbrev pub cut_ordered : List Row → Option Order
+cut_ordered given = option_and_then (λ have. exchange_from (delta have) given) (have_ordered given)
+
 -- the order of the command with this name, from the values of its arguments
 abbrev pub order_named : Text → List Row → Option Order
 order_named name given =
     if is_text name (codes "report") then report_ordered given
     else if is_text name (codes "run") then sites_ordered given
+    else if is_text name (codes "site") then exchange_from messages given
+    else if is_text name (codes "vector") then exchange_from vector given
+    else if is_text name (codes "cut") then cut_ordered given
     else option_map (λ work. job work) (job_named name)
 
 -- the request is the order; if there is no order, or the call is out of memory, there is no request

@@ -8,9 +8,10 @@ use Rattle.sct_engine.specs.declared.request.Request.{Request}
 use Rattle.sct_engine.specs.CommandLine.{AreAsking}
 use Rattle.sct_engine.specs.Ending.{ending_text_of, exit_status_of}
 use Rattle.sct_engine.specs.Engine.{AreCutOff, IsRefusedInput, StandsOnList}
+use Rattle.sct_engine.specs.Exchanging.{is_possible, EndsExchange}
 use Rattle.sct_engine.specs.Fault.{failed_reads}
 use Rattle.sct_engine.specs.Stream.{Streams}
-use Rattle.sct_engine.specs.Tasks.{bad_row_in, out_text_of, refusals_text_of, IsEndingOf, IsPrepared, LeavesInput}
+use Rattle.sct_engine.specs.Tasks.{bad_row_in, out_text_of, refusals_text_of, EndsSettling, IsEndingOf, IsPrepared, LeavesInput}
 use Rattle.sct_engine.specs.declared.task.Task.{Task}
 use Rattle.sct_engine.specs.declared.task.Task.TheVariants as task
 use Rattle.sct_engine.specs.Runs.{are_sites}
@@ -26,11 +27,22 @@ pub record IsUnwritten (before after : Streams) : Type 0 where
   pub out : after.out ≡ before.out
   pub err : after.err ≡ before.err
 
--- the task cannot be done: standard input was read whole and the job does not take it, or the inputs cannot be run
+-- the task cannot be done: standard input was read whole and the job does not take it, the inputs cannot be run, or there is
+-- no such site
 abbrev pub CannotBeDone : Task → Input → Input → Type 0
 CannotBeDone (task.Work job) before after = IsRefusedInput job 1073741824 before after
 CannotBeDone (task.Settle inputs) before after = are_sites (length inputs.items) ≡ false
+CannotBeDone (task.Exchange gathered) before after = is_possible gathered ≡ false
 CannotBeDone _ before after = ⊥
+
+-- the faults that may end a task that has its files: a help and a mistake only by a failed write
+abbrev pub EndsTask : Task → ProgramFault → Type 0
+EndsTask (task.Work job) fault = Unit {0}
+EndsTask (task.Settle inputs) fault = EndsSettling fault
+EndsTask (task.Exchange gathered) fault = EndsExchange fault
+EndsTask (task.Help text) fault.Write = Unit {0}
+EndsTask (task.Mistake text) fault.Write = Unit {0}
+EndsTask _ fault = ⊥
 
 -- how a task is answered, from the streams before to the streams after: the text on standard output, the refused lines
 -- on standard error, and the cases of each fault. An input has at most 1,073,741,824 bytes.
@@ -50,6 +62,7 @@ pub record IsAnswered (task : Task) (before after : Streams) (ended : Result End
       → AreCutOff before.err after.err before.out after.out
       (refusals_text_of task before.input.left) (out_text_of task before.input.left)
   pub unwritten : IfErr ended (λ e. e ≢ fault.Write → IsUnwritten before after)
+  pub ends : IfErr ended (EndsTask task)
 
 -- the task of a request with the bytes of its files; a command line that could not be read, or
 -- that asks for nothing, ends the run at once

@@ -1,8 +1,9 @@
 -- The streams of a run, and the faults that may end the reading of files. Read by an auditor.
-use Rattle.std.specs.Prelude.{ℕ, ◌<◌, List, length, Option, IfSome}
+use Rattle.std.specs.Prelude.{ℕ, ◌≡◌, ◌<◌, ◌++◌, ◌∷◌, List, length, Option, IfSome}
 use Rattle.std.specs.List.{Contains}
 use Rattle.sct_engine.specs.declared.fault.ProgramFault.{ProgramFault}
 use Rattle.sct_engine.specs.declared.fault.ProgramFault.TheVariants.{TooLong, Read, Memory}
+use Rattle.sct_streams.specs.Files.{AreGiven}
 use Rattle.sct_streams.specs.Stream.{Input, Output}
 
 -- the three streams at one moment: standard input, standard output and standard error
@@ -21,6 +22,16 @@ EndsFile bytes Read = Unit {0}
 EndsFile bytes TooLong = IfSome bytes (λ known. 1073741824 < length known)
 EndsFile bytes Memory = Unit {0}
 EndsFile bytes _ = ⊥
+
+-- The file of the first path that cannot be read ends the reading. Those before it were read.
+pub record EndsFirst (gives : List ℕ → Option (List ℕ)) (paths : List (List ℕ)) (fault : ProgramFault) : Type 0 where
+  pub before : List (List ℕ)
+  pub path : List ℕ
+  pub after : List (List ℕ)
+  pub inputs : List (List ℕ)
+  pub paths_are : paths ≡ before ++ path ∷ after
+  pub read : AreGiven gives before inputs
+  pub ends : EndsFile (gives path) fault
 
 -- the file of one of the paths ends the reading of all
 pub record EndsFiles (gives : List ℕ → Option (List ℕ)) (paths : List (List ℕ)) (fault : ProgramFault) : Type 0 where

@@ -1,6 +1,6 @@
 -- The task of a run after the files that the command line names are read, and the texts that
 -- the run then writes. Read by an auditor.
-use Rattle.std.specs.Prelude.{ℕ, ◌≡◌, List, [], map, Option, Some, None, IfSome, Result, Ok, Err, string_bytes}
+use Rattle.std.specs.Prelude.{ℕ, ◌≡◌, List, [], ◌∷◌, map, Option, Some, None, IfSome, Result, Ok, Err, string_bytes}
 use Rattle.sct_workers.specs.Faults.{IsRefusalNumber}
 use Rattle.sct_engine.specs.Runs.{set_of_all}
 use Rattle.sct_view.specs.StatusText.{status_text_of}
@@ -14,10 +14,11 @@ use Rattle.sct_engine.specs.declared.fault.ProgramFault.TheVariants as fault
 use Rattle.sct_engine.specs.declared.request.Reconciliation.{Reconciliation}
 use Rattle.sct_engine.specs.declared.request.Request.{Request}
 use Rattle.sct_engine.specs.declared.request.Request.TheVariants as request
+use Rattle.sct_engine.specs.Exchanging.{count_by_exchange, text_by_exchange, told_by_exchange, IsGathered}
 use Rattle.sct_engine.specs.declared.task.Task.{Task}
-use Rattle.sct_engine.specs.declared.task.Task.TheVariants.{Work, Settle, Help, Mistake}
+use Rattle.sct_engine.specs.declared.task.Task.TheVariants.{Work, Settle, Exchange, Help, Mistake}
 use Rattle.sct_engine.specs.Engine.{bad_row_of, job_text_if_told, refused_of, told_text_if_told}
-use Rattle.sct_engine.specs.Stream.{EndsFile, EndsFiles}
+use Rattle.sct_engine.specs.Stream.{EndsFile, EndsFiles, EndsFirst}
 use Rattle.sct_streams.specs.Files.{AreGiven, IsGiven}
 
 -- ---- the files
@@ -28,11 +29,12 @@ IsReportWith gives with (Report bank day list) = (bank ≡ with.bank) × (day �
 IsReportWith gives with _ = ⊥
 
 -- The task of a request with the bytes of its files. The list of `report` has the bytes of its file. The inputs of
--- `run` have the bytes of the files, in the order of the paths.
+-- `run` have the bytes of the files, in the order of the paths. So have the journal and the deltas of a command on one site.
 abbrev pub IsTaskOf : (List ℕ → Option (List ℕ)) → Request → Task → Type 0
 IsTaskOf gives (request.Run job) (Work work) = work ≡ job
 IsTaskOf gives (request.Reconcile with) (Work work) = IsReportWith gives with work
 IsTaskOf gives (request.Settle files) (Settle inputs) = AreGiven gives (map (λ path. path.now) files.items) (bytes_of inputs.items)
+IsTaskOf gives (request.Exchange command) (Exchange gathered) = IsGathered gives command gathered
 IsTaskOf gives (request.Help text) (Help told) = told ≡ text
 IsTaskOf gives (request.Mistake text) (Mistake told) = told ≡ text
 IsTaskOf gives _ _ = ⊥
@@ -41,6 +43,7 @@ IsTaskOf gives _ _ = ⊥
 abbrev pub EndsFilesOf : (List ℕ → Option (List ℕ)) → Request → ProgramFault → Type 0
 EndsFilesOf gives (request.Reconcile with) fault = EndsFile (gives with.list.now) fault
 EndsFilesOf gives (request.Settle files) fault = EndsFiles gives (map (λ path. path.now) files.items) fault
+EndsFilesOf gives (request.Exchange command) fault = EndsFirst gives (command.journal.now ∷ map (λ path. path.now) command.deltas.items) fault
 EndsFilesOf gives _ fault = ⊥
 
 -- the task of a request with the bytes of its files, or the fault by which these could not be read
@@ -51,25 +54,28 @@ IsPrepared gives request (Err fault) = EndsFilesOf gives request fault
 -- ---- the texts that are written
 
 -- the text on standard output: the text of the job, if standard input is known; the status text of the union of the
--- sets that are read from the inputs; or the help
+-- sets that are read from the inputs; what is wanted of a site; or the help
 abbrev pub out_text_of : Task → Option (List ℕ) → Option (List ℕ)
 out_text_of (Work job) input = job_text_if_told job input
 out_text_of (Settle inputs) input = Some (status_text_of (set_of_all (bytes_of inputs.items)))
+out_text_of (Exchange gathered) input = Some (text_by_exchange gathered)
 out_text_of (Help text) input = Some (string_bytes text)
 out_text_of (Mistake text) input = Some []
 
 -- the text on standard error before the end of the run: the lines that report the refused lines, with
--- the numbers of the files if there are files
+-- the numbers of the files if there are files, and the refused files
 abbrev pub refusals_text_of : Task → Option (List ℕ) → Option (List ℕ)
 refusals_text_of (Work job) input = told_text_if_told job input
 refusals_text_of (Settle inputs) input = Some (told_from 1 (bytes_of inputs.items))
+refusals_text_of (Exchange gathered) input = Some (told_by_exchange gathered)
 refusals_text_of (Help text) input = Some []
 refusals_text_of (Mistake text) input = Some []
 
--- the end of a task without a fault: the number of the refused lines, if the input is known
+-- the end of a task without a fault: the number of the refused lines and files, if the input is known
 abbrev pub IsEndingOf : Task → Option (List ℕ) → Ending → Type 0
 IsEndingOf (Work job) input (Done done) = IfSome input (λ bytes. done.refused ≡ refused_of job bytes)
 IsEndingOf (Settle inputs) input (Done done) = done.refused ≡ refused_in (bytes_of inputs.items)
+IsEndingOf (Exchange gathered) input (Done done) = done.refused ≡ count_by_exchange gathered
 IsEndingOf (Help text) input Helped = Unit {0}
 IsEndingOf (Mistake text) input (Mistaken told) = told ≡ text
 IsEndingOf _ _ _ = ⊥

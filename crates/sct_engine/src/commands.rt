@@ -2,7 +2,7 @@
 ghost use Rattle.std.specs.Prelude.{◌≡◌, IfOk, false};
 ghost use Rattle.clap.specs.Words.{app_of};
 ghost use Rattle.clap.specs.declared.builder.command.Command.TheViews.{out-Command};
-ghost use Rattle.sct_engine.specs.CommandLine.{command_line, comparing_commands, listing_commands, report_command, run_command};
+ghost use Rattle.sct_engine.specs.CommandLine.{command_line, comparing_commands, cut_command, files_of_a_site, listing_commands, place_command, report_command, run_command, running_commands, site_command, vector_command};
 
 use clap::{Arg, ArgAction, Command};
 use std::alloc::{AllocError, Global};
@@ -67,9 +67,9 @@ fn comparing_commands<'a>(alloc: Global) -> Result<Command<'a>, AllocError>
         .subcommand(report)
 }
 
-/// The program's command line.
-pub fn command<'a>(alloc: Global) -> Result<Command<'a>, AllocError>
-    ensures { IfOk result (λ c. app_of c ≡ command_line) }
+// The program with the commands that read standard input, and `run`.
+fn running_commands<'a>(alloc: Global) -> Result<Command<'a>, AllocError>
+    ensures { IfOk result (λ c. app_of c ≡ running_commands) }
 {
     let replay = Command::new(alloc, "replay").about(
         "Writes how the events of the script on standard input end, and what each site then holds",
@@ -78,4 +78,82 @@ pub fn command<'a>(alloc: Global) -> Result<Command<'a>, AllocError>
     comparing_commands(alloc)?
         .subcommand(replay)?
         .subcommand(run)
+}
+
+// A command that begins with the number of a site and the number of sites.
+fn place_command<'a>(
+    alloc: Global,
+    name: &'a str,
+    about: &'a str,
+) -> Result<Command<'a>, AllocError>
+    ensures app { IfOk result (λ c. app_of c ≡ place_command name.now) }
+    ensures own { IfOk result (λ c. (out-Command c).has_globals ≡ false) }
+{
+    let site = Arg::new(alloc, "SITE").required(true);
+    let sites = Arg::new(alloc, "SITES").required(true);
+    Command::new(alloc, name).about(about).arg(site)?.arg(sites)
+}
+
+// A command with the files of a site added: its journal, and any number of deltas.
+fn with_files_of_a_site<'a>(alloc: Global, command: Command<'a>) -> Result<Command<'a>, AllocError>
+    ensures app { IfOk result (λ c. app_of c ≡ files_of_a_site (app_of command.entry)) }
+    ensures own { (out-Command command.entry).has_globals ≡ false
+        → IfOk result (λ c. (out-Command c).has_globals ≡ false) }
+{
+    let journal = Arg::new(alloc, "JOURNAL").required(true);
+    let delta = Arg::new(alloc, "DELTA").action(ArgAction::Append);
+    command.arg(journal)?.arg(delta)
+}
+
+// The command `site SITE SITES JOURNAL [DELTA]..`.
+fn site_command<'a>(alloc: Global) -> Result<Command<'a>, AllocError>
+    ensures app { IfOk result (λ c. app_of c ≡ site_command) }
+    ensures own { IfOk result (λ c. (out-Command c).has_globals ≡ false) }
+{
+    let place = place_command(
+        alloc,
+        "site",
+        "Writes the messages that a site holds, of its journal and of the deltas that it was sent",
+    )?;
+    with_files_of_a_site(alloc, place)
+}
+
+// The command `vector SITE SITES JOURNAL [DELTA]..`.
+fn vector_command<'a>(alloc: Global) -> Result<Command<'a>, AllocError>
+    ensures app { IfOk result (λ c. app_of c ≡ vector_command) }
+    ensures own { IfOk result (λ c. (out-Command c).has_globals ≡ false) }
+{
+    let place = place_command(
+        alloc,
+        "vector",
+        "Writes how many entries of each site a site holds, of its journal and of the deltas that it was sent",
+    )?;
+    with_files_of_a_site(alloc, place)
+}
+
+// The command `cut SITE SITES HAVE JOURNAL [DELTA]..`.
+fn cut_command<'a>(alloc: Global) -> Result<Command<'a>, AllocError>
+    ensures app { IfOk result (λ c. app_of c ≡ cut_command) }
+    ensures own { IfOk result (λ c. (out-Command c).has_globals ≡ false) }
+{
+    let have = Arg::new(alloc, "HAVE").required(true);
+    let place = place_command(
+        alloc,
+        "cut",
+        "Writes a delta of the entries that a site holds above the vector HAVE",
+    )?;
+    with_files_of_a_site(alloc, place.arg(have)?)
+}
+
+/// The program's command line.
+pub fn command<'a>(alloc: Global) -> Result<Command<'a>, AllocError>
+    ensures { IfOk result (λ c. app_of c ≡ command_line) }
+{
+    let site = site_command(alloc)?;
+    let vector = vector_command(alloc)?;
+    let cut = cut_command(alloc)?;
+    running_commands(alloc)?
+        .subcommand(site)?
+        .subcommand(vector)?
+        .subcommand(cut)
 }

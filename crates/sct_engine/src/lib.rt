@@ -8,10 +8,12 @@
 mod answers;
 mod commands;
 mod ending;
+mod exchanging;
 mod fault;
 mod files;
 mod holding;
 mod jobs;
+mod places;
 mod program;
 mod release;
 mod replays;

@@ -4,6 +4,7 @@ ghost use Rattle.sct_engine.specs.Run.{words_told, IsAnswered, IsAnsweredTo, IsR
 ghost use Rattle.sct_engine.specs.Stream.{streams, Streams};
 
 use crate::ending::{Ending, conclude};
+use crate::exchanging::write_site;
 use crate::fault::ProgramFault;
 use crate::jobs::engine;
 use crate::release::Release;
@@ -39,6 +40,10 @@ fn perform<T: Threads + Wait + Sync, R: Source, O: Sink, E: Sink>(
             Ok(Ending::Done(done))
         }
         Task::Settle(inputs) => Ok(Ending::Done(settle_inputs(rt, alloc, inputs, out, err)?)),
+        Task::Exchange(gathered) => {
+            let done = write_site(rt, alloc, release, gathered, out, err)?;
+            Ok(Ending::Done(done))
+        }
         Task::Help(text) => {
             write_all(out, text.as_bytes())?;
             Ok(Ending::Helped)
@@ -65,7 +70,7 @@ fn answer_words<T: Threads + Wait + Sync, F: Files, R: Source, O: Sink, E: Sink>
 {
     let words = words?;
     let request = read_request(alloc, &words)?;
-    let task = prepare(alloc, files, request)?;
+    let task = prepare(rt, alloc, files, request)?;
     perform(rt, alloc, release, task, reader, out, err)
 }
 

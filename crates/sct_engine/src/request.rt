@@ -12,6 +12,7 @@ ghost use Rattle.sct_engine.specs.Request.{job_named, is_mistake, order_named, r
 use crate::commands::command;
 use crate::fault::ProgramFault;
 use crate::jobs::Job;
+use crate::places::{SiteCommand, Wanting, request_of_cut, request_on_site};
 use crate::runs::are_sites;
 use clap::error::ErrorKind;
 use clap::{ArgMatches, Error};
@@ -40,6 +41,8 @@ pub enum Request<'a> {
     Reconcile(Reconciliation<'a>),
     /// Settle sites, each filled from a file of its own. There are 1 to 16 paths.
     Settle(Vec<&'a str>),
+    /// Make a site of its journal and deltas, and write what is wanted of it.
+    Exchange(SiteCommand<'a>),
     /// Show this help.
     Help(String),
     /// A mistake in the command line: the text of clap says why.
@@ -148,6 +151,9 @@ fn request_of_command<'a>(
             Some(files) => sites_of(alloc, files),
             None => Err(ProgramFault::Usage),
         },
+        "site" => request_on_site(alloc, Wanting::Messages, given),
+        "vector" => request_on_site(alloc, Wanting::Vector, given),
+        "cut" => request_of_cut(alloc, given),
         _ => match job_named(name) {
             Some(job) => Ok(Request::Run(job)),
             None => Err(ProgramFault::Usage),

@@ -2,12 +2,14 @@
 ghost use Rattle.std.specs.Prelude.{◌≡◌};
 ghost use Rattle.sct_engine.specs.Tasks.{IsPrepared};
 
+use crate::exchanging::{Gathered, gather};
 use crate::fault::ProgramFault;
 use crate::files::{read_file, read_files};
 use crate::jobs::Job;
 use crate::request::Request;
 use sct_streams::Files;
 use std::alloc::Global;
+use std::thread::Threads;
 
 /// A request, with the bytes of the files that it names.
 #[derive(Drop)]
@@ -16,6 +18,8 @@ pub enum Task {
     Work(Job),
     /// Settle sites, each filled from one of the inputs.
     Settle(Vec<Vec<u8>>),
+    /// Make a site of what was read of its files, and write what is wanted of it.
+    Exchange(Gathered),
     /// Show this help.
     Help(String),
     /// A mistake in the command line: the text of clap says why.
@@ -24,7 +28,8 @@ pub enum Task {
 
 /// Reads the files that a request names, each at its own path. A file that cannot be read ends the program before
 /// standard input is read: `Read` (62), `TooLong` (60) or `Memory` (65).
-pub fn prepare<R: Files>(
+pub fn prepare<T: Threads + Sync, R: Files>(
+    rt: &T,
     alloc: Global,
     files: &R,
     request: Request<'_>,
@@ -42,6 +47,7 @@ pub fn prepare<R: Files>(
             }))
         }
         Request::Settle(paths) => Ok(Task::Settle(read_files(alloc, files, &paths)?)),
+        Request::Exchange(command) => Ok(Task::Exchange(gather(rt, alloc, files, command)?)),
         Request::Help(text) => Ok(Task::Help(text)),
         Request::Mistake(text) => Ok(Task::Mistake(text)),
     }

@@ -1,19 +1,19 @@
 -- What a site holds after its rounds, and what it refuses. Proof plumbing.
-use Rattle.std.proofs.Common.{◌≡◌, ◌∙◌, ap, sym, List, [], ◌∷◌, ◌++◌, map}
+use Rattle.std.proofs.Common.{ℕ, ◌≡◌, ◌∙◌, ap, sym, List, [], ◌∷◌, ◌++◌, map}
 use Rattle.std.specs.FinSet as set
 use Rattle.sct_message.specs.declared.draft.Draft.{Draft}
 use Rattle.sct_set.specs.Contents.{Contents, contents_of}
 use Rattle.sct_lines.specs.Lines.{messages_read}
-use Rattle.sct_delta.specs.Entries.{Placed, messages_of}
+use Rattle.sct_delta.specs.Entries.{Placed, messages_of, numbered}
 use Rattle.sct_site.specs.Cores.{Core, IsSite, core_joined, core_taken}
 use Rattle.sct_set.proofs.ContentsLemmas.{union-none}
 use Rattle.sct_site.proofs.AcceptLemmas.{contents-append}
 use Rattle.sct_site.proofs.MessageLemmas.{joined_messages, taken_messages, union-more}
 use Rattle.sct_exchange.specs.Journals.{core_of_journal, core_taking, opened}
-use Rattle.sct_exchange.specs.Laws.{HoldsExactly, RefusalsAreTheLast, RoundsExchange, messages_within}
-use Rattle.sct_exchange.specs.Rounds.{File, files_in}
+use Rattle.sct_exchange.specs.Laws.{HoldsExactly, RefusalsAreTheLast, RoundsExchange, RunsAgainEndAlike, messages_within}
+use Rattle.sct_exchange.specs.Rounds.{File, exchanged, files_in}
 use Rattle.sct_exchange.specs.Ways.{AreAccepted}
-use Rattle.sct_exchange.proofs.JournalLemmas.{journal_site}
+use Rattle.sct_exchange.proofs.JournalLemmas.{journal_core, journal_site}
 use Rattle.sct_exchange.proofs.WayLemmas.{exchanged_is, refused_is, site_exchanged, texts_are_deltas}
 
 none_more : (s : Contents) → set.union s (contents_of []) ≡ s
@@ -54,3 +54,13 @@ rounds_come_to_it number group journal texts valid =
 pub refused_last : RefusalsAreTheLast
 refused_last number group journal texts valid =
     refused_is (core_of_journal number group journal) (journal_site number group journal valid) (files_in texts) (texts_are_deltas texts)
+
+-- ---- a run again
+
+pub end_alike : RunsAgainEndAlike
+end_alike number group journal again texts others log files =
+    let start : core_of_journal number group journal ≡ core_of_journal number group again =
+    journal_core number group journal
+    ∙ ap (λ (l : List Draft). record { number = number; group = group; arrivals = numbered number 1 l }) log
+    ∙ sym (journal_core number group again) in
+    λ i. exchanged (start i) (files i)

@@ -74,6 +74,12 @@ next_of most start now (suc more) enough same some = record {
 pub after_round : (most : ℕ) (start now : Offers) → ComesToTheSame most start now → accepts_some now ≡ true → ComesToTheSame most start (round now.core now.left)
 after_round most start now comes some = next_of most start now comes.more comes.enough comes.same some
 
+-- what a test of all files that are lent tells of those that are left
+pub lent_tells : (core : Core) (left lent : List Numbered) (told some : Bool) → lent ≡ left → told ≡ accepts_some (record { core = core; left = lent }) → told ≡ some
+    → accepts_some (record { core = core; left = left }) ≡ some
+lent_tells core left lent told some same is so =
+    ap (λ (l : List Numbered). accepts_some (record { core = core; left = l })) (sym same) ∙ sym is ∙ so
+
 no_more : (more : ℕ) (now : Offers) → accepts_some now ≡ false → rounds more now ≡ now
 no_more zero now none = refl
 no_more (suc more) now none = ap (λ (b : Bool). cond b (rounds more (round now.core now.left)) now) none

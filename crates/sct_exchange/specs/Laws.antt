@@ -34,6 +34,13 @@ OwnEntriesGoByTheJournal = (number group : ℕ) (journal : List ℕ) (texts : Li
 
 -- ---- rounds
 
+-- A site that is run again is the same site: if two journals make the same own log, and two lists of texts are read as the
+-- same files, the runs end alike. So the same journal and texts give the same arrivals, and the same bytes.
+abbrev pub RunsAgainEndAlike : Type 0
+RunsAgainEndAlike = (number group : ℕ) (journal again : List ℕ) (texts others : List (List ℕ))
+    → own_log journal ≡ own_log again → files_in texts ≡ files_in others
+    → site_after number group journal texts ≡ site_after number group again others
+
 -- After the rounds the site is one. It accepted some of the deltas, and has every entry of each that it does not refuse.
 abbrev pub RoundsExchange : Type 0
 RoundsExchange = (number group : ℕ) (journal : List ℕ) (texts : List (List ℕ)) → is_open number group ≡ true

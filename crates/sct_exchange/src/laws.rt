@@ -5,7 +5,7 @@
 //! before; and each text that a run is given is one that `cut` wrote in an earlier run. The texts may come from any site, in
 //! any order, again, or not at all.
 
-ghost use Rattle.sct_exchange.specs.Laws.{EqualVectorsHoldAlike, EqualVectorsWriteAlike, HoldsExactly, HubsNeverFork, JournalsMakeLogs, NumbersLast, OrderDoesNotMatter, OwnEntriesGoByTheJournal, RefusalsAreTheLast, RoundsExchange};
+ghost use Rattle.sct_exchange.specs.Laws.{EqualVectorsHoldAlike, EqualVectorsWriteAlike, HoldsExactly, HubsNeverFork, JournalsMakeLogs, NumbersLast, OrderDoesNotMatter, OwnEntriesGoByTheJournal, RefusalsAreTheLast, RoundsExchange, RunsAgainEndAlike};
 
 /// A longer journal never changes the number of an earlier message.
 pub fn numbers_last()
@@ -21,6 +21,12 @@ pub fn journals_make_logs()
 /// from its journal comes back under its old number.
 pub fn own_entries_go_by_the_journal()
     ensures { OwnEntriesGoByTheJournal }
+{}
+
+/// A site that is run again from the same own log and the same files is the same site, with the same arrivals in the same
+/// order.
+pub fn runs_again_end_alike()
+    ensures { RunsAgainEndAlike }
 {}
 
 /// After the rounds, the site accepted some of the deltas, and has every entry of each that it does not refuse.

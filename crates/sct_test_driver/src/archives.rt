@@ -36,7 +36,11 @@ impl ArchiveTrial {
 
     // Returns how many messages the archive holds, how many of the list it holds, and its text.
     fn tell(&self) -> Result<Vec<u8>> {
-        let mut told = format!(in self.alloc; "{} {}\n", self.archive.len(), self.held())?.into_bytes();
+        let mut told = format!(in self.alloc;
+            "{} {}\n",
+            self.archive.len(),
+            self.held()
+        )?.into_bytes();
         told.extend_from_slice(&self.archive.text()?)?;
         Ok(told)
     }

@@ -12,5 +12,10 @@ returns c = record {
   replay = λ program. record { no_error = refl; found = refl };
   list = λ program bank day path. record { no_error = refl; found = refl };
   one_file = λ program file. record { no_error = refl; found = refl };
+  site = λ program number group journal. record { no_error = refl; found = refl };
+  site_with_deltas = λ program number group journal one other. record { no_error = refl; found = refl };
+  vector = λ program number group journal. record { no_error = refl; found = refl };
+  cut = λ program number group have journal one. record { no_error = refl; found = refl };
+  cut_all = λ program. record { no_error = refl; found = refl };
   two_files = λ program file other. record { no_error = refl; found = refl };
 }

@@ -1,0 +1,247 @@
+//! A site of a group is made of its journal and of deltas, and what is wanted of it is written.
+ghost use Rattle.std.specs.Prelude.{◌≡◌, ◌≢◌, ◌⊎◌, ◌∷◌, ◌+◌, ◌++◌, Err, Some, false, length, map, IfErr, IfOk, OnOk};
+ghost use Rattle.sct_delta.specs.Entries.{messages_of};
+ghost use Rattle.sct_delta.specs.Vectors.{count_in};
+ghost use Rattle.sct_exchange.specs.RefusedFiles.{refused_text};
+ghost use Rattle.sct_exchange.specs.Sites.{cut_text};
+ghost use Rattle.sct_engine.specs.Engine.{AreCutOff};
+ghost use Rattle.sct_engine.specs.Exchanging.{count_by_exchange, is_possible, text_by_exchange, told_by_exchange, vector_line, wanted_text, AreReadAs, EndsExchange, IsGathered, IsReadAs};
+ghost use Rattle.sct_engine.specs.Places.{wanted_of};
+ghost use Rattle.sct_engine.specs.Stream.{EndsFile, EndsFirst};
+ghost use Rattle.sct_engine.specs.declared.fault.ProgramFault.TheVariants as fault;
+ghost use Rattle.sct_set.specs.Archive.{archive_text_of};
+ghost use Rattle.sct_set.specs.Pieces.{joined};
+ghost use Rattle.sct_streams.specs.Stream.{IsWritten};
+
+use crate::answers::one_piece;
+use crate::fault::ProgramFault;
+use crate::files::read_file;
+use crate::jobs::Done;
+use crate::places::{SiteCommand, Wanting};
+use crate::release::Release;
+use crate::transfer::write_pieces;
+use sct_delta::{DeltaFault, Vector};
+use sct_exchange::{
+    DeltaFile, Exchanged, RefusedFile, exchange, write_cut, write_held, write_refused_files,
+};
+use sct_lines::{Intake, Refusals, read_file_lines};
+use sct_message::Message;
+use sct_set::SortedArchive;
+use sct_site::SiteCore;
+use sct_streams::{Files, Sink, write_all};
+use std::alloc::Global;
+use std::sync::Arc;
+use std::thread::Threads;
+
+/// What a command on one site needs, after its files are read.
+#[derive(Drop)]
+pub struct Gathered {
+    /// What is wanted of the site.
+    pub wanting: Wanting,
+    /// The number of the site, from 1.
+    pub site: u16,
+    /// How many sites the group has.
+    pub sites: u16,
+    /// The messages of the journal, in its order.
+    pub messages: Vec<Arc<Message>>,
+    /// The refused lines of the journal.
+    pub refusals: Refusals,
+    /// What each delta file is read as, in the order given.
+    pub deltas: Vec<DeltaFile>,
+}
+
+// Reads the delta file at a path. Its bytes are dropped. Errors: those of [`read_file`].
+fn read_delta<R: Files>(alloc: Global, files: &R, path: &str) -> Result<DeltaFile, ProgramFault>
+    ensures read { IfOk result (IsReadAs (R.gives files.now) path.now) }
+    ensures faults { IfErr result (EndsFile (R.gives files.now path.now)) }
+{
+    let text = read_file(alloc, files, path)?;
+    match sct_exchange::read_file(alloc, &text) {
+        Ok(file) => Ok(file),
+        Err(_) => Err(ProgramFault::Memory),
+    }
+}
+
+// Reads the delta files at the paths, one after another.
+fn read_deltas<R: Files>(
+    alloc: Global,
+    files: &R,
+    paths: &[&str],
+) -> Result<Vec<DeltaFile>, ProgramFault>
+    ensures read { IfOk result (λ deltas. AreReadAs (R.gives files.now) (map (λ path. path.now) paths.now) deltas.items) }
+    ensures faults { IfErr result (EndsFirst (R.gives files.now) (map (λ path. path.now) paths.now)) }
+{
+    let mut deltas = Vec::new(alloc);
+    for path in paths {
+        deltas.push(read_delta(alloc, files, path)?)?;
+    }
+    Ok(deltas)
+}
+
+/// Reads the journal and the delta files of a command on one site, each at its own path. The first file that cannot be
+/// read ends the program: `Read` (62), `TooLong` (60) or `Memory` (65). The lines of the journal are read in as many
+/// threads as there are processors. Of each file the messages are kept, and its bytes are dropped.
+pub fn gather<T: Threads + Sync, R: Files>(
+    rt: &T,
+    alloc: Global,
+    files: &R,
+    command: SiteCommand<'_>,
+) -> Result<Gathered, ProgramFault>
+    ensures gathered { IfOk result (IsGathered (R.gives files.now) command.entry) }
+    ensures faults { IfErr result (EndsFirst (R.gives files.now)
+        (command.entry.journal.now ∷ map (λ path. path.now) command.entry.deltas.items)) }
+{
+    let journal = read_file(alloc, files, command.journal)?;
+    let Intake { messages, refusals } = read_file_lines(rt, alloc, "file 1 ", &journal)?;
+    drop(journal);
+    let deltas = read_deltas(alloc, files, &command.deltas)?;
+    Ok(Gathered {
+        wanting: command.wanting,
+        site: command.site,
+        sites: command.sites,
+        messages,
+        refusals,
+        deltas,
+    })
+}
+
+// The archive text of what a site holds, in pieces. The pieces are written in as many threads as there are processors.
+// Error: `Memory` (65).
+fn held_pieces<T: Threads + Sync>(
+    rt: &T,
+    alloc: Global,
+    release: Release,
+    core: &SiteCore,
+) -> Result<Vec<Vec<u8>>, ProgramFault>
+    ensures text { IfOk result (λ pieces. joined pieces.items ≡ archive_text_of (messages_of core.now.arrivals)) }
+    ensures memory { IfErr result (λ e. e ≡ fault.Memory) }
+{
+    let ordered = SortedArchive::of(rt, alloc, core.archive().messages())?;
+    let pieces = ordered.text_in_pieces(rt)?;
+    release.let_go(ordered);
+    Ok(pieces)
+}
+
+// The text of a site's version vector, with a line feed. Error: `Memory` (65).
+fn vector_line(alloc: Global, core: &SiteCore) -> Result<Vec<u8>, ProgramFault>
+    ensures text { IfOk result (λ text. text.items ≡ vector_line core.now.arrivals) }
+    ensures memory { IfErr result (λ e. e ≡ fault.Memory) }
+{
+    let mut text = write_held(alloc, core)?;
+    text.push('\n')?;
+    Ok(text.into_bytes())
+}
+
+// The delta text of what a site holds above a version vector. Error: `Memory` (65).
+fn delta_text(alloc: Global, core: &SiteCore, have: &Vector) -> Result<Vec<u8>, ProgramFault>
+    ensures text { IfOk result (λ text. text.items ≡ cut_text (count_in have.now) core.now.arrivals) }
+    ensures memory { IfErr result (λ e. e ≡ fault.Memory) }
+{
+    match write_cut(alloc, core, have) {
+        Ok(text) => Ok(text),
+        Err(_) => Err(ProgramFault::Memory),
+    }
+}
+
+// The text that is wanted of a site, in pieces. Error: `Memory` (65).
+fn wanted_pieces<T: Threads + Sync>(
+    rt: &T,
+    alloc: Global,
+    release: Release,
+    wanting: &Wanting,
+    core: &SiteCore,
+) -> Result<Vec<Vec<u8>>, ProgramFault>
+    ensures text { IfOk result (λ pieces. joined pieces.items ≡ wanted_text (wanted_of wanting.now) core.now.arrivals) }
+    ensures memory { IfErr result (λ e. e ≡ fault.Memory) }
+{
+    let text = match wanting {
+        Wanting::Messages => return held_pieces(rt, alloc, release, core),
+        Wanting::Vector => vector_line(alloc, core)?,
+        Wanting::Delta(have) => delta_text(alloc, core, have)?,
+    };
+    one_piece(alloc, text)
+}
+
+// What a command on one site writes.
+#[derive(Drop)]
+struct SiteAnswer {
+    // What is wanted of the site, in pieces.
+    pieces: Vec<Vec<u8>>,
+    // The refused lines of the journal.
+    refusals: Refusals,
+    // The refused files.
+    refused: Vec<RefusedFile>,
+}
+
+// Makes the site, and the texts about it. Errors: `Usage` (64) if the group has no such site; `Memory` (65).
+fn answer_of_site<T: Threads + Sync>(
+    rt: &T,
+    alloc: Global,
+    release: Release,
+    gathered: Gathered,
+) -> Result<SiteAnswer, ProgramFault>
+    ensures text { IfOk result (λ answer. joined answer.pieces.items ≡ text_by_exchange gathered) }
+    ensures told { IfOk result (λ answer. answer.refusals.text ++ refused_text answer.refused.items ≡ told_by_exchange gathered) }
+    ensures count { IfOk result (λ answer. answer.refusals.count + length answer.refused.items ≡ count_by_exchange gathered) }
+    ensures usage { result ≡ Err fault.Usage → is_possible gathered ≡ false }
+    ensures faults { IfErr result (λ e. e ≢ fault.Usage → e ≡ fault.Memory) }
+{
+    let Gathered {
+        wanting,
+        site,
+        sites,
+        messages,
+        refusals,
+        deltas,
+    } = gathered;
+    let Exchanged { core, refused } = match exchange(alloc, site, sites, messages, deltas) {
+        Ok(exchanged) => exchanged,
+        Err(DeltaFault::BadSite) => return Err(ProgramFault::Usage),
+        Err(_) => return Err(ProgramFault::Memory),
+    };
+    let pieces = wanted_pieces(rt, alloc, release, &wanting, &core)?;
+    release.let_go(core);
+    Ok(SiteAnswer {
+        pieces,
+        refusals,
+        refused,
+    })
+}
+
+/// Makes the site of its journal and deltas. It then writes the refused lines and files to `err`, and what is wanted of the
+/// site to `out`.
+/// Errors: `Usage` (64) if the group has no such site; `Memory` (65); `Write` (63), with a prefix of the texts written.
+/// After any other error nothing is written.
+pub fn write_site<T: Threads + Sync, O: Sink, E: Sink>(
+    rt: &T,
+    alloc: Global,
+    release: Release,
+    gathered: Gathered,
+    out: &mut O,
+    err: &mut E,
+) -> Result<Done, ProgramFault>
+    ensures told { OnOk result (IsWritten (E.state err.old) (E.state err.new) (Some (told_by_exchange gathered))) }
+    ensures text { OnOk result (IsWritten (O.state out.old) (O.state out.new) (Some (text_by_exchange gathered))) }
+    ensures refused { IfOk result (λ done. done.refused ≡ count_by_exchange gathered) }
+    ensures faults { IfErr result EndsExchange }
+    ensures usage { result ≡ Err fault.Usage → is_possible gathered ≡ false }
+    ensures cut_off { result ≡ Err fault.Write
+        → AreCutOff (E.state err.old) (E.state err.new) (O.state out.old) (O.state out.new)
+        (Some (told_by_exchange gathered)) (Some (text_by_exchange gathered)) }
+    ensures order { result ≡ Err fault.Write → (out.new ≡ out.old)
+        ⊎ IsWritten (E.state err.old) (E.state err.new) (Some (told_by_exchange gathered)) }
+    ensures unwritten { IfErr result (λ e. e ≢ fault.Write → (out.new ≡ out.old) × (err.new ≡ err.old)) }
+{
+    let SiteAnswer {
+        pieces,
+        refusals,
+        refused,
+    } = answer_of_site(rt, alloc, release, gathered)?;
+    let (mut told, lines) = refusals.into_parts();
+    told.push_str(write_refused_files(alloc, &refused)?.as_str())?;
+    write_all(err, told.as_bytes())?;
+    write_pieces(out, &pieces)?;
+    Ok(Done {
+        refused: lines + refused.len() as u64,
+    })
+}
