@@ -34,6 +34,7 @@ CHECKS = {
         "readme": "runs the commands of the README",
         "operator_pages": "runs the commands of the operator's pages",
         "desk_tools": "runs the desk's tools",
+        "desk_converters": "runs the converters of the desk on right and wrong files",
         "too_long": "runs the program on inputs that are too long, and on folders",
     },
     "faults": {

@@ -1,10 +1,28 @@
 """ask_sqlite.py: asks a database of load_sqlite.py one question of queries.sql, and prints its rows, fields separated by `|`.
 
+A bank is a BIC of 8 or 11 characters. A day (day, since) is written as 2025-03-10, and a time (before) as 2025-03-10 or
+2025-03-10T12:00:00Z. Anything else is refused, because the database would compare it as a text.
+
 Usage: ask_sqlite.py DATABASE QUESTION [NAME=VALUE ..]   (without QUESTION it lists the questions and the names that each needs)
 """
 import pathlib, re, sqlite3, sys
+import fields
 
 QUERIES = pathlib.Path(__file__).with_name("queries.sql")
+HOUR = re.compile(r"[T ](?:[01][0-9]|2[0-3]):[0-5][0-9](?::[0-5][0-9](?:\.[0-9]+)?)?(?:Z|[+-][0-9]{2}:[0-9]{2})?")
+
+
+def is_time(text):
+    return fields.is_day(text[:10]) and (text[10:] == "" or HOUR.fullmatch(text[10:]) is not None)
+
+
+# for some names, whether a text is a value, and what a value is
+VALUES = {
+    "bank": (fields.is_bic, "a BIC of 8 or 11 capitals and digits"),
+    "day": (fields.is_day, "a day such as 2025-03-10"),
+    "since": (fields.is_day, "a day such as 2025-03-10"),
+    "before": (is_time, "a time such as 2025-03-10T12:00:00Z"),
+}
 
 
 def questions():
@@ -17,20 +35,37 @@ def names(select):
     return sorted(set(re.findall(r":(\w+)", select)))
 
 
+def listed(known):
+    """A line for each question."""
+    return "\n".join(" ".join([name, *(f"{needed}=.." for needed in names(select))]) + f": {asks}"
+                     for name, (asks, select) in known.items())
+
+
+def values(question, select, pairs):
+    """The value of each name that a question needs. A bank gets its 11 characters."""
+    given = dict(pair.split("=", 1) for pair in pairs if "=" in pair)
+    if sorted(given) != names(select) or len(pairs) != len(given):
+        sys.exit(f"ask_sqlite: {question} needs {' '.join(f'{needed}=..' for needed in names(select)) or 'nothing more'}")
+    for name, text in given.items():
+        is_value, wanted = VALUES.get(name, (bool, "a text"))
+        if not is_value(text):
+            sys.exit(f"ask_sqlite: {name}={text} is not {wanted}")
+    return {name: fields.bank(text) if name == "bank" else text for name, text in given.items()}
+
+
 def main():
     words = sys.argv[1:]
     known = questions()
     if len(words) == 1:
-        for name, (asks, select) in known.items():
-            print(" ".join([name, *(f"{needed}=.." for needed in names(select))]) + f": {asks}")
+        print(listed(known))
         return
-    if len(words) < 2 or words[1] not in known:
+    if len(words) < 2:
         sys.exit(__doc__)
     database, question, *pairs = words
-    given = dict(pair.split("=", 1) for pair in pairs if "=" in pair)
+    if question not in known:
+        sys.exit(f"ask_sqlite: there is no question {question}\n{listed(known)}")
     _, select = known[question]
-    if sorted(given) != names(select) or len(pairs) != len(given):
-        sys.exit(f"ask_sqlite: {question} needs {' '.join(f'{needed}=..' for needed in names(select)) or 'nothing more'}")
+    given = values(question, select, pairs)
     if not pathlib.Path(database).is_file():
         sys.exit(f"ask_sqlite: there is no database {database}")
     connection = sqlite3.connect(pathlib.Path(database).resolve().as_uri() + "?mode=ro", uri=True)

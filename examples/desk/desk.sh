@@ -2,25 +2,38 @@
 # desk.sh: an example of a desk's day. It writes what `sct_sites` answers on some files of messages into a new folder.
 #
 # Usage: desk.sh FOLDER FILE..
+#        desk.sh --report BANK DAY LIST FOLDER
 #
-# The files are read one after the other, as one input: for example the archive of yesterday and the messages of today. The
-# folder gets
+# The files are read one after the other, as one input: first the archive of yesterday, then the messages of today. The folder
+# gets
 #   day.status, day.archive, day.totals   what the three commands write
 #   day.refused                           the refused lines, by the line of all files together
-#   day.mend                              each refused line with its file, its line there and its text: FILE:LINE: FAULT: TEXT
+#   day.mend                              each refused line with its file, its line there and its text: FILE:LINE: FAULT: TEXT;
+#                                         and below it the name of the fault and what to do about it (explain.py)
 #   day.counts                            how many T, F and R lines have which status or finding
+#
+# With --report it prints the report on the list of a bank, by the archive of a folder that it made. Before that it checks the
+# list (check_list.py). If a row is a transfer of other banks, there is no report, and the exit status is 2.
 #
 # The exit status is that of `sct_sites`. The folder is made if it is 0 or 1. After any other status there is no folder, and
 # standard error says why. A folder that exists is not touched: the exit status is then 2. The variable SCT_SITES may name the
 # program.
+#
+# Lines with WARNING on standard error do not change the exit status. They say that a file has no message, that the day is empty,
+# or that the archive of yesterday lost messages.
 set -u
 LC_ALL=C
 export LC_ALL
 program=${SCT_SITES:-sct_sites}
+here=$(dirname -- "$0")
 
 stop() {
     echo "desk.sh: $1" >&2
     exit 2
+}
+
+warn() {
+    echo "desk.sh: WARNING: $1" >&2
 }
 
 # One command on all files. Status 1 means that lines were refused, and its answer is kept.
@@ -32,13 +45,26 @@ answered() {
     exit "$ended"
 }
 
+# The report on a list, if nothing speaks against it.
+report() {
+    [ -r "$4/day.archive" ] || stop "$4 is not a folder of desk.sh"
+    python3 "$here/check_list.py" "$1" "$2" "$3" "$4/day.archive" || stop "there is no report on $3"
+    "$program" report -- "$1" "$2" "$3" < "$4/day.archive"
+    exit $?
+}
+
+if [ "${1-}" = --report ]; then
+    [ $# -eq 5 ] || stop "usage: desk.sh --report BANK DAY LIST FOLDER"
+    report "$2" "$3" "$4" "$5"
+fi
 [ $# -ge 2 ] || stop "usage: desk.sh FOLDER FILE.."
 folder=$1
 shift
-[ ! -e "$folder" ] || stop "there is a $folder already"
+[ ! -e "$folder" ] || stop "$folder is there already"
+case "$folder $*" in *=*) stop "awk takes no path with = in it: $folder $*" ;; esac
 for file in "$@"; do
-    case $file in *=*) stop "awk takes no path with = in it: $file" ;; esac
     [ -f "$file" ] && [ -r "$file" ] || stop "there is no file $file that can be read"
+    grep -q '[^[:space:]]' < "$file" || warn "$file has no message"
 done
 work=$(mktemp -d "$folder.XXXXXX") || exit 2
 trap 'rm -rf "$work"' EXIT
@@ -51,12 +77,23 @@ answered archive
 answered totals
 answered status
 
+# The first file is the archive of yesterday, if there are others or its name says so. No line of an archive is refused.
+[ -s "$work/new/day.archive" ] || warn "the day is empty: no line is a message"
+if [ $# -gt 1 ] || [ "$1" != "${1%.archive}" ]; then
+    lost=$(awk 'FNR == NR { lines = NR; next } $2 + 0 <= lines { lost++ } END { print lost + 0 }' "$1" "$work/new/day.refused")
+    [ "$lost" -eq 0 ] || warn "the archive shrank: $lost lines of $1 are refused"
+fi
+
 # The first file that awk reads has the refused lines: `line N: FAULT`. After it, NR less their number is the line of all files
 # together.
 awk '
     FNR == NR && FILENAME == refused { number = $2 + 0; fault[number] = substr($0, index($0, ": ") + 2); many = NR; next }
     NR - many in fault { print FILENAME ":" FNR ": " fault[NR - many] ": " $0 }
-' refused="$work/new/day.refused" "$work/new/day.refused" "$@" > "$work/new/day.mend" || exit 2
+' refused="$work/new/day.refused" "$work/new/day.refused" "$@" > "$work/mend" || exit 2
+python3 "$here/explain.py" "$work/mend" > "$work/new/day.mend" || {
+    warn "day.mend does not say what to do"
+    cp "$work/mend" "$work/new/day.mend" || exit 2
+}
 
 awk -F'|' '
     { word = $1 "|" ($1 == "R" ? $5 : $4); count[word]++ }

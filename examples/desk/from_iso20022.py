@@ -2,24 +2,27 @@
 it: it is outside the proofs, and a wrong converter makes wrong answers. Check it against the messages of your own hub before
 you use it.
 
-It reads files of pacs.002, pacs.004, pacs.008, pacs.028, camt.029 and camt.056 messages, each with one Document, and writes the
-lines to standard output. It keeps the elements that docs/FORMATS.md names, and drops all others. Texts are kept as they are:
-sct_sites judges them.
+It reads files of pacs.002, pacs.004, pacs.008, pacs.028, camt.029 and camt.056 messages, each with one Document or several, and
+writes the lines to standard output. It keeps the elements that docs/FORMATS.md names, and drops all others. Texts are kept as
+they are: sct_sites judges them. A bank is its BICFI, or its BIC as in pacs.008.001.02 and other old versions.
 
-- A camt.056 of several transactions becomes one line with TxInf.
+- A camt.056 of several transactions becomes one line with TxInf. Of more than 100 it has no line: the sender has to cut it.
 - A message of another kind with several transactions becomes a line for each. Lines that were cut out of one message need a
   MsgId each, else they all contradict one another. They get the MsgId of the message, a point and the place of the transaction:
-  M1.1, M1.2 and so on. If such a text is longer than 35 characters, no line of the message is written.
+  M1.1, M1.2 and so on. If such a text is longer than 35 characters, no line of the message is written. If the sender also uses
+  M1.1 itself for a message of that kind, the two contradict each other, and so do their transfers: give the lines other MsgIds.
+- A message without a MsgId (in a camt kind: the Id of its Assgnmt) has no line.
 - OrgnlCxlId of a pacs.004, a camt.029, and a pacs.028 about a recall is in no XML message. It is the CxlId of the one recall of
-  that transfer, in the files or in the archive. If there is none, or more than one, the line is written without it, and
-  sct_sites refuses it.
+  that transfer, in the files or in the archive. Of several recalls it is the one that the message names: by the OrgnlMsgId of a
+  camt.056, or by a RslvdCase whose Id is the Case, the CxlId or the MsgId of the recall. An archive has no Case. If no recall is
+  left, or more than one, the line is written without the key, and sct_sites refuses it.
 - The number of transactions is compared with NbOfTxs. If they differ, no line of the message is written.
 
 Standard error gets a line for each message or key that is left out. The exit status is 0 if nothing was left out, else 1.
 
 Usage: from_iso20022.py [--archive ARCHIVE] FILE..   (ARCHIVE: the archive of the days before, for their recalls)
 """
-import json, sys
+import collections, json, sys
 from xml.etree import ElementTree
 
 # the elements of each kind: the message, and below it the head, each transaction, and the number of transactions if it has one
@@ -31,7 +34,11 @@ KINDS = {
     "pacs.004": ("PmtRtr", "GrpHdr", "TxInf", "GrpHdr/NbOfTxs"),
     "camt.029": ("RsltnOfInvstgtn", "Assgnmt", "CxlDtls/TxInfAndSts", None),
 }
-BIC = "FinInstnId/BICFI"
+MOST = 100  # transactions of a recall
+
+# where a message is, the object of its line, and names of recalls. Those of a recall are the cases of its transactions, or None.
+# Those of another message are how it names the recall that it is about.
+Line = collections.namedtuple("Line", "place keys names")
 
 
 class Wrong(Exception):
@@ -67,26 +74,36 @@ def kept(pairs):
     return {key: text for key, text in pairs if text is not None}
 
 
+def bank_at(element, path):
+    """Where the BIC of a bank is, by its name in the newer versions and in the older ones."""
+    return [(element, f"{path}/FinInstnId/{name}") for name in ("BICFI", "BIC")]
+
+
 def reason(element, name):
     """Where a reason code is, be it a code of ISO or of the scheme."""
     return [(element, f"{name}/Rsn/Cd"), (element, f"{name}/Rsn/Prtry")]
 
 
-class Message:
-    """One XML message."""
+def documents(file):
+    """The Documents of a file, each with what it is called in a message to people."""
+    root = ElementTree.parse(file, ElementTree.XMLParser(target=NoDoctype())).getroot()
+    ones = [part for part in root.iter() if part.tag.rpartition("}")[2] == "Document"]
+    if not ones:
+        raise Wrong("it has no Document")
+    return [(file if len(ones) == 1 else f"{file}: Document {place}", one) for place, one in enumerate(ones, 1)]
 
-    def __init__(self, file):
-        root = ElementTree.parse(file, ElementTree.XMLParser(target=NoDoctype())).getroot()
-        documents = [part for part in root.iter() if part.tag.rpartition("}")[2] == "Document"]
-        if len(documents) != 1:
-            raise Wrong(f"it has {len(documents)} Documents")
-        space = documents[0].tag.rpartition("}")[0]
+
+class Message:
+    """One XML message, in its Document."""
+
+    def __init__(self, document):
+        space = document.tag.rpartition("}")[0]
         self.name = space.rpartition(":")[2]  # {urn:iso:std:iso:20022:tech:xsd:pacs.008.001.08
         self.kind = self.name[:8]
         if self.kind not in KINDS:
-            raise Wrong(f"{self.name or 'its name space'} is none of the six kinds")
+            raise Wrong(f"{self.name or 'its name space'} is not one of the six kinds")
         element, head, transactions, number = KINDS[self.kind]
-        self.body = bare(documents[0]).find(element)
+        self.body = bare(document).find(element)
         if self.body is None:
             raise Wrong(f"it has no {element}")
         self.head = self.body.find(head)
@@ -104,10 +121,13 @@ class Message:
     def head_of(self, transaction):
         """The keys of the head."""
         if self.kind.startswith("camt"):
-            banks = [(self.head, f"Assgnr/Agt/{BIC}")], [(self.head, f"Assgne/Agt/{BIC}")]
+            name, banks = "Id", [bank_at(self.head, f"{agent}/Agt") for agent in ("Assgnr", "Assgne")]
         else:
-            banks = [[(place, f"{name}/{BIC}") for place in (transaction, self.head)] for name in ("InstgAgt", "InstdAgt")]
-        identification = found([(self.head, "Id" if self.kind.startswith("camt") else "MsgId")])
+            name = "MsgId"
+            banks = [bank_at(transaction, agent) + bank_at(self.head, agent) for agent in ("InstgAgt", "InstdAgt")]
+        identification = found([(self.head, name)])
+        if identification is None:
+            raise Wrong(f"it has no {name} in its {self.head.tag}")
         return kept([("MsgNmId", self.name), ("MsgId", identification), ("CreDtTm", found([(self.head, "CreDtTm")])),
                      ("InstgAgt", found(banks[0])), ("InstdAgt", found(banks[1]))])
 
@@ -118,7 +138,7 @@ class Message:
         return kept([("OrgnlMsgId", at("OrgnlMsgId")), ("OrgnlMsgNmId", at("OrgnlMsgNmId")),
                      ("OrgnlEndToEndId", found([(transaction, "OrgnlEndToEndId")])),
                      ("OrgnlTxId", found([(transaction, "OrgnlTxId")])),
-                     ("DbtrAgt", found([(transaction, f"OrgnlTxRef/DbtrAgt/{BIC}")]))])
+                     ("DbtrAgt", found(bank_at(transaction, "OrgnlTxRef/DbtrAgt")))])
 
     def instruction(self, transaction):
         info = [transaction.find("PmtTpInf"), self.head.find("PmtTpInf")]
@@ -130,8 +150,8 @@ class Message:
             ("InstrId", at("PmtId/InstrId")), ("EndToEndId", at("PmtId/EndToEndId")), ("TxId", at("PmtId/TxId")),
             ("IntrBkSttlmAmt", at("IntrBkSttlmAmt")), ("Ccy", at("IntrBkSttlmAmt@Ccy")), ("ChrgBr", at("ChrgBr")),
             ("AccptncDtTm", at("AccptncDtTm")), ("Dbtr", at("Dbtr/Nm")), ("DbtrAcct", at("DbtrAcct/Id/IBAN")),
-            ("DbtrAgt", at(f"DbtrAgt/{BIC}")), ("CdtrAgt", at(f"CdtrAgt/{BIC}")), ("Cdtr", at("Cdtr/Nm")),
-            ("CdtrAcct", at("CdtrAcct/Id/IBAN")), ("Ustrd", at("RmtInf/Ustrd"))])
+            ("DbtrAgt", found(bank_at(transaction, "DbtrAgt"))), ("CdtrAgt", found(bank_at(transaction, "CdtrAgt"))),
+            ("Cdtr", at("Cdtr/Nm")), ("CdtrAcct", at("CdtrAcct/Id/IBAN")), ("Ustrd", at("RmtInf/Ustrd"))])
 
     def confirmation(self, transaction):
         group = self.body.find("OrgnlGrpInfAndSts")
@@ -166,18 +186,34 @@ class Message:
         own = {"pacs.002": self.confirmation, "camt.056": self.recall, "pacs.004": self.payback, "camt.029": self.refusal}
         return {**self.original(transaction), **own.get(self.kind, lambda _: {})(transaction)}
 
-    def lines(self):
-        """The objects of the message. Each becomes a line."""
+    def names(self, transaction):
+        """How a transaction names the recall that it is about: by the message that made it, or by its case."""
+        details = [part for part in self.body.findall("CxlDtls") if transaction in part.findall("TxInfAndSts")]
+        places = [transaction, *details, self.body]
+        groups = [group for place in places for name in ("OrgnlGrpInf", "OrgnlGrpInfAndSts") for group in place.findall(name)]
+        messages = [found([(group, "OrgnlMsgId")]) for group in groups
+                    if (found([(group, "OrgnlMsgNmId")]) or "").startswith("camt.056")]
+        cases = [found([(place, "RslvdCase/Id")]) for place in places + groups]
+        return [name for name in messages + cases if name is not None]
+
+    def recalls(self, place):
+        """The line of a camt.056."""
+        if len(self.transactions) > MOST:
+            raise Wrong(f"it has {len(self.transactions)} transactions, and a recall has at most {MOST}")
+        keys = [self.keys(transaction) for transaction in self.transactions]
+        cases = [found([(transaction, "Case/Id"), (self.body, "Case/Id")]) for transaction in self.transactions]
+        return Line(place, {**self.head_of(None), **(keys[0] if len(keys) == 1 else {"TxInf": keys})}, cases)
+
+    def lines(self, place):
+        """The lines of the message, which is at a place."""
         if self.kind == "camt.056":
-            keys = [self.keys(transaction) for transaction in self.transactions]
-            return [{**self.head_of(None), **keys[0]} if len(keys) == 1 else {**self.head_of(None), "TxInf": keys}]
-        objects = [{**self.head_of(transaction), **self.keys(transaction)} for transaction in self.transactions]
-        if len(objects) > 1:
-            for place, one in enumerate(objects, 1):
-                one["MsgId"] = f"{one.get('MsgId', '')}.{place}"
-                if len(one["MsgId"]) > 35:
-                    raise Wrong(f"its MsgId is too long to be cut: {one['MsgId']}")
-        return objects
+            return [self.recalls(place)]
+        lines = [Line(place, {**self.head_of(one), **self.keys(one)}, self.names(one)) for one in self.transactions]
+        for number, line in enumerate(lines if len(lines) > 1 else [], 1):
+            line.keys["MsgId"] += f".{number}"
+            if len(line.keys["MsgId"]) > 35:
+                raise Wrong(f"its MsgId is too long to be cut: {line.keys['MsgId']}")
+        return lines
 
 
 def bank(text):
@@ -185,58 +221,78 @@ def bank(text):
     return text + "XXX" if text and len(text) == 8 else text
 
 
-def recalls_of(objects):
-    """The recalls that some objects make: of each transfer, each CxlId with the MsgIds of its messages."""
+def parts_of(keys):
+    """The transactions of a recall."""
+    return keys.get("TxInf", [keys])
+
+
+def recalls_of(lines):
+    """The recalls that some lines make: of each transfer, each CxlId with all that may name it."""
     recalls = {}
-    for one in objects:
-        if one["MsgNmId"].startswith("camt.056"):
-            for part in one.get("TxInf", [one]):
+    for line in lines:
+        if line.keys["MsgNmId"].startswith("camt.056"):
+            for part, case in zip(parts_of(line.keys), line.names):
                 made = recalls.setdefault((bank(part.get("DbtrAgt")), part.get("OrgnlTxId")), {})
-                made.setdefault(part.get("CxlId"), set()).add(one.get("MsgId"))
+                made.setdefault(part.get("CxlId"), set()).update([part.get("CxlId"), line.keys["MsgId"], case])
     return recalls
 
 
-def wants_recall(one):
-    kind = one["MsgNmId"][:8]
-    return kind in ("pacs.004", "camt.029") or kind == "pacs.028" and one.get("OrgnlMsgNmId", "").startswith("camt.056")
+def wants_recall(keys):
+    kind = keys["MsgNmId"][:8]
+    return kind in ("pacs.004", "camt.029") or kind == "pacs.028" and keys.get("OrgnlMsgNmId", "").startswith("camt.056")
 
 
-def correlated(one, recalls):
-    """The CxlId of the one recall that an object is about, else None. Of several, a request names the right one by its MsgId."""
-    made = recalls.get((bank(one.get("DbtrAgt")), one.get("OrgnlTxId")), {})
-    named = [recall for recall, messages in made.items() if one.get("OrgnlMsgId") in messages]
-    some = named if one["MsgNmId"].startswith("pacs.028") and named else list(made)
-    return some[0] if len(some) == 1 else None
+def correlated(line, recalls):
+    """The recalls that a line may be about: those of its transfer that it names, or all of them if it names none."""
+    made = recalls.get((bank(line.keys.get("DbtrAgt")), line.keys.get("OrgnlTxId")), {})
+    return [recall for recall, names in made.items() if names.intersection(line.names)] or list(made)
+
+
+def recalls_held(path):
+    """The lines of the recalls in an archive."""
+    try:
+        with open(path, encoding="utf-8") as archive:
+            messages = (json.loads(line) for line in archive if line.strip())
+            recalls = [keys for keys in messages if keys["MsgNmId"].startswith("camt.056")]
+    except (OSError, ValueError, KeyError, TypeError) as why:
+        sys.exit(f"from_iso20022: {path} is not an archive that can be read: {why!r}")
+    return [Line(path, keys, [None] * len(parts_of(keys))) for keys in recalls]
+
+
+def converted(files):
+    """The lines of some files, and a text for each message that has none."""
+    lines, left_out = [], []
+    for file in files:
+        try:
+            for place, document in documents(file):
+                try:
+                    lines += Message(document).lines(place)
+                except Wrong as why:
+                    left_out.append(f"{place}: {why}")
+        except (OSError, ElementTree.ParseError, Wrong) as why:
+            left_out.append(f"{file}: {why}")
+    return lines, left_out
 
 
 def main():
-    words, held = sys.argv[1:], []
-    if words[:1] == ["--archive"] and len(words) > 1:
-        try:
-            with open(words[1], encoding="utf-8") as archive:
-                held = [json.loads(line) for line in archive if line.strip()]
-        except (OSError, ValueError) as why:
-            sys.exit(f"from_iso20022: {words[1]} is not an archive that can be read: {why}")
-        words = words[2:]
-    if not words:
+    files, held = sys.argv[1:], []
+    if files[:1] == ["--archive"] and len(files) > 1:
+        held, files = recalls_held(files[1]), files[2:]
+    if not files:
         sys.exit(__doc__)
-    objects, left_out = [], []
-    for file in words:
-        try:
-            objects += [(file, one) for one in Message(file).lines()]
-        except (OSError, ElementTree.ParseError, Wrong) as why:
-            left_out.append(f"{file}: {why}")
-    recalls = recalls_of(held + [one for _, one in objects])
-    for file, one in objects:
-        if wants_recall(one):
-            recall = correlated(one, recalls)
-            if recall is None:
-                left_out.append(f"{file}: not one recall of {one.get('OrgnlTxId')} is known, so OrgnlCxlId is left out")
+    lines, left_out = converted(files)
+    recalls = recalls_of(held + lines)
+    for line in lines:
+        if wants_recall(line.keys):
+            about = correlated(line, recalls)
+            if len(about) == 1:
+                line.keys["OrgnlCxlId"] = about[0]
             else:
-                one["OrgnlCxlId"] = recall
-        sys.stdout.buffer.write((json.dumps(one, ensure_ascii=False, separators=(",", ":")) + "\n").encode())
-    for line in left_out:
-        print(f"from_iso20022: {line}", file=sys.stderr)
+                known = ", ".join(map(str, about)) or "none"
+                left_out.append(f"{line.place}: OrgnlCxlId is left out; recalls of {line.keys.get('OrgnlTxId')}: {known}")
+        sys.stdout.buffer.write((json.dumps(line.keys, ensure_ascii=False, separators=(",", ":")) + "\n").encode())
+    for text in left_out:
+        print(f"from_iso20022: {text}", file=sys.stderr)
     sys.exit(1 if left_out else 0)
 
 

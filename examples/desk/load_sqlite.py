@@ -47,10 +47,12 @@ def rows_of(status, letter, many):
 
 
 def refusals(refused, mend):
-    """The rows of refused. Both files have the refused lines in one order."""
-    for line, text in zip(refused, mend):
+    """The rows of refused. Both files have the refused lines in one order. In day.mend lines of explain.py are between them."""
+    texts = iter(mend)
+    for line in refused:
         fault = line.partition(": ")[2]
-        place, _, text = text.partition(f": {fault}: ")
+        found = next((text for text in texts if f": {fault}: " in text), "")
+        place, _, text = found.partition(f": {fault}: ")
         yield fault, place, text
 
 
@@ -76,9 +78,9 @@ def main():
         sys.exit(__doc__)
     folder, database = map(pathlib.Path, sys.argv[1:])
     if not (folder / "day.status").is_file():
-        sys.exit(f"load_sqlite: {folder} is no folder of desk.sh")
+        sys.exit(f"load_sqlite: {folder} is not a folder of desk.sh")
     if database.exists():
-        sys.exit(f"load_sqlite: there is a {database} already")
+        sys.exit(f"load_sqlite: {database} is there already")
     load(folder, database)
 
 

@@ -49,6 +49,7 @@ WITH RECURSIVE kept (bank, transfer_id) AS (
     SELECT bank, transfer_id FROM transfer WHERE status NOT IN ('ACCEPTED', 'REJECTED', 'RETURNED')
     UNION SELECT bank, transfer_id FROM recall WHERE status NOT IN ('RETURNED', 'REFUSED')
     UNION SELECT bank, transfer_id FROM message WHERE coalesce(date(created), :since) >= :since
+        OR coalesce(date(:since) <> :since, 1)  -- all is kept if :since is not a day
     UNION SELECT other.bank, other.transfer_id  -- a recall of several transfers stays whole
     FROM kept JOIN message USING (bank, transfer_id) JOIN message AS other USING (sender, kind, message_id))
 SELECT DISTINCT text

@@ -1,29 +1,37 @@
-"""desk_tools.py: the desk's tools of examples/desk/ write what the files there have.
+"""desk_tools.py: the desk's tools of examples/desk/ write what the files there have, and refuse what they must.
 
-- from_iso20022.py makes iso20022.jsonl of the XML messages of iso20022/, and nothing of wrong-count.xml.
 - desk.sh makes the folder day/ of bank-day.archive and iso20022.jsonl. It makes no folder after a status of 2 or 3, and leaves a
-  folder that is there as it is.
+  folder that is there as it is. It warns of a day that is empty or that lost messages. It reports on no list of another bank.
+- load_sqlite.py loads the refused lines, and ask_sqlite.py takes no mistyped day, time or bank.
+- explain.py prints a name of the code for each number of a refused line.
+
+desk_converters.py has the two tools that convert.
 """
-import pathlib, shutil, tempfile
+import contextlib, re, shutil, sqlite3, tempfile
 from tests import harness
-from tests.golden.shown import place, shell
+from tests.golden.shown import copied, place, shell
 from tests.harness import EXAMPLES, reported
 
 # a program that writes half an answer and ends with a fault
 FAULTY = "#!/bin/sh\ncat > /dev/null\necho 'T|HANSDEHHXXX|'\necho 'fault {}' >&2\nexit {}\n"
 
 
-def converted(folder, commands):
-    """Whether the example converter makes the lines that it must of the XML messages, and none of a wrong one."""
-    convert = "python3 desk/from_iso20022.py "
-    text, status = shell(convert + "--archive bank-day.archive desk/iso20022/*.xml > made.jsonl", folder, commands)
-    yield reported("from_iso20022 ends well", (text, status) == ("", 0), text)
-    made, right = [path.read_text(encoding="utf-8") for path in (folder / "made.jsonl", folder / "desk" / "iso20022.jsonl")]
-    yield reported("from_iso20022 makes the lines", made == right, made)
-    text, status = shell(convert + "desk/wrong-count.xml", folder, commands)
-    right = "from_iso20022: desk/wrong-count.xml: NbOfTxs is 2, and it has 1 transactions\n"
-    yield reported("from_iso20022 counts transactions", (text, status) == (right, 1), text)
+def answers(name, command, right, folder, commands, **variables):
+    """Whether a command prints a text on both outputs and ends with a status."""
+    answer = shell(command, folder, commands, **variables)
+    return reported(name, answer == right, str(answer))
 
+
+def tried(tools):
+    """Whether each thing is right that some functions look at, each in a copy of examples/ of its own. It ends the check."""
+    program, right = harness.program(), []
+    for tool in tools:
+        with tempfile.TemporaryDirectory() as folder:
+            right += tool(copied(folder), place(folder, program))
+    harness.end_of(right)
+
+
+# ---- desk.sh
 
 def files_in(folder):
     """The files below a folder, by their paths in it."""
@@ -59,13 +67,155 @@ def keeps_nothing(folder, commands, desk, status):
     return reported(f"desk.sh keeps nothing after status {status}", right, f"{answer}, {left}")
 
 
+# what desk.sh is run on, what it warns of, and the status that it ends with
+WARNED = [
+    ("printf ' \\n\\n' > empty", "empty", ["empty has no message", "the day is empty: no line is a message"], 0),
+    ("echo x > bad", "bad", ["the day is empty: no line is a message"], 1),
+    (":> empty", "bank-day.archive empty", ["empty has no message"], 0),
+    ("head -c 5000 bank-day.archive > cut", "cut desk/iso20022.jsonl", ["the archive shrank: 1 lines of cut are refused"], 1),
+    ("sed 's/{/[/' bank-day.archive > all.archive", "all.archive",
+     ["the day is empty: no line is a message", "the archive shrank: 23 lines of all.archive are refused"], 1),
+    (":", "hub-morning.jsonl", [], 1),
+    (":", "bank-day.archive desk/iso20022.jsonl", [], 1),
+]
+
+
+def warnings(folder, commands):
+    """Whether desk.sh warns of files without a message, of an empty day, of an archive that lost messages, and of nothing else."""
+    for place, (before, files, warned, status) in enumerate(WARNED):
+        text = "".join(f"desk.sh: WARNING: {warning}\n" for warning in warned)
+        command = f"{before}; sh desk/desk.sh warned{place} {files}"
+        yield answers(f"desk.sh warns on {files}", command, (text, status), folder, commands)
+    for words in ("x=1 bank-day.archive", "new bank-day.archive x=1"):
+        right = (f"desk.sh: awk takes no path with = in it: {words}\n", 2)
+        yield answers(f"desk.sh takes no {words}", f"sh desk/desk.sh {words}", right, folder, commands)
+    (folder / "desk" / "explain.py").unlink()
+    shell("sh desk/desk.sh plain bank-day.archive desk/iso20022.jsonl", folder, commands)
+    right = (folder / "desk" / "day" / "day.mend").read_bytes().splitlines(True)[0]
+    yield reported("desk.sh needs no explanation", (folder / "plain" / "day.mend").read_bytes() == right)
+
+
+# the words of a report on bank-day.list, and for each row that is named what is said of it
+OTHERS = {2: "LUTEFRPPXXX LU20250310B1 is a transfer to ARNOITFFXXX", 3: "LUTEFRPPXXX LU20250310B2 is a transfer to SUOMFIHHXXX",
+          4: "LUTEFRPPXXX LU20250310B3 is a transfer to ALPEATWWXXX", 5: "LUTEFRPPXXX LU20250310B6 is a transfer to SCALBEBBXXX",
+          6: "LUTEFRPPXXX LU20250310B7 is a transfer to ARNOITFFXXX", 7: "LUTEFRPPXXX LU20250310B7 is a transfer to ARNOITFFXXX",
+          9: "LUTEFRPPXXX LU20250310B9 is a transfer to ARNOITFFXXX", 10: "LUTEFRPPXXX LU,10 is a transfer to SUOMFIHHXXX"}
+
+
+def reports(folder, commands):
+    """Whether desk.sh checks a list before it prints a report."""
+    shell("sh desk/desk.sh day bank-day.archive", folder, commands)
+    report = "sh desk/desk.sh --report {} {} {} day"
+    right = (EXAMPLES / "bank-day.report").read_text()
+    row = "check_list: row 9: LUTEFRPPXXX LU20250310B9 is of 2025-03-11, and not of 2025-03-10; the report compares it all the same"
+    command = report.format("LUTEFRPP", "2025-03-10", "bank-day.list")
+    yield answers("desk.sh reports", command, (f"{row}\n{right}", 0), folder, commands)
+    for bank, others in [("HANSDEHH", OTHERS), ("DEUTDEFF", {**OTHERS, 11: "HANSDEHHXXX HH-0301 is a transfer to LUTEFRPPXXX"})]:
+        rows = "".join(f"check_list: row {number}: {text}, and not of {bank}XXX\n" for number, text in others.items())
+        right = (rows + "desk.sh: there is no report on bank-day.list\n", 2)
+        command = report.format(bank, "2025-03-10", "bank-day.list")
+        yield answers(f"desk.sh gives {bank} no report on transfers of others", command, right, folder, commands)
+    right = ("check_list: 2025-02-31 is not a day such as 2025-03-10\ndesk.sh: there is no report on bank-day.list\n", 2)
+    yield answers("desk.sh knows the calendar", report.format("LUTEFRPP", "2025-02-31", "bank-day.list"), right, folder, commands)
+    command = "printf '\\nDbtrAgt,TxId,Amt,Sts\\n' > none; " + report.format("LUTEFRPP", "2025-03-10", "none")
+    text, status = shell(command, folder, commands)
+    yield reported("desk.sh reports on a list without rows", status == 0 and "ONLY_IN_ARCHIVE" in text, text)
+    right = ("fault 48 2\n", 2)
+    command = report.format("BANKDEFF", "2024-05-02", "command-lines/bad-row")
+    yield answers("desk.sh leaves it to the program what a list is", command, right, folder, commands)
+
+
+# ---- ask_sqlite.py
+
+# questions with a wrong value, and what a value is
+MISTYPED = [(f"{name}={text}", f"{name}={text}", f"a {what}") for name, what, texts in [
+    ("keep since", "day such as 2025-03-10", ["2025-3-11", "yesterday", "11.03.2025", "2025-02-31", "2025-03-11T00:00:00Z", "now"]),
+    ("open_recalls day", "day such as 2025-03-10", ["20.03.2025", "2025-13-01"]),
+    ("waiting before", "time such as 2025-03-10T12:00:00Z", ["10.03.2025", "yesterday", "2025-03-10T25:00:00Z", "2025-03-1012:00", "2025-03-10T12:00Zulu"]),
+    ("bank bank", "BIC of 8 or 11 capitals and digits", ["suomfihh", "SUOMFIH", "SUOMFIHHX"])] for text in texts]
+
+
+def asked(folder, commands):
+    """Whether a mistyped value ends a question, a right one does not, and nothing is dropped by a day that is none."""
+    shell("sh desk/desk.sh day bank-day.archive; python3 desk/load_sqlite.py day day.db", folder, commands)
+    ask = "python3 desk/ask_sqlite.py day.db "
+    for words, given, what in MISTYPED:
+        right = (f"ask_sqlite: {given.partition(' ')[2]} is not {what}\n", 1)
+        yield answers(f"ask_sqlite takes no {words}", ask + words, right, folder, commands)
+    for question, short in [("bank bank={}", "SUOMFIHH"), ("history transfer=LU20250310B1 bank={}", "LUTEFRPP")]:
+        long, status = shell(ask + question.format(short + "XXX"), folder, commands)
+        yield reported(f"{question} has rows", status == 0 and long != "", long)
+        yield answers(f"ask_sqlite knows {short}", ask + question.format(short), (long, 0), folder, commands)
+    listed, _ = shell(ask, folder, commands)
+    right = (f"ask_sqlite: there is no question kept\n{listed}", 1)
+    yield answers("ask_sqlite lists the questions", ask + "kept since=2025-03-11", right, folder, commands)
+    for before in ("2025-03-11", "2025-03-10T23:59", "2025-03-10T23:59:59.5+01:00"):
+        text, status = shell(ask + f"waiting before={before}", folder, commands)
+        yield reported(f"ask_sqlite takes {before}", status == 0 and text.count("\n") == 4, text)
+    yield keeps_all(folder)
+    yield loads_refused(folder, commands)
+
+
+def loads_refused(folder, commands):
+    """Whether the table refused has each refused line with its fault, its place and its text, and nothing of the lines between."""
+    shell("sh desk/desk.sh morning hub-morning.jsonl; python3 desk/load_sqlite.py morning morning.db", folder, commands)
+    with contextlib.closing(sqlite3.connect(folder / "morning.db")) as connection:
+        made = list(connection.execute("SELECT fault, place, text FROM refused ORDER BY rowid"))
+    lines, refused = [(EXAMPLES / f"hub-morning.{end}").read_text(encoding="utf-8").splitlines() for end in ("jsonl", "refused")]
+    right = [re.match(r"line (\d+): (.*)", line).groups() for line in refused]
+    right = [(fault, f"hub-morning.jsonl:{number}", lines[int(number) - 1]) for number, fault in right]
+    return reported("load_sqlite has the refused lines", made == right, str(made))
+
+
+def keeps_all(folder):
+    """Whether the question `keep` drops nothing by a text that is no day, also if another program asks it."""
+    select = (folder / "desk" / "queries.sql").read_text(encoding="utf-8").partition("-- keep")[2].partition("\n")[2]
+    with contextlib.closing(sqlite3.connect(folder / "day.db")) as connection:
+        made = [len(connection.execute(select, {"since": day}).fetchall()) for day in ("2025-3-11", None, "2025-03-20")]
+    return reported("keep drops nothing without a day", made[:2] == [23, 23] and made[2] < 23, str(made))
+
+
+# ---- explain.py
+
+# lines, and for each what is below it, without what the page says of it
+EXPLAINED = [("fault 62", ["Read"]), ("fault 64", ["Usage"]), ("fault 66 42", ["Refused", "Fork"]), ("line 3: 64", ["NoEvent"]),
+             ("file 2: 43 2", ["OwnAhead"]),
+             ("file 2 line 11: 36 CdtrAgt 1", ["BadBic"]), ("line 1: 56 2 38 22", ["At", "RepeatedRecall"]),
+             ("line 1: 56 9 36 CxlId 3", ["At", "BadId"]), ('a b.jsonl:7: 37 "Purp": {"a":": 31"}', ["Extra"]),
+             ("{}", []), (6 * "x," + 200000 * "y", []), ("line 5", []), ("", []), ("T|HANSDEHHXXX|T1|ACCEPTED", []), ("line 8: 99", [])]
+
+
+def explained(folder, commands):
+    """Whether each number of a refused line gets its name, each remedy is that of the page, and other lines nothing."""
+    page = (harness.TOP / "docs" / "CODES.md").read_text(encoding="utf-8")
+    explain = "python3 desk/explain.py "
+    text, status = shell(explain + "refusals.refused", folder, commands)
+    names = re.findall(r"^    (\w+): ", text, re.MULTILINE)
+    lines = [line for line in text.splitlines() if not line.startswith("    ")]
+    right = (EXAMPLES / "refusals.refused").read_text(encoding="utf-8").splitlines()
+    yield reported("explain prints all lines", (lines, status) == (right, 0), text)
+    right = len(names) == len(lines) + 1 and all(f"| `{name}` |" in page for name in names)  # one line has a number in another
+    yield reported("explain names each number", right, text)
+    for line, right in EXPLAINED:
+        (folder / "lines").write_text(line + "\n")
+        text, _ = shell(explain + "< lines", folder, commands)
+        below = text.splitlines()[1:]
+        is_right = text.startswith(line + "\n") and [one.strip().partition(":")[0] for one in below] == right
+        yield reported(f"explain {line[:60]}", is_right, text)
+    for line, remedy in [("line 2: 36 DbtrAcct 2", "BadIban: remove spaces; ask the sender if the check digits are wrong"),
+                         ("F|BANKDEFFXXX|T1|TwoReturns", "ask the beneficiary bank what it paid back"),
+                         ("R|BANKDEFFXXX|T1|R1|CHASED", "remind the beneficiary bank"),
+                         ("E|12|REFUSED|41|3|0|2", "hand it the earlier delta first"),
+                         ('LUTEFRPPXXX,"LU,10",LISTED_TWICE,,,1.00,ACCEPTED', "leave one row")]:
+        (folder / "lines").write_text(line)
+        yield answers(f"explain says {remedy}", explain + "lines", (f"{line}\n    {remedy}\n", 0), folder, commands)
+    (folder / "desk" / "CODES.md").write_text(page.replace("remove spaces; ask", "REMOVE SPACES; ask"))
+    text, _ = shell("echo 'line 1: 36 DbtrAcct 2' | " + explain, folder, commands)
+    yield reported("explain reads the page beside it", "REMOVE SPACES" in text, text)
+
+
 def main():
-    program, right = harness.program(), []
-    for tool in (converted, days):
-        with tempfile.TemporaryDirectory() as folder:
-            copy = pathlib.Path(shutil.copytree(EXAMPLES, f"{folder}/examples"))
-            right += tool(copy, place(folder, program))
-    harness.end_of(right)
+    tried([days, warnings, reports, asked, explained])
 
 
 if __name__ == "__main__":

@@ -2,10 +2,10 @@
 
 The commands of a page run one after another in one copy of examples/.
 """
-import shutil, tempfile
+import tempfile
 from tests import harness
-from tests.golden.shown import is_printed, place, shell, shown
-from tests.harness import EXAMPLES, TOP
+from tests.golden.shown import copied, is_printed, place, shell, shown
+from tests.harness import TOP
 
 PAGES = ["CODES.md", "DESK.md", "EXCHANGE.md", "PARTICIPANTS.md"]
 
@@ -13,7 +13,7 @@ PAGES = ["CODES.md", "DESK.md", "EXCHANGE.md", "PARTICIPANTS.md"]
 def page_runs(name, program):
     """Whether each command of a page prints what the page shows."""
     with tempfile.TemporaryDirectory() as folder:
-        commands, copy = place(folder, program), shutil.copytree(EXAMPLES, f"{folder}/examples")
+        commands, copy = place(folder, program), copied(folder)
         for number, command, lines in shown((TOP / "docs" / name).read_text(encoding="utf-8")):
             text, _ = shell(command, copy, commands)
             yield harness.reported(f"{name}, line {number}", is_printed(lines, text), text)

@@ -4,7 +4,8 @@ A block of a page is indented. A line `$ COMMAND` of it is a command, and lines 
 below these, up to the next command or the end of the block, are what it prints on both outputs. A line `..` stands for any number of
 lines. `sct_sites` is the program.
 """
-import os, pathlib, re, subprocess
+import os, pathlib, re, shutil, subprocess
+from tests.harness import EXAMPLES, TOP
 
 LEFT_OUT = ".."
 
@@ -36,6 +37,12 @@ def is_printed(lines, text):
     """Whether a text is what these lines show."""
     pattern = "".join("(?:.*\n)*" if line == LEFT_OUT else re.escape(line) + "\n" for line in lines)
     return re.fullmatch(pattern, text) is not None
+
+
+def copied(folder):
+    """A copy of examples/ in a folder. The pages that its tools read are beside it."""
+    pathlib.Path(folder, "docs").symlink_to(TOP / "docs")
+    return pathlib.Path(shutil.copytree(EXAMPLES, pathlib.Path(folder, "examples")))
 
 
 def place(folder, program):

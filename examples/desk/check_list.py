@@ -1,0 +1,70 @@
+"""check_list.py: checks the list of a bank against an archive, before a report on it is made.
+
+A report answers each row of a list, whatever its banks and its day are. So a bank could ask for transfers of others, and a list
+that belongs to another BANK or DAY gets a report that looks right. Standard error gets a line for each row
+
+- of which all instructions in the archive are between other banks; the exit status is then 1, and
+- whose instruction has another settlement day: the report compares it all the same.
+
+A row without an instruction in the archive, or with too few fields, is not judged. Rows count as in `fault 48 N`: from 1, with
+the header and without blank lines.
+
+Usage: check_list.py BANK DAY LIST ARCHIVE   (ARCHIVE: what `sct_sites archive` wrote)
+"""
+import collections, csv, json, sys
+from fields import bank, is_day
+
+# the beneficiary bank and the settlement day of an instruction
+Instruction = collections.namedtuple("Instruction", "beneficiary day")
+
+
+def instructions(archive):
+    """The instructions of an archive, by originator bank and identification."""
+    found = collections.defaultdict(list)
+    for line in archive:
+        message = json.loads(line)
+        if message["MsgNmId"].startswith("pacs.008"):
+            one = Instruction(bank(message["CdtrAgt"]), message["IntrBkSttlmDt"])
+            found[bank(message["DbtrAgt"]), message["TxId"]].append(one)
+    return found
+
+
+def rows(file):
+    """Each row of a list with its number, but for the header and rows that have no transfer."""
+    records = (row for row in csv.reader(file) if row)
+    for number, row in enumerate(records, 1):
+        if number > 1 and len(row) > 1:
+            yield number, bank(row[0]), row[1]
+
+
+def faults(asking, day, listed, held):
+    """What is to be said of the rows, each with whether it forbids the report."""
+    for number, originator, transfer in listed:
+        ones = held.get((originator, transfer), [])
+        name = f"row {number}: {originator} {transfer}"
+        if ones and asking not in [originator, *(one.beneficiary for one in ones)]:
+            yield True, f"{name} is a transfer to {ones[0].beneficiary}, and not of {asking}"
+        elif ones and day not in [one.day for one in ones]:
+            yield False, f"{name} is of {ones[0].day}, and not of {day}; the report compares it all the same"
+
+
+def main():
+    if len(sys.argv) != 5:
+        sys.exit(__doc__)
+    asking, day, list_path, archive_path = sys.argv[1:]
+    if not is_day(day):
+        sys.exit(f"check_list: {day} is not a day such as 2025-03-10")
+    try:
+        with open(archive_path, encoding="utf-8") as archive:
+            held = instructions(archive)
+        with open(list_path, encoding="utf-8-sig", errors="replace", newline="") as file:
+            found = list(faults(bank(asking), day, rows(file), held))
+    except (OSError, ValueError, KeyError, csv.Error) as why:
+        sys.exit(f"check_list: {list_path} cannot be checked by {archive_path}: {why}")
+    for _, text in found:
+        print(f"check_list: {text}", file=sys.stderr)
+    sys.exit(1 if any(forbids for forbids, _ in found) else 0)
+
+
+if __name__ == "__main__":
+    main()
