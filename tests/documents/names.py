@@ -13,7 +13,7 @@ from tests.documents import sources
 from tests.documents.pages import codes, rows
 from tests.harness import CRATES, TOP
 
-PAGES = [TOP / "README.md", *sorted((TOP / "docs").glob("*.md")), TOP / "examples" / "README.md"]
+PAGES = [*sorted(TOP.glob("*.md")), *sorted((TOP / "docs").glob("*.md")), TOP / "examples" / "README.md"]
 
 # names of std, of the language and of the kit, commands of the shell, and names that a page has because they are wrong here
 OUTSIDE = set("""
