@@ -31,6 +31,7 @@ CHECKS = {
         "operator_pages": "runs the commands of the operator's pages",
         "desk_tools": "runs the desk's tools",
         "too_long": "runs the program on inputs that are too long, and on folders",
+        "parts": "runs the program on parts of inputs, on the workers of Dask",
     },
     "faults": {
         "archive_growths": "refuses each growth of an archive",
