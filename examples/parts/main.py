@@ -1,10 +1,10 @@
 """main.py: answers on any number of files of messages, in parts that share nothing, on the workers of Dask.
 
 The answers are those of `sct_sites` on all lines together. FOLDER gets whole.status, whole.totals, whole.archive and whole.report,
-as they are asked for, and whole.refused. All workers must see FOLDER, the files and the program by these paths. docs/PARTS.md has
-more.
+as they are asked for, and whole.refused. All workers must see FOLDER, the files, the program and this package under the same paths.
+docs/PARTS.md has more.
 """
-import argparse, contextlib, fcntl, json, logging, os, pathlib, shutil, subprocess, sys, zipfile
+import argparse, contextlib, fcntl, importlib, json, logging, os, pathlib, shutil, subprocess, sys, warnings
 
 sys.path.insert(0, str(pathlib.Path(__file__).resolve().parents[1]))
 try:
@@ -14,8 +14,8 @@ except ImportError as missing:
     print(f"parts: {sys.executable} has no {missing.name}. Debian's packages python3-dask and python3-distributed belong to"
           " /usr/bin/python3: start this program with it", file=sys.stderr)
     sys.exit(2)
-from parts import answers, merge, parts, ties
-from parts.files import Stop, kept, whole
+from parts import parts, ties
+from parts.files import Stop, whole
 
 PACKAGE = pathlib.Path(__file__).resolve().parent
 CHECKED = ["status", "archive"]  # what the check reads
@@ -127,9 +127,9 @@ class Steps:
         self.client, self.work, self.is_kept = client, str(work), is_kept
 
     def each(self, name, function, calls):
-        """The results of a function on the folder of the work, for each list of its other arguments."""
-        futures = self.client.map(kept_call, [[self.work, name, number, function, its] for number, its in enumerate(calls)], pure=False)
-        return self.client.gather(futures)
+        """The results of a function of a module on the folder of the work, for each list of its other arguments."""
+        asked = [[str(PACKAGE.parent), self.work, name, number, function, its] for number, its in enumerate(calls)]
+        return self.client.gather(self.client.map(kept_call, asked, pure=False))
 
     def drop(self, folder):
         """Removes files that no later step reads."""
@@ -138,27 +138,25 @@ class Steps:
 
 
 def kept_call(call):
-    """One call of a step, on a worker."""
-    work, name, number, function, its = call
-    return kept(f"{work}/done/{name}.{number}", lambda: function(work, *its))
+    """One call of a step, on a worker, which finds this package under the same path."""
+    top, work, name, number, function, its = call
+    if top not in sys.path:
+        sys.path.insert(0, top)
+    module, _, word = function.rpartition(".")
+    files, made = importlib.import_module("parts.files"), getattr(importlib.import_module(module), word)
+    return files.kept(f"{work}/done/{name}.{number}", lambda: made(work, *its))
 
 
 def tied(steps, blocks, read, buckets):
     """Writes the root of each tied transfer. The result is how many are tied."""
-    slices = [[(f"{steps.work}/keys/{block.number}.identities", *its["ends"][bucket:bucket + 2]) for block, its in zip(blocks, read)]
-              for bucket in range(buckets)]
-    found = steps.each("ties", tied_in, [[its] for its in slices])
+    slices = [[[block.number, *its["ends"][bucket:bucket + 2]] for block, its in zip(blocks, read)] for bucket in range(buckets)]
+    found = steps.each("ties", "parts.ties.pairs_in", [[its] for its in slices])
     pairs = [pair for its in read for pair in its["pairs"]] + [pair for its in found for pair in its]
     roots = ties.Ties(pairs).roots()
     with whole(f"{steps.work}/roots") as file:
         for pair in sorted(roots.items()):
             file.write(b"".join(number.to_bytes(8, sys.byteorder) for number in pair))
     return len(roots)
-
-
-def tied_in(work, slices):
-    """The pairs that identities of one bucket tie."""
-    return ties.pairs_in(slices)
 
 
 def lines_before(blocks, read):
@@ -173,13 +171,14 @@ def lines_before(blocks, read):
 def cut(steps, blocks, plan):
     """Cuts all lines into parts. The result has the name, the bytes and the lines of each, and how many transfers are tied."""
     buckets = min(len(blocks), parts.MOST_BUCKETS)
-    read = steps.each("read", parts.read_block, [[block, buckets] for block in blocks])
+    read = steps.each("read", "parts.parts.read_block", [[list(block), buckets] for block in blocks])
     many = tied(steps, blocks, read, buckets)
     size_of_all = sum(its for _, its, _ in plan["files"])
     number = max(plan["parts"], int(size_of_all / (plan["most"] * FILL)) + 1)
-    pieces = steps.each("cut", parts.cut_block, [[block, before, number] for block, before in zip(blocks, lines_before(blocks, read))])
+    calls = [[list(block), before, number] for block, before in zip(blocks, lines_before(blocks, read))]
+    pieces = steps.each("cut", "parts.parts.cut_block", calls)
     steps.drop("keys")
-    gathered = steps.each("gather", parts.gather_part, [[part, pieces, plan["most"]] for part in range(number)])
+    gathered = steps.each("gather", "parts.parts.gather_part", [[part, pieces, plan["most"]] for part in range(number)])
     steps.drop("cuts")
     found = [one for its in gathered for one in its]
     if sum(lines for _, _, lines in found) != sum(its["lines"] - its["blank"] for its in read):
@@ -193,11 +192,11 @@ def answered(steps, plan):
     blocks = parts.blocks_of([path for path, _, _ in plan["files"]], plan["block"])
     found, many = cut(steps, blocks, plan)
     names, commands = [name for name, _, _ in found], plan["wanted"] + plan["more"]
-    refused = sum(steps.each("answer", answers.answer_part, [[name, plan["program"][0], commands] for name in names]))
+    refused = sum(steps.each("answer", "parts.answers.answer_part", [[name, plan["program"][0], commands] for name in names]))
     steps.drop("parts")
     wanted = [word for word, _ in plan["wanted"]] + ["refused"]
     calls = [[names, word, len(plan["files"]), word in wanted] for word in [word for word, _ in commands] + ["refused"]]
-    steps.each("merge", merge.merge, calls)
+    steps.each("merge", "parts.merge.merge", calls)
     lines = sum(lines for _, _, lines in found)
     return wanted, f"lines {lines}, refused {refused}, tied transfers {many}, parts {len(names)}", refused
 
@@ -206,16 +205,13 @@ def answered(steps, plan):
 
 @contextlib.contextmanager
 def workers(asked, work):
-    """The workers: those of a cluster, which are given this package, or some on this machine."""
+    """The workers: those of a cluster, or some on this machine."""
     if asked.scheduler:
         with Client(asked.scheduler) as client:
-            file = pathlib.Path(work, "parts.zip")
-            with zipfile.ZipFile(file, "w") as package:
-                for path in sorted(PACKAGE.glob("*.py")):
-                    package.write(path, f"parts/{path.name}")
-            client.upload_file(str(file))
             yield client
         return
+    logging.getLogger("asyncio").setLevel(logging.CRITICAL)  # what Dask leaves undone when it ends is no part of the answer
+    warnings.simplefilter("ignore", RuntimeWarning)
     how = {"threads_per_worker": 1, "dashboard_address": ":0", "local_directory": f"{work}/dask", "silence_logs": logging.CRITICAL}
     with LocalCluster(n_workers=asked.workers, **how) as cluster, Client(cluster) as client:
         yield client
@@ -238,6 +234,8 @@ def run(asked):
         work = prepared(folder, plan)
         with workers(asked, work) as client:
             wanted, done, refused = answered(Steps(client, work, asked.keep), plan)
+        if plan_of(asked) != plan:
+            raise Stop("a file changed while it was read")
         for word in wanted:
             os.replace(work / "merged" / word, folder / f"whole.{word}")
         if not asked.keep:

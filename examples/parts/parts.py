@@ -62,7 +62,7 @@ def lines_of(block):
 def read_block(work, block, many):
     """Writes two files: a number for each line, which is that of the first transfer that it names, and the identity and that
     transfer for each message, in so many buckets by the identity."""
-    firsts, buckets, pairs = array.array("Q"), [array.array("Q") for _ in range(many)], set()
+    block, firsts, buckets, pairs = Block(*block), array.array("Q"), [array.array("Q") for _ in range(many)], set()
     for line in lines_of(block):
         identity, transfers = (None, []) if is_blank(line) else keys_of(line)
         if identity is None or not transfers:
@@ -98,7 +98,7 @@ def read_roots(work):
 def cut_block(work, block, before, parts):
     """Writes the lines of a block and their places, part after part. `before` is how many lines of the file come before it. The
     result is where each part ends in the two files."""
-    roots = read_roots(work)
+    block, roots = Block(*block), read_roots(work)
     lines, places = [[] for _ in range(parts)], [array.array("Q") for _ in range(parts)]
     for number, (transfer, line) in enumerate(zip(numbers(f"{work}/keys/{block.number}.transfers"), lines_of(block)), before + 1):
         if transfer != BLANK:

@@ -38,12 +38,12 @@ def pairs_of(transfers):
     return {(transfers[0], other) for other in transfers[1:] if other != transfers[0]}
 
 
-def pairs_in(slices):
-    """The pairs of transfers that an identity ties together, in slices of files with the numbers of identities and of transfers in
-    turn."""
+def pairs_in(work, slices):
+    """The pairs of transfers that the identities of one bucket tie together. Each block has a slice of its file with the numbers of
+    identities and of transfers in turn."""
     first, pairs = {}, set()
-    for path, begin, end in slices:
-        found = numbers(path, begin, end)
+    for block, begin, end in slices:
+        found = numbers(f"{work}/keys/{block}.identities", begin, end)
         for identity, transfer in zip(found[::2], found[1::2]):
             other = first.setdefault(identity, transfer)
             if other != transfer:

@@ -32,6 +32,8 @@ NOT_MESSAGES = ["foo", "{}", "[]", "\x0c", '{"MsgNmId":"pacs.008"}', '{"MsgNmId"
 ONCE_KILLED = '#!/bin/sh\n[ "$1" = status ] && mkdir "$0.killed" 2> /dev/null && kill -9 $PPID\nexec {} "$@"\n'
 # a program that ends with status 2 from its seventh call on, as long as a file is there; each call adds a line to another file
 STOPS = '#!/bin/sh\necho "$1" >> "$0.calls"\n[ -e "$0.stop" ] && [ $(wc -l < "$0.calls") -gt 6 ] && exit 2\nexec {} "$@"\n'
+ALL_CALLS = 17  # four commands on each of four parts, and a report on nothing before
+
 # programs that answer what they must not: each part has one transfer, or one identity, or refuses nothing
 LIES = {
     "a transfer": '#!/bin/sh\n[ "$1" = status ] || exec {0} "$@"\n{0} "$@" > /dev/null\nstatus=$?\necho "T|A|T1|PENDING"\nexit $status\n',
@@ -194,26 +196,25 @@ def large(r, python, program, folder):
 
 
 def going_on(r, python, program, folder):
-    """A run that goes on where another one stopped, and one on other files, which begins anew."""
-    lines = small_input(r) + small_input(r)
-    path = pathlib.Path(folder, "rows.list")
+    """A run that goes on where another one stopped, and one on a file that changed, which begins anew."""
+    lines, path, out = small_input(r) + small_input(r), pathlib.Path(folder, "rows.list"), pathlib.Path(folder, "out")
     path.write_bytes(list_of(r, lines)[2])
-    files, stopping, out = files_of(r, folder, lines, 2), script(folder, "stopping", STOPS, program), pathlib.Path(folder, "out")
+    files, stopping = files_of(r, folder, lines, 2), script(folder, "stopping", STOPS, program)
     stop, calls = pathlib.Path(stopping + ".stop"), pathlib.Path(stopping + ".calls")
-    tried, asked = Tried(python, program, files, [*REPORT, str(path)]), ["--workers", "1", "--parts", "4"]
-    for change, fewer in (False, True), (True, False):
+    asked, more = ["--workers", "1", "--parts", "4"], b"\n" + shuffled(r, Pool(r).message())
+    for name, change in ("a run that goes on", b""), ("a run on a file that changed", more):
         stop.touch()
-        calls.unlink() if calls.exists() else None
+        tried = Tried(python, program, files, [*REPORT, str(path)])
         yield tried.stops("a program that fails", "ended with status 2", out, *asked, program=stopping)
         stop.unlink()
         calls.unlink()
-        if change:
-            with open(files[0], "ab") as file:
-                file.write(b"\n" + shuffled(r, Pool(r).message()))
-            tried = Tried(python, program, files, [*REPORT, str(path)])
-        yield tried.is_right("a run that goes on" if fewer else "a run on other files", out, *asked, program=stopping)
-        many = len(calls.read_text().split())
-        yield reported("it asks what was not asked" if fewer else "it asks everything", (many < 17) == fewer, f"{many} calls\n")
+        with open(files[0], "ab") as file:
+            file.write(change)
+        tried = Tried(python, program, files, [*REPORT, str(path)])
+        yield tried.is_right(name, out, *asked, program=stopping)
+        asks_all = len(calls.read_text().split()) == ALL_CALLS
+        yield reported(f"{name} asks {'everything' if change else 'what was not asked'}", asks_all == bool(change))
+        calls.unlink()
 
 
 def refusing(r, python, program, folder):
@@ -256,7 +257,8 @@ def cluster(python, folder):
     """The address of a scheduler with two workers."""
     path = pathlib.Path(folder, "cluster.py")
     path.write_text(CLUSTER)
-    with subprocess.Popen([python, path, f"{folder}/workers"], stdin=subprocess.PIPE, stdout=subprocess.PIPE, cwd=folder) as process:
+    streams = {"stdin": subprocess.PIPE, "stdout": subprocess.PIPE, "stderr": subprocess.DEVNULL}
+    with subprocess.Popen([python, path, f"{folder}/workers"], cwd=folder, **streams) as process:
         yield process.stdout.readline().decode().strip()
         process.stdin.close()
 
