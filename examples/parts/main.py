@@ -76,7 +76,7 @@ def commands_of(asked):
 
 
 def mark(path):
-    """What a file is told by: its path, its size and the time of its last change."""
+    """A file by its path, its size and the time of its last change."""
     path = os.path.abspath(path)
     there = os.stat(path)
     return [path, there.st_size, there.st_mtime_ns]
