@@ -36,6 +36,7 @@ CHECKS = {
         "desk_tools": "runs the desk's tools",
         "desk_converters": "runs the converters of the desk on right and wrong files",
         "too_long": "runs the program on inputs that are too long, and on folders",
+        "parts": "runs the program on parts of inputs, on the workers of Dask",
     },
     "faults": {
         "archive_growths": "refuses each growth of an archive",

@@ -136,6 +136,15 @@ def answers_to(program, added, held):
     yield held, [f"{len(before)} messages"]
 
 
+def in_parts(command):
+    """The text of a command on each of two parts, and on both together."""
+    def compared(program, one, other, of_one, of_other, of_both):
+        first, second = (lines_of(" ".join(words)) for words in (one, other))
+        for text, given in ((of_one, first), (of_other, second), (of_both, first + second)):
+            yield ("".join(row + "\n" for row in text), 0), written(program, command, given)
+    return compared
+
+
 def numbered(many, what):
     """A number of things in words."""
     return f"{many or 'no'} {what}{'' if many < 2 else 's'}"
@@ -198,6 +207,8 @@ def settling(_, words, gives):
 #   the archive text. The second one comes from the definition of touched (views.py), since no command prints it.
 # - `settled` and `gives`: sites with their entries, and how settling ends by the definitions (groups.py), since no command settles
 #   sites that are named so.
+# - `part 1`, `part 2`, `gives 1`, `gives 2` and `whole`: the status text of each part, and of both together. With `totals 1` and
+#   `totals 2` it is the totals text.
 # - `events` and perhaps `site N`: a script with the outcome of each line, and the status text of a site at the end (replayed).
 FORMS = {
     ("held", "gives"): text_of("status"),
@@ -205,6 +216,8 @@ FORMS = {
     ("added", "held"): answers_to,
     ("batch",): batches,
     ("settled", "gives"): settling,
+    ("part 1", "part 2", "gives 1", "gives 2", "whole"): in_parts("status"),
+    ("part 1", "part 2", "totals 1", "totals 2", "whole"): in_parts("totals"),
 }
 
 

@@ -1,0 +1,134 @@
+-- Laws of parts that are apart, for auditors. Each law is the contract of a function.
+use Rattle.std.specs.FinSet as set
+use Rattle.std.specs.Prelude.{◌≡◌, ◌≢◌, ◌↔◌, ◌⊎◌, ◌++◌, ℕ, false, List, Contains, None, map, flat_map}
+use Rattle.sct_message.specs.Ascending.{ascending}
+use Rattle.sct_message.specs.Keys.{identity_of}
+use Rattle.sct_message.specs.Order.{identity_order, transfer_order}
+use Rattle.sct_message.specs.Sets.{MessageSet}
+use Rattle.sct_message.specs.Transfers.{keys_of}
+use Rattle.sct_message.specs.declared.draft.Draft.{Draft}
+use Rattle.sct_message.specs.declared.keys.Identity.{Identity}
+use Rattle.sct_message.specs.declared.keys.TransferKey.{TransferKey}
+use Rattle.sct_set.specs.Archive.{added_of, archive_text_of, has_identity, in_text_order, line_of, line_order}
+use Rattle.sct_set.specs.Contradictions.{IsContradicted, contradicted_identities}
+use Rattle.sct_view.specs.Answers.{transfers_of}
+use Rattle.sct_view.specs.Kept.{case_of}
+use Rattle.sct_view.specs.StatusText.{lines_on, status_text_of}
+use Rattle.sct_view.specs.Totals.{banks_of, plus, totals_of}
+use Rattle.sct_view.specs.TotalsText.{totals_line, totals_text_of}
+use Rattle.sct_view.specs.Touched.{IsToldAlike}
+use Rattle.sct_reconcile.specs.Reports.{listed_on, report_of, row_from, row_on, word_on}
+use Rattle.sct_reconcile.specs.declared.rows.ListedRow.{ListedRow}
+use Rattle.sct_reconcile.specs.declared.words.StatusWord.TheVariants as word
+use Rattle.sct_parts.specs.Parts.{AreAllApart, AreApart, ShareNothing, banks_of_both, keys_of_both, keys_reported_of_both, lines_in_part, row_in_part, totals_in, union_of}
+
+-- ---- what is apart
+
+-- sets are apart exactly if no message of one has an identity or a transfer in common with a message of the other
+abbrev pub ApartSetsShareNothing : Type 0
+ApartSetsShareNothing = (a b : MessageSet) → AreApart a b ↔ ShareNothing a b
+
+-- A set that is apart from two sets is apart from their union. What is apart is so from both sides.
+pub record ApartFromAll : Type 0 where
+  pub both : (a b c : MessageSet) → AreApart a b → AreApart a c → AreApart a (set.union b c)
+  pub sides : (a b : MessageSet) → AreApart a b → AreApart b a
+
+-- ---- contradicted identities
+
+-- The contradicted identities of the union are those of its parts.
+pub record ContradictionsAreThoseOfTheParts : Type 0 where
+  pub each : (a b : MessageSet) → AreApart a b → (identity : Identity)
+      → IsContradicted (set.union a b) identity ↔ (IsContradicted a identity ⊎ IsContradicted b identity)
+  pub listed : (a b : MessageSet) → AreApart a b
+      → contradicted_identities (set.union a b)
+      ≡ ascending identity_order (contradicted_identities a ++ contradicted_identities b)
+
+-- ---- transfers
+
+-- What a larger set keeps and answers of a transfer is what the part keeps and answers of it, and so are its lines of
+-- the status text.
+pub record IsOfThePart (part whole : MessageSet) (transfer : TransferKey) : Type 0 where
+  pub case : case_of whole transfer ≡ case_of part transfer
+  pub answers : IsToldAlike part whole transfer
+  pub lines : lines_on whole transfer ≡ lines_on part transfer
+
+-- The transfers of the union are those of its parts, and each has the case, the answers and the lines of its part. So
+-- the status text has the lines of each transfer in its part, ascending.
+pub record LinesAreThoseOfTheirPart : Type 0 where
+  pub first : (a b : MessageSet) (transfer : TransferKey) → AreApart a b → Contains (keys_of a) transfer
+      → IsOfThePart a (set.union a b) transfer
+  pub second : (a b : MessageSet) (transfer : TransferKey) → AreApart a b → Contains (keys_of b) transfer
+      → IsOfThePart b (set.union a b) transfer
+  pub keys : (a b : MessageSet) → keys_of (set.union a b) ≡ keys_of_both a b
+  pub text : (a b : MessageSet) → AreApart a b
+      → status_text_of (set.union a b) ≡ flat_map (lines_in_part a b) (keys_of_both a b)
+
+-- the transfers of a bank in the union are those in the parts
+abbrev pub TransfersOfBanksAreThoseOfTheParts : Type 0
+TransfersOfBanksAreThoseOfTheParts = (a b : MessageSet) (bank : List ℕ) → AreApart a b
+    → transfers_of (set.union a b) bank ≡ ascending transfer_order (transfers_of a bank ++ transfers_of b bank)
+
+-- ---- totals
+
+-- Each number of the totals of a bank is the sum of that number in the parts. The banks of the union are those of its
+-- parts.
+pub record TotalsAddUp : Type 0 where
+  pub each : (a b : MessageSet) (bank : List ℕ) → AreApart a b
+      → totals_of (set.union a b) bank ≡ plus (totals_of a bank) (totals_of b bank)
+  pub banks : (a b : MessageSet) → AreApart a b → banks_of (set.union a b) ≡ banks_of_both a b
+  pub text : (a b : MessageSet) → AreApart a b
+      → totals_text_of (set.union a b)
+      ≡ flat_map (λ bank. totals_line bank (plus (totals_of a bank) (totals_of b bank))) (banks_of_both a b)
+
+-- ---- reports
+
+-- Each transfer of a part has the row of its part, whatever the list says. So the report has the row of each transfer
+-- in its part.
+pub record RowsAreThoseOfTheirPart : Type 0 where
+  pub first : (a b : MessageSet) (list : List ListedRow) (key : TransferKey) → AreApart a b → Contains (keys_of a) key
+      → row_on (set.union a b) list key ≡ row_on a list key
+  pub second : (a b : MessageSet) (list : List ListedRow) (key : TransferKey) → AreApart a b → Contains (keys_of b) key
+      → row_on (set.union a b) list key ≡ row_on b list key
+  pub report : (a b : MessageSet) (bank day : List ℕ) (list : List ListedRow) → AreApart a b
+      → report_of (set.union a b) bank day list ≡ map (row_in_part a b list) (keys_reported_of_both a b bank day list)
+
+-- ---- the archive
+
+-- The archive text of the union has the lines of both sets in their order, whether or not they are apart. A message is
+-- answered as in one set if the other has no message of its identity.
+pub record ArchiveIsThatOfTheParts : Type 0 where
+  pub lines : (a b : MessageSet)
+      → archive_text_of (set.union a b) ≡ flat_map line_of (ascending line_order (in_text_order a ++ in_text_order b))
+  pub answer : (a b : MessageSet) (draft : Draft) → has_identity b (identity_of draft) ≡ false
+      → added_of (set.union a b) draft ≡ added_of a draft
+
+-- ---- many parts
+
+-- Many parts are apart, two by two. The whole contradicts an identity exactly if a part does. Its transfers are those
+-- of the parts, and each is answered as in its part and has its row. A row names an unknown status and no amount
+-- exactly if no message names the transfer: so it is with a transfer of the list in each part but its own. The totals
+-- are the sums of those of the parts. The archive text has the lines of all parts.
+pub record ManyPartsAnswerTogether : Type 0 where
+  pub contradictions : (parts : List MessageSet) → AreAllApart parts → (identity : Identity)
+      → IsContradicted (union_of parts) identity ↔ ((part : MessageSet) × Contains parts part × IsContradicted part identity)
+  pub keys : (parts : List MessageSet) (transfer : TransferKey)
+      → Contains (keys_of (union_of parts)) transfer ↔ ((part : MessageSet) × Contains parts part × Contains (keys_of part) transfer)
+  pub lines : (parts : List MessageSet) → AreAllApart parts → (part : MessageSet) (transfer : TransferKey)
+      → Contains parts part → Contains (keys_of part) transfer → IsOfThePart part (union_of parts) transfer
+  pub totals : (parts : List MessageSet) → AreAllApart parts → (bank : List ℕ)
+      → totals_of (union_of parts) bank ≡ totals_in parts bank
+  pub rows : (parts : List MessageSet) → AreAllApart parts → (part : MessageSet) (list : List ListedRow) (key : TransferKey)
+      → Contains parts part → Contains (keys_of part) key → row_on (union_of parts) list key ≡ row_on part list key
+  pub own_rows : (held : MessageSet) (key : TransferKey) → Contains (keys_of held) key → word_on held key ≢ word.Unknown
+  pub other_rows : (held : MessageSet) (list : List ListedRow) (key : TransferKey) → (Contains (keys_of held) key → ⊥)
+      → row_on held list key ≡ row_from key (listed_on list key) word.Unknown None
+  pub archive : (parts : List MessageSet)
+      → archive_text_of (union_of parts) ≡ flat_map line_of (ascending line_order (flat_map in_text_order parts))
+
+-- ---- transfers that are in both sets
+
+-- a transfer that is in both sets is counted twice, so the totals of its originator bank do not add up
+abbrev pub SharedTransfersAreCountedTwice : Type 0
+SharedTransfersAreCountedTwice = (a b : MessageSet) (transfer : TransferKey)
+    → Contains (keys_of a) transfer → Contains (keys_of b) transfer
+    → totals_of (set.union a b) transfer.debtor_agent ≢ plus (totals_of a transfer.debtor_agent) (totals_of b transfer.debtor_agent)

@@ -1,0 +1,3 @@
+-- The definitions of parts of a set of messages.
+pub mod Laws
+pub mod Parts

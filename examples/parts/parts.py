@@ -1,0 +1,197 @@
+"""parts.py: an input cut into blocks, the keys of each block, and the parts into which its lines go.
+
+A block is some bytes of one file, from the beginning of a line to the end of one. A worker reads a block twice: once for the keys of
+its lines, and once more to cut it, when the ties of all blocks are known. The lines of one part from all blocks are then put together
+in a file, which is an input of `sct_sites`. The places of its lines are in a file beside it, in the same order.
+
+A place is a number: the file, the line, and whether the line has no keys. Files and lines count from 1.
+"""
+import array, collections, itertools, os
+from parts.files import Stop, copied, numbers, whole
+from parts.keys import BLANK, NO_KEYS, is_blank, keys_of, words_of
+from parts.ties import pairs_of
+
+Block = collections.namedtuple("Block", "number file path begin end")
+MOST_BUCKETS = 256
+KEYLESS, FILE = 1 << 63, 1 << 40
+
+
+def place(file, line, is_keyless):
+    return is_keyless * KEYLESS + file * FILE + line
+
+
+def file_and_line(place):
+    return place % KEYLESS // FILE, place % FILE
+
+
+# ---- blocks
+
+def cuts(path, size):
+    """Where the blocks of a file begin, and where the last one ends: after a line feed, about every `size` bytes."""
+    end = os.path.getsize(path)
+    found = [0]
+    with open(path, "rb") as file:
+        while found[-1] + size < end:
+            file.seek(found[-1] + size - 1)
+            file.readline()
+            found.append(file.tell())
+    return found + [end] * (found[-1] < end)
+
+
+def blocks_of(paths, size):
+    """The blocks of all files, each of about so many bytes."""
+    ends = [(file, path, *two) for file, path in enumerate(paths, 1) for found in [cuts(path, size)] for two in zip(found, found[1:])]
+    return [Block(number, *end) for number, end in enumerate(ends)]
+
+
+def lines_of(block):
+    """The lines of a block, each with its line feed, if it has one."""
+    with open(block.path, "rb") as file:
+        file.seek(block.begin)
+        left = block.end - block.begin
+        while left > 0:
+            line = file.readline(left)
+            if not line:
+                raise Stop(f"{block.path} is shorter than it was")
+            left -= len(line)
+            yield line
+
+
+# ---- the keys of a block
+
+def read_block(work, block, many):
+    """Writes two files: a number for each line, which is that of the first transfer that it names, and the identity and that
+    transfer for each message, in so many buckets by the identity."""
+    block, firsts, buckets, pairs = Block(*block), array.array("Q"), [array.array("Q") for _ in range(many)], set()
+    for line in lines_of(block):
+        identity, transfers = (None, []) if is_blank(line) else keys_of(line)
+        if identity is None or not transfers:
+            firsts.append(BLANK if is_blank(line) else NO_KEYS)
+            continue
+        firsts.append(transfers[0])
+        buckets[identity % many].extend((identity, transfers[0]))
+        if len(transfers) > 1:
+            pairs |= pairs_of(transfers)
+    with whole(f"{work}/keys/{block.number}.transfers") as file:
+        firsts.tofile(file)
+    ends = [0]
+    with whole(f"{work}/keys/{block.number}.identities") as file:
+        for bucket in buckets:
+            bucket.tofile(file)
+            ends.append(file.tell())
+    return {"lines": len(firsts), "blank": firsts.count(BLANK), "ends": ends, "pairs": sorted(pairs)}
+
+
+# ---- a block that is cut
+
+def part_of(transfer, line, roots, parts):
+    """The part of a line, by its transfer or, if it has none, by its number."""
+    return (line if transfer == NO_KEYS else roots.get(transfer, transfer)) % parts
+
+
+def read_roots(work):
+    """The root of each tied transfer, from the file that has them in turn."""
+    found = numbers(f"{work}/roots")
+    return dict(zip(found[::2], found[1::2]))
+
+
+def cut_block(work, block, before, parts):
+    """Writes the lines of a block and their places, part after part. `before` is how many lines of the file come before it. The
+    result is where each part ends in the two files."""
+    block, roots = Block(*block), read_roots(work)
+    lines, places = [[] for _ in range(parts)], [array.array("Q") for _ in range(parts)]
+    for number, (transfer, line) in enumerate(zip(numbers(f"{work}/keys/{block.number}.transfers"), lines_of(block)), before + 1):
+        if transfer != BLANK:
+            part = part_of(transfer, number, roots, parts)
+            lines[part].append(line if line.endswith(b"\n") else line + b"\n")
+            places[part].append(place(block.file, number, transfer == NO_KEYS))
+    ends = {"lines": [0], "places": [0]}
+    for what, pieces in (("lines", map(b"".join, lines)), ("places", places)):
+        with whole(f"{work}/cuts/{block.number}.{what}") as file:
+            for piece in pieces:
+                file.write(piece)
+                ends[what].append(file.tell())
+    return ends
+
+
+# ---- a part that is put together
+
+def put_together(work, part, cut, what):
+    """Writes the file of a part from what each block has for it."""
+    with whole(part_file(work, f"{part}", what)) as target:
+        for number, ends in enumerate(cut):
+            with open(f"{work}/cuts/{number}.{what}", "rb") as source:
+                copied(source, *ends[what][part:part + 2], target)
+        return target.tell()
+
+
+def part_file(work, name, what):
+    return f"{work}/parts/{name}.{what}"
+
+
+def gather_part(work, part, cut, most):
+    """Writes the files of a part, and answers their names, with how many bytes and lines each has. A part of more than `most` bytes
+    becomes several. One without a line is left out, unless it is the first."""
+    size, places = (put_together(work, part, cut, what) for what in ("lines", "places"))
+    if size > most:
+        return split_part(work, part, most)
+    return [[f"{part}", size, places // 8]] if size or part == 0 else []
+
+
+def root_of(line, number, roots):
+    """What a line is tied to: the root of its transfer, or itself if it names none."""
+    transfers = keys_of(line)[1]
+    return roots.get(transfers[0], transfers[0]) if transfers else -number
+
+
+def pieces_of(sizes, most):
+    """The piece of each root, so that no piece has more than `most` bytes: the largest first, each into the first with room."""
+    piece_of, fills = {}, []
+    for root, size in sizes.most_common():
+        piece = next((piece for piece, fill in enumerate(fills) if fill + size <= most), len(fills))
+        fills += [0] * (piece == len(fills))
+        fills[piece] += size
+        piece_of[root] = piece
+    return piece_of, len(fills)
+
+
+def split_part(work, part, most):
+    """Writes a part that is too large as several, each of at most `most` bytes. Lines that are tied together stay together."""
+    path, roots, sizes = part_file(work, f"{part}", "lines"), read_roots(work), collections.Counter()
+    with open(path, "rb") as file:
+        found = [root_of(line, number, roots) for number, line in enumerate(file)]
+    with open(path, "rb") as file:
+        for root, line in zip(found, file):
+            sizes[root] += len(line)
+    [(root, size)] = sizes.most_common(1)
+    if size > most:
+        raise Stop(too_large(path, [its == root for its in found], size, most))
+    piece_of, many = pieces_of(sizes, most)
+    return [write_piece(work, part, piece, [piece_of[root] for root in found]) for piece in range(many)]
+
+
+def write_piece(work, part, piece, pieces):
+    """Writes one piece of a part, of whose lines each has a piece."""
+    name, places = f"{part}-{piece}", numbers(part_file(work, f"{part}", "places"))
+    with open(part_file(work, f"{part}", "lines"), "rb") as source, whole(part_file(work, name, "lines")) as target:
+        target.writelines(line for line, its in zip(source, pieces) if its == piece)
+        size = target.tell()
+    with whole(part_file(work, name, "places")) as target:
+        chosen = array.array("Q", (place for place, its in zip(places, pieces) if its == piece))
+        chosen.tofile(target)
+    return [name, size, len(chosen)]
+
+
+def too_large(path, chosen, size, most):
+    """Names the lines of a part that are tied together and have too many bytes."""
+    named = collections.defaultdict(set)
+    with open(path, "rb") as file:
+        for line in itertools.compress(file, chosen):
+            if keys_of(line)[0] is None:
+                return f"a line of {size} bytes is not a message, and a part has at most {most} bytes (--most)"
+            identity, transfers = words_of(line)
+            named["|".join(identity)].update(map("|".join, transfers))
+    transfers = sorted(set().union(*named.values()))
+    identity = max(named, key=lambda one: len(named[one]))
+    return (f"{sum(chosen)} messages of {size} bytes are tied together, and a part has at most {most} bytes (--most). They name"
+            f" {len(transfers)} transfers, the first of them {transfers[0]}. The identity {identity} names {len(named[identity])}")

@@ -1,0 +1,51 @@
+"""ties.py: the transfers that have to be in one part: those that one message names, and those whose messages share an identity.
+
+Messages of one identity that name different transfers contradict each other, and a list of transactions names several transfers.
+These are few. All other transfers are by themselves.
+"""
+from parts.files import numbers
+
+
+class Ties:
+    """Transfers that are tied together, two by two: a union-find over the tied transfers alone."""
+
+    def __init__(self, pairs=()):
+        self.above = {}
+        for one, other in pairs:
+            self.tie(one, other)
+
+    def root(self, transfer):
+        """The transfer that stands for all that are tied to this one."""
+        root = transfer
+        while self.above.get(root, root) != root:
+            root = self.above[root]
+        while self.above.get(transfer, root) != root:
+            self.above[transfer], transfer = root, self.above[transfer]
+        return root
+
+    def tie(self, one, other):
+        one, other = self.root(one), self.root(other)
+        self.above.setdefault(one, one)
+        self.above[other] = one
+
+    def roots(self):
+        """The root of each tied transfer."""
+        return {transfer: self.root(transfer) for transfer in self.above}
+
+
+def pairs_of(transfers):
+    """The pairs that tie the transfers of one message together."""
+    return {(transfers[0], other) for other in transfers[1:] if other != transfers[0]}
+
+
+def pairs_in(work, slices):
+    """The pairs of transfers that the identities of one bucket tie together. Each block has a slice of its file with the numbers of
+    identities and of transfers in turn."""
+    first, pairs = {}, set()
+    for block, begin, end in slices:
+        found = numbers(f"{work}/keys/{block}.identities", begin, end)
+        for identity, transfer in zip(found[::2], found[1::2]):
+            other = first.setdefault(identity, transfer)
+            if other != transfer:
+                pairs.add((other, transfer))
+    return sorted(pairs)
