@@ -58,6 +58,7 @@ CHECKS = {
 }
 # the Debian packages that a check needs beside Python and the toolchain
 PACKAGES = {name: ["gcc"] for name in ["archive_growths", "view_growths", "desk_growths", "forms", "allocations", "group_memory"]}
+PACKAGES["parts"] = ["python3-dask", "python3-distributed"]
 VARIABLES = ["SCT_SITES", "SCT_TEST_DRIVER"]
 
 
