@@ -1,0 +1,7 @@
+-- The definitions of an embedded site.
+pub mod Calls
+pub mod Counts
+pub mod Embeddings
+pub mod Faults
+pub mod Showing
+pub mod Taking
