@@ -4,8 +4,7 @@ ghost use Rattle.sct_script.specs.Events.{cut_in, hand_in, happening_in, take_in
 
 use crate::fault::LineFault;
 use crate::fields::{after_prefix, site_before_space, site_of};
-use crate::vectors::vector_of;
-use sct_delta::number_before_space;
+use sct_delta::{number_before_space, read_vector};
 use sct_lines::read_line;
 use sct_world::Event;
 use std::alloc::{AllocError, Global};
@@ -33,7 +32,7 @@ fn read_cut(alloc: Global, text: &[u8]) -> Result<Result<Event, LineFault>, Allo
     let Some((site, text)) = site_before_space(text) else {
         return Ok(Err(LineFault::NoEvent));
     };
-    let Some(vector) = vector_of(alloc, text)? else {
+    let Some(vector) = read_vector(alloc, text)? else {
         return Ok(Err(LineFault::NoEvent));
     };
     Ok(Ok(Event::Cut { site, vector }))

@@ -12,7 +12,6 @@ mod outcomes;
 mod refusal_text;
 mod replays;
 mod script;
-mod vectors;
 
 pub use fault::{LineFault, ScriptFault};
 pub use fields::{after_prefix, site_before_space, site_of};

@@ -1,0 +1,59 @@
+//! Laws of journals, rounds and hubs. Each law is the contract of a function with an empty body.
+//!
+//! A *hub* is a list of runs on several machines. Each run names a site, its journal, and the texts that it is given. It is
+//! *honest* if all runs have one number of sites; the journals of a site are of whole lines, and each begins with the one
+//! before; and each text that a run is given is one that `cut` wrote in an earlier run. The texts may come from any site, in
+//! any order, again, or not at all.
+
+ghost use Rattle.sct_exchange.specs.Laws.{EqualVectorsHoldAlike, EqualVectorsWriteAlike, HoldsExactly, HubsNeverFork, JournalsMakeLogs, NumbersLast, OrderDoesNotMatter, OwnEntriesGoByTheJournal, RefusalsAreTheLast, RoundsExchange};
+
+/// A longer journal never changes the number of an earlier message.
+pub fn numbers_last()
+    ensures { NumbersLast }
+{}
+
+/// A site that took the messages of its journal holds its own log, numbered from 1, and nothing else.
+pub fn journals_make_logs()
+    ensures { JournalsMakeLogs }
+{}
+
+/// A site's own entries and their numbers go by its journal alone, whatever texts it is given. So a site that is run again
+/// from its journal comes back under its old number.
+pub fn own_entries_go_by_the_journal()
+    ensures { OwnEntriesGoByTheJournal }
+{}
+
+/// After the rounds, the site accepted some of the deltas, and has every entry of each that it does not refuse.
+pub fn rounds_exchange()
+    ensures { RoundsExchange }
+{}
+
+/// The files that are reported are those that the site refuses as it ends, each with that refusal, and no others.
+pub fn refusals_are_the_last()
+    ensures { RefusalsAreTheLast }
+{}
+
+/// A site holds exactly the messages of its journal and of the deltas that it accepted.
+pub fn a_site_holds_exactly_what_it_took_and_accepted()
+    ensures { HoldsExactly }
+{}
+
+/// In an honest hub no run refuses a text for anything but that its delta is early (41): never with 42, 43, 44 or 45.
+pub fn hubs_never_fork()
+    ensures { HubsNeverFork }
+{}
+
+/// In an honest hub two runs with equal vectors hold the same entries.
+pub fn equal_vectors_hold_alike()
+    ensures { EqualVectorsHoldAlike }
+{}
+
+/// In an honest hub the archive texts of two runs with equal vectors are the same bytes.
+pub fn equal_vectors_write_alike()
+    ensures { EqualVectorsWriteAlike }
+{}
+
+/// In an honest hub the order of the texts that a run is given does not matter, nor how often each is given.
+pub fn the_order_of_texts_does_not_matter()
+    ensures { OrderDoesNotMatter }
+{}
