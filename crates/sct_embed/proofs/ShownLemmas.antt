@@ -7,7 +7,7 @@ use Rattle.sct_delta.specs.Entries.{Placed, messages_of}
 use Rattle.sct_site.specs.Cores.{Core, arrivals_taken, core_taken, is_repeat, own_entry}
 use Rattle.sct_site.proofs.TakeLemmas.{arrivals-held, arrivals-new}
 use Rattle.sct_embed.specs.Showing.{IsShown}
-use Rattle.sct_embed.specs.Taking.{core_taking}
+use Rattle.sct_exchange.specs.Journals.{core_taking}
 
 pub shown_before : (k : ℕ) (es ds : List Placed) (v : MessageSet) → IsShown k es v → IsShown k (es ++ ds) v
 shown_before k es ds v was = record {

@@ -10,7 +10,7 @@ use Rattle.sct_message.specs.Sets.{messages_in}
 use Rattle.sct_delta.specs.Entries.{Placed}
 use Rattle.sct_site.specs.Cores.{Core, arrivals_taken, core_taken, is_repeat, own_entry}
 use Rattle.sct_site.proofs.TakeLemmas.{arrivals-held, arrivals-new}
-use Rattle.sct_embed.specs.Taking.{core_taking}
+use Rattle.sct_exchange.specs.Journals.{core_taking}
 
 -- a list of arrivals has at least as many as before, and at most so many more
 pub record Grows (before after more : ℕ) : Type 0 where

@@ -1,15 +1,15 @@
 -- The effects of calls of an embedded site, and why they are refused. Read by an auditor.
-use Rattle.std.specs.Prelude.{◌≡◌, ℕ, List, Option, Some, None, Result, Ok, Err, length, ⊤}
+use Rattle.std.specs.Prelude.{◌≡◌, ℕ, List, Some, None, Ok, Err, length, ⊤}
 use Rattle.sct_message.specs.declared.draft.Draft.{Draft}
 use Rattle.sct_json.specs.Reading.{message_in}
-use Rattle.sct_delta.specs.DeltaText.{delta_in, written_delta}
+use Rattle.sct_delta.specs.DeltaText.{delta_in}
 use Rattle.sct_delta.specs.Entries.{Placed}
 use Rattle.sct_delta.specs.VectorText.{Pair, counts_of, vector_in}
-use Rattle.sct_delta.specs.declared.fault.DeltaFault.{DeltaFault}
-use Rattle.sct_delta.specs.declared.fault.DeltaFault.TheVariants as delta
-use Rattle.sct_site.specs.Cores.{Core, took_by, core_taken, core_joined, entries_above, fresh_of, refusal_by}
+use Rattle.sct_site.specs.Cores.{Core, took_by, core_taken, core_joined, fresh_of, refusal_by}
 use Rattle.sct_site.specs.declared.answers.Took.{Took}
 use Rattle.sct_site.specs.declared.answers.Accepted.{Accepted}
+use Rattle.sct_exchange.specs.Rounds.{refusal_of}
+use Rattle.sct_exchange.specs.Sites.{cut_text}
 use Rattle.sct_embed.specs.declared.faults.EmbedFault.{EmbedFault}
 use Rattle.sct_embed.specs.declared.faults.EmbedFault.TheVariants as fault
 
@@ -22,7 +22,7 @@ pub record IsTaken (before : Core) (json : List ℕ) (took : Took) (after : Core
   pub answer : took ≡ took_by before message
   pub left : after ≡ core_taken before message
 
--- the bytes are refused for their first fault, or for want of memory
+-- The bytes are refused for their first fault. Or the call is out of memory.
 abbrev pub RefusesMessage : List ℕ → EmbedFault → Type 0
 RefusesMessage json (fault.Message reason) = message_in json ≡ Err reason
 RefusesMessage json fault.Memory = ⊤
@@ -38,12 +38,8 @@ pub record IsAccepted (before : Core) (text : List ℕ) (accepted : Accepted) (a
   pub fresh : accepted.fresh ≡ length (fresh_of before.arrivals delta)
   pub left : after ≡ core_joined before delta
 
--- why a site refuses a delta text: 45 and its first wrong line, or the first reason why it does not accept the delta
-abbrev pub refusal_of : Core → Result (List Placed) ℕ → Option DeltaFault
-refusal_of core (Ok entries) = refusal_by core entries
-refusal_of core (Err line) = Some (delta.BadDelta line)
-
--- the text is refused for that reason, or for want of memory
+-- The text is refused for the first reason: 45 and its first wrong line, or why the site does not accept the delta. Or
+-- the call is out of memory.
 abbrev pub RefusesDelta : Core → List ℕ → EmbedFault → Type 0
 RefusesDelta core text (fault.Delta reason) = refusal_of core (delta_in text) ≡ Some reason
 RefusesDelta core text fault.Memory = ⊤
@@ -51,17 +47,13 @@ RefusesDelta core text other = ⊥
 
 -- ---- a version vector
 
--- the entries above a version vector, as a delta text
-abbrev pub cut_text : (ℕ → ℕ) → List Placed → List ℕ
-cut_text have arrivals = written_delta (entries_above have arrivals)
-
 -- the text is a version vector, for which the site's entries are cut
 pub record IsCutFor (core : Core) (vector : List ℕ) (answer : List ℕ) : Type 0 where
   pub pairs : List Pair
   pub read : vector_in vector ≡ Some pairs
   pub cut : answer ≡ cut_text (counts_of pairs) core.arrivals
 
--- the text is not a version vector, or memory was wanted
+-- The text is not a version vector. Or the call is out of memory.
 abbrev pub RefusesVector : List ℕ → EmbedFault → Type 0
 RefusesVector vector fault.BadVector = vector_in vector ≡ None
 RefusesVector vector fault.Memory = ⊤

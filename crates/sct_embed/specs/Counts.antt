@@ -19,7 +19,7 @@ counted counts = counts_of (pairs_from 1 counts)
 abbrev pub AreCounts : List Placed → List ℕ → Type 0
 AreCounts arrivals counts = (k : ℕ) → k < length counts → slice_index counts k ≡ held_from (k + 1) arrivals
 
--- there are more counts than a group has sites, or memory was wanted
+-- There are more counts than a group has sites. Or the call is out of memory.
 abbrev pub RefusesCounts : List ℕ → DeltaFault → Type 0
 RefusesCounts counts fault.BadSite = most_sites < length counts
 RefusesCounts counts fault.Memory = ⊤

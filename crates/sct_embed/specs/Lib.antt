@@ -3,5 +3,7 @@ pub mod Calls
 pub mod Counts
 pub mod Embeddings
 pub mod Faults
+pub mod Questions
+pub mod Restoring
 pub mod Showing
 pub mod Taking

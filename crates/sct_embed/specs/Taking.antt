@@ -1,14 +1,10 @@
 -- A site takes the messages of a text of many lines. Read by an auditor.
 use Rattle.std.specs.Prelude.{◌≡◌, ◌+◌, ℕ, List, length, take}
-use Rattle.std.specs.List.{fold}
 use Rattle.sct_message.specs.declared.draft.Draft.{Draft}
 use Rattle.sct_lines.specs.Lines.{messages_read, refusals_told}
-use Rattle.sct_site.specs.Cores.{Core, core_taken}
+use Rattle.sct_site.specs.Cores.{Core}
+use Rattle.sct_exchange.specs.Journals.{core_taking}
 use Rattle.sct_embed.specs.declared.taking.TakenLines.{TakenLines}
-
--- a site after it took messages, one after another
-abbrev pub core_taking : Core → List Draft → Core
-core_taking core messages = fold core_taken core messages
 
 -- The site took the message of each line that is a form of one. Each is fresh or a repeat.
 pub record AreTaken (before : Core) (text : List ℕ) (taken : TakenLines) (after : Core) : Type 0 where

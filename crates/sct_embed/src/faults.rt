@@ -1,14 +1,12 @@
 //! Why a call of an embedded site is refused.
 
 ghost use Rattle.std.specs.Prelude.{◌≡◌};
-ghost use Rattle.sct_embed.specs.Faults.{embed_fault_number, embed_fault_place, fault_of_delta, fault_of_json, fault_of_list};
+ghost use Rattle.sct_embed.specs.Faults.{embed_fault_number, embed_fault_place, fault_of_delta, fault_of_json};
 ghost use Rattle.sct_embed.specs.declared.faults.EmbedFault.TheVariants as fault;
 
 use sct_case::CaseFault;
 use sct_delta::DeltaFault;
-use sct_element::ElementFault;
 use sct_json::JsonFault;
-use sct_reconcile::ReconcileFault;
 use sct_set::SetFault;
 use std::alloc::{AllocError, AllocFailed};
 use thiserror::Error;
@@ -22,12 +20,6 @@ pub enum EmbedFault {
     /// 41 to 45: the site does not accept the delta, or there is no such site.
     #[error("{0}")]
     Delta(DeltaFault),
-    /// 48: the number of the first bad record of a list, counted from 1 with the header.
-    #[error("record {0} of the list is no row of a list")]
-    BadList(u64),
-    /// 1, 3 or 5: a bank is not a BIC, a transfer's identification is none, or a day is not a date.
-    #[error("{0}")]
-    Element(ElementFault),
     /// 65: out of memory.
     #[error("out of memory")]
     Memory,
@@ -44,15 +36,13 @@ impl EmbedFault {
         match self {
             EmbedFault::Message(reason) => reason.number(),
             EmbedFault::Delta(reason) => reason.number(),
-            EmbedFault::BadList(_) => 48,
-            EmbedFault::Element(reason) => reason.number(),
             EmbedFault::Memory => 65,
             EmbedFault::BadVector => 72,
         }
     }
 
-    /// Where the fault is, from 1: the line of a delta text (45), the record of a list (48), or the transaction of a message
-    /// (46, 56). 0 for every other fault.
+    /// Where the fault is, from 1: the line of a delta text (45), or the transaction of a message (46, 56). 0 for
+    /// every other fault.
     pub fn place(&self) -> u64
         ensures { result ≡ embed_fault_place self.now }
     {
@@ -60,7 +50,6 @@ impl EmbedFault {
             EmbedFault::Message(JsonFault::BadTransactions(place)) => *place as u64,
             EmbedFault::Message(JsonFault::At(place, _)) => *place as u64,
             EmbedFault::Delta(DeltaFault::BadDelta(line)) => *line,
-            EmbedFault::BadList(row) => *row,
             _ => 0,
         }
     }
@@ -116,17 +105,6 @@ impl From<DeltaFault> for EmbedFault {
         match reason {
             DeltaFault::Memory => EmbedFault::Memory,
             reason => EmbedFault::Delta(reason),
-        }
-    }
-}
-
-impl From<ReconcileFault> for EmbedFault {
-    ghost from_gives = { λ reason e. e ≡ fault_of_list reason };
-
-    fn from(reason: ReconcileFault) -> EmbedFault {
-        match reason {
-            ReconcileFault::BadList(row) => EmbedFault::BadList(row),
-            ReconcileFault::Memory => EmbedFault::Memory,
         }
     }
 }

@@ -7,6 +7,7 @@
 
 mod counts;
 mod faults;
+mod identities;
 mod showing;
 mod site;
 mod taking;

@@ -9,18 +9,23 @@ ghost use Rattle.sct_set.specs.Archive.{archive_text_of};
 ghost use Rattle.sct_site.specs.Cores.{is_open};
 ghost use Rattle.sct_view.specs.StatusText.{status_text_of};
 ghost use Rattle.sct_view.specs.TotalsText.{totals_text_of};
-ghost use Rattle.sct_embed.specs.Calls.{IsAccepted, IsCutFor, IsTaken, RefusesDelta, RefusesMessage, RefusesVector, cut_text};
+ghost use Rattle.sct_embed.specs.Calls.{IsAccepted, IsCutFor, IsTaken, RefusesDelta, RefusesMessage, RefusesVector};
 ghost use Rattle.sct_embed.specs.Counts.{AreCounts, counted};
+ghost use Rattle.sct_exchange.specs.Sites.{cut_text};
+ghost use Rattle.sct_embed.specs.Questions.{contradictions_text_of};
+ghost use Rattle.sct_embed.specs.Restoring.{core_restored, restored_text};
 ghost use Rattle.sct_embed.specs.Taking.{ArePartlyTaken, AreTaken};
 ghost use Rattle.sct_embed.specs.declared.faults.EmbedFault.TheVariants as fault;
 
 use crate::counts::{put_counts, vector_of};
 use crate::faults::EmbedFault;
+use crate::identities::push_identities;
 use crate::showing::Showing;
 use crate::taking::{TakenLines, take_all};
 use sct_delta::{DeltaFault, MOST_SITES, read_delta, read_vector, write_delta, write_vector};
+use sct_exchange::{Exchanged, exchange, read_file, write_refused_files};
 use sct_json::MessageReader;
-use sct_lines::read_lines_after;
+use sct_lines::{Intake, read_lines_after};
 use sct_site::{Accepted, SiteCore, Took};
 use std::alloc::Global;
 use std::marker::Model;
@@ -65,6 +70,39 @@ impl EmbeddedSite {
             showing: Showing::new(alloc),
             reader: MessageReader::new(alloc),
             answer: Vec::new(alloc),
+        })
+    }
+
+    /// The site `number` of a group of `group` sites, made anew from its own journal and a delta text, as the command `site`
+    /// does it. It takes the messages of the journal, a JSON object on each line, and is then offered the text. The answer has
+    /// a line for each refused line of the journal, such as `file 1 line 8: 31`, and one for the text if it is refused, such as
+    /// `file 2: 41 3 0 7`. It is empty if nothing is refused.
+    /// Errors: `BadSite` (44) as in [`EmbeddedSite::open`]; `Memory` (65).
+    pub fn restore(
+        alloc: Global,
+        number: u16,
+        group: u16,
+        journal: &[u8],
+        text: &[u8],
+    ) -> Result<EmbeddedSite, EmbedFault>
+        ensures core { IfOk result (λ site. site.core ≡ core_restored number group journal.now text.now) }
+        ensures told { IfOk result (λ site. site.answer ≡ restored_text number group journal.now text.now) }
+        ensures opened { OnOk result (is_open number group ≡ true) }
+        ensures err { IfErr result (λ e. e ≢ fault.Memory
+            → (e ≡ fault.Delta delta.BadSite) × (is_open number group ≡ false)) }
+    {
+        let Intake { messages, refusals } = read_lines_after(alloc, "file 1 ", journal)?;
+        let mut files = Vec::new(alloc);
+        files.push(read_file(alloc, text)?)?;
+        let Exchanged { core, refused } = exchange(alloc, number, group, messages, files)?;
+        let (mut told, _) = refusals.into_parts();
+        told.push_str(write_refused_files(alloc, &refused)?.as_str())?;
+        Ok(EmbeddedSite {
+            alloc,
+            core,
+            showing: Showing::new(alloc),
+            reader: MessageReader::new(alloc),
+            answer: told.into_bytes(),
         })
     }
 
@@ -134,6 +172,22 @@ impl EmbeddedSite {
     {
         self.showing.show_all(self.alloc, self.core.arrivals())?;
         self.answer = self.showing.view.totals_text()?;
+        Ok(())
+    }
+
+    /// Has the contradicted identities as the answer: those that two different messages held have. There is a line for each,
+    /// ascending, such as `BANKDEFFXXX|pacs.008|M1`. O(messages held). Error: `Memory` (65).
+    #[tactic(auto, unfolding(crate::specs::Questions::contradictions_text_of))]
+    pub fn contradictions_text(&mut self) -> Result<(), EmbedFault>
+        ensures text { OnOk result (self.new.answer ≡ contradictions_text_of (messages_of self.old.core.arrivals)) }
+        ensures core { self.new.core ≡ self.old.core }
+        ensures err { IfErr result (λ e. e ≡ fault.Memory) }
+        ensures unchanged { OnErr result (self.new ≡ self.old) }
+    {
+        let identities = self.core.archive().contradictions()?;
+        let mut text = String::new(self.alloc);
+        push_identities(&mut text, &identities)?;
+        self.answer = text.into_bytes();
         Ok(())
     }
 

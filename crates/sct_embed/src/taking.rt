@@ -3,7 +3,8 @@
 ghost use Rattle.std.specs.Prelude.{◌≡◌, IfErr, OnErr, OnOk};
 ghost use Rattle.sct_delta.specs.declared.fault.DeltaFault.TheVariants as fault;
 ghost use Rattle.sct_message.specs.Sets.{messages_in};
-ghost use Rattle.sct_embed.specs.Taking.{ArePartlyTaken, core_taking};
+ghost use Rattle.sct_exchange.specs.Journals.{core_taking};
+ghost use Rattle.sct_embed.specs.Taking.{ArePartlyTaken};
 
 use sct_delta::DeltaFault;
 use sct_message::Message;

@@ -7,7 +7,8 @@ use Rattle.sct_lines.specs.Lines.{messages_read, told_after, told_text_of}
 use Rattle.sct_site.specs.Cores.{Core}
 use Rattle.sct_embed.specs.Embeddings.{Embedding}
 use Rattle.sct_embed.specs.Showing.{IsShown}
-use Rattle.sct_embed.specs.Taking.{AreTaken, core_taking}
+use Rattle.sct_exchange.specs.Journals.{core_taking}
+use Rattle.sct_embed.specs.Taking.{AreTaken}
 use Rattle.sct_embed.specs.declared.taking.TakenLines.{TakenLines}
 use Rattle.sct_embed.proofs.ShownLemmas.{shown_after_takes}
 use Rattle.sct_embed.proofs.TakingLemmas.{grown_to}
