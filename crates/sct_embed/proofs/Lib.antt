@@ -1,0 +1,4 @@
+-- The lemmas of an embedded site.
+pub mod CountsLemmas
+pub mod ShownLemmas
+pub mod TakingLemmas

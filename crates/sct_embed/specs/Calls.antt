@@ -1,0 +1,60 @@
+-- The effects of calls of an embedded site, and why they are refused. Read by an auditor.
+use Rattle.std.specs.Prelude.{◌≡◌, ℕ, List, Some, None, Ok, Err, length, ⊤}
+use Rattle.sct_message.specs.declared.draft.Draft.{Draft}
+use Rattle.sct_json.specs.Reading.{message_in}
+use Rattle.sct_delta.specs.DeltaText.{delta_in}
+use Rattle.sct_delta.specs.Entries.{Placed}
+use Rattle.sct_delta.specs.VectorText.{Pair, counts_of, vector_in}
+use Rattle.sct_site.specs.Cores.{Core, took_by, core_taken, core_joined, fresh_of, refusal_by}
+use Rattle.sct_site.specs.declared.answers.Took.{Took}
+use Rattle.sct_site.specs.declared.answers.Accepted.{Accepted}
+use Rattle.sct_exchange.specs.Rounds.{refusal_of}
+use Rattle.sct_exchange.specs.Sites.{cut_text}
+use Rattle.sct_embed.specs.declared.faults.EmbedFault.{EmbedFault}
+use Rattle.sct_embed.specs.declared.faults.EmbedFault.TheVariants as fault
+
+-- ---- a message
+
+-- the bytes are a form of a message, which the site took
+pub record IsTaken (before : Core) (json : List ℕ) (took : Took) (after : Core) : Type 0 where
+  pub message : Draft
+  pub read : message_in json ≡ Ok message
+  pub answer : took ≡ took_by before message
+  pub left : after ≡ core_taken before message
+
+-- The bytes are refused for their first fault. Or the call is out of memory.
+abbrev pub RefusesMessage : List ℕ → EmbedFault → Type 0
+RefusesMessage json (fault.Message reason) = message_in json ≡ Err reason
+RefusesMessage json fault.Memory = ⊤
+RefusesMessage json other = ⊥
+
+-- ---- a delta
+
+-- the text is a form of a delta, which the site accepted
+pub record IsAccepted (before : Core) (text : List ℕ) (accepted : Accepted) (after : Core) : Type 0 where
+  pub delta : List Placed
+  pub read : delta_in text ≡ Ok delta
+  pub fits : refusal_by before delta ≡ None
+  pub fresh : accepted.fresh ≡ length (fresh_of before.arrivals delta)
+  pub left : after ≡ core_joined before delta
+
+-- The text is refused for the first reason: 45 and its first wrong line, or why the site does not accept the delta. Or
+-- the call is out of memory.
+abbrev pub RefusesDelta : Core → List ℕ → EmbedFault → Type 0
+RefusesDelta core text (fault.Delta reason) = refusal_of core (delta_in text) ≡ Some reason
+RefusesDelta core text fault.Memory = ⊤
+RefusesDelta core text other = ⊥
+
+-- ---- a version vector
+
+-- the text is a version vector, for which the site's entries are cut
+pub record IsCutFor (core : Core) (vector : List ℕ) (answer : List ℕ) : Type 0 where
+  pub pairs : List Pair
+  pub read : vector_in vector ≡ Some pairs
+  pub cut : answer ≡ cut_text (counts_of pairs) core.arrivals
+
+-- The text is not a version vector. Or the call is out of memory.
+abbrev pub RefusesVector : List ℕ → EmbedFault → Type 0
+RefusesVector vector fault.BadVector = vector_in vector ≡ None
+RefusesVector vector fault.Memory = ⊤
+RefusesVector vector other = ⊥

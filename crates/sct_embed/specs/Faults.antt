@@ -1,0 +1,35 @@
+-- The faults of an embedded site: the number and the place of each, and which fault of another crate becomes which.
+-- Read by an auditor.
+use Rattle.std.specs.Prelude.{ℕ}
+use Rattle.sct_json.specs.Faults.{json_fault_number}
+use Rattle.sct_json.specs.declared.faults.JsonFault.{JsonFault}
+use Rattle.sct_json.specs.declared.faults.JsonFault.TheVariants as json
+use Rattle.sct_delta.specs.Faults.{delta_fault_number}
+use Rattle.sct_delta.specs.declared.fault.DeltaFault.{DeltaFault}
+use Rattle.sct_delta.specs.declared.fault.DeltaFault.TheVariants as delta
+use Rattle.sct_embed.specs.declared.faults.EmbedFault.{EmbedFault}
+use Rattle.sct_embed.specs.declared.faults.EmbedFault.TheVariants.{Message, Delta, Memory, BadVector}
+
+-- the number of a fault
+abbrev pub embed_fault_number : EmbedFault → ℕ
+embed_fault_number (Message reason) = json_fault_number reason
+embed_fault_number (Delta reason) = delta_fault_number reason
+embed_fault_number Memory = 65
+embed_fault_number BadVector = 72
+
+-- where a fault is: the transaction of a message, the line of a delta text; else 0
+abbrev pub embed_fault_place : EmbedFault → ℕ
+embed_fault_place (Message (json.BadTransactions place)) = place
+embed_fault_place (Message (json.At place reason)) = place
+embed_fault_place (Delta (delta.BadDelta line)) = line
+embed_fault_place other = 0
+
+-- the fault, if a message is not read
+abbrev pub fault_of_json : JsonFault → EmbedFault
+fault_of_json json.Memory = Memory
+fault_of_json reason = Message reason
+
+-- the fault, if a delta is not read or not accepted
+abbrev pub fault_of_delta : DeltaFault → EmbedFault
+fault_of_delta delta.Memory = Memory
+fault_of_delta reason = Delta reason

@@ -1,0 +1,9 @@
+-- The definitions of an embedded site.
+pub mod Calls
+pub mod Counts
+pub mod Embeddings
+pub mod Faults
+pub mod Questions
+pub mod Restoring
+pub mod Showing
+pub mod Taking

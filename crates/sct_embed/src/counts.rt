@@ -1,0 +1,46 @@
+//! Version vectors as counts, that of origin 1 first.
+
+ghost use Rattle.std.specs.Prelude.{◌≡◌, ◌<◌, ◌≤◌, ◌+◌, ℕ, length, slice_index, IfErr, IfOk};
+ghost use Rattle.sct_delta.specs.Vectors.{count_in};
+ghost use Rattle.sct_embed.specs.Counts.{counted, pairs_from, RefusesCounts};
+
+use sct_delta::{DeltaFault, MOST_SITES, Vector};
+use std::alloc::{AllocError, Global};
+
+// Each count with its origin.
+fn pairs_of(alloc: Global, counts: &[u64]) -> Result<Vec<(u16, u64)>, AllocError>
+    requires { length counts.now ≤ 1024 }
+    ensures { IfOk result (λ pairs. pairs.items ≡ pairs_from 1 counts.now) }
+{
+    let mut pairs = Vec::new(alloc);
+    for at in 0..counts.len() {
+        pairs.push(((at + 1) as u16, counts[at]))?;
+    }
+    Ok(pairs)
+}
+
+/// The vector of counts, one for each origin from 1 on. An origin past them counts 0.
+/// Errors: `BadSite` (44) if there are more than 1024 counts; `Memory` (40).
+pub(crate) fn vector_of(alloc: Global, counts: &[u64]) -> Result<Vector, DeltaFault>
+    ensures counts { IfOk result (λ vector. (origin : ℕ) → count_in vector origin ≡ counted counts.now origin) }
+    ensures err { IfErr result (RefusesCounts counts.now) }
+{
+    if counts.len() > MOST_SITES as usize {
+        return Err(DeltaFault::BadSite);
+    }
+    let pairs = pairs_of(alloc, counts)?;
+    match Vector::of(alloc, &pairs) {
+        Ok(vector) => Ok(vector),
+        Err(_) => Err(DeltaFault::Memory),
+    }
+}
+
+/// Writes the counts of a vector, that of origin 1 first.
+pub(crate) fn put_counts(vector: &Vector, out: &mut [u64])
+    requires { length out.old ≤ 1024 }
+    ensures { (k : ℕ) → k < length out.old → slice_index out.new k ≡ count_in vector.now (k + 1) }
+{
+    for at in 0..out.len() {
+        out[at] = vector.get((at + 1) as u16);
+    }
+}

@@ -1,0 +1,110 @@
+//! Why a call of an embedded site is refused.
+
+ghost use Rattle.std.specs.Prelude.{◌≡◌};
+ghost use Rattle.sct_embed.specs.Faults.{embed_fault_number, embed_fault_place, fault_of_delta, fault_of_json};
+ghost use Rattle.sct_embed.specs.declared.faults.EmbedFault.TheVariants as fault;
+
+use sct_case::CaseFault;
+use sct_delta::DeltaFault;
+use sct_json::JsonFault;
+use sct_set::SetFault;
+use std::alloc::{AllocError, AllocFailed};
+use thiserror::Error;
+
+/// Why a call is refused.
+#[derive(Debug, Drop, Error)]
+pub enum EmbedFault {
+    /// 31 to 38, 46 or 56: the bytes are a form of no message.
+    #[error("{0}")]
+    Message(JsonFault),
+    /// 41 to 45: the site does not accept the delta, or there is no such site.
+    #[error("{0}")]
+    Delta(DeltaFault),
+    /// 65: out of memory.
+    #[error("out of memory")]
+    Memory,
+    /// 72: the text is not a version vector.
+    #[error("the text is not a version vector")]
+    BadVector,
+}
+
+impl EmbedFault {
+    /// The fault's number.
+    pub fn number(&self) -> u8
+        ensures { result ≡ embed_fault_number self.now }
+    {
+        match self {
+            EmbedFault::Message(reason) => reason.number(),
+            EmbedFault::Delta(reason) => reason.number(),
+            EmbedFault::Memory => 65,
+            EmbedFault::BadVector => 72,
+        }
+    }
+
+    /// Where the fault is, from 1: the line of a delta text (45), or the transaction of a message (46, 56). 0 for
+    /// every other fault.
+    pub fn place(&self) -> u64
+        ensures { result ≡ embed_fault_place self.now }
+    {
+        match self {
+            EmbedFault::Message(JsonFault::BadTransactions(place)) => *place as u64,
+            EmbedFault::Message(JsonFault::At(place, _)) => *place as u64,
+            EmbedFault::Delta(DeltaFault::BadDelta(line)) => *line,
+            _ => 0,
+        }
+    }
+}
+
+impl From<AllocError> for EmbedFault {
+    ghost from_gives = { λ _ e. e ≡ fault.Memory };
+
+    fn from(_error: AllocError) -> EmbedFault {
+        EmbedFault::Memory
+    }
+}
+
+impl<T: Drop> From<AllocFailed<T>> for EmbedFault {
+    ghost from_gives = { λ _ e. e ≡ fault.Memory };
+
+    fn from(_error: AllocFailed<T>) -> EmbedFault {
+        EmbedFault::Memory
+    }
+}
+
+impl From<CaseFault> for EmbedFault {
+    ghost from_gives = { λ _ e. e ≡ fault.Memory };
+
+    fn from(_fault: CaseFault) -> EmbedFault {
+        EmbedFault::Memory
+    }
+}
+
+impl From<SetFault> for EmbedFault {
+    ghost from_gives = { λ _ e. e ≡ fault.Memory };
+
+    fn from(_fault: SetFault) -> EmbedFault {
+        EmbedFault::Memory
+    }
+}
+
+impl From<JsonFault> for EmbedFault {
+    ghost from_gives = { λ reason e. e ≡ fault_of_json reason };
+
+    fn from(reason: JsonFault) -> EmbedFault {
+        match reason {
+            JsonFault::Memory => EmbedFault::Memory,
+            reason => EmbedFault::Message(reason),
+        }
+    }
+}
+
+impl From<DeltaFault> for EmbedFault {
+    ghost from_gives = { λ reason e. e ≡ fault_of_delta reason };
+
+    fn from(reason: DeltaFault) -> EmbedFault {
+        match reason {
+            DeltaFault::Memory => EmbedFault::Memory,
+            reason => EmbedFault::Delta(reason),
+        }
+    }
+}
