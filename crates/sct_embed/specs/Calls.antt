@@ -58,3 +58,11 @@ abbrev pub RefusesVector : List ℕ → EmbedFault → Type 0
 RefusesVector vector fault.BadVector = vector_in vector ≡ None
 RefusesVector vector fault.Memory = ⊤
 RefusesVector vector other = ⊥
+
+-- the delta for a version vector of text, if it is one
+abbrev pub cut_answer : List ℕ → List Placed → Result (List ℕ) EmbedFault
+cut_answer vector arrivals = cut_for (vector_in vector) arrivals
+
+abbrev pub cut_for : Option (List Pair) → List Placed → Result (List ℕ) EmbedFault
+cut_for None arrivals = Err fault.BadVector
+cut_for (Some pairs) arrivals = Ok (cut_text (counts_of pairs) arrivals)

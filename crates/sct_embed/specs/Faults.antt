@@ -8,20 +8,29 @@ use Rattle.sct_delta.specs.Faults.{delta_fault_number}
 use Rattle.sct_delta.specs.declared.fault.DeltaFault.{DeltaFault}
 use Rattle.sct_delta.specs.declared.fault.DeltaFault.TheVariants as delta
 use Rattle.sct_embed.specs.declared.faults.EmbedFault.{EmbedFault}
-use Rattle.sct_embed.specs.declared.faults.EmbedFault.TheVariants.{Message, Delta, Memory, BadVector}
+use Rattle.sct_reconcile.specs.declared.fault.ReconcileFault.{ReconcileFault}
+use Rattle.sct_reconcile.specs.declared.fault.ReconcileFault.TheVariants as list
+use Rattle.sct_embed.specs.declared.faults.EmbedFault.TheVariants.{Message, Delta, BadList, Memory, Empty, Full, BadVector, BadArgument}
 
 -- the number of a fault
 abbrev pub embed_fault_number : EmbedFault → ℕ
 embed_fault_number (Message reason) = json_fault_number reason
 embed_fault_number (Delta reason) = delta_fault_number reason
+embed_fault_number (BadList row) = 48
 embed_fault_number Memory = 65
+embed_fault_number Empty = 70
+embed_fault_number Full = 71
 embed_fault_number BadVector = 72
+embed_fault_number (BadArgument place) = 73
 
--- where a fault is: the transaction of a message, the line of a delta text; else 0
+-- where a fault is: the transaction of a message, the line of a delta text, the record of a list, the argument of the
+-- call; else 0
 abbrev pub embed_fault_place : EmbedFault → ℕ
 embed_fault_place (Message (json.BadTransactions place)) = place
 embed_fault_place (Message (json.At place reason)) = place
 embed_fault_place (Delta (delta.BadDelta line)) = line
+embed_fault_place (BadList row) = row
+embed_fault_place (BadArgument place) = place
 embed_fault_place other = 0
 
 -- the fault, if a message is not read
@@ -33,3 +42,8 @@ fault_of_json reason = Message reason
 abbrev pub fault_of_delta : DeltaFault → EmbedFault
 fault_of_delta delta.Memory = Memory
 fault_of_delta reason = Delta reason
+
+-- the fault, if a list is not read or a report is not made
+abbrev pub fault_of_list : ReconcileFault → EmbedFault
+fault_of_list list.Memory = Memory
+fault_of_list (list.BadList row) = BadList row

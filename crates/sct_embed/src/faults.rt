@@ -1,12 +1,13 @@
 //! Why a call of an embedded site is refused.
 
 ghost use Rattle.std.specs.Prelude.{◌≡◌};
-ghost use Rattle.sct_embed.specs.Faults.{embed_fault_number, embed_fault_place, fault_of_delta, fault_of_json};
+ghost use Rattle.sct_embed.specs.Faults.{embed_fault_number, embed_fault_place, fault_of_delta, fault_of_json, fault_of_list};
 ghost use Rattle.sct_embed.specs.declared.faults.EmbedFault.TheVariants as fault;
 
 use sct_case::CaseFault;
 use sct_delta::DeltaFault;
 use sct_json::JsonFault;
+use sct_reconcile::ReconcileFault;
 use sct_set::SetFault;
 use std::alloc::{AllocError, AllocFailed};
 use thiserror::Error;
@@ -20,12 +21,24 @@ pub enum EmbedFault {
     /// 41 to 45: the site does not accept the delta, or there is no such site.
     #[error("{0}")]
     Delta(DeltaFault),
+    /// 48: the list is not a valid list. The number is that of its first wrong record, from 1 with the header.
+    #[error("record {0} of the list is not a row of a list")]
+    BadList(u64),
     /// 65: out of memory.
     #[error("out of memory")]
     Memory,
+    /// 70: the place has no site.
+    #[error("the place has no site")]
+    Empty,
+    /// 71: the place has a site already.
+    #[error("the place has a site already")]
+    Full,
     /// 72: the text is not a version vector.
     #[error("the text is not a version vector")]
     BadVector,
+    /// 73: a bank, an identification or a day is not valid. The number says which argument of the call it is, from 1.
+    #[error("argument {0} is not valid")]
+    BadArgument(u64),
 }
 
 impl EmbedFault {
@@ -36,13 +49,17 @@ impl EmbedFault {
         match self {
             EmbedFault::Message(reason) => reason.number(),
             EmbedFault::Delta(reason) => reason.number(),
+            EmbedFault::BadList(_) => 48,
             EmbedFault::Memory => 65,
+            EmbedFault::Empty => 70,
+            EmbedFault::Full => 71,
             EmbedFault::BadVector => 72,
+            EmbedFault::BadArgument(_) => 73,
         }
     }
 
-    /// Where the fault is, from 1: the line of a delta text (45), or the transaction of a message (46, 56). 0 for
-    /// every other fault.
+    /// Where the fault is, from 1: the line of a delta text (45), the transaction of a message (46, 56), the record of a list
+    /// (48) or the argument of the call (73). 0 for every other fault.
     pub fn place(&self) -> u64
         ensures { result ≡ embed_fault_place self.now }
     {
@@ -50,6 +67,8 @@ impl EmbedFault {
             EmbedFault::Message(JsonFault::BadTransactions(place)) => *place as u64,
             EmbedFault::Message(JsonFault::At(place, _)) => *place as u64,
             EmbedFault::Delta(DeltaFault::BadDelta(line)) => *line,
+            EmbedFault::BadList(record) => *record,
+            EmbedFault::BadArgument(place) => *place,
             _ => 0,
         }
     }
@@ -105,6 +124,17 @@ impl From<DeltaFault> for EmbedFault {
         match reason {
             DeltaFault::Memory => EmbedFault::Memory,
             reason => EmbedFault::Delta(reason),
+        }
+    }
+}
+
+impl From<ReconcileFault> for EmbedFault {
+    ghost from_gives = { λ reason e. e ≡ fault_of_list reason };
+
+    fn from(reason: ReconcileFault) -> EmbedFault {
+        match reason {
+            ReconcileFault::Memory => EmbedFault::Memory,
+            ReconcileFault::BadList(record) => EmbedFault::BadList(record),
         }
     }
 }

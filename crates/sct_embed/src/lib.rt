@@ -5,13 +5,24 @@
 //! number.
 #![tactic(auto)]
 
+mod arguments;
+mod asking;
+mod calling;
+mod changes;
 mod counts;
 mod faults;
+mod handle;
 mod identities;
+mod outcomes;
+mod place;
+mod questions;
 mod showing;
 mod site;
 mod taking;
 
 pub use faults::EmbedFault;
+pub use handle::Handle;
+pub use outcomes::{AcceptOutcome, LinesOutcome, Outcome, TakeOutcome};
+pub use place::Place;
 pub use site::EmbeddedSite;
 pub use taking::TakenLines;

@@ -1,8 +1,7 @@
 //! A site of a group, and the text that it was asked for last.
 
-ghost use Rattle.std.specs.Prelude.{◌≡◌, ◌≢◌, ◌<◌, [], length, true, false, IfErr, IfOk, OnErr, OnOk};
-ghost use Rattle.sct_delta.specs.Entries.{held_from, messages_of};
-ghost use Rattle.sct_delta.specs.VectorText.{vector_text};
+ghost use Rattle.std.specs.Prelude.{◌≡◌, ◌≢◌, ◌<◌, [], None, length, true, false, IfErr, IfOk, OnErr, OnOk};
+ghost use Rattle.sct_delta.specs.Entries.{messages_of};
 ghost use Rattle.sct_delta.specs.declared.fault.DeltaFault.TheVariants as delta;
 ghost use Rattle.sct_lines.specs.Lines.{messages_read, refusals_told, told_text_of};
 ghost use Rattle.sct_set.specs.Archive.{archive_text_of};
@@ -11,7 +10,7 @@ ghost use Rattle.sct_view.specs.StatusText.{status_text_of};
 ghost use Rattle.sct_view.specs.TotalsText.{totals_text_of};
 ghost use Rattle.sct_embed.specs.Calls.{IsAccepted, IsCutFor, IsTaken, RefusesDelta, RefusesMessage, RefusesVector};
 ghost use Rattle.sct_embed.specs.Counts.{AreCounts, counted};
-ghost use Rattle.sct_exchange.specs.Sites.{cut_text};
+ghost use Rattle.sct_exchange.specs.Sites.{cut_text, held_text};
 ghost use Rattle.sct_embed.specs.Questions.{contradictions_text_of};
 ghost use Rattle.sct_embed.specs.Restoring.{core_restored, restored_text};
 ghost use Rattle.sct_embed.specs.Taking.{ArePartlyTaken, AreTaken};
@@ -22,8 +21,8 @@ use crate::faults::EmbedFault;
 use crate::identities::push_identities;
 use crate::showing::Showing;
 use crate::taking::{TakenLines, take_all};
-use sct_delta::{DeltaFault, MOST_SITES, read_delta, read_vector, write_delta, write_vector};
-use sct_exchange::{Exchanged, exchange, read_file, write_refused_files};
+use sct_delta::{DeltaFault, MOST_SITES, read_delta, read_vector};
+use sct_exchange::{Exchanged, exchange, read_file, write_cut, write_held, write_refused_files};
 use sct_json::MessageReader;
 use sct_lines::{Intake, read_lines_after};
 use sct_site::{Accepted, SiteCore, Took};
@@ -37,22 +36,22 @@ use std::sync::Arc;
 /// evaluated: a question after n takes costs what these touch, and not the whole.
 #[derive(Drop)]
 pub struct EmbeddedSite {
-    alloc: Global,
-    core: SiteCore,
-    showing: Showing,
+    pub(crate) alloc: Global,
+    pub(crate) core: SiteCore,
+    pub(crate) showing: Showing,
     reader: MessageReader,
-    answer: Vec<u8>,
+    pub(crate) answer: Vec<u8>,
 }
 
 impl Model for EmbeddedSite {
     ghost use Rattle.sct_embed.specs.Embeddings.{Embedding};
-    ghost use Rattle.sct_embed.specs.Showing.{IsShown};
+    ghost use Rattle.sct_embed.specs.Showing.{IsShowing, watched_by};
 
     ghost Value = { Embedding };
 
-    ghost view = { λ s. record { core = s.core; answer = s.answer.items } };
+    ghost view = { λ s. record { core = s.core; answer = s.answer.items; watched = watched_by s.showing.watch } };
 
-    ghost invariant = { λ s. IsShown s.showing.count s.core.arrivals s.showing.view };
+    ghost invariant = { λ s. IsShowing s.showing s.core.arrivals };
 }
 
 impl EmbeddedSite {
@@ -60,7 +59,7 @@ impl EmbeddedSite {
     /// Error: `BadSite` (44) if the group does not have 1 to 1024 sites, or does not have this site.
     pub fn open(alloc: Global, number: u16, group: u16) -> Result<EmbeddedSite, EmbedFault>
         ensures ok { IfOk result (λ site. site
-            ≡ record { core = record { number = number; group = group; arrivals = [] }; answer = [] }) }
+            ≡ record { core = record { number = number; group = group; arrivals = [] }; answer = []; watched = None }) }
         ensures opened { OnOk result (is_open number group ≡ true) }
         ensures err { IfErr result (λ e. (e ≡ fault.Delta delta.BadSite) × (is_open number group ≡ false)) }
     {
@@ -87,6 +86,7 @@ impl EmbeddedSite {
     ) -> Result<EmbeddedSite, EmbedFault>
         ensures core { IfOk result (λ site. site.core ≡ core_restored number group journal.now text.now) }
         ensures told { IfOk result (λ site. site.answer ≡ restored_text number group journal.now text.now) }
+        ensures unwatched { IfOk result (λ site. site.watched ≡ None) }
         ensures opened { OnOk result (is_open number group ≡ true) }
         ensures err { IfErr result (λ e. e ≢ fault.Memory
             → (e ≡ fault.Delta delta.BadSite) × (is_open number group ≡ false)) }
@@ -118,6 +118,7 @@ impl EmbeddedSite {
     pub fn take(&mut self, json: &[u8]) -> Result<Took, EmbedFault>
         ensures taken { IfOk result (λ took. IsTaken self.old.core json.now took self.new.core) }
         ensures answer { self.new.answer ≡ self.old.answer }
+        ensures watched { self.new.watched ≡ self.old.watched }
         ensures err { IfErr result (RefusesMessage json.now) }
         ensures unchanged { OnErr result (self.new ≡ self.old) }
     {
@@ -131,6 +132,7 @@ impl EmbeddedSite {
     pub fn accept(&mut self, text: &[u8]) -> Result<Accepted, EmbedFault>
         ensures accepted { IfOk result (λ accepted. IsAccepted self.old.core text.now accepted self.new.core) }
         ensures answer { self.new.answer ≡ self.old.answer }
+        ensures watched { self.new.watched ≡ self.old.watched }
         ensures err { IfErr result (RefusesDelta self.old.core text.now) }
         ensures unchanged { OnErr result (self.new ≡ self.old) }
     {
@@ -142,6 +144,7 @@ impl EmbeddedSite {
     pub fn archive_text(&mut self) -> Result<(), EmbedFault>
         ensures text { OnOk result (self.new.answer ≡ archive_text_of (messages_of self.old.core.arrivals)) }
         ensures core { self.new.core ≡ self.old.core }
+        ensures watched { self.new.watched ≡ self.old.watched }
         ensures err { IfErr result (λ e. e ≡ fault.Memory) }
         ensures unchanged { OnErr result (self.new ≡ self.old) }
     {
@@ -154,6 +157,7 @@ impl EmbeddedSite {
     pub fn status_text(&mut self) -> Result<(), EmbedFault>
         ensures text { OnOk result (self.new.answer ≡ status_text_of (messages_of self.old.core.arrivals)) }
         ensures core { self.new.core ≡ self.old.core }
+        ensures watched { self.new.watched ≡ self.old.watched }
         ensures err { IfErr result (λ e. e ≡ fault.Memory) }
         ensures unchanged { OnErr result (self.new ≡ self.old) }
     {
@@ -167,6 +171,7 @@ impl EmbeddedSite {
     pub fn totals_text(&mut self) -> Result<(), EmbedFault>
         ensures text { OnOk result (self.new.answer ≡ totals_text_of (messages_of self.old.core.arrivals)) }
         ensures core { self.new.core ≡ self.old.core }
+        ensures watched { self.new.watched ≡ self.old.watched }
         ensures err { IfErr result (λ e. e ≡ fault.Memory) }
         ensures unchanged { OnErr result (self.new ≡ self.old) }
     {
@@ -181,6 +186,7 @@ impl EmbeddedSite {
     pub fn contradictions_text(&mut self) -> Result<(), EmbedFault>
         ensures text { OnOk result (self.new.answer ≡ contradictions_text_of (messages_of self.old.core.arrivals)) }
         ensures core { self.new.core ≡ self.old.core }
+        ensures watched { self.new.watched ≡ self.old.watched }
         ensures err { IfErr result (λ e. e ≡ fault.Memory) }
         ensures unchanged { OnErr result (self.new ≡ self.old) }
     {
@@ -193,13 +199,13 @@ impl EmbeddedSite {
 
     /// Has the text of the version vector as the answer: how many entries of each origin the site holds. Error: `Memory` (65).
     pub fn vector_text(&mut self) -> Result<(), EmbedFault>
-        ensures text { OnOk result (self.new.answer
-            ≡ vector_text (λ origin. held_from origin self.old.core.arrivals)) }
+        ensures text { OnOk result (self.new.answer ≡ held_text self.old.core.arrivals) }
         ensures core { self.new.core ≡ self.old.core }
+        ensures watched { self.new.watched ≡ self.old.watched }
         ensures err { IfErr result (λ e. e ≡ fault.Memory) }
         ensures unchanged { OnErr result (self.new ≡ self.old) }
     {
-        self.answer = write_vector(self.alloc, self.core.vector())?.into_bytes();
+        self.answer = write_held(self.alloc, &self.core)?.into_bytes();
         Ok(())
     }
 
@@ -209,14 +215,14 @@ impl EmbeddedSite {
     pub fn cut(&mut self, vector: &[u8]) -> Result<(), EmbedFault>
         ensures cut { OnOk result (IsCutFor self.old.core vector.now self.new.answer) }
         ensures core { self.new.core ≡ self.old.core }
+        ensures watched { self.new.watched ≡ self.old.watched }
         ensures err { IfErr result (RefusesVector vector.now) }
         ensures unchanged { OnErr result (self.new ≡ self.old) }
     {
         let Some(vector) = read_vector(self.alloc, vector)? else {
             return Err(EmbedFault::BadVector);
         };
-        let delta = self.core.cut(&vector)?;
-        self.answer = write_delta(self.alloc, &delta)?;
+        self.answer = write_cut(self.alloc, &self.core, &vector)?;
         Ok(())
     }
 
@@ -239,13 +245,13 @@ impl EmbeddedSite {
     pub fn cut_above(&mut self, counts: &[u64]) -> Result<(), EmbedFault>
         ensures cut { OnOk result (self.new.answer ≡ cut_text (counted counts.now) self.old.core.arrivals) }
         ensures core { self.new.core ≡ self.old.core }
+        ensures watched { self.new.watched ≡ self.old.watched }
         ensures err { IfErr result (λ e. e ≢ fault.Memory
             → (e ≡ fault.Delta delta.BadSite) × (1024 < length counts.now)) }
         ensures unchanged { OnErr result (self.new ≡ self.old) }
     {
         let vector = vector_of(self.alloc, counts)?;
-        let delta = self.core.cut(&vector)?;
-        self.answer = write_delta(self.alloc, &delta)?;
+        self.answer = write_cut(self.alloc, &self.core, &vector)?;
         Ok(())
     }
 
@@ -255,6 +261,7 @@ impl EmbeddedSite {
     pub fn take_lines(&mut self, text: &[u8]) -> Result<TakenLines, EmbedFault>
         ensures taken { IfOk result (λ taken. AreTaken self.old.core text.now taken self.new.core) }
         ensures told { OnOk result (self.new.answer ≡ told_text_of (refusals_told text.now)) }
+        ensures watched { self.new.watched ≡ self.old.watched }
         ensures err { IfErr result (λ e. e ≡ fault.Memory) }
         ensures partly { OnErr result (ArePartlyTaken self.old.core (messages_read text.now) self.new.core) }
         ensures answer_kept { OnErr result (self.new.answer ≡ self.old.answer) }

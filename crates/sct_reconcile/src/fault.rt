@@ -12,10 +12,10 @@ use thiserror::Error;
 #[derive(Debug, Drop, PartialEq, Eq, Error)]
 pub enum ReconcileFault {
     /// 48: the number of the first bad record of a list, counted from 1 with the header.
-    #[error("record {0} of the list is no row of a list")]
+    #[error("record {0} of the list is not a row of a list")]
     BadList(u64),
     /// 49: out of memory, or any fault of `csv`.
-    #[error("memory is wanting")]
+    #[error("out of memory")]
     Memory,
 }
 

@@ -16,6 +16,7 @@ mod writing;
 pub use fault::ReconcileFault;
 pub use judged::row_on;
 pub use lists::List;
-pub use reports::{Report, reconcile};
+pub use records::text_of;
+pub use reports::{Report, reconcile, reconcile_alone};
 pub use rows::{Listed, ListedRow, ReportRow};
 pub use words::{ListStatus, StatusWord, Verdict};

@@ -5,6 +5,10 @@ ghost use Rattle.sct_reconcile.specs.Reports.{report_of, report_text_of, row_on}
 ghost use Rattle.sct_reconcile.specs.declared.fault.ReconcileFault.TheVariants as fault;
 ghost use Rattle.sct_reconcile.specs.declared.rows.ListedRow.{ListedRow as Row};
 
+mod alone;
+
+pub use alone::reconcile_alone;
+
 use crate::fault::ReconcileFault;
 use crate::filed::{Index, by_transfer, listed_on};
 use crate::judged::row_on;

@@ -12,6 +12,7 @@ pub mod KeyLemmas
 pub mod LawLemmas
 pub mod ListedLemmas
 pub mod NamedLemmas
+pub mod OnLemmas
 pub mod ReadyLemmas
 pub mod RebuildLemmas
 pub mod SetKeys

@@ -4,7 +4,7 @@ use Rattle.sct_element.specs.Text.{is_text}
 use Rattle.sct_message.specs.Ascending.{ascending}
 use Rattle.sct_message.specs.Order.{text_order}
 use Rattle.sct_message.specs.Sets.{MessageSet, in_order}
-use Rattle.sct_message.specs.Transfers.{messages_on, asides_of, keys_of, instruction_of}
+use Rattle.sct_message.specs.Transfers.{is_on, messages_on, asides_of, keys_of, instruction_of}
 use Rattle.sct_message.specs.declared.draft.Draft.{Draft}
 use Rattle.sct_message.specs.declared.draft.Draft.TheVariants.{CreditTransfer}
 use Rattle.sct_message.specs.declared.keys.RecallKey.{RecallKey}
@@ -14,8 +14,13 @@ use Rattle.sct_case.specs.declared.status.RecallStatus.{RecallStatus}
 use Rattle.sct_case.specs.Said.{recalls_named_by}
 use Rattle.sct_case.specs.Statuses.{Standing, transfer_status_of, recall_status_of}
 use Rattle.sct_case.specs.Told.{findings_of}
+use Rattle.sct_set.specs.Contents.{contents_of}
 
 -- ---- a transfer and its recalls
+
+-- the messages of the set that are on a transfer, clean or contradicted
+abbrev pub those_on : MessageSet → TransferKey → MessageSet
+those_on held transfer = contents_of (filter (is_on transfer) (in_order held))
 
 -- the status of a transfer
 unfoldable pub status_of : MessageSet → TransferKey → Standing

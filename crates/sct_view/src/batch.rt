@@ -146,7 +146,7 @@ impl View {
     }
 
     /// The messages of a transfer's case, followed by fresh ones.
-    fn gather(
+    pub(crate) fn gather(
         &self,
         transfer: &TransferKey,
         fresh: &[Arc<Message>],

@@ -11,6 +11,7 @@ mod evaluation;
 mod findings;
 pub mod laws;
 mod listed;
+mod messages_text;
 mod status_parts;
 mod status_text;
 mod tables;

@@ -74,6 +74,17 @@ impl View {
         Ok(())
     }
 
+    /// The lines of one transfer in bytes, as the status text has them: a T line, an F line for each finding and an R line for
+    /// each recall, with a line feed after each line. A transfer without messages has one line, with the status `UNKNOWN`.
+    /// Error: `Memory` (39). O(messages on the transfer), however many messages the view holds.
+    pub fn transfer_text(&self, transfer: &TransferKey) -> Result<Vec<u8>, CaseFault>
+        ensures { IfOk result (λ text. text.items ≡ lines_on self.now transfer.now) }
+    {
+        let mut text = String::new(self.alloc);
+        self.push_transfer(&mut text, transfer)?;
+        Ok(text.into_bytes())
+    }
+
     /// The status text in bytes, with a line for each transfer, each finding and each
     /// recall, and a line feed after each line.
     /// Error: `Memory` (39). It sorts the transfers held: O(n log n).

@@ -1,8 +1,8 @@
 //! The banks of a view, and its totals text.
 
 ghost use Rattle.std.specs.Prelude.{◌≡◌, IfOk};
-ghost use Rattle.sct_view.specs.Totals.{banks_of};
-ghost use Rattle.sct_view.specs.TotalsText.{totals_text_of};
+ghost use Rattle.sct_view.specs.Totals.{banks_of, totals_of};
+ghost use Rattle.sct_view.specs.TotalsText.{totals_line, totals_text_of};
 
 use crate::totals_lines::push_totals_line;
 use crate::view::View;
@@ -18,6 +18,16 @@ impl View {
         banks.sort()?;
         banks.dedup();
         Ok(banks)
+    }
+
+    /// The line of one bank in bytes, as the totals text has it, with a line feed after it. A bank whose totals are all 0 has
+    /// a line here too. Error: `Memory` (39). Expected O(1).
+    pub fn totals_line(&self, bank: &Bic) -> Result<Vec<u8>, CaseFault>
+        ensures { IfOk result (λ text. text.items ≡ totals_line bank.now (totals_of self.now bank.now)) }
+    {
+        let mut text = String::new(self.alloc);
+        push_totals_line(&mut text, bank, &self.totals(bank))?;
+        Ok(text.into_bytes())
     }
 
     /// The totals text in bytes, with a line for each bank whose totals are not all 0, and a line feed after each line.

@@ -13,7 +13,7 @@ ghost use Rattle.sct_view.specs.Kept.{case_of, kept_or_none};
 ghost use Rattle.sct_view.specs.Totals.{totals_of};
 ghost use Rattle.sct_view.specs.Touched.{AreOnAtMost, touched_in};
 
-use crate::batch::Replanned;
+use crate::batch::{Replanned, fresh_among, touched};
 use crate::build::{filled_in_parts, tables_of};
 use crate::case::Case;
 use crate::tables::{Tables, make_room};
@@ -144,6 +144,17 @@ impl View {
         )?;
         self.tables.commit_all(plan.planned);
         Ok(brought)
+    }
+
+    /// The transfers that [`View::apply`] of the batch would touch, ascending, each once. Every other transfer has the same
+    /// messages, status, findings and recalls before and after. Error: `Memory` (39).
+    /// O(n log n) in the messages of the batch, however many messages the view holds.
+    pub fn touched(&self, messages: &[Arc<Message>]) -> Result<Vec<TransferKey>, CaseFault>
+        ensures { IfOk result (λ found. found.items
+            ≡ touched_in self.now (contents_of (messages_in messages.now))) }
+    {
+        let fresh = fresh_among(self.alloc, &self.archive, messages)?;
+        Ok(touched(self.alloc, &self.archive, &fresh)?)
     }
 
     /// The case of a transfer, if the view has one. Expected O(1).

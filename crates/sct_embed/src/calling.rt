@@ -1,0 +1,165 @@
+//! Calls of the site of a place: it opens and closes, takes and accepts, and its counts and its answer are copied out.
+
+ghost use Rattle.std.specs.Prelude.{◌≡◌, None};
+ghost use Rattle.sct_exchange.specs.Sites.{cut_text};
+ghost use Rattle.sct_embed.specs.Calls.{cut_above_answer};
+ghost use Rattle.sct_embed.specs.Outcomes.{refused_accept, refused_as, refused_lines, refused_take};
+ghost use Rattle.sct_embed.specs.Places.{Accepts, Changes, Copies, Counts, IsAsked, IsCalled, Opens, Restores, Takes, TakesLines};
+
+use crate::faults::EmbedFault;
+use crate::outcomes::{AcceptOutcome, LinesOutcome, Outcome, TakeOutcome};
+use crate::place::Place;
+use crate::site::EmbeddedSite;
+use std::alloc::Global;
+
+impl Place {
+    // Puts a site into the place, if it was opened.
+    fn fill(&mut self, alloc: Global, opened: Result<EmbeddedSite, EmbedFault>) -> Outcome {
+        let site = match opened {
+            Ok(site) => site,
+            Err(fault) => return Outcome::refused(fault),
+        };
+        let length = site.answer().len();
+        match Box::new(alloc, site) {
+            Ok(site) => {
+                self.put_in(site);
+                Outcome::done(length)
+            }
+            Err(_) => Outcome::refused(EmbedFault::Memory),
+        }
+    }
+
+    /// Opens the site `number` of a group of `group` sites in an empty place. It holds nothing, and its answer is empty.
+    /// Refusals: `BadSite` (44), `Memory` (65), `Full` (71).
+    pub fn open(&mut self, alloc: Global, number: u16, group: u16) -> Outcome
+        ensures { Opens number group self.old.handle.held result self.new.handle.held }
+    {
+        if self.is_full() {
+            return Outcome::refused(EmbedFault::Full);
+        }
+        self.fill(alloc, EmbeddedSite::open(alloc, number, group))
+    }
+
+    /// Opens a site that was there before, in an empty place, from its journal and a delta text. The answer has a line for each
+    /// refusal. Refusals: `BadSite` (44), `Memory` (65), `Full` (71).
+    pub fn restore(
+        &mut self,
+        alloc: Global,
+        number: u16,
+        group: u16,
+        journal: &[u8],
+        text: &[u8],
+    ) -> Outcome
+        ensures { Restores number group journal.now text.now self.old.handle.held result self.new.handle.held }
+    {
+        if self.is_full() {
+            return Outcome::refused(EmbedFault::Full);
+        }
+        self.fill(
+            alloc,
+            EmbeddedSite::restore(alloc, number, group, journal, text),
+        )
+    }
+
+    /// Ends the site, if there is one, and frees its memory.
+    pub fn close(&mut self, alloc: Global)
+        ensures { self.new.handle.held ≡ None }
+    {
+        drop(self.take_out(alloc));
+    }
+
+    /// Takes the message that one JSON object is. Refusals: 31 to 38, 46, 56, `Memory` (65), `Empty` (70).
+    pub fn take(&mut self, alloc: Global, json: &[u8]) -> TakeOutcome
+        ensures { IsCalled refused_take (Takes json.now) self.old.handle.held result self.new.handle.held }
+    {
+        let Some(mut site) = self.take_out(alloc) else {
+            return TakeOutcome::refused(EmbedFault::Empty);
+        };
+        let outcome = TakeOutcome::of(site.take(json));
+        self.put_in(site);
+        outcome
+    }
+
+    /// Takes the messages of a text, one on each line. The answer has a line for each refused one.
+    /// Refusals: `Memory` (65), with some of the first messages taken; `Empty` (70).
+    pub fn take_lines(&mut self, alloc: Global, text: &[u8]) -> LinesOutcome
+        ensures { IsCalled refused_lines (TakesLines text.now) self.old.handle.held result self.new.handle.held }
+    {
+        let Some(mut site) = self.take_out(alloc) else {
+            return LinesOutcome::refused(EmbedFault::Empty);
+        };
+        let done = site.take_lines(text);
+        let outcome = LinesOutcome::of(done, site.answer().len());
+        self.put_in(site);
+        outcome
+    }
+
+    /// Accepts a delta text. Refusals: 41 to 45, `Memory` (65), `Empty` (70).
+    pub fn accept(&mut self, alloc: Global, text: &[u8]) -> AcceptOutcome
+        ensures { IsCalled refused_accept (Accepts text.now) self.old.handle.held result self.new.handle.held }
+    {
+        let Some(mut site) = self.take_out(alloc) else {
+            return AcceptOutcome::refused(EmbedFault::Empty);
+        };
+        let outcome = AcceptOutcome::of(site.accept(text));
+        self.put_in(site);
+        outcome
+    }
+
+    /// Writes how many entries of each origin the site holds, that of origin 1 first. At most 1024 are asked for.
+    /// Refusals: `BadSite` (44), `Empty` (70).
+    pub fn counts(&mut self, alloc: Global, out: &mut [u64]) -> Outcome
+        ensures { IsCalled refused_as (Counts out.old out.new) self.old.handle.held result self.new.handle.held }
+    {
+        let Some(site) = self.take_out(alloc) else {
+            return Outcome::refused(EmbedFault::Empty);
+        };
+        let outcome = Outcome::of(site.counts(out), 0);
+        self.put_in(site);
+        outcome
+    }
+
+    /// The delta above a vector of counts becomes the answer, that of origin 1 first. An origin after them counts 0.
+    /// Refusals: `BadSite` (44), `Memory` (65), `Empty` (70).
+    pub fn cut_above(&mut self, alloc: Global, counts: &[u64]) -> Outcome
+        ensures { IsCalled refused_as (λ site. IsAsked (cut_above_answer counts.now site.core.arrivals) site)
+            self.old.handle.held result self.new.handle.held }
+    {
+        let Some(mut site) = self.take_out(alloc) else {
+            return Outcome::refused(EmbedFault::Empty);
+        };
+        let done = site.cut_above(counts);
+        let outcome = Outcome::of(done, site.answer().len());
+        self.put_in(site);
+        outcome
+    }
+
+    /// What changed since the call before becomes the answer: a line for each transfer. The first call begins the watch.
+    /// Refusals: `Memory` (65), `Empty` (70).
+    pub fn changes_text(&mut self, alloc: Global) -> Outcome
+        ensures { IsCalled refused_as Changes self.old.handle.held result self.new.handle.held }
+    {
+        let Some(mut site) = self.take_out(alloc) else {
+            return Outcome::refused(EmbedFault::Empty);
+        };
+        let done = site.changes_text();
+        let outcome = Outcome::of(done, site.answer().len());
+        self.put_in(site);
+        outcome
+    }
+
+    /// Copies the answer, if it fits, and says its length. Refusal: `Empty` (70).
+    pub fn answer(&mut self, alloc: Global, out: &mut [u8]) -> Outcome
+        ensures { IsCalled refused_as (Copies out.old out.new) self.old.handle.held result self.new.handle.held }
+    {
+        let Some(site) = self.take_out(alloc) else {
+            return Outcome::refused(EmbedFault::Empty);
+        };
+        let length = site.answer().len();
+        if length <= out.len() {
+            out[..length].copy_from_slice(site.answer());
+        }
+        self.put_in(site);
+        Outcome::done(length)
+    }
+}
