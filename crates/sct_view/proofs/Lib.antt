@@ -22,3 +22,4 @@ pub mod TableLemmas
 pub mod ToldLemmas
 pub mod TotalsLemmas
 pub mod TouchedLemmas
+pub mod TouchesAddUpLemmas
