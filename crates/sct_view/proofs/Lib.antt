@@ -23,3 +23,4 @@ pub mod TableLemmas
 pub mod ToldLemmas
 pub mod TotalsLemmas
 pub mod TouchedLemmas
+pub mod TouchesAddUpLemmas

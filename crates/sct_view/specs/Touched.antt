@@ -62,3 +62,9 @@ AreOnAtMost most held = (m : Draft) → set.contains held m ≡ true → length 
 abbrev pub BatchesTouchFew : Type 0
 BatchesTouchFew = (most : ℕ) (held batch : MessageSet) → AreOnAtMost most held → AreOnAtMost most batch
     → length (touched_by held (fresh_of held batch)) ≤ 2 * most * set.len (fresh_of held batch)
+
+-- two batches in turn touch the transfers that they touch together
+abbrev pub TouchesAddUp : Type 0
+TouchesAddUp = (held one other : MessageSet)
+    → touched_in held (set.union one other)
+    ≡ ascending transfer_order (touched_in held one ++ touched_in (set.union held one) other)

@@ -1,7 +1,7 @@
 //! Laws of the answers, for all messages. Each law is the contract of a function with an empty body.
 
 ghost use Rattle.sct_view.specs.Laws.{EqualSetsHaveEqualTexts, MoneyIsConserved, EachTransferIsCountedOnce, BanksHaveTotals, OrderOfBatchesDoesNotMatter};
-ghost use Rattle.sct_view.specs.Touched.{BatchesTouchFew, UntouchedTransfersStay};
+ghost use Rattle.sct_view.specs.Touched.{BatchesTouchFew, TouchesAddUp, UntouchedTransfersStay};
 
 /// Sets that hold the same messages have the same status text and the same totals text, byte for byte.
 pub fn equal_sets_have_equal_texts()
@@ -37,4 +37,9 @@ pub fn untouched_transfers_stay()
 /// If each message is on at most n transfers, a batch touches at most 2n transfers for each fresh message.
 pub fn batches_touch_few()
     ensures { BatchesTouchFew }
+{}
+
+/// Two batches that are applied in turn touch the transfers that they touch together.
+pub fn touches_add_up()
+    ensures { TouchesAddUp }
 {}
