@@ -6,13 +6,25 @@ use std::alloc::Global;
 
 /// Opens the site `number` of a group of `group` sites in an empty place.
 #[unsafe(no_mangle)]
-pub extern "C" fn sct_site_open(alloc: Global, site: &mut Place, number: u16, group: u16) -> Outcome {
+pub extern "C" fn sct_site_open(
+    alloc: Global,
+    site: &mut Place,
+    number: u16,
+    group: u16,
+) -> Outcome {
     site.open(alloc, number, group)
 }
 
 /// Opens a site that was there before, in an empty place, from its journal and a delta text.
 #[unsafe(no_mangle)]
-pub extern "C" fn sct_site_restore(alloc: Global, site: &mut Place, number: u16, group: u16, journal: &[u8], delta: &[u8]) -> Outcome {
+pub extern "C" fn sct_site_restore(
+    alloc: Global,
+    site: &mut Place,
+    number: u16,
+    group: u16,
+    journal: &[u8],
+    delta: &[u8],
+) -> Outcome {
     site.restore(alloc, number, group, journal, delta)
 }
 
@@ -30,7 +42,11 @@ pub extern "C" fn sct_site_take(alloc: Global, site: &mut Place, json: &[u8]) ->
 
 /// Takes the messages of a text, one on each line.
 #[unsafe(no_mangle)]
-pub extern "C" fn sct_site_take_lines(alloc: Global, site: &mut Place, text: &[u8]) -> LinesOutcome {
+pub extern "C" fn sct_site_take_lines(
+    alloc: Global,
+    site: &mut Place,
+    text: &[u8],
+) -> LinesOutcome {
     site.take_lines(alloc, text)
 }
 
@@ -90,13 +106,23 @@ pub extern "C" fn sct_site_cut(alloc: Global, site: &mut Place, vector: &[u8]) -
 
 /// The lines of one transfer become the answer, as the status text has them.
 #[unsafe(no_mangle)]
-pub extern "C" fn sct_site_transfer_text(alloc: Global, site: &mut Place, bank: &[u8], tx: &[u8]) -> Outcome {
+pub extern "C" fn sct_site_transfer_text(
+    alloc: Global,
+    site: &mut Place,
+    bank: &[u8],
+    tx: &[u8],
+) -> Outcome {
     site.transfer_text(alloc, bank, tx)
 }
 
 /// The messages on one transfer become the answer, as the archive text has them.
 #[unsafe(no_mangle)]
-pub extern "C" fn sct_site_messages_text(alloc: Global, site: &mut Place, bank: &[u8], tx: &[u8]) -> Outcome {
+pub extern "C" fn sct_site_messages_text(
+    alloc: Global,
+    site: &mut Place,
+    bank: &[u8],
+    tx: &[u8],
+) -> Outcome {
     site.messages_text(alloc, bank, tx)
 }
 
@@ -108,7 +134,13 @@ pub extern "C" fn sct_site_bank_totals(alloc: Global, site: &mut Place, bank: &[
 
 /// The report on a bank's list for a settlement day becomes the answer.
 #[unsafe(no_mangle)]
-pub extern "C" fn sct_site_report(alloc: Global, site: &mut Place, bank: &[u8], day: &[u8], list: &[u8]) -> Outcome {
+pub extern "C" fn sct_site_report(
+    alloc: Global,
+    site: &mut Place,
+    bank: &[u8],
+    day: &[u8],
+    list: &[u8],
+) -> Outcome {
     site.report(alloc, bank, day, list)
 }
 

@@ -58,7 +58,8 @@ Restores number group journal text = IsFilled
     (λ site. site ≡ record {
       core = core_restored number group journal text;
       answer = restored_text number group journal text;
-      watched = None })
+      watched = None;
+    })
     (NoSite number group)
 
 -- ---- messages and deltas

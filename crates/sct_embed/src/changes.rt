@@ -70,10 +70,7 @@ fn push_transfer(text: &mut String, transfer: &TransferKey) -> Result<(), AllocE
 }
 
 /// Appends the line of each transfer.
-pub(crate) fn push_transfers(
-    text: &mut String,
-    transfers: &[TransferKey],
-) -> Result<(), AllocError>
+pub(crate) fn push_transfers(text: &mut String, transfers: &[TransferKey]) -> Result<(), AllocError>
     ensures { OnOk result (string_bytes text.new
         ≡ string_bytes text.old ++ flat_map transfer_line transfers.now) }
 {

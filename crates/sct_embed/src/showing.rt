@@ -60,8 +60,7 @@ impl Showing {
     }
 
     /// The text of what changed. O(transfers that changed).
-    pub(crate) fn changes_text(&self, alloc: Global) -> Result<Vec<u8>, EmbedFault>
-    {
+    pub(crate) fn changes_text(&self, alloc: Global) -> Result<Vec<u8>, EmbedFault> {
         let mut text = String::new(alloc);
         if let Some(watch) = &self.watch {
             push_transfers(&mut text, &watch.changed)?;

@@ -7,8 +7,6 @@ ghost use Rattle.sct_reconcile.specs.declared.rows.ListedRow.{ListedRow as Row};
 
 mod alone;
 
-pub use alone::reconcile_alone;
-
 use crate::fault::ReconcileFault;
 use crate::filed::{Index, by_transfer, listed_on};
 use crate::judged::row_on;
@@ -16,6 +14,7 @@ use crate::keys::keys_reported;
 use crate::lists::List;
 use crate::rows::ReportRow;
 use crate::writing::written;
+pub use alone::reconcile_alone;
 use rayon::prelude::*;
 use sct_element::{Bic, Day};
 use sct_message::TransferKey;

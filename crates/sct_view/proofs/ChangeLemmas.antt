@@ -4,7 +4,6 @@ use Rattle.std.specs.FinSet as set
 use Rattle.std.specs.Prelude.{if◌then◌else◌}
 use Rattle.std.specs.List.{list_any}
 use Rattle.std.specs.List.Sorted.{IsStrictlySortedBy}
-use Rattle.std.proofs.lemmas.Bool.{false≢true}
 use Rattle.sct_message.specs.Ascending.{ascending}
 use Rattle.sct_message.specs.Keys.{identity_of}
 use Rattle.sct_message.specs.Order.{identity_order}

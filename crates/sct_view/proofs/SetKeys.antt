@@ -1,5 +1,5 @@
 -- The transfers of which a set has a message, and the banks that are told: each stands once. Proof plumbing.
-use Rattle.std.proofs.Common.{◌≡◌, ℕ, ◌≤◌, Bool, true, false, ◌||◌, List, [], ◌∷◌, length, refl, sym, ap, subst, ◌∙◌, Ordering, arith}
+use Rattle.std.proofs.Common.{◌≡◌, ℕ, ◌≤◌, Bool, false, ◌||◌, List, [], ◌∷◌, length, refl, sym, ap, subst, ◌∙◌, Ordering, arith}
 use Rattle.std.specs.FinMap as finite
 use Rattle.std.specs.FinMap.{len-empty, len-entries, len-insert}
 use Rattle.std.specs.FinSet as set
@@ -14,7 +14,7 @@ use Rattle.sct_element.specs.Text.{is_text}
 use Rattle.sct_message.specs.Ascending.{ascending, alone}
 use Rattle.sct_message.specs.CellsBack.{texts_same}
 use Rattle.sct_message.specs.Keys.{transfers_of}
-use Rattle.sct_message.specs.Order.{same_transfer, text_order, transfer_order}
+use Rattle.sct_message.specs.Order.{same_transfer, text_order}
 use Rattle.sct_message.specs.OrderLaws.{transfer_total, transfers_same, transfer_ties}
 use Rattle.sct_message.specs.Sets.{MessageSet}
 use Rattle.sct_message.specs.Transfers.{is_on, keys_of}

@@ -1,9 +1,7 @@
 -- The messages held are those of the view, and a fresh message is not held.
 use Rattle.std.proofs.Common.{◌∙◌, ap, sym}
 use Rattle.std.specs.FinSet as set
-use Rattle.sct_message.specs.Sets.{MessageSet, messages_in}
-use Rattle.sct_set.specs.Contents.{contents_of}
-use Rattle.sct_view.specs.Touched.{fresh_of, touched_by}
+use Rattle.sct_message.specs.Sets.{MessageSet}
 use Rattle.sct_view.proofs.FewLemmas.{fresh_apart}
 use Rattle.sct_view.proofs.view.View.touched.Goals as goal
 
