@@ -2,3 +2,4 @@
 pub mod CountsLemmas
 pub mod ShownLemmas
 pub mod TakingLemmas
+pub mod WatchLemmas
