@@ -10,7 +10,7 @@ from tests.documents import man_page, pages
 from tests.harness import CRATES, EXAMPLES, TOP, reported
 
 SHOWN = ["Line", "Example"]
-MOST = 72  # the greatest number
+MOST = 73  # the greatest number
 
 
 def numbers_of_code():
