@@ -23,11 +23,11 @@
  * - Each thread that calls has at least 256 KB of stack.
  *
  * What a call does. Each call ends. It starts no thread, takes no lock, opens no file and prints nothing. It calls malloc, realloc,
- * free, memcpy, memmove, memset and memcmp. Its memory belongs to the handle: sct_site_close frees all of it. It keeps no pointer of
- * the caller. Texts, in and out, are UTF-8 with a length: no zero byte ends them.
+ * free, memcpy, memmove, memset and memcmp. Its memory belongs to the handle: sct_site_close frees all of it. It keeps no pointer
+ * of the caller. Texts, in and out, are UTF-8 with a length: no zero byte ends them.
  *
- * Refusals. A call whose `ok` is false has changed nothing, with one exception, which sct_site_take_lines names. Its `code` says why,
- * and its counts and length are 0. `code` is 0 if `ok` is true.
+ * Refusals. A call whose `ok` is false has changed nothing, with one exception, which sct_site_take_lines names. Its `code` says
+ * why, and its counts and length are 0. `code` is 0 if `ok` is true.
  *
  *     31 NotJson           the bytes are not one JSON text in UTF-8
  *     32 NotObject         the JSON text is not an object
@@ -161,7 +161,7 @@ sct_outcome sct_site_counts(sct_site *site, uint64_t *counts, size_t items);
  * Refusals: 65, 70. */
 sct_outcome sct_site_vector_text(sct_site *site);
 
-/* The answer becomes the delta, a text of form 2, of what the site holds above a version vector of text. Above `-` it is everything.
+/* The answer becomes the delta, a text of form 2, of what the site holds above a version vector of text: above `-`, everything.
  * Refusals: 65, 70, 72. */
 sct_outcome sct_site_cut(sct_site *site, const uint8_t *vector, size_t length);
 
