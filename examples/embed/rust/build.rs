@@ -7,7 +7,9 @@ fn folder() -> String {
     if let Ok(folder) = env::var("NILUPPANG_LIB_DIR") {
         return folder;
     }
-    let asked = Command::new("pkg-config").args(["--variable=libdir", "niluppang"]).output();
+    let asked = Command::new("pkg-config")
+        .args(["--variable=libdir", "niluppang"])
+        .output();
     match asked {
         Ok(answer) if answer.status.success() => String::from_utf8_lossy(&answer.stdout).trim().to_string(),
         _ => panic!("set NILUPPANG_LIB_DIR to the folder of libniluppang.a, or install niluppang.pc for pkg-config"),

@@ -54,7 +54,10 @@ fn exchange(sites: &mut [Site]) -> Result<(), Refused> {
 
 /// The status text of each site, made on a thread of its own.
 fn status_texts(sites: Vec<Site>) -> Result<Vec<Vec<u8>>, Box<dyn Error>> {
-    let asked: Vec<_> = sites.into_iter().map(|mut site| thread::spawn(move || site.status_text())).collect();
+    let asked: Vec<_> = sites
+        .into_iter()
+        .map(|mut site| thread::spawn(move || site.status_text()))
+        .collect();
     let mut texts = Vec::new();
     for thread in asked {
         texts.push(thread.join().map_err(|_| "a thread failed")??);

@@ -78,13 +78,20 @@ pub struct Site {
 unsafe impl Send for Site {}
 
 fn checked(ok: bool, number: u8, place: u64) -> Result<(), Refused> {
-    if ok { Ok(()) } else { Err(Refused { number, place }) }
+    if ok {
+        Ok(())
+    } else {
+        Err(Refused { number, place })
+    }
 }
 
 impl Site {
     /// Site `number` of a group. It holds nothing.
     pub fn open(number: u16, group: u16) -> Result<Site, Refused> {
-        let mut handle = Box::new(Handle { address: std::ptr::null_mut(), is_full: false });
+        let mut handle = Box::new(Handle {
+            address: std::ptr::null_mut(),
+            is_full: false,
+        });
         // SAFETY: the handle is empty. A call that is refused leaves it so.
         let made = unsafe { sct_site_open(&mut *handle, number, group) };
         checked(made.ok, made.code, made.place)?;
@@ -96,7 +103,11 @@ impl Site {
         // SAFETY: the pointer of a slice is not null, and the length is its own. The same holds for each call below.
         let taken = unsafe { sct_site_take(&mut *self.handle, json.as_ptr(), json.len()) };
         checked(taken.ok, taken.code, taken.place)?;
-        Ok(if taken.is_repeat { Taken::Repeat } else { Taken::Fresh(taken.number) })
+        Ok(if taken.is_repeat {
+            Taken::Repeat
+        } else {
+            Taken::Fresh(taken.number)
+        })
     }
 
     /// Accepts a delta, and returns how many of its messages are new.
