@@ -107,7 +107,8 @@ def exchanged(program):
     requests = []
     for journal in journals:
         for text in deltas:
-            requests += [("restore", 0, 1, 2, journal.read_bytes(), text.read_bytes()), ("archive_text", 0), ("vector_text", 0), ("close", 0)]
+            requests += [("restore", 0, 1, 2, journal.read_bytes(), text.read_bytes()), ("archive_text", 0), ("vector_text", 0)]
+            requests += [("close", 0)]
     return as_modelled(f"{len(journals)} journals with {len(deltas)} deltas each", program, requests)
 
 
@@ -138,7 +139,8 @@ def refusals(program):
                 (("report", 0, b"bankdeff", DAY, header), 73, 1), (("report", 0, BANK, b"today", header), 73, 2),
                 (("transfer_text", 0, b"", b"T1"), 73, 1), (("transfer_text", 0, BANK, b""), 73, 2),
                 (("messages_text", 0, b"BANK", b"T1"), 73, 1), (("messages_text", 0, BANK, b"T//1"), 73, 2), (("bank_totals", 0, b"X"), 73, 1)]
-    refused += [(("open", 2, number, group), 44, 0) for number, group in ((0, 1), (2, 1), (1, 0), (1025, 1025), (1, 1025), (65535, 65535))]
+    wrong_sites = (0, 1), (2, 1), (1, 0), (1025, 1025), (1, 1025), (65535, 65535)
+    refused += [(("open", 2, number, group), 44, 0) for number, group in wrong_sites]
     refused += [(("restore", 2, 0, 1, b"", EMPTY_DELTA), 44, 0), *(((name, 2, *words), 70, 0) for name, words in on_no_site())]
     length = driving.asked(program, kept)[-1].fields["length"]
     after = [("answer", 0, length), ("counts", 0, 3), ("counts", 1, 3), ("archive_text", 0), ("archive_text", 1)]
@@ -156,7 +158,8 @@ def refusals(program):
 def on_no_site():
     """Each call that needs a site."""
     words = {"take": [b"{}"], "take_lines": [b""], "accept": [EMPTY_DELTA], "counts": [1], "cut": [b"-"], "cut_above": [[]],
-             "report": [BANK, DAY, b""], "transfer_text": [BANK, b"T1"], "messages_text": [BANK, b"T1"], "bank_totals": [BANK], "answer": [0]}
+             "report": [BANK, DAY, b""], "transfer_text": [BANK, b"T1"], "messages_text": [BANK, b"T1"], "bank_totals": [BANK],
+             "answer": [0]}
     texts = ["vector_text", "archive_text", "status_text", "totals_text", "contradictions_text", "changes"]
     return [*words.items(), *((name, []) for name in texts)]
 
@@ -173,7 +176,8 @@ def most_sites(program):
     asked = [(name, site, *words) for site in whole for name, *words in (["vector_text"], ["counts", MOST_SITES], ["status_text"])]
     vector = ",".join(f"{site}:1" for site in sites).encode()
     statuses = "".join(f"T|BANKDEFFXXX|{name}|PENDING\n" for name in sorted(f"T{site}" for site in sites)).encode()
-    wanted = [({"ok": 1}, None)] * (3 * MOST_SITES - 1) + [({"ok": 1}, everything.encode()), *[({"ok": 1, "fresh": MOST_SITES - 1}, None)] * 3]
+    wanted = [({"ok": 1}, None)] * (3 * MOST_SITES - 1) + [({"ok": 1}, everything.encode())]
+    wanted += [({"ok": 1, "fresh": MOST_SITES - 1}, None)] * len(whole[1:])
     counts = b"".join([(1).to_bytes(8, "little")] * MOST_SITES)
     wanted += [({"ok": 1}, text) for _ in whole for text in (vector, counts, statuses)]
     return right("sites 1 to 1024", program, requests + asked, wanted)
