@@ -48,11 +48,11 @@ def libraries():
         yield pathlib.Path(folder)
 
 
-def built(folder, source, *words, name=None, compiler="gcc"):
+def built(folder, source, *words, name=None, wraps=WRAPPED, compiler="gcc"):
     """The program that a compiler makes of a source and the archive in a folder."""
     path = folder / (name or pathlib.Path(source).stem)
-    standard = STRICT if compiler == "gcc" else ["-Wall", "-Wextra", "-pedantic", "-Werror"]
-    made = harness.run([compiler, *standard, *words, f"-I{TOP / 'include'}", source, folder / "libniluppang.a", *WRAPPED, "-lpthread",
+    standard = STRICT if compiler == "gcc" else STRICT[1:]
+    made = harness.run([compiler, *standard, *words, f"-I{TOP / 'include'}", source, folder / "libniluppang.a", *wraps, "-lpthread",
                         "-o", path])
     if made.status:
         harness.stop(f"{source} is not built:\n{made.errors.decode(errors='replace')}")
