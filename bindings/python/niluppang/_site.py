@@ -1,5 +1,6 @@
 """The site of a hub, in a program."""
 import ctypes
+import operator
 import threading
 from dataclasses import dataclass
 from typing import Any, Callable, Generic, Iterable, List, NamedTuple, Optional, Tuple, Type, TypeVar, Union
@@ -12,7 +13,7 @@ Given = Union[str, bytes, bytearray, memoryview]
 Self = TypeVar("Self", bound="BaseSite[Any]")
 
 BAD_SITE, BAD_VECTOR = 44, 72
-MOST_SITES = 1024
+EMPTY_DELTA = b"delta 2\nend 0\n"
 
 
 class Taken(NamedTuple):
@@ -48,7 +49,7 @@ def bytes_of(text: Given) -> bytes:
     """The bytes of a text. Those of bytes are not copied. A lone surrogate becomes bytes that are not UTF-8, and are refused as such."""
     if isinstance(text, str):
         return text.encode("utf-8", "surrogatepass")
-    return text if isinstance(text, bytes) else bytes(text)
+    return text if isinstance(text, bytes) else memoryview(text).tobytes()
 
 
 def passed(*texts: Given) -> List[Any]:
@@ -58,6 +59,7 @@ def passed(*texts: Given) -> List[Any]:
 
 def site_number(number: int) -> int:
     """A number that fits into 16 bits. The library refuses those that are no site."""
+    number = operator.index(number)
     if not 0 <= number < 1 << 16:
         raise NiluppangError(BAD_SITE)
     return number
@@ -65,7 +67,7 @@ def site_number(number: int) -> int:
 
 def counted(counts: Iterable[int]) -> Tuple[Any, int]:
     """Counts as arguments of a call."""
-    items = list(counts)
+    items = [operator.index(count) for count in counts]
     if any(not 0 <= count < 1 << 64 for count in items):
         raise NiluppangError(BAD_VECTOR)
     return (ctypes.c_uint64 * max(1, len(items)))(*items), len(items)
@@ -82,19 +84,19 @@ class BaseSite(Generic[Text]):
         self._checked(self._library.sct_site_open(self._place, self.number, self.group))
 
     def _begin(self, number: int, group: int) -> None:
-        self._place = Place()
-        self._turn = threading.Lock()
         self._library = library()
         self._refused: Optional[Text] = None
         self.number = site_number(number)
         self.group = site_number(group)
+        self._place = Place()
+        self._turn = threading.Lock()
 
     @classmethod
-    def restore(cls: Type[Self], number: int, group: int, journal: Given, delta: Given = b"") -> Self:
+    def restore(cls: Type[Self], number: int, group: int, journal: Given, delta: Given = EMPTY_DELTA) -> Self:
         """A site that was there before.
 
         The journal is the messages that it took, one JSON object a line, in the order in which it took them. The delta is a cut that
-        it kept or that a peer made, or empty. What is refused of the two is left out, and `refused_text` has it. Refusals: 44, 65.
+        it kept or that a peer made. What is refused of the two is left out, and `refused_text` has it. Refusals: 44, 65.
         """
         site = cls.__new__(cls)
         site._begin(number, group)
