@@ -1,10 +1,11 @@
 """c_examples.py: the examples in C and in Rust are built without a warning, and print what three sites together answer.
 
-examples/embed/hub.c is built by gcc, and by clang where it is there. It runs under the address sanitizer too. The Rust one is built by
-cargo, without a crate of a registry. The header is read as C99, as C11 and as C++. Each compiler that is missing is named.
+examples/embed/hub.c is built by gcc, and by clang where it is there. It runs under the address sanitizer too, and so does the program
+of docs/EMBEDDING.md. The Rust one is built by cargo, without a crate of a registry. The header is read as C99, as C11 and as C++. Each compiler that is missing is named.
 """
 import os, re, shutil
 from tests import harness
+from tests.documents.pages import Page
 from tests.embed import driving
 from tests.harness import EXAMPLES, TOP, reported
 
@@ -59,6 +60,15 @@ def c_example(folder):
     yield reported("hub.c with wrong words", all((one.text, one.status) == (b"", 2) and one.errors for one in wrong))
 
 
+def page(folder):
+    """The program in C on docs/EMBEDDING.md, which prints what the page shows."""
+    in_c, _, shown = (block.text for block in Page("EMBEDDING.md").blocks())
+    source = folder / "page.c"
+    source.write_text(in_c)
+    answer = harness.run([driving.built(folder, source, *driving.CHECKED, wraps=())])
+    yield reported("the program in C of docs/EMBEDDING.md", answer == (shown.encode(), b"", 0), str(answer))
+
+
 def rust_example(folder):
     """The Rust example, built in the temporary folder."""
     if not has("cargo"):
@@ -89,7 +99,7 @@ def header(folder):
 def main():
     driving.end_if_missing()
     with driving.libraries() as folder:
-        harness.end_of([*c_example(folder), *rust_example(folder), *header(folder)])
+        harness.end_of([*c_example(folder), *page(folder), *rust_example(folder), *header(folder)])
 
 
 if __name__ == "__main__":

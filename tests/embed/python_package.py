@@ -5,6 +5,7 @@ program sees. pip installs a copy of the folder, with no package from elsewhere,
 """
 import os, re, shutil, sys
 from tests import harness
+from tests.documents.pages import Page
 from tests.embed import driving
 from tests.harness import TOP, reported
 from tools import library
@@ -51,6 +52,16 @@ def tests(shared):
     return numbers.get("passed", 0), failed or int(answer.status != 0)
 
 
+def page(folder, shared):
+    """The program in Python on docs/EMBEDDING.md, which prints what the page shows."""
+    _, in_python, shown = (block.text for block in Page("EMBEDDING.md").blocks())
+    source = folder / "page.py"
+    source.write_text(in_python)
+    variables = {**os.environ, "NILUPPANG_LIBRARY": str(shared), "PYTHONPATH": str(FOLDER), "PYTHONDONTWRITEBYTECODE": "1"}
+    answer = harness.run([sys.executable, source], env=variables)
+    yield reported("the program in Python of docs/EMBEDDING.md", answer == (shown.encode(), b"", 0), str(answer))
+
+
 def types(folder):
     """Whether mypy finds nothing in the package, and in a program that uses it."""
     python = interpreter("mypy")
@@ -88,7 +99,7 @@ def main():
     driving.end_if_missing()
     with driving.libraries() as folder:
         passed, failed = tests(folder / "libniluppang.so")
-        more = [*types(folder), *installed(folder)]
+        more = [*page(folder, folder / "libniluppang.so"), *types(folder), *installed(folder)]
     harness.end(passed + sum(more), failed + len(more) - sum(more))
 
 
