@@ -2,7 +2,7 @@
  *
  * A site holds the messages that it took and those that it accepted from other sites, and answers about them. It works on bytes:
  * messages are JSON objects, and deltas and answers are texts (docs/FORMATS.md). It has no network, no file and no thread. It keeps
- * nothing when the program ends. The program keeps the site's journal, the messages that it took, and restores the site from it.
+ * nothing when the program ends. The program keeps the site's journal, its own messages, and restores the site from it.
  *
  *     #include <niluppang.h>                                   cc hub.c -lniluppang
  *
@@ -123,10 +123,12 @@ typedef struct sct_accepted {
  * Refusals: 44, 65, 71. */
 sct_outcome sct_site_open(sct_site *site, uint16_t number, uint16_t group);
 
-/* Opens a site that was there before, in an empty handle. The journal is the messages that it took, one JSON object on each line,
- * in the order in which it took them. The delta is a cut that it kept, or that a peer made. Without one, pass the delta without a
- * message, `delta 2\nend 0\n`. What is refused of the two is left out. The answer has a line for each refused line of the journal,
- * such as `file 1 line 8: 31`, and one if the delta is refused, such as `file 2: 41 3 0 7`. It is empty if nothing is refused.
+/* Opens a site that was there before, in an empty handle. The journal is the site's own messages, one JSON object on each line, in
+ * the order of their numbers: what it took, but no repeat. A repeat may be a message of another site: in the journal it would be
+ * given a number, and all after it another one than before (42, 43). The delta is a cut that the site kept, or that a peer made.
+ * Without one, pass the delta without a message, `delta 2\nend 0\n`. What is refused of the two is left out. The answer has a line
+ * for each refused line of the journal, such as `file 1 line 8: 31`, and one if the delta is refused, such as `file 2: 41 3 0 7`.
+ * It is empty if nothing is refused.
  * Refusals: 44, 65, 71. */
 sct_outcome sct_site_restore(sct_site *site, uint16_t number, uint16_t group, const uint8_t *journal, size_t journal_length,
                              const uint8_t *delta, size_t delta_length);
@@ -136,13 +138,14 @@ void sct_site_close(sct_site *site);
 
 /* ---- messages and deltas in ---- */
 
-/* Takes the message that one JSON object is. It becomes the site's own message `number`, unless the site holds it already.
- * Keep the object in the journal before you acknowledge it to anyone, and before the next cut.
+/* Takes the message that one JSON object is. It becomes the site's own message `number`, unless the site holds it already. If it is
+ * no repeat, write it to the journal, on one line, before you acknowledge it to anyone, and before the next cut.
  * Refusals: 31 to 38, 46, 56, 65, 70. */
 sct_taken sct_site_take(sct_site *site, const uint8_t *json, size_t length);
 
 /* Takes the messages of a text, one JSON object on each line. Blank lines are passed over. The answer has a line for each refused
- * line, such as `line 8: 36 InstgAgt 1`; `ok` is true all the same.
+ * line, such as `line 8: 36 InstgAgt 1`; `ok` is true all the same. It does not say which lines are repeats. The new ones, for the
+ * journal, are the messages of this site in a cut above the vector that it had before.
  * Refusals: 65, 70. With 65 some of the first messages may be taken; the text can be taken again. */
 sct_lines sct_site_take_lines(sct_site *site, const uint8_t *text, size_t length);
 

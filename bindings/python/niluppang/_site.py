@@ -95,8 +95,8 @@ class BaseSite(Generic[Text]):
     def restore(cls: Type[Self], number: int, group: int, journal: Given, delta: Given = EMPTY_DELTA) -> Self:
         """A site that was there before.
 
-        The journal is the messages that it took, one JSON object a line, in the order in which it took them. The delta is a cut that
-        it kept or that a peer made. What is refused of the two is left out, and `refused_text` has it. Refusals: 44, 65.
+        The journal is its own messages, one JSON object a line, in the order of their numbers: what it took, but no repeat. The delta
+        is a cut that it kept or that a peer made. What is refused of the two is left out, and `refused_text` has it. Refusals: 44, 65.
         """
         site = cls.__new__(cls)
         site._begin(number, group)
@@ -163,7 +163,8 @@ class BaseSite(Generic[Text]):
     # ---- messages and deltas in
 
     def take(self, message: Given) -> Taken:
-        """Takes the message that one JSON object is. Refusals: 31 to 38, 46, 56, 65."""
+        """Takes the message that one JSON object is. If it is no repeat, it belongs into the journal, on one line, before it is
+        acknowledged and before the next cut. Refusals: 31 to 38, 46, 56, 65."""
         with self._turn:
             outcome = self._checked(self._library.sct_site_take(self._place, *passed(message)))
         return Taken(outcome.is_repeat, None if outcome.is_repeat else outcome.number)

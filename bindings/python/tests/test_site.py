@@ -144,6 +144,19 @@ def test_changes():
         assert site.changes() == [("BANKDEFFXXX", "T3"), ("BANKDEFFXXX", "T4")]
 
 
+def test_journal_has_no_repeats():
+    with Site(1, 2) as site, Site(2, 2) as other:
+        other.take(instruction(1))
+        site.accept(other.cut())
+        assert site.take(instruction(1)) == Taken(True, None)
+        assert site.take(instruction(2)) == Taken(False, 1)
+        whole = site.cut()
+    with Site.restore(1, 2, instruction(2), whole) as again:
+        assert (again.refused_text, again.cut(), again.vector_text()) == ("", whole, "1:1,2:1")
+    with Site.restore(1, 2, instruction(1) + "\n" + instruction(2), whole) as wrong:
+        assert wrong.refused_text == "file 2: 42 1 1\n"
+
+
 def test_contradictions():
     with Site(1, 1) as site:
         site.take(instruction(1))
