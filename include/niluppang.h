@@ -108,7 +108,7 @@ typedef struct sct_lines {
     size_t length;
 } sct_lines;
 
-/* What an accept came to: `fresh` messages of the delta are new. */
+/* What an accept came to: `fresh` entries of the delta are new. An entry is a message under its number at the site that took it. */
 typedef struct sct_accepted {
     bool ok;
     uint8_t code;
@@ -212,9 +212,9 @@ sct_outcome sct_site_messages_text(sct_site *site, const uint8_t *bank, size_t b
  * Refusals: 65, 70, 73 (1: the bank). */
 sct_outcome sct_site_bank_totals(sct_site *site, const uint8_t *bank, size_t bank_length);
 
-/* The answer becomes a line `BANK|TX` for each transfer whose lines may have changed since the call before, ascending. Every other
- * transfer has the lines that it had then. The first call begins the watch, and its answer is empty. From then on, the site keeps
- * the names of changed transfers until the next call.
+/* The answer becomes a line `BANK|TX` for each transfer whose lines may have changed since the call before, ascending. BANK has 11
+ * characters, and TX no `|`. Every other transfer has the lines that it had then. The first call begins the watch, and its answer is
+ * empty. From then on, the site keeps the names of changed transfers until the next call.
  * Refusals: 65, 70. */
 sct_outcome sct_site_changes(sct_site *site);
 
