@@ -213,8 +213,8 @@ sct_outcome sct_site_messages_text(sct_site *site, const uint8_t *bank, size_t b
 sct_outcome sct_site_bank_totals(sct_site *site, const uint8_t *bank, size_t bank_length);
 
 /* The answer becomes a line `BANK|TX` for each transfer whose lines may have changed since the call before, ascending. BANK has 11
- * characters, and TX no `|`. Every other transfer has the lines that it had then. The first call begins the watch, and its answer is
- * empty. From then on, the site keeps the names of changed transfers until the next call.
+ * characters, and TX no `|`. Every other transfer has the lines that it had then. The first call begins the watch, and its answer
+ * is empty. From then on, the site keeps the names of changed transfers until the next call.
  * Refusals: 65, 70. */
 sct_outcome sct_site_changes(sct_site *site);
 

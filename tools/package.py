@@ -21,7 +21,7 @@ from tools.library import TOP, VERSION, Missing
 
 NAME = f"niluppang-{VERSION}-x86_64-linux"
 PAGES = ["README.md", "CHANGELOG.md", "CONTRIBUTING.md", "SECURITY.md"]
-SHIPPED = ["examples", "bindings/python/niluppang"]
+PYTHON = ["pyproject.toml", "README.md"]
 LEFT_OUT = ("target", "__pycache__", ".gitignore", "Cargo.lock")
 PKG_CONFIG = f"""prefix=${{pcfiledir}}/../..
 libdir=${{prefix}}/lib
@@ -62,30 +62,36 @@ def built_of():
 
 
 def below(folder):
-    """The files of the repository below a folder, by their paths from the top on: those of git, or all if there is no git."""
+    """The paths of the files below a folder of the repository: of those that git has, or of all if there is no git."""
     listed = said("git", "ls-files", folder).split("\n") if (TOP / ".git").exists() else []
     found = [TOP / path for path in listed] or (TOP / folder).rglob("*")
     for path in sorted(path for path in found if path.is_file()):
         if not any(part in LEFT_OUT for part in path.parts):
-            yield path.relative_to(TOP).as_posix(), path
+            yield path.relative_to(TOP).as_posix()
+
+
+def read(path):
+    """The bytes of a file of the repository."""
+    return (TOP / path).read_bytes()
 
 
 def files(folder):
     """The path of each file in the release, with its bytes. The libraries are made in a folder."""
     library.make(folder)
-    doc = "share/doc/niluppang/"
-    found = {"bin/sct_sites": program().read_bytes(), "include/niluppang.h": (TOP / "include" / "niluppang.h").read_bytes(),
-             "lib/pkgconfig/niluppang.pc": PKG_CONFIG.encode(), doc + "BUILD": built_of().encode(),
-             doc + "VERSION": (TOP / "VERSION").read_bytes(),
-             "share/man/man1/sct_sites.1": (TOP / "docs" / "sct_sites.1").read_bytes(),
-             "share/niluppang/python/pyproject.toml": (TOP / "bindings" / "python" / "pyproject.toml").read_bytes()}
+    doc, python = "share/doc/niluppang/", "share/niluppang/python/"
+    found = {"bin/sct_sites": program().read_bytes(), "include/niluppang.h": read("include/niluppang.h"),
+             "lib/pkgconfig/niluppang.pc": PKG_CONFIG.encode(), "share/man/man1/sct_sites.1": read("docs/sct_sites.1"),
+             doc + "BUILD": built_of().encode(), doc + "VERSION": read("VERSION")}
     for name in ("libniluppang.a", library.SONAME):
         found["lib/" + name] = pathlib.Path(folder, name).read_bytes()
     for page in [*PAGES, *(path.relative_to(TOP).as_posix() for path in (TOP / "docs").glob("*.md"))]:
-        found[doc + page] = (TOP / page).read_bytes()
-    for path, source in (one for shipped in SHIPPED for one in below(shipped)):
-        inner = path.replace("bindings/python/", "share/niluppang/python/") if path.startswith("bindings/") else doc + path
-        found[inner] = source.read_bytes()
+        found[doc + page] = read(page)
+    for name in PYTHON:
+        found[python + name] = read("bindings/python/" + name)
+    for path in below("bindings/python/niluppang"):
+        found[path.replace("bindings/python/", python)] = read(path)
+    for path in below("examples"):
+        found[doc + path] = read(path)
     sums = "".join(f"{hashlib.sha256(found[path]).hexdigest()}  {path}\n" for path in sorted(found))
     return {**found, "SHA256SUMS": sums.encode()}
 

@@ -5,7 +5,7 @@
 - Each number of the header once, with its place, and each call on a handle without a site.
 - Sites 1 to 1024 of the largest group. Each gives its message to site 1, and three are given all.
 - What needs the most stack: 99,999 opening brackets, a recall of 100 transactions, and 20,000 messages.
-- The library gives away the names of the header and no other, and needs nothing but the C library.
+- The library gives away the names of the header and no other, needs nothing but the C library, and no stack whose bytes run.
 """
 import json, re
 from bench.generate import messages, samples
@@ -230,6 +230,8 @@ def names(folder):
         needed = {name.partition("@")[0] for kind, name in found if kind == "U"}
         yield reported(f"{path} has the names of the header alone", given == declared, f"{sorted(given ^ declared)}")
         yield reported(f"{path} needs the C library alone", needed <= outside, f"{sorted(needed - outside)}")
+    headers = harness.run(["readelf", "--program-headers", "--wide", folder / "libniluppang.so"]).text.decode()
+    yield reported("the shared library needs no stack that runs", re.search(r"GNU_STACK.* RW +0x", headers) is not None, headers)
 
 
 def main():
