@@ -71,7 +71,7 @@ extern "C" {
 /* The version of the library that runs: 1000000 for each major, 1000 for each minor, 1 for each patch version. */
 uint32_t sct_version(void);
 
-/* A handle: 16 bytes that the caller keeps where it likes, and whose address it passes. */
+/* A handle: 16 bytes that the caller keeps anywhere, and whose address it passes. */
 typedef struct sct_site {
     void *address;
     bool is_full;

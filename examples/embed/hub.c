@@ -28,7 +28,7 @@ static void must(bool ok, const char *call, int number, uint8_t code, uint64_t p
     exit(2);
 }
 
-/* Room for so many bytes, and one at least. */
+/* Room for a number of bytes, and for one at least. */
 static struct text room_for(size_t length) {
     struct text text = {malloc(length > 0 ? length : 1), length};
     if (text.bytes == NULL) {

@@ -193,7 +193,7 @@ def tried(program, before, seed, many):
 
 
 def checked(name, program, before, seed, many):
-    """How many calls passed, and how many runs of them failed. All has to be met if so many calls are made as usual."""
+    """How many calls passed, and how many runs of them failed. All has to be met if there are as many calls as usual, or more."""
     made, met, failures = tried(program, before, seed, many)
     print(f"{made} calls {name}: " + ", ".join(f"{thing} {met[thing]}" for thing in [*CALLS, *NUMBERS]), flush=True)
     for failure in failures[:3]:

@@ -1,6 +1,6 @@
 """c_examples.py: the examples in C and in Rust are built without a warning, and print what three sites together answer.
 
-examples/embed/hub.c is built by gcc, and by clang where it is there. It runs under the address sanitizer too, and so does the program
+examples/embed/hub.c is built by gcc, and by clang if it is there. It runs under the address sanitizer too, and so does the program
 of docs/EMBEDDING.md. The Rust one is built by cargo, without a crate of a registry. The header is read as C99, as C11 and as C++. Each compiler that is missing is named.
 """
 import os, re, shutil
@@ -34,11 +34,11 @@ def refused_lines():
 
 def of_c():
     """What the C example writes to standard error."""
-    told, last = [], None
+    lines, last = [], None
     for file, line, _, _ in refused_lines():
-        told += [f"site {file}:\n"] * (file != last) + [line + "\n"]
+        lines += [f"site {file}:\n"] * (file != last) + [line + "\n"]
         last = file
-    return "".join(told).encode()
+    return "".join(lines).encode()
 
 
 def is_hub(name, program, errors, before=()):

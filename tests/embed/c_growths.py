@@ -83,7 +83,7 @@ class Trial:
         return driving.asked(self.program, [*self.begin, *requests])[len(self.begin):]
 
     def partly_taken(self, own):
-        """What can be seen of the site if the first messages of the lines were taken, so that it has so many of its own."""
+        """What can be seen of the site if its first lines were taken, up to this number of own messages."""
         handle = model.Handle()
         for name, _, *arguments in self.begin:
             handle.call(name, *arguments)

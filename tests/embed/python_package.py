@@ -1,6 +1,6 @@
 """python_package.py: the tests of bindings/python pass, its types hold, and pip installs it from the folder.
 
-The tests run in pytest, with the shared library that tools/library.py makes. mypy judges the types where it is there, also those that a
+The tests run in pytest, with the shared library that tools/library.py makes. mypy judges the types if it is there, also those that a
 program sees. pip installs a copy of the folder, with no package from elsewhere, and the installed package finds the library beside it.
 """
 import os, re, shutil, sys

@@ -1,4 +1,4 @@
-"""The shared library: where it is found, and its functions as include/niluppang.h declares them."""
+"""The shared library: how it is found, and its functions as include/niluppang.h declares them."""
 import ctypes
 import os
 import pathlib
