@@ -130,8 +130,10 @@ class BaseSite(Generic[Text]):
         self.close()
 
     def __del__(self) -> None:
-        if hasattr(self, "_turn"):
-            self.close()
+        # nobody holds the lock of a site that nobody has, but a child of fork may have been made while a thread held it
+        turn = getattr(self, "_turn", None)
+        if turn is not None and turn.acquire(blocking=False):
+            self._library.sct_site_close(self._place)
 
     def __reduce_ex__(self, protocol: Any) -> Any:
         raise TypeError("a site cannot be copied or pickled: keep its journal and a cut, and restore it")
