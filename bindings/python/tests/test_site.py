@@ -50,7 +50,7 @@ def test_memory_is_given_back():
     before = resident()
     for _ in range(20):
         Site(1, 1).take_lines(text)
-    assert resident() - before < 3 << 20  # twenty lost sites would be 60 MB
+    assert resident() - before < 10 << 20  # twenty lost sites would be 60 MB
 
 
 @pytest.mark.parametrize("how", [copy.copy, copy.deepcopy, pickle.dumps])
