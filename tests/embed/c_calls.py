@@ -146,10 +146,12 @@ class Day:
         return self.site(place)
 
     def restore(self, place):
-        """The site as it was, or with a journal that lost lines, and with a delta."""
-        journal = list(self.handles[place].journal)
-        if journal and self.r.random() < 0.3:
+        """The site as it was, or with a journal that lost lines or has a line too many, and with a delta."""
+        journal, draw = list(self.handles[place].journal), self.r.random()
+        if journal and draw < 0.2:
             del journal[self.r.randrange(len(journal)):]
+        elif draw < 0.4:
+            journal.insert(self.r.randint(0, len(journal)), self.line())
         return [*self.site(place), b"\n".join(journal), self.accept(place)[0]]
 
 
