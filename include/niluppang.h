@@ -14,7 +14,8 @@
  *     sct_site_close(&site);
  *
  * What a caller owes. Nothing checks it:
- * - A handle (sct_site) is SCT_SITE_EMPTY before its first call. After that the caller neither writes into it nor copies it.
+ * - A handle (sct_site) is SCT_SITE_EMPTY, all zero, before its first call. After that the caller neither writes into it nor copies
+ *   it.
  * - One call at a time uses a handle. Different handles are independent: different threads may use them at once. A handle may pass
  *   from thread to thread by a lock, or by the start or the end of a thread.
  * - A pointer is not null, also if its length is 0, and that many items are there. What a call writes overlaps nothing else.

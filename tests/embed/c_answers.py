@@ -14,7 +14,7 @@ from tests.embed import driving, model
 from tests.golden.examples import REPORTS
 from tests.harness import EXAMPLES, TOP, reported
 from tests.inputs import delta, instruction
-from tests.oracle import exchange, status
+from tests.oracle import status
 
 CALLED = {"malloc", "realloc", "free", "memcpy", "memmove", "memset", "memcmp"}
 OF_COMPILER = {"__udivti3", "__umodti3"}  # of the library that each compiler of C links

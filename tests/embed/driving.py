@@ -12,7 +12,7 @@ SOURCES = pathlib.Path(__file__).resolve().parent
 STRICT = ["-std=c99", "-Wall", "-Wextra", "-pedantic", "-Werror"]
 WRAPPED = ["-Wl,--wrap=malloc,--wrap=realloc"]
 CHECKED = ["-O1", "-g", "-fsanitize=address,undefined", "-fno-sanitize-recover=all"]
-VALGRIND = ["valgrind", "--quiet", "--leak-check=full", "--show-leak-kinds=all", "--error-exitcode=9"]
+VALGRIND = ["valgrind", "--quiet", "--leak-check=full", "--show-leak-kinds=all", "--errors-for-leak-kinds=all", "--error-exitcode=9"]
 
 OUTCOME = ("ok", "code", "place", "length")
 FIELDS = collections.defaultdict(lambda: OUTCOME, {
