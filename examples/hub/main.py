@@ -29,7 +29,7 @@ from hub.keeper import Keeper
 from hub.service import Service
 
 WRONG = 2  # the exit status of a site that cannot start
-FIRST_PAUSE, MOST_PAUSE, LONG = 0.1, 5.0, 10.0  # seconds before a site is started again, and after which it ran for long
+FIRST_PAUSE, MOST_PAUSE, LONG = 0.1, 2.0, 10.0  # seconds before a site is started again, and after which it ran for long
 DELTA = 1 << 30  # bytes of a delta at most, as the library has it
 log = logging.getLogger("hub")
 
