@@ -21,6 +21,7 @@ CHECKS = {
         "names": "compares the names in documents with the code",
         "page_examples": "runs the program on the examples of docs/MODEL.md and docs/FORMATS.md, and looks up the code of docs/DESKS.md",
         "codes": "compares the numbers of docs/CODES.md with the code and its lines with the examples, and makes the man page",
+        "interface": "compares VERSION, the C header, the Python package and the exports of the library",
     },
     "golden": {
         "examples": "runs the program on the examples",

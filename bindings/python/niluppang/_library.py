@@ -1,0 +1,117 @@
+"""The shared library: where it is found, and its functions as include/niluppang.h declares them."""
+import ctypes
+import os
+import pathlib
+import threading
+from typing import Dict, Iterator, List, Optional
+
+from ._errors import LibraryError
+from ._version import __version__
+
+VARIABLE = "NILUPPANG_LIBRARY"
+FILE = "libniluppang.so"
+SONAME = FILE + ".0"
+
+
+class Place(ctypes.Structure):
+    """What C calls sct_site: the place of a site. It is empty at first, and only the library writes into it."""
+    _fields_ = [("address", ctypes.c_void_p), ("is_full", ctypes.c_bool)]
+
+
+class Outcome(ctypes.Structure):
+    _fields_ = [("ok", ctypes.c_bool), ("code", ctypes.c_uint8), ("place", ctypes.c_uint64), ("length", ctypes.c_size_t)]
+
+
+class TakenOutcome(ctypes.Structure):
+    _fields_ = [("ok", ctypes.c_bool), ("code", ctypes.c_uint8), ("is_repeat", ctypes.c_bool), ("place", ctypes.c_uint64),
+                ("number", ctypes.c_uint64)]
+
+
+class LinesOutcome(ctypes.Structure):
+    _fields_ = [("ok", ctypes.c_bool), ("code", ctypes.c_uint8), ("fresh", ctypes.c_uint64), ("repeats", ctypes.c_uint64),
+                ("refused", ctypes.c_uint64), ("length", ctypes.c_size_t)]
+
+
+class AcceptedOutcome(ctypes.Structure):
+    _fields_ = [("ok", ctypes.c_bool), ("code", ctypes.c_uint8), ("place", ctypes.c_uint64), ("fresh", ctypes.c_uint64)]
+
+
+# a text goes in as its address and its length; c_char_p passes the address of the bytes themselves, so nothing is copied
+TEXT = [ctypes.c_char_p, ctypes.c_size_t]
+COUNTS = [ctypes.POINTER(ctypes.c_uint64), ctypes.c_size_t]
+GROUP = [ctypes.c_uint16, ctypes.c_uint16]
+
+# of each call on a place: the type of its result, and those of its arguments after the place
+CALLS: Dict[str, List[object]] = {
+    "open": [Outcome, *GROUP], "restore": [Outcome, *GROUP, *TEXT, *TEXT], "close": [None],
+    "take": [TakenOutcome, *TEXT], "take_lines": [LinesOutcome, *TEXT], "accept": [AcceptedOutcome, *TEXT],
+    "counts": [Outcome, *COUNTS], "vector_text": [Outcome], "cut": [Outcome, *TEXT], "cut_above": [Outcome, *COUNTS],
+    "archive_text": [Outcome], "status_text": [Outcome], "totals_text": [Outcome], "contradictions_text": [Outcome],
+    "report": [Outcome, *TEXT, *TEXT, *TEXT], "transfer_text": [Outcome, *TEXT, *TEXT], "messages_text": [Outcome, *TEXT, *TEXT],
+    "bank_totals": [Outcome, *TEXT], "changes": [Outcome], "answer": [Outcome, ctypes.c_void_p, ctypes.c_size_t],
+}
+
+_loading = threading.Lock()
+_loaded: Optional[ctypes.CDLL] = None
+
+
+def candidates() -> Iterator[str]:
+    """What may be the library, in the order in which it is tried. The last is a name that the system looks for."""
+    named = os.environ.get(VARIABLE)
+    if named:
+        yield named
+        return
+    folder = pathlib.Path(__file__).resolve().parent
+    yield str(folder / FILE)
+    if folder.parts[-4:-1] == ("share", "niluppang", "python"):  # the release package, unpacked anywhere
+        yield str(folder.parents[3] / "lib" / FILE)
+    yield SONAME
+
+
+def opened() -> ctypes.CDLL:
+    """The first library that is there."""
+    tried = []
+    for name in candidates():
+        if os.sep in name and name != os.environ.get(VARIABLE) and not os.path.exists(name):
+            tried.append(name)
+            continue
+        try:
+            return ctypes.CDLL(name)
+        except OSError as error:
+            tried.append(f"{name} ({error})")
+    raise LibraryError(f"no library of niluppang was found: set {VARIABLE} to its path. Tried: {', '.join(tried)}")
+
+
+def version_of(library: ctypes.CDLL) -> str:
+    """The version of a library, such as 0.2.0."""
+    number = library.sct_version()
+    return f"{number // 1000000}.{number // 1000 % 1000}.{number % 1000}"
+
+
+def declared(library: ctypes.CDLL) -> ctypes.CDLL:
+    """The library with the types of its functions. Its first two numbers must be those of this package."""
+    try:
+        library.sct_version.restype, library.sct_version.argtypes = ctypes.c_uint32, []
+        for name, (result, *arguments) in CALLS.items():
+            call = getattr(library, "sct_site_" + name)
+            call.restype, call.argtypes = result, [ctypes.POINTER(Place), *arguments]
+    except AttributeError as error:
+        raise LibraryError(f"the library has not every function of this package: {error}") from None
+    version = version_of(library)
+    if version.split(".")[:2] != __version__.split(".")[:2]:
+        raise LibraryError(f"the library has version {version}, and this package {__version__}")
+    return library
+
+
+def library() -> ctypes.CDLL:
+    """The library, which is opened once."""
+    global _loaded
+    with _loading:
+        if _loaded is None:
+            _loaded = declared(opened())
+        return _loaded
+
+
+def library_version() -> str:
+    """The version of the library that is used, such as 0.2.0."""
+    return version_of(library())
