@@ -11,7 +11,6 @@ from .keeper import Busy, Unable
 
 WAIT = 2.0  # seconds that a peer waits for new entries, and between two questions for everything
 FIRST_PAUSE, MOST_PAUSE = 0.05, 2.0
-SILENCE = 10.0  # seconds without a byte of an answer
 GAP = 41
 
 log = logging.getLogger("hub")
@@ -100,14 +99,15 @@ class Peer:
 class Peers:
     """All peers of a site."""
 
-    def __init__(self, addresses, keeper, most):
+    def __init__(self, addresses, keeper, most, silence):
         self.all = [Peer(number, address, keeper, most) for number, address in sorted(addresses.items())]
+        self.silence = silence
         self.tasks, self.session = [], None
 
     async def hear(self, seconds):
         """Asks each peer once, before the site takes anything: one that has entries of this site which the journal lacks shows it now. A
         peer that is away is not waited for."""
-        timeout = aiohttp.ClientTimeout(sock_connect=2, sock_read=SILENCE)
+        timeout = aiohttp.ClientTimeout(total=None, sock_connect=2, sock_read=WAIT + self.silence)
         self.session = aiohttp.ClientSession(timeout=timeout, auto_decompress=False)
 
         async def one(peer):

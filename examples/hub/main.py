@@ -54,6 +54,7 @@ def options(words):
     it.add_argument("--peer", metavar="N=URL", type=peer, action="append", default=[], help="a peer, for --site; as often as needed")
     it.add_argument("--postgres", metavar="WORDS", help="keep the journals in this PostgreSQL database, such as 'dbname=hub'")
     it.add_argument("--most-delta", metavar="BYTES", type=int, default=DELTA, help="bytes of a delta at most (1 GiB)")
+    it.add_argument("--silence", metavar="SECONDS", type=float, default=10, help="give up a peer after so long without a byte (10)")
     return it.parse_args(words)
 
 
@@ -97,7 +98,7 @@ async def serve(asked, keeper):
     loop, ends = asyncio.get_running_loop(), asyncio.Event()
     for number in (signal.SIGINT, signal.SIGTERM):
         loop.add_signal_handler(number, ends.set)
-    peers = Peers(dict(asked.peer), keeper, asked.most_delta)
+    peers = Peers(dict(asked.peer), keeper, asked.most_delta, asked.silence)
     service = Service(keeper, peers, os.environ.get("NILUPPANG_TOKEN"))
     keeper.start(lambda: loop.call_soon_threadsafe(ends.set))
     runner = web.AppRunner(service.application(), access_log=None)
@@ -144,7 +145,7 @@ class Child:
         peers = [f"--peer={other}=http://{asked.host}:{asked.port + other - 1}" for other in range(1, asked.sites + 1) if other != number]
         postgres = [f"--postgres={asked.postgres}"] if asked.postgres else []
         self.words = [sys.executable, __file__, asked.folder, f"--site={number}", f"--group={asked.group}", f"--host={asked.host}",
-                      f"--port={asked.port + number - 1}", f"--most-delta={asked.most_delta}", *peers, *postgres]
+                      f"--port={asked.port + number - 1}", f"--most-delta={asked.most_delta}", f"--silence={asked.silence}", *peers, *postgres]
         self.number, self.pause, self.next = number, FIRST_PAUSE, 0.0
         self.start()
 
