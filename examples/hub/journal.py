@@ -155,7 +155,10 @@ class SqliteJournal(Journal):
         self.connect()
 
     def connect(self):
-        self.connection = sqlite3.connect(self.path, check_same_thread=False)
+        try:
+            self.connection = sqlite3.connect(self.path, check_same_thread=False)
+        except sqlite3.Error as fault:
+            raise Failed(str(fault)) from None
         with self._asked() as cursor:
             cursor.execute("PRAGMA journal_mode = WAL")
             mode, = cursor.fetchone()

@@ -4,7 +4,8 @@ Without --site it starts three sites on ports of this machine, each as a process
 it is one site. A word such as @site1.conf stands for the words in that file, one on each line. docs/users/hub.md has more.
 
 The variable NILUPPANG_LIBRARY names the library libniluppang.so. The variable NILUPPANG_TOKEN has the token that whoever writes must send.
-Without a token only this machine is served. The exit status is 2 if a site cannot start, and standard error says why.
+Without a token only this machine is served. The exit status is 2 if a site must not start, and 3 if its database is away. Standard error
+says why.
 """
 import argparse, asyncio, contextlib, ctypes, ipaddress, logging, os, pathlib, resource, signal, subprocess, sys, time
 
@@ -28,7 +29,7 @@ from hub.journal import Failed, Held, PostgresJournal, SqliteJournal, Wrong
 from hub.keeper import Keeper
 from hub.service import Service
 
-WRONG = 2  # the exit status of a site that cannot start
+ENDED, WRONG, AWAY = 1, 2, 3  # exit statuses of a site: it cannot go on, it must not start, its database is away
 FIRST_PAUSE, MOST_PAUSE, LONG = 0.1, 2.0, 10.0  # seconds before a site is started again, and after which it ran for long
 DELTA = 1 << 30  # bytes of a delta at most, as the library has it
 log = logging.getLogger("hub")
@@ -58,9 +59,9 @@ def options(words):
     return it.parse_args(words)
 
 
-def stop(why):
+def stop(why, status=WRONG):
     print(f"hub: {why}", file=sys.stderr, flush=True)
-    sys.exit(WRONG)
+    sys.exit(status)
 
 
 # ---- one site
@@ -87,8 +88,10 @@ def keeper_of(asked):
         keeper.restore()
     except Held as fault:
         stop(f"site {asked.site} cannot start: its journal, {journal.name}, is in use: {fault}")
-    except (Wrong, Failed) as fault:
+    except Wrong as fault:
         stop(f"site {asked.site} cannot start on its journal, {journal.name}: {fault}")
+    except Failed as fault:
+        stop(f"site {asked.site} cannot reach its journal, {journal.name}: {fault}", AWAY)
     keeper.process = os.getpid()
     return keeper
 
@@ -114,7 +117,7 @@ async def serve(asked, keeper):
     await ends.wait()
     await peers.end()
     await runner.cleanup()
-    return 1 if keeper.failure else 0
+    return ENDED if keeper.failure else 0
 
 
 def one_site(asked):
@@ -154,7 +157,7 @@ class Child:
         self.process = subprocess.Popen(self.words, preexec_fn=ends_with_parent)
 
     def look(self):
-        """Starts the site again if it ended, after a pause. The exit status of one that cannot start, or None."""
+        """Starts the site again if it ended, after a pause. The exit status of one that must not start, or None."""
         status, now = self.process.poll(), time.monotonic()
         if status is None or status == WRONG:
             return status
@@ -169,7 +172,7 @@ class Child:
 
 
 def several_sites(asked):
-    """Starts the sites, and keeps them running. All end if one cannot start."""
+    """Starts the sites, and keeps them running. All end if one must not start."""
     signal.signal(signal.SIGTERM, lambda *_: sys.exit(0))
     children = []
     try:

@@ -234,7 +234,7 @@ def check(python, library):
     asked = options()
     if not asked.postgres:
         return tried(python, library, asked, None)
-    with sites.postgres() as words:
+    with sites.postgres() as (words, _):
         return tried(python, library, asked, words)
 
 

@@ -142,7 +142,8 @@ def is_well(port):
 
 @contextlib.contextmanager
 def postgres():
-    """The words of a new PostgreSQL database, which ends with the check. Skipped if the machine has no server, or nobody to run it."""
+    """The words of a new PostgreSQL database, which ends with the check, and a function that stops its server or starts it. Skipped if
+    the machine has no server, or nobody to run it."""
     folders = sorted(glob.glob("/usr/lib/postgresql/*/bin"))
     if not folders or harness.run([interpreter(), "-c", "import psycopg2"]).status:
         raise Skipped("there is no PostgreSQL: apt-get install postgresql python3-psycopg2")
@@ -155,8 +156,12 @@ def postgres():
         data = f"{folder}/data"
         run = lambda *words: subprocess.run([*user, *words], check=True, stdout=subprocess.DEVNULL, cwd=folder)
         run(f"{folders[-1]}/initdb", "--auth=trust", "--username=hub", "--no-locale", "--encoding=UTF8", data)
-        run(f"{folders[-1]}/pg_ctl", "-w", "-D", data, "-l", f"{folder}/log", "-o", f"-c listen_addresses= -k {folder}", "start")
+
+        def control(word):
+            run(f"{folders[-1]}/pg_ctl", "-w", "-m", "immediate", "-D", data, "-l", f"{folder}/log",
+                "-o", f"-c listen_addresses= -k {folder}", word)
+        control("start")
         try:
-            yield f"host={folder} user=hub dbname=postgres"
+            yield f"host={folder} user=hub dbname=postgres", control
         finally:
-            run(f"{folders[-1]}/pg_ctl", "-w", "-m", "immediate", "-D", data, "stop")
+            control("stop")
