@@ -10,7 +10,7 @@ from ._version import __version__
 
 VARIABLE = "NILUPPANG_LIBRARY"
 FILE = "libniluppang.so"
-SONAME = FILE + ".0"
+SONAME = FILE + "." + ".".join(__version__.split(".")[:2])
 
 
 class Place(ctypes.Structure):

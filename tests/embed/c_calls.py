@@ -1,0 +1,225 @@
+"""c_calls.py: made-up calls in any order come to what the definitions say, with each access to memory checked.
+
+Usage: python3 -m tests.embed.c_calls [--seed N] [--cases N] [--long]   (default: the number of today, 20,000 calls; --long: 1,000,000)
+
+A day is some hundred calls on the handles of a small group. Sites take and accept messages that confirm, recall and contradict each
+other, lines that are refused, deltas that are late, repeated, damaged and of another life of a site. They are asked all questions at any
+time, closed, opened anew and restored, and called on when they are closed. The address sanitizer checks driver.c and what it gives the
+library, and finds memory that is lost. model.py has what each call must come to: no crate is in it. A tenth of a usual number of calls is
+made under valgrind too, which sees each access of the library itself. Each call has to be met, and each number but 65.
+"""
+import argparse, collections, concurrent.futures, os, random, shutil
+from tests import harness
+from tests.embed import driving, model
+from tests.oracle import exchange, status
+from tests.property import cases
+from tests.property.hubs import NO_VECTORS
+from tests.property.messages import BANKS, Pool, shuffled
+from tests.property.worlds import refused_list, refused_text
+
+USUAL, LONG, OF_VALGRIND, DAYS_OF_A_RUN = 20_000, 1_000_000, 2_000, 10
+CALLS = {"take": 24, "take_lines": 6, "accept": 16, "changes": 6, "transfer_text": 6, "messages_text": 4, "status_text": 5,
+         "archive_text": 3, "totals_text": 4, "contradictions_text": 3, "bank_totals": 4, "report": 4, "counts": 3, "vector_text": 3,
+         "cut": 4, "cut_above": 3, "answer": 4, "close": 2, "open": 4, "restore": 4}
+NUMBERS = [31, 32, 33, 34, 35, 36, 37, 38, 41, 42, 43, 44, 45, 46, 48, 56, 70, 71, 72, 73]
+DAYS = ["2024-05-02", "2024-05-02", "2024-05-03", "2024-5-2", ""]
+WRONG_BANKS, WRONG_NAMES = ["", "bankdeff", "BANKDEFFXX", "BANKDEFF\n", "\xff"], ["", "a_b", "/T1", "T1\n", "T" * 36]
+
+# a request, the fields and the text that it must come to, and for changes what was held before and is held now
+Call = collections.namedtuple("Call", "request fields text held", defaults=[None])
+
+
+class Day:
+    """The calls of a day, made up one after another."""
+
+    def __init__(self, r):
+        self.r, self.pool, self.group, self.calls = r, Pool(r), r.randint(1, 4), []
+        self.messages = [self.pool.message() for _ in range(r.randint(3, 40))]
+        self.lines = [shuffled(r, message) for message in self.messages]
+        self.handles = [model.Handle() for _ in range(self.group + 1)]  # the last has the number of the first: a second life
+        self.deltas, self.maker = [b"delta 2\nend 0\n"], {}
+        for place in range(len(self.handles)):
+            self.call(place, "open", *self.site(place))
+        for _ in range(r.randint(40, 160)):
+            name = r.choices(list(CALLS), CALLS.values())[0]
+            place = r.randrange(len(self.handles))
+            self.call(place, name, *getattr(self, name, list)(*([place] if name in PLACED else [])))
+        for place in range(len(self.handles)):
+            self.call(place, "close")
+
+    def site(self, place):
+        return [place % self.group + 1, self.group]
+
+    def call(self, place, name, *arguments):
+        """Makes a call: what it must come to is noted."""
+        handle = self.handles[place]
+        before = handle.watched
+        fields, text = handle.call(name, *arguments)
+        fields = {field: fields[field] for field in driving.FIELDS[name] if field in fields}
+        held = (before, frozenset(handle.site.messages)) if name == "changes" and fields["ok"] else None
+        if name == "answer" and self.maker.get(place) == "changes":
+            fields, text = {"ok": fields["ok"]}, None
+        if text is not None and name not in ("answer", "counts"):
+            self.maker[place] = name
+        self.calls.append(Call((name, place, *arguments), fields, text, held))
+
+    # ---- arguments
+
+    def line(self):
+        draw = self.r.random()
+        if draw < 0.8:
+            return self.r.choice(self.lines)
+        message = self.r.choice(self.messages)
+        return refused_text(self.r, message) if draw < 0.92 else shuffled(self.r, refused_list(self.r, self.messages))
+
+    def take(self):
+        return [self.line()]
+
+    def take_lines(self):
+        lines = [self.r.choice([self.line(), self.line(), b"", b" \t"]) for _ in range(self.r.randint(0, 8))]
+        return [b"\n".join(lines) + self.r.choice([b"", b"\n", b"\r\n"])]
+
+    def delta(self, place):
+        """A delta that some site cuts, for this one or for any."""
+        r, givers = self.r, [handle.site for handle in self.handles if handle.site]
+        if not givers or r.random() < 0.2:
+            return r.choice(self.deltas)
+        taker, giver = self.handles[place].site, r.choice(givers)
+        above = {origin: len(log) for origin, log in taker.logs.items()} if taker else {}
+        draw = r.random()
+        above = above if draw < 0.6 else {} if draw < 0.8 else {origin: r.randint(0, 3) for origin in range(1, self.group + 1)}
+        self.deltas.append(exchange.delta_text(giver.above(above)).encode())
+        return self.deltas[-1]
+
+    def accept(self, place):
+        r, text = self.r, self.delta(place)
+        draw = r.random()
+        if draw < 0.8:
+            return [text]
+        if draw < 0.85:
+            line = status.written(status.read_message(self.lines[0])).encode()
+            return [b"delta 1\nentry %d %d %s\nend 1\n" % (r.randint(1, self.group + 1), r.randint(1, 3), line)]
+        place = r.randrange(len(text))
+        return [r.choice([text[:place], text[:place] + r.choice([b"0", b"1", b"\n", b"\xff"]) + text[place + 1:], text + b"x", b""])]
+
+    def counts(self):
+        return [self.r.choice([0, 1, self.group, self.group + 3, 1024, 1025])]
+
+    def cut(self):
+        if self.r.random() < 0.2:
+            return [self.r.choice([*NO_VECTORS, "-\n", "\xb2:1", "1:18446744073709551616"]).encode("latin-1")]
+        origins = sorted(self.r.sample(range(1, self.group + 2), self.r.randint(0, self.group)))
+        return [",".join(f"{origin}:{self.r.choice([0, 1, 2, 5, 2 ** 64 - 1])}" for origin in origins).encode() or b"-"]
+
+    def cut_above(self):
+        return [[self.r.choice([0, 1, 2, 2 ** 64 - 1]) for _ in range(self.r.choice([0, 1, self.group, self.group + 2, 1025]))]]
+
+    def bank(self):
+        bank = self.r.choice(BANKS + ["NOBODYXX"]) if self.r.random() < 0.9 else self.r.choice(WRONG_BANKS)
+        return (bank + self.r.choice(["", "XXX"])).encode("latin-1")
+
+    def transfer_text(self):
+        name = self.r.choice([*self.pool.transfers, "T99"]) if self.r.random() < 0.9 else self.r.choice(WRONG_NAMES)
+        return [self.bank(), name.encode()]
+
+    messages_text = transfer_text
+
+    def bank_totals(self):
+        return [self.bank()]
+
+    def report(self):
+        rows = [[self.r.choice(BANKS), self.r.choice([*self.pool.transfers, "T,9"]), self.r.choice([*self.pool.amounts, "7"]),
+                 self.r.choice(model.WORDS)] for _ in range(self.r.randint(0, 6))]
+        if rows and self.r.random() < 0.15:
+            self.r.choice(rows)[self.r.randrange(4)] = self.r.choice(["", "x", "-1"])
+        text = "".join(",".join(f'"{field}"' if "," in field else field for field in row) + "\n" for row in rows)
+        header = ",".join(model.HEADER) + "\n" if self.r.random() < 0.95 else ""
+        return [self.bank(), self.r.choice(DAYS).encode(), (header + text).encode()]
+
+    def answer(self, place):
+        length = len(self.handles[place].answer)
+        return [self.r.choice([0, max(0, length - 1), length, length + 1, length + 100])]
+
+    def open(self, place):
+        if self.handles[place].site is None and self.r.random() < 0.2:
+            return self.r.choice([[0, 1], [2, 1], [1, 1025], [1, 0]])
+        return self.site(place)
+
+    def restore(self, place):
+        """The site as it was, or with a journal that lost lines, and with a delta."""
+        journal = list(self.handles[place].journal)
+        if journal and self.r.random() < 0.3:
+            del journal[self.r.randrange(len(journal)):]
+        return [*self.site(place), b"\n".join(journal), self.accept(place)[0]]
+
+
+PLACED = ["accept", "answer", "open", "restore"]  # calls whose arguments go by what the handle has
+
+
+def wrong(call, reply):
+    """What differs, or None."""
+    if call.held is not None:
+        right = reply.fields["ok"] and model.is_right_about_changes(*call.held, reply.text)
+        return None if right else f"{call.request}: after {call.held[0] and len(call.held[0])} messages\n found {reply}"
+    named = {field: reply.fields.get(field) for field in call.fields}
+    if named != call.fields or call.text is not None and call.text != reply.text:
+        return f"{call.request}\n wanted {call.fields} {call.text}\n found {reply}"
+    return None
+
+
+def ran(program, before, seed, days):
+    """What some days met, and what is wrong or None."""
+    calls = [call for day in days for call in Day(random.Random(f"{seed} {day}")).calls]
+    met = collections.Counter(call.request[0] for call in calls) + collections.Counter(call.fields.get("code") for call in calls)
+    try:
+        replies = driving.asked(program, [call.request for call in calls], before)
+    except driving.Failed as failed:
+        return len(calls), met, f"days {days}: {failed}"
+    differ = [text for text in map(wrong, calls, replies) if text]
+    return len(calls), met, f"days {days}, {len(differ)} calls: DIFFERS: {differ[0]}" if differ else None
+
+
+def tried(program, before, seed, many):
+    """How many calls were made, what they met, and what is wrong with them. Days are made up until there are as many calls."""
+    made, met, failures, first = 0, collections.Counter(), [], 0
+    workers = len(os.sched_getaffinity(0))
+    with concurrent.futures.ProcessPoolExecutor(workers) as pool:
+        while made < many:
+            parts = [range(first + place * DAYS_OF_A_RUN, first + (place + 1) * DAYS_OF_A_RUN) for place in range(workers)]
+            first = parts[-1].stop
+            for number, found, failed in pool.map(ran, *zip(*((program, before, seed, part) for part in parts))):
+                made, met, failures = made + number, met + found, failures + [failed] * (failed is not None)
+    return made, met, failures
+
+
+def checked(name, program, before, seed, many):
+    """How many calls passed, and how many runs of them failed. All has to be met if so many calls are made as usual."""
+    made, met, failures = tried(program, before, seed, many)
+    print(f"{made} calls {name}: " + ", ".join(f"{thing} {met[thing]}" for thing in [*CALLS, *NUMBERS]), flush=True)
+    for failure in failures[:3]:
+        print(failure, flush=True)
+    missing = [thing for thing in [*CALLS, *NUMBERS] if not met[thing]] if many >= USUAL else []
+    if missing:
+        print(f"not met: {missing}", flush=True)
+    return made if not failures else 0, len(failures) + len(missing)
+
+
+def main():
+    parser = argparse.ArgumentParser(usage=__doc__)
+    cases.add_options(parser)
+    asked = cases.chosen(parser.parse_args())
+    many = asked.number or (LONG if asked.long else USUAL)
+    print(f"python3 -m tests.embed.c_calls {' '.join(asked.words())}", flush=True)
+    driving.end_if_missing()
+    with driving.libraries() as folder:
+        numbers = [checked("under the address sanitizer", driving.built_driver(folder, *driving.CHECKED), (), asked.seed, many)]
+        if shutil.which("valgrind"):
+            plain = driving.built_driver(folder, "-O1", "-g", name="plain")
+            numbers.append(checked("under valgrind", plain, driving.VALGRIND, asked.seed, min(many, OF_VALGRIND)))
+        else:
+            print("skipped: there is no command valgrind on this machine: apt-get install valgrind", flush=True)
+    harness.end_with(numbers)
+
+
+if __name__ == "__main__":
+    main()

@@ -1,0 +1,164 @@
+"""c_growths.py: each time that a call asks for memory it is refused in turn; the call answers 65, changes nothing, and is right again.
+
+The site of each trial has taken and accepted messages that meet one another. Its view lags behind, its changes are watched, and it has
+an answer. Of each call it is counted how often it asks for memory. Then that time is refused, once alone and once with all that follow.
+The call must answer 65, or what it answers with ample memory. After 65 the counts, the answer and all texts are as before. Only
+`take_lines` may have taken its first messages. Made again, the call comes to what it comes to with ample memory, and so do all texts.
+A call that has to ask for memory and never does has failed, and so has one that asks for some and must not.
+"""
+import collections, os
+from concurrent.futures import ThreadPoolExecutor
+from bench.generate import samples
+from tests import harness
+from tests.embed import driving, model
+from tests.harness import reported
+from tests.inputs import delta, instruction
+from tests.oracle import exchange
+
+MEMORY, FOR_EVER = 65, 1 << 40
+WITHOUT_MEMORY = {"counts", "answer", "close"}
+GROUP, HANDLE = 3, 0
+
+# a call that is tried: its name, its arguments, and whether it is on the site, or on an empty handle
+Tried = collections.namedtuple("Tried", "name arguments on_site")
+
+
+def line(message):
+    return samples.line(message).encode()
+
+
+RECALLED = [samples.transaction(OrgnlTxId=f"T{place}", CxlId=f"R{place}") for place in range(1, 5)]
+EARLIER = [instruction(1).encode(), line(samples.confirmation()), instruction(2).encode(), line(samples.recall(RECALLED)),
+           line(samples.confirmation({"TxSts": "RJCT", "Rsn": "AC04"}, MsgId="C9")), line(samples.confirmation(OrgnlTxId="T2", MsgId="C9"))]
+LATER = [line(samples.instruction(MsgId="M3", TxId="T3", IntrBkSttlmAmt="2.00")), line(samples.request()), line(samples.payback())]
+LINES = b"\n".join([line(samples.refusal()), b"{", line(samples.payback(RtrId="XP2", MsgId="P2")), EARLIER[0],
+                    *(instruction(number).encode() for number in range(20, 60))]) + b"\n"
+LIST = "DbtrAgt,TxId,Amt,Sts\n" + "".join(f"BANKDEFF,T{place},1.00,PENDING\n" for place in range(1, 40))
+FRESH = line(samples.recall([{**one, "CxlId": f"Q{place}"} for place, one in enumerate(RECALLED)], MsgId="K7"))
+TEXTS = ["archive_text", "status_text", "totals_text", "contradictions_text", "vector_text"]
+
+CALLS = [
+    Tried("open", [1, GROUP], False), Tried("restore", [1, GROUP, b"\n".join(EARLIER + [b"{"]), delta(2, 1, 4, 5)], False),
+    Tried("take", [FRESH], True), Tried("take", [EARLIER[3]], True), Tried("take", [b'{"MsgNmId":"pacs.008","MsgId":7}'], True),
+    Tried("take_lines", [LINES], True), Tried("accept", [delta(2, 3, 6, 7, 8, 9)], True), Tried("accept", [delta(2, 3, 6, 7)[:-2]], True),
+    Tried("counts", [GROUP], True), Tried("vector_text", [], True), Tried("cut", [b"1:1,2:1"], True), Tried("cut_above", [[1]], True),
+    Tried("archive_text", [], True), Tried("status_text", [], True), Tried("totals_text", [], True),
+    Tried("contradictions_text", [], True), Tried("report", [b"BANKDEFF", b"2024-05-02", LIST.encode()], True),
+    Tried("transfer_text", [b"BANKDEFF", b"T1"], True), Tried("messages_text", [b"BANKDEFF", b"T1"], True),
+    Tried("bank_totals", [b"BANKDEFF"], True), Tried("changes", [], True), Tried("answer", [1 << 12], True), Tried("close", [], True)]
+
+
+def site_of(tried):
+    """Requests that make the site on which a call is tried."""
+    if not tried.on_site:
+        return []
+    takes = lambda lines: [("take", HANDLE, one) for one in lines]
+    return [("open", HANDLE, 1, GROUP), *takes(EARLIER[:2]), ("changes", HANDLE), ("status_text", HANDLE), *takes(EARLIER[2:]),
+            ("accept", HANDLE, delta(2, 1, 4, 5)), ("transfer_text", HANDLE, b"BANKDEFF", b"T2"), *takes(LATER), ("vector_text", HANDLE)]
+
+
+def seen():
+    """Requests for all that can be seen of a site. The first needs no memory."""
+    return [("answer", HANDLE, 1 << 16), ("counts", HANDLE, GROUP), *((name, HANDLE) for name in TEXTS), ("cut", HANDLE, b"-"),
+            ("changes", HANDLE)]
+
+
+def what(replies):
+    """The fields and texts of replies, without how often they asked for memory."""
+    return [(reply.fields, reply.text) for reply in replies]
+
+
+class Trial:
+    """A call with ample memory: what can be seen before it and after it, what it comes to, and how often it asks for memory."""
+
+    def __init__(self, program, tried):
+        self.program, self.tried, self.begin = program, tried, site_of(tried)
+        self.call = (tried.name, HANDLE, *tried.arguments)
+        self.before = what(self.asked(*seen()))
+        self.reply, *after = self.asked(self.call, *seen())
+        self.after = what(after)
+
+    def asked(self, *requests):
+        """The replies to requests on a site of its own."""
+        return driving.asked(self.program, [*self.begin, *requests])[len(self.begin):]
+
+    def partly_taken(self, own):
+        """What can be seen of the site if the first messages of the lines were taken, so that it has so many of its own."""
+        handle = model.Handle()
+        for name, _, *arguments in self.begin:
+            handle.call(name, *arguments)
+        for one in LINES.splitlines():
+            message, why = exchange.message_in(one)
+            if why is None and handle.site.have(1) < own:
+                handle.site.take(message)
+        return [handle.call(name)[1] for name in TEXTS]
+
+    def is_as_before(self, again):
+        """Whether all that is seen after a refused call is as it was before it."""
+        if self.tried.name != "take_lines":
+            return what(again) == self.before
+        own = driving.counts_in(again[1].text)[0]
+        return again[0].text == self.before[0][1] and [reply.text for reply in again[2:2 + len(TEXTS)]] == self.partly_taken(own)
+
+    def is_right_again(self, reply, after):
+        """Whether the call made again comes to what it should, and all that is seen after it too."""
+        if self.tried.name == "take_lines":
+            counts = [reply.fields["fresh"] + reply.fields["repeats"], reply.fields["refused"], reply.text]
+            wanted = [self.reply.fields["fresh"] + self.reply.fields["repeats"], self.reply.fields["refused"], self.reply.text]
+            return counts == wanted and what(after) == self.after
+        return what([reply]) == what([self.reply]) and what(after) == self.after
+
+    def requests(self, first, last):
+        """Requests that refuse these times of the call, and look at the site. On another site, they then make the call again."""
+        refuse, close = ("refuse", HANDLE, first, last), ("close", HANDLE)
+        return [*self.begin, refuse, self.call, *seen(), close, *self.begin, refuse, self.call, self.call, *seen(), close]
+
+    def judged(self, first, replies):
+        """How a call did, by the replies to such requests: 'refused', 'no harm', or what is wrong."""
+        many, looks = len(self.begin), len(seen())
+        reply, again = replies[many], replies[many + 1:many + 1 + looks]
+        if not reply.refused:
+            return f"nothing is refused at {first}"
+        if what([reply]) == what([self.reply]):
+            return "no harm" if what(again) == self.after else f"{first}: an answer without memory left another state"
+        if (reply.fields["ok"], reply.fields["code"], reply.text) != (0, MEMORY, b""):
+            return f"{first}: {reply}"
+        if not self.is_as_before(again):
+            return f"{first}: a refused call changed something"
+        reply, *after = replies[-looks - 2:-1]
+        return "refused" if self.is_right_again(reply, after) else f"{first}: the call made again is wrong: {reply}"
+
+    def ends(self):
+        """How the call does with each time refused, alone and with all that follow."""
+        times = [(first, last) for first in range(1, self.reply.asked + 1) for last in (first, FOR_EVER)]
+        replies = driving.asked(self.program, [one for pair in times for one in self.requests(*pair)])
+        each = len(replies) // len(times) if times else 1
+        return collections.Counter(self.judged(first, replies[place * each:(place + 1) * each]) for place, (first, _) in enumerate(times))
+
+    def run(self):
+        """Whether all trials of the call are right, which is printed."""
+        ended = self.ends()
+        wrong = sorted(set(ended) - {"refused", "no harm"})
+        name = f"{self.tried.name}, {self.reply.asked} times, {ended['refused']} refused, {ended['no harm']} without harm"
+        is_met = (self.reply.asked == 0) if self.tried.name in WITHOUT_MEMORY else ended["refused"] > 0
+        return reported(name, is_met and not wrong, "\n".join(wrong[:5]) or "no memory was asked for" if not is_met or wrong else "")
+
+
+def tried(program, one):
+    """Whether a call is right in all its trials."""
+    try:
+        return Trial(program, one).run()
+    except driving.Failed as failed:
+        return reported(one.name, False, str(failed))
+
+
+def main():
+    driving.end_if_missing()
+    with driving.libraries() as folder:
+        program = driving.built_driver(folder, *driving.CHECKED)
+        with ThreadPoolExecutor(min(2, len(os.sched_getaffinity(0)))) as pool:
+            harness.end_of(list(pool.map(lambda one: tried(program, one), CALLS)))
+
+
+if __name__ == "__main__":
+    main()

@@ -1,0 +1,280 @@
+/* driver.c: makes the calls that standard input asks for, and writes what each came to. tests/embed/driving.py is the other side.
+ *
+ * A request is a line: a call without `sct_site_`, the number of a handle, then each argument. A number is itself. A text is its
+ * length, and its bytes follow the line. Counts are a text of 8 bytes each. A reply is a line: the fields of the result, then how
+ * often the call asked for memory, how often it was refused, and how many bytes follow: the answer that the call made, or counts.
+ *
+ *     refuse 0 FIRST LAST    refuses what the next call asks for from its time FIRST on up to its time LAST
+ *     stack 0                the most bytes of the stack that were used so far; not under valgrind
+ *
+ * All runs on a thread with 256 KB of stack. Each text is in memory of just its length. What is written has bytes around it that
+ * have to stay. The end closes all handles, so that memory which is left was lost.
+ */
+#define _GNU_SOURCE
+#include <niluppang.h>
+#include <pthread.h>
+#include <stdio.h>
+#include <stdlib.h>
+#include <string.h>
+#include <sys/mman.h>
+
+#define HANDLES 1025
+#define STACK (256 * 1024)
+#define GUARD 16
+#define UNTOUCHED 0xA5
+
+struct bytes {
+    uint8_t *at;
+    size_t length;
+};
+
+struct result {
+    unsigned long fields[6];
+    int count;
+    struct bytes bytes;
+};
+
+/* a call, how many of its arguments are numbers, and how many are texts after them */
+static const struct form {
+    const char *name;
+    int numbers, texts;
+} forms[] = {
+    {"open", 2, 0},        {"restore", 2, 2},     {"close", 0, 0},       {"take", 0, 1},          {"take_lines", 0, 1},
+    {"accept", 0, 1},      {"counts", 1, 0},      {"vector_text", 0, 0}, {"cut", 0, 1},           {"cut_above", 0, 1},
+    {"archive_text", 0, 0}, {"status_text", 0, 0}, {"totals_text", 0, 0}, {"contradictions_text", 0, 0}, {"report", 0, 3},
+    {"transfer_text", 0, 2}, {"messages_text", 0, 2}, {"bank_totals", 0, 1}, {"changes", 0, 0},   {"answer", 1, 0},
+    {"version", 0, 0},     {"refuse", 2, 0},      {"stack", 0, 0},
+};
+
+static sct_site handles[HANDLES];
+static uint8_t *stack;
+
+static void must(bool holds, const char *what) {
+    if (holds) return;
+    fprintf(stderr, "driver: %s\n", what);
+    fflush(stdout);
+    abort();
+}
+
+/* ---- memory that is refused: the linker has malloc and realloc lead here */
+
+static bool is_counting;
+static unsigned long asked, refused, first_refused, last_refused;
+
+void *__real_malloc(size_t size);
+void *__real_realloc(void *old, size_t size);
+void *__wrap_malloc(size_t size);
+void *__wrap_realloc(void *old, size_t size);
+
+static bool is_refused(void) {
+    if (!is_counting) return false;
+    asked++;
+    if (asked < first_refused || asked > last_refused) return false;
+    refused++;
+    return true;
+}
+
+void *__wrap_malloc(size_t size) { return is_refused() ? NULL : __real_malloc(size); }
+void *__wrap_realloc(void *old, size_t size) { return is_refused() ? NULL : __real_realloc(old, size); }
+
+/* ---- texts */
+
+/* So many bytes of standard input, and no byte more of memory. Also no bytes have an address. */
+static struct bytes bytes_in(size_t length) {
+    struct bytes bytes = {malloc(length > 0 ? length : 1), length};
+    must(bytes.at != NULL && fread(bytes.at, 1, length, stdin) == length, "the input ends early");
+    return bytes;
+}
+
+/* Room for so many bytes, with bytes around it that have to stay. */
+static struct bytes guarded(size_t length) {
+    struct bytes bytes = {malloc(length + 2 * GUARD), length};
+    must(bytes.at != NULL, "out of memory");
+    memset(bytes.at, UNTOUCHED, length + 2 * GUARD);
+    bytes.at += GUARD;
+    return bytes;
+}
+
+/* Whether some bytes were not written. */
+static bool is_untouched(const uint8_t *at, size_t length) {
+    for (size_t place = 0; place < length; place++)
+        if (at[place] != UNTOUCHED) return false;
+    return true;
+}
+
+static void check_guards(struct bytes bytes) {
+    must(is_untouched(bytes.at - GUARD, GUARD) && is_untouched(bytes.at + bytes.length, GUARD), "a byte outside was written");
+}
+
+static void let_go(struct bytes guarded) { free(guarded.at - GUARD); }
+
+/* ---- calls */
+
+static struct result of_outcome(sct_outcome made) {
+    return (struct result){{made.ok, made.code, made.place, made.length}, 4, {NULL, 0}};
+}
+
+/* The answer that a call made. In too little room it writes nothing. */
+static struct bytes answer_of(sct_site *site, size_t length) {
+    if (length > 0) {
+        struct bytes little = guarded(length - 1);
+        sct_outcome none = sct_site_answer(site, little.at, little.length);
+        must(none.ok && none.length == length && is_untouched(little.at, little.length), "too little room was written into");
+        check_guards(little);
+        let_go(little);
+    }
+    struct bytes bytes = guarded(length);
+    sct_outcome copied = sct_site_answer(site, bytes.at, bytes.length);
+    must(copied.ok && copied.code == 0 && copied.length == length, "an answer was not copied");
+    check_guards(bytes);
+    return bytes;
+}
+
+static bool is(const char *name, const char *other) { return strcmp(name, other) == 0; }
+
+/* A call that makes an answer. */
+static sct_outcome outcome_of(const char *name, sct_site *site, const unsigned long *n, const struct bytes *t) {
+    if (is(name, "restore"))
+        return sct_site_restore(site, (uint16_t)n[0], (uint16_t)n[1], t[0].at, t[0].length, t[1].at, t[1].length);
+    if (is(name, "vector_text")) return sct_site_vector_text(site);
+    if (is(name, "cut")) return sct_site_cut(site, t[0].at, t[0].length);
+    if (is(name, "cut_above")) return sct_site_cut_above(site, (const uint64_t *)(void *)t[0].at, t[0].length / sizeof(uint64_t));
+    if (is(name, "archive_text")) return sct_site_archive_text(site);
+    if (is(name, "status_text")) return sct_site_status_text(site);
+    if (is(name, "totals_text")) return sct_site_totals_text(site);
+    if (is(name, "contradictions_text")) return sct_site_contradictions_text(site);
+    if (is(name, "report"))
+        return sct_site_report(site, t[0].at, t[0].length, t[1].at, t[1].length, t[2].at, t[2].length);
+    if (is(name, "transfer_text")) return sct_site_transfer_text(site, t[0].at, t[0].length, t[1].at, t[1].length);
+    if (is(name, "messages_text")) return sct_site_messages_text(site, t[0].at, t[0].length, t[1].at, t[1].length);
+    if (is(name, "bank_totals")) return sct_site_bank_totals(site, t[0].at, t[0].length);
+    must(is(name, "changes"), "there is no such call");
+    return sct_site_changes(site);
+}
+
+static struct result counts_of(sct_site *site, size_t items) {
+    struct bytes bytes = guarded(items * sizeof(uint64_t));
+    is_counting = true;
+    struct result result = of_outcome(sct_site_counts(site, (uint64_t *)(void *)bytes.at, items));
+    is_counting = false;
+    check_guards(bytes);
+    must(result.fields[0] || is_untouched(bytes.at, bytes.length), "refused counts were written");
+    bytes.length = result.fields[0] ? bytes.length : 0;
+    result.bytes = bytes;
+    return result;
+}
+
+static struct result copied(sct_site *site, size_t room) {
+    struct bytes bytes = guarded(room);
+    is_counting = true;
+    struct result result = of_outcome(sct_site_answer(site, bytes.at, room));
+    is_counting = false;
+    check_guards(bytes);
+    size_t written = result.fields[0] && result.fields[3] <= room ? result.fields[3] : 0;
+    must(is_untouched(bytes.at + written, room - written), "more was written than the answer");
+    bytes.length = written;
+    result.bytes = bytes;
+    return result;
+}
+
+static size_t stack_used(void) {
+    size_t free_bytes = 0;
+    while (stack[free_bytes] == UNTOUCHED) free_bytes++;
+    return STACK - free_bytes;
+}
+
+/* Makes a call. What it asks for as memory is counted, and refused if it has to be. */
+static struct result called(const char *name, sct_site *site, const unsigned long *n, const struct bytes *t) {
+    struct result result = {{0}, 0, {NULL, 0}};
+    is_counting = true;
+    if (is(name, "open")) {
+        result = of_outcome(sct_site_open(site, (uint16_t)n[0], (uint16_t)n[1]));
+    } else if (is(name, "close")) {
+        sct_site_close(site);
+    } else if (is(name, "take")) {
+        sct_taken took = sct_site_take(site, t[0].at, t[0].length);
+        result = (struct result){{took.ok, took.code, took.is_repeat, took.place, took.number}, 5, {NULL, 0}};
+    } else if (is(name, "accept")) {
+        sct_accepted accepted = sct_site_accept(site, t[0].at, t[0].length);
+        result = (struct result){{accepted.ok, accepted.code, accepted.place, accepted.fresh}, 4, {NULL, 0}};
+    } else if (is(name, "take_lines")) {
+        sct_lines lines = sct_site_take_lines(site, t[0].at, t[0].length);
+        result = (struct result){{lines.ok, lines.code, lines.fresh, lines.repeats, lines.refused, lines.length}, 6, {NULL, 0}};
+    } else if (is(name, "version")) {
+        result = (struct result){{sct_version()}, 1, {NULL, 0}};
+    } else {
+        result = of_outcome(outcome_of(name, site, n, t));
+    }
+    is_counting = false;
+    return result;
+}
+
+/* What a request comes to. */
+static struct result done(const char *name, sct_site *site, const unsigned long *n, const struct bytes *t) {
+    if (is(name, "stack")) return (struct result){{stack_used()}, 1, {NULL, 0}};
+    if (is(name, "counts")) return counts_of(site, n[0]);
+    if (is(name, "answer")) return copied(site, n[0]);
+    struct result result = called(name, site, n, t);
+    bool makes_answer = result.count >= 4 && !is(name, "open") && !is(name, "take") && !is(name, "accept");
+    if (makes_answer && result.fields[0]) result.bytes = answer_of(site, result.fields[result.count - 1]);
+    return result;
+}
+
+static void write_reply(struct result result) {
+    for (int place = 0; place < result.count; place++) printf("%lu ", result.fields[place]);
+    printf("%lu %lu %zu\n", asked, refused, result.bytes.length);
+    if (result.bytes.at == NULL) return;
+    fwrite(result.bytes.at, 1, result.bytes.length, stdout);
+    let_go(result.bytes);
+}
+
+/* ---- requests */
+
+static const struct form *form_of(const char *name) {
+    for (size_t place = 0; place < sizeof forms / sizeof *forms; place++)
+        if (is(forms[place].name, name)) return &forms[place];
+    must(false, "there is no such request");
+    return NULL;
+}
+
+/* Reads a request and writes its reply. False at the end of the input. */
+static bool served(void) {
+    char name[32];
+    size_t handle;
+    unsigned long numbers[2] = {0};
+    struct bytes texts[3] = {{NULL, 0}};
+    if (scanf("%31s %zu", name, &handle) != 2) return false;
+    const struct form *form = form_of(name);
+    must(handle < HANDLES, "there is no such handle");
+    for (int place = 0; place < form->numbers; place++) must(scanf(" %lu", &numbers[place]) == 1, "a number is missing");
+    for (int place = 0; place < form->texts; place++) must(scanf(" %zu", &texts[place].length) == 1, "a length is missing");
+    must(getchar() == '\n', "a request does not end");
+    if (is(name, "refuse")) {
+        first_refused = numbers[0];
+        last_refused = numbers[1];
+        return true;
+    }
+    for (int place = 0; place < form->texts; place++) texts[place] = bytes_in(texts[place].length);
+    asked = refused = 0;
+    write_reply(done(name, &handles[handle], numbers, texts));
+    first_refused = last_refused = 0;
+    for (int place = 0; place < form->texts; place++) free(texts[place].at);
+    return true;
+}
+
+static void *serve(void *nothing) {
+    while (served()) continue;
+    for (size_t handle = 0; handle < HANDLES; handle++) sct_site_close(&handles[handle]);
+    return nothing;
+}
+
+int main(void) {
+    pthread_t thread;
+    pthread_attr_t attributes;
+    stack = mmap(NULL, STACK, PROT_READ | PROT_WRITE, MAP_PRIVATE | MAP_ANONYMOUS | MAP_STACK, -1, 0);
+    must(stack != MAP_FAILED, "there is no stack");
+    memset(stack, UNTOUCHED, STACK);
+    must(pthread_attr_init(&attributes) == 0 && pthread_attr_setstack(&attributes, stack, STACK) == 0, "the stack is refused");
+    must(pthread_create(&thread, &attributes, serve, NULL) == 0 && pthread_join(thread, NULL) == 0, "there is no thread");
+    return fflush(stdout) == 0 ? 0 : 1;
+}

@@ -1,0 +1,108 @@
+"""driving.py: builds driver.c, writes its requests, and reads its replies.
+
+The library is the one that tools/library.py makes: of crates/sct_c/out/libsct_c.a, or of the static library that the variable SCT_C
+names. A program is built in a temporary folder, which has the libraries too.
+"""
+import collections, contextlib, pathlib, shlex, shutil, struct, tempfile
+from tests import harness
+from tests.harness import TOP
+from tools import library
+
+SOURCES = pathlib.Path(__file__).resolve().parent
+STRICT = ["-std=c99", "-Wall", "-Wextra", "-pedantic", "-Werror"]
+WRAPPED = ["-Wl,--wrap=malloc,--wrap=realloc"]
+CHECKED = ["-O1", "-g", "-fsanitize=address,undefined", "-fno-sanitize-recover=all"]
+VALGRIND = ["valgrind", "--quiet", "--leak-check=full", "--show-leak-kinds=all", "--error-exitcode=9"]
+
+OUTCOME = ("ok", "code", "place", "length")
+FIELDS = collections.defaultdict(lambda: OUTCOME, {
+    "take": ("ok", "code", "is_repeat", "place", "number"), "take_lines": ("ok", "code", "fresh", "repeats", "refused", "length"),
+    "accept": ("ok", "code", "place", "fresh"), "close": (), "version": ("version",), "stack": ("bytes",)})
+
+# the fields of the result of a call by their names, how often it asked for memory and was refused, and what it wrote
+Reply = collections.namedtuple("Reply", "fields asked refused text")
+
+
+def end_if_missing(*commands):
+    """Ends the check with one line if something is missing that it needs."""
+    try:
+        library.check_there()
+    except library.Missing as missing:
+        skip(missing)
+    for name in commands:
+        if shutil.which(name) is None:
+            skip(f"there is no command {name} on this machine: apt-get install {name}")
+
+
+def skip(why):
+    """Ends the check, with one line that says why. Nothing has passed, and nothing failed."""
+    print(f"skipped: {why}")
+    harness.end(0, 0)
+
+
+@contextlib.contextmanager
+def libraries():
+    """A temporary folder with both libraries."""
+    with tempfile.TemporaryDirectory() as folder:
+        library.make(folder)
+        yield pathlib.Path(folder)
+
+
+def built(folder, source, *words, name=None, compiler="gcc"):
+    """The program that a compiler makes of a source and the archive in a folder."""
+    path = folder / (name or pathlib.Path(source).stem)
+    standard = STRICT if compiler == "gcc" else ["-Wall", "-Wextra", "-pedantic", "-Werror"]
+    made = harness.run([compiler, *standard, *words, f"-I{TOP / 'include'}", source, folder / "libniluppang.a", *WRAPPED, "-lpthread",
+                        "-o", path])
+    if made.status:
+        harness.stop(f"{source} is not built:\n{made.errors.decode(errors='replace')}")
+    return path
+
+
+def built_driver(folder, *words, name="driver"):
+    return built(folder, SOURCES / "driver.c", *(words or ["-O1"]), name=name)
+
+
+# ---- requests and replies
+
+def request(name, handle=0, *arguments):
+    """A request: the name of a call, the number of a handle, and arguments, which are numbers, texts, or lists of counts."""
+    data = [struct.pack(f"={len(argument)}Q", *argument) if isinstance(argument, list) else
+            argument.encode() if isinstance(argument, str) else argument for argument in arguments]
+    words = [str(argument) if isinstance(argument, int) else str(len(argument)) for argument in data]
+    head = " ".join([name, str(handle), *words]) + "\n"
+    return head.encode() + b"".join(argument for argument in data if not isinstance(argument, int))
+
+
+def counts_in(text):
+    """The counts in what was written."""
+    return list(struct.unpack(f"={len(text) // 8}Q", text))
+
+
+def replies(names, data):
+    """The replies in what the driver wrote, to requests with these names."""
+    place, found = 0, []
+    for name in names:
+        end = data.index(b"\n", place)
+        *fields, asked, refused, length = map(int, data[place:end].split())
+        place = end + 1 + length
+        found.append(Reply(dict(zip(FIELDS[name], fields)), asked, refused, data[end + 1:place]))
+    return found, data[place:]
+
+
+def asked(program, requests, before=()):
+    """The replies to requests, each a tuple of a name, a handle and arguments. The driver must end well, and write no more."""
+    answer = harness.run([*before, program], b"".join(request(*one) for one in requests))
+    names = [one[0] for one in requests if one[0] != "refuse"]
+    try:
+        found, rest = replies(names, answer.text)
+    except ValueError:
+        found, rest = None, answer.text[-200:]
+    if answer.status or answer.errors or found is None or rest:
+        text = answer.errors.decode(errors="replace")
+        raise Failed(f"{shlex.join(map(str, [*before, program]))} ended with status {answer.status}\n{text[:4000]}{rest[:200]!r}")
+    return found
+
+
+class Failed(Exception):
+    """The driver did not end as it must."""

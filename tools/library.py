@@ -1,0 +1,103 @@
+"""library.py: makes libniluppang.a and libniluppang.so of the static library that `rt lib` leaves in crates/sct_c.
+
+Usage: tools/library.py FOLDER
+
+The archive has one object: the library, and the code of the toolchain that calls malloc, realloc and free. So a program needs nothing
+but the C library. The shared library is made of it. Both give away the names that begin with `sct_` and no other. The same inputs
+make the same bytes. It needs gcc and binutils. The variable SCT_C names another static library.
+"""
+import os, pathlib, shutil, subprocess, sys, tempfile
+
+TOP = pathlib.Path(__file__).resolve().parents[1]
+BUILT = TOP / "crates" / "sct_c" / "out" / "libsct_c.a"
+VERSION = (TOP / "VERSION").read_text(encoding="utf-8").strip()
+SONAME = "libniluppang.so." + ".".join(VERSION.split(".")[:2])
+EXPORTS = "{ global: sct_*; local: *; };\n"
+NEEDED = ["gcc", "ld", "objcopy", "ar"]
+
+
+class Missing(Exception):
+    """Something is not there that the libraries are made of."""
+
+
+def static_library():
+    """The static library of sct_c."""
+    path = pathlib.Path(os.environ.get("SCT_C") or BUILT)
+    if not path.is_file():
+        raise Missing(f"there is no static library {path}; `rt lib` in crates/sct_c makes it")
+    return path
+
+
+def toolchain():
+    """The folder of the toolchain, which has the code that allocates."""
+    rt = shutil.which("rt")
+    if rt is None:
+        raise Missing("there is no command rt on this machine: its folder has the code that allocates")
+    return pathlib.Path(rt).resolve().parents[1]
+
+
+def allocation():
+    """The archive of the toolchain with the code that calls malloc, realloc and free."""
+    path = toolchain() / "c" / "liblibc_c.a"
+    if not path.is_file():
+        raise Missing(f"there is no {path} in the toolchain")
+    return path
+
+
+def check_there():
+    """Fails with what is missing."""
+    for name in NEEDED:
+        if shutil.which(name) is None:
+            raise Missing(f"there is no command {name} on this machine: apt-get install gcc")
+    return static_library(), allocation()
+
+
+def run(*words, folder):
+    subprocess.run(list(map(str, words)), check=True, cwd=folder)
+
+
+def make_archive(folder):
+    """Makes libniluppang.a in a folder."""
+    library, heap = check_there()
+    with tempfile.TemporaryDirectory() as place:
+        run("ld", "-r", "-o", "niluppang.o", "--whole-archive", library.resolve(), heap, folder=place)
+        run("objcopy", "--enable-deterministic-archives", "--strip-debug", "--wildcard", "--keep-global-symbol=sct_*", "niluppang.o",
+            folder=place)
+        run("ar", "rcsD", "libniluppang.a", "niluppang.o", folder=place)
+        shutil.copy(pathlib.Path(place, "libniluppang.a"), folder)
+    return pathlib.Path(folder, "libniluppang.a")
+
+
+def make_shared(folder):
+    """Makes libniluppang.so in a folder, with its name for programs that load it, of the archive there."""
+    with tempfile.TemporaryDirectory() as place:
+        exports = pathlib.Path(place, "exports")
+        exports.write_text(EXPORTS)
+        run("gcc", "-shared", "-o", SONAME, f"-Wl,-soname,{SONAME}", f"-Wl,--version-script={exports}", "-Wl,-z,defs", "-Wl,-z,relro",
+            "-Wl,-z,now", "-Wl,--whole-archive", "libniluppang.a", "-Wl,--no-whole-archive", folder=folder)
+    link = pathlib.Path(folder, "libniluppang.so")
+    link.unlink(missing_ok=True)
+    link.symlink_to(SONAME)
+    return link
+
+
+def make(folder):
+    """Makes both libraries in a folder."""
+    make_archive(folder)
+    make_shared(folder)
+
+
+def main():
+    if len(sys.argv) != 2:
+        sys.exit(__doc__)
+    folder = pathlib.Path(sys.argv[1])
+    folder.mkdir(parents=True, exist_ok=True)
+    try:
+        make(folder.resolve())
+    except Missing as missing:
+        sys.exit(f"library: {missing}")
+    print(f"{folder}/libniluppang.a and {folder}/libniluppang.so")
+
+
+if __name__ == "__main__":
+    main()
