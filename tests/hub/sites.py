@@ -2,10 +2,10 @@
 import collections, contextlib, glob, http.client, json, os, pathlib, resource, shutil, signal, socket, subprocess, sys, tempfile, time
 from tests import harness
 from tests.harness import EXAMPLES, TOP
+from tools import library as libraries
 
 MAIN = EXAMPLES / "hub" / "main.py"
 BINDING = TOP / "bindings" / "python"
-BUILT = TOP / "crates" / "sct_c" / "out" / "libniluppang.so"
 PACKAGES = "python3-aiohttp"
 LATEST = 30  # seconds in which something must come about
 
@@ -24,19 +24,25 @@ def interpreter():
     raise Skipped(f"no Python here has aiohttp; `apt-get install {PACKAGES}` installs it for /usr/bin/python3")
 
 
+@contextlib.contextmanager
 def library():
-    """The path of the library: the one that a variable names, else the one that the gate leaves."""
+    """The path of the library: the one that a variable names, else one that is made of what the gate leaves."""
     named = os.environ.get("NILUPPANG_LIBRARY")
-    path = pathlib.Path(named) if named else BUILT
-    if not path.is_file():
-        raise Skipped(f"there is no library {path}; NILUPPANG_LIBRARY may name another")
-    return str(path.resolve())
+    if named and not os.path.isfile(named):
+        raise Skipped(f"there is no library {named}, which NILUPPANG_LIBRARY names")
+    with tempfile.TemporaryDirectory(prefix="hub-library-") as folder:
+        try:
+            made = named or libraries.make_shared(libraries.make_archive(folder).parent)
+        except libraries.Missing as missing:
+            raise Skipped(missing) from None
+        yield os.path.abspath(made)
 
 
 def checked(check):
     """Runs a check, and ends with its last line. A machine without the parts skips it, and a line says why."""
     try:
-        right = check(interpreter(), library())
+        with library() as path:
+            right = check(interpreter(), path)
     except Skipped as why:
         print(f"skipped: {why}")
         harness.end(0, 0)

@@ -254,6 +254,12 @@ def catches_up(trial):
             yield "a delta that is posted again has nothing new", json.loads(asked(peer.port, "/deltas", delta).body) == {"fresh": 0}
             yield "a text that is no delta is refused", asked(peer.port, "/deltas", b"delta 2\nend 1\n").body == b"45 2\n"
             yield "a vector that is none is refused", asked(peer.port, "/delta?have=1:1:1").body == b"72\n"
+            held = asked(peer.port, "/archive").body
+            hub.kill()
+            peer.kill()
+            peer.start()
+            until(lambda: sites.is_well(peer.port))
+            yield "it starts again without its peer, and holds the same", asked(peer.port, "/archive").body == held
 
 
 # ---- clients
