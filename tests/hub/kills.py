@@ -86,15 +86,16 @@ def client(r, port, lines):
 
 
 def victim(r, hub, lines):
-    """A site that runs, and its process. Half of the times it is one that a client posts to just now."""
+    """The process of a site. Half of the times it is one that a client posts to just now."""
     while True:
         running = hub.children()
         if running and r.random() < 0.5:
-            return r.choice(sorted(running.items()))
+            return r.choice(sorted(running.values()))
         lines.posted.clear()
-        if lines.posted.wait(0.5) and lines.posted_to in running:
+        process = running.get(lines.posted_to) if lines.posted.wait(0.5) else None
+        if process:
             time.sleep(r.uniform(0, 0.01))
-            return lines.posted_to, running[lines.posted_to]
+            return process
 
 
 def killed(r, hub, lines, kills):
@@ -102,7 +103,7 @@ def killed(r, hub, lines, kills):
     for number in range(1, kills + 1):
         lines.share = number / (kills + 1)
         time.sleep(r.uniform(0.1, 0.8))
-        _, process = victim(r, hub, lines)
+        process = victim(r, hub, lines)
         with contextlib.suppress(ProcessLookupError):
             os.kill(process, signal.SIGKILL)
         if number % 10 == 0 or number == kills:
@@ -207,7 +208,7 @@ def tried(python, library, asked, words):
         more = [f"--postgres={words}"] if words else []
         with sites.Hub(python, library, data, f"--port={port}", *more) as hub:
             sites.until(lambda: all(sites.is_well(port + site) for site in range(SITES)))
-            clients = [threading.Thread(target=client, args=(random.Random(r.random()), port, lines)) for _ in range(CLIENTS)]
+            clients = [threading.Thread(target=client, args=(random.Random(r.random()), port, lines), daemon=True) for _ in range(CLIENTS)]
             for one in clients:
                 one.start()
             killed(r, hub, lines, asked.kills)
