@@ -15,6 +15,7 @@ from .journal import Failed, Wrong, runs_of
 MOST_ROUND = 4 << 20  # bytes of lines and deltas that one transaction has, unless one request alone has more
 MOST_WAITING = 64 << 20  # bytes that wait for the thread at most
 MOST_TOLD = 200  # changed transfers of a round whose lines are published; of the others only the names are
+MOST_UNSEEN = 10_000  # new messages after which a question is asked, so that no client has to wait for a question on more of them
 MEMORY, FORK, OWN_AHEAD = 65, 42, 43
 
 Work = collections.namedtuple("Work", "kind given size done")
@@ -40,7 +41,7 @@ class Keeper:
         self.numbers, self.commits, self.commit_seconds = collections.Counter(), 0, 0.0
         self.watchers, self.is_watched, self.watched_at = 0, False, 0.0
         self.on_round = lambda changes: None  # called in the thread, after a round, with the changed transfers
-        self.failure, self.process = None, None
+        self.failure, self.process, self.seen = None, None, 0
 
     # ---- for everyone
 
@@ -77,7 +78,7 @@ class Keeper:
         if site.refused_text or site.counts()[self.number - 1] != kept.own:
             raise Wrong(f"the site refuses some of it, or holds {site.counts()[self.number - 1]} own entries of {kept.own}:"
                         f" {site.refused_text.decode()[:200]}")
-        self.site, self.own, self.is_watched = site, kept.own, False
+        self.site, self.own, self.is_watched, self.seen = site, kept.own, False, 0
         if self.watchers:
             self._changes()
         self._show()
@@ -213,8 +214,11 @@ class Keeper:
         self.restore()
 
     def _show(self):
-        """What the other threads may read at any time."""
+        """What the other threads may read at any time. A question after many new messages costs what is new, so it is asked here."""
         self.counts, self.vector = self.site.counts(), self.site.vector_text()
+        if sum(self.counts) - self.seen >= MOST_UNSEEN:
+            self.site.transfer(b"AAAADEAA", b"A")
+            self.seen = sum(self.counts)
 
     def _changes(self):
         """The transfers that changed since the round before, each with its lines: if someone watches, or to forget them."""
