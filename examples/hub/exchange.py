@@ -117,6 +117,10 @@ class Peers:
                 peer.failed(fault)
         await asyncio.gather(*map(one, self.all))
 
+    def heard(self):
+        """How many peers have answered."""
+        return sum(peer.heard_at is not None for peer in self.all)
+
     def follow(self):
         self.tasks = [asyncio.ensure_future(peer.follow(self.session)) for peer in self.all]
 

@@ -7,7 +7,7 @@ here of which the site said REPEAT. Both are written in one transaction, which i
 One process at a time has a journal. `hold` raises Held if another process has it. After a Failed nobody knows what was written: the site
 is restored from what the database then has.
 """
-import collections, contextlib, fcntl, os, sqlite3
+import collections, contextlib, fcntl, os, sqlite3, urllib.parse
 
 Run = collections.namedtuple("Run", "origin first count lines")  # entries of one origin; each line ends with a line feed
 Kept = collections.namedtuple("Kept", "own journal delta")  # how many own lines, their text, and a delta text of all accepted entries
@@ -168,6 +168,12 @@ class SqliteJournal(Journal):
         self._made()
 
 
+    def lines(self):
+        """The lines of the journal, in their order. The site may run meanwhile."""
+        with contextlib.closing(sqlite3.connect(f"file:{urllib.parse.quote(str(self.path))}?mode=ro", uri=True)) as connection:
+            yield from (line for line, in connection.execute("SELECT line FROM own ORDER BY number"))
+
+
 class PostgresJournal(Journal):
     """A journal in a schema of a PostgreSQL database, held by an advisory lock of the session that writes.
 
@@ -206,6 +212,12 @@ class PostgresJournal(Journal):
             cursor.execute(f"SET search_path TO {self.schema}")
             self.connection.commit()
         self._made()
+
+    def lines(self):
+        """The lines of the journal, in their order. The site may run meanwhile."""
+        with contextlib.closing(self.psycopg2.connect(self.words)) as connection, connection.cursor("lines") as cursor:
+            cursor.execute(f"SELECT line FROM {self.schema}.own ORDER BY number")
+            yield from (bytes(line) for line, in cursor)
 
     def _insert(self, cursor, words, rows):
         before = words[:words.index("VALUES")]

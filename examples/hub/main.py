@@ -55,6 +55,8 @@ def options(words):
     it.add_argument("--peer", metavar="N=URL", type=peer, action="append", default=[], help="a peer, for --site; as often as needed")
     it.add_argument("--postgres", metavar="WORDS", help="keep the journals in this PostgreSQL database, such as 'dbname=hub'")
     it.add_argument("--most-delta", metavar="BYTES", type=int, default=DELTA, help="bytes of a delta at most (1 GiB)")
+    it.add_argument("--hear", metavar="N", type=int, default=0, help="take no message before N peers were heard (0)")
+    it.add_argument("--print", action="store_true", help="print the journal of --site, and end; the site may run meanwhile")
     it.add_argument("--silence", metavar="SECONDS", type=float, default=10, help="give up a peer after so long without a byte (10)")
     return it.parse_args(words)
 
@@ -77,6 +79,17 @@ def journal_of(asked):
         return PostgresJournal(asked.site, asked.group, asked.postgres)
     pathlib.Path(asked.folder).mkdir(parents=True, exist_ok=True)
     return SqliteJournal(asked.site, asked.group, pathlib.Path(asked.folder, f"site{asked.site}.db"))
+
+
+def print_journal(asked):
+    """Prints the lines of a journal: a text that `sct_sites site` reads, and that can be posted to another site."""
+    journal = journal_of(asked)
+    try:
+        for line in journal.lines():
+            sys.stdout.buffer.write(line + b"\n")
+    except journal.error as fault:
+        stop(f"the journal, {journal.name}, cannot be read: {str(fault).strip()}", AWAY)
+    sys.stdout.buffer.flush()
 
 
 def keeper_of(asked):
@@ -112,8 +125,10 @@ async def serve(asked, keeper):
         stop(f"site {asked.site} cannot serve at {asked.host} port {asked.port}: {fault.strerror}")
     log.info("site %d of %d serves at http://%s:%d, and holds %s", asked.site, asked.group, asked.host, asked.port, keeper.vector.decode())
     await peers.hear(5)
-    service.is_open = True
     peers.follow()
+    while peers.heard() < asked.hear and not ends.is_set():
+        await asyncio.sleep(0.05)
+    service.is_open = True
     await ends.wait()
     await peers.end()
     await runner.cleanup()
@@ -198,6 +213,8 @@ def main():
         stop(fault)
     if asked.site is None:
         several_sites(asked)
+    if asked.print:
+        return print_journal(asked)
     one_site(asked)
 
 

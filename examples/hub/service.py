@@ -112,6 +112,8 @@ class Service:
             return web.Response(status=507 if self.keeper.is_full else 503, headers={"Retry-After": "1"}, text=f"{fault}\n")
         except asyncio.TimeoutError:
             return web.Response(status=408, text="it took too long\n")
+        except ConnectionError:
+            return web.Response(status=400)  # the client has gone, and nobody reads it
 
     def _forbidden(self, request):
         """Why a request is not answered, or None. A page of another server must not write through a browser of this machine."""
@@ -177,7 +179,7 @@ class Service:
     async def messages(self, request):
         """Takes JSON lines, and answers a line for each that is not blank."""
         if not self.is_open:
-            raise Unable("the site asks its peers first")
+            raise Unable("the site hears its peers first")
         text = await self.body(request, MOST_MESSAGES)
         lines = [(number, line) for number, line in enumerate(text.split(b"\n"), 1) if line.strip(BLANK)]
         outcomes = await self.keeper.take([line for _, line in lines])
@@ -280,7 +282,7 @@ class Service:
         """Why the site is not well, as texts."""
         keeper = self.keeper
         found = [keeper.halted, keeper.failure, "the journal failed" if keeper.is_full else None,
-                 None if self.is_open else "the site asks its peers first"]
+                 None if self.is_open else "the site hears its peers first"]
         return [it for it in found if it]
 
     async def health(self, request):

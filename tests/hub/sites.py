@@ -49,12 +49,16 @@ def checked(check):
     harness.end_of(right)
 
 
+handed_out = [21000 + os.getpid() % 4000 * 4]  # the port after those that this check was given
+
+
 def free_ports(many):
-    """Ports in a row that nobody listens at."""
-    for first in range(21000 + os.getpid() % 4000 * 4, 60000, many):
+    """Ports in a row that nobody listens at, and that this check was not given before: a site that is killed comes back to its own."""
+    for first in range(handed_out[-1], 60000, many):
         with contextlib.ExitStack() as stack, contextlib.suppress(OSError):
             for port in range(first, first + many):
                 stack.enter_context(socket.socket()).bind(("127.0.0.1", port))
+            handed_out.append(first + many)
             return first
     raise Skipped("no port is free")
 

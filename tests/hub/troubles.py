@@ -163,6 +163,25 @@ def notices_a_lost_line(trial):
     yield "a journal with a gap is refused", broken.status == 2 and b"cannot start on its journal" in broken.errors
 
 
+def retires_a_number(trial):
+    """The journal of a number that is retired: it is printed, and posted at a site with a new number, which first hears its peer."""
+    old, new, keeps = trial.fresh("old"), trial.fresh("new"), trial.fresh("peer")
+    with trial.site(old) as hub, trial.site(keeps, f"--peer=1=http://127.0.0.1:{hub.port}", number=2) as peer:
+        asked(hub.port, "/messages", lines_of(1, 20) + b"{}\n" + lines_of(1, 3))
+        until(lambda: asked(peer.port, "/vector").body == b"1:20\n")
+        printed = harness.run([*hub.command, "--print"], env=hub.variables)
+        yield "a journal is printed while its site runs", printed == (lines_of(1, 20), b"", 0)
+        peer.kill()
+        with trial.site(new, "--hear=1", f"--peer=2=http://127.0.0.1:{peer.port}", number=3, is_well=False) as third:
+            post = lambda: asked(third.port, "/messages", printed.text + lines_of(21, 2))
+            yield "a new number takes nothing before it heard a peer", post().status == 503
+            peer.start()
+            until(lambda: sites.is_well(third.port))
+            words = [it["outcome"] for it in outcomes(post())]
+            yield "then it takes what no other site holds", words == ["REPEAT"] * 20 + ["TAKEN"] * 2
+            yield "under its own number", asked(third.port, "/vector").body == b"1:20,3:2\n"
+
+
 # ---- peers
 
 class Odd(http.server.BaseHTTPRequestHandler):
@@ -353,7 +372,7 @@ def publishes(trial):
         yield "and loads again if that is not here any more", reset["event"] == "reset"
 
 
-CHECKS = [answers_examples, survives_a_full_disk, survives_a_full_file_system, refuses_a_second_process, notices_a_lost_line,
+CHECKS = [answers_examples, survives_a_full_disk, survives_a_full_file_system, refuses_a_second_process, notices_a_lost_line, retires_a_number,
           survives_odd_peers, catches_up, survives_clients, guards, publishes]
 
 
