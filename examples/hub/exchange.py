@@ -11,6 +11,7 @@ from .keeper import Busy, Unable
 
 WAIT = 2.0  # seconds that a peer waits for new entries, and between two questions for everything
 FIRST_PAUSE, MOST_PAUSE = 0.05, 2.0
+REST = 0.01  # seconds after an answer that had nothing new
 GAP = 41
 
 log = logging.getLogger("hub")
@@ -42,7 +43,8 @@ class Peer:
         return sum(max(0, count - counts[origin - 1]) for origin, count in self.counts.items() if origin <= len(counts))
 
     async def once(self, session, is_first=False):
-        """Asks once, and accepts the answer."""
+        """Asks once, and accepts the answer. How many of its entries are new."""
+        fresh = 0
         asks_all = is_first or time.monotonic() - self.asked_all_at > WAIT
         words = {"have": self.keeper.vector.decode()}
         if not asks_all:
@@ -54,18 +56,19 @@ class Peer:
             delta = await self._whole(answer)
         try:
             if not delta.startswith(b"delta 2\nend 0\n"):
-                await self.keeper.accept(delta)
+                fresh = await self.keeper.accept(delta)
         except NiluppangError as refused:
             if refused.number != GAP or asks_all:
                 raise
             self.asked_all_at = 0.0
-            return
+            return fresh
         if asks_all:
             self.asked_all_at = time.monotonic()
         self.heard_at, self.pause = time.monotonic(), FIRST_PAUSE
         if self.fault:
             log.info("site %d answers again", self.number)
             self.fault = None
+        return fresh
 
     async def _whole(self, answer):
         """The body of an answer, unless it is too long."""
@@ -89,7 +92,8 @@ class Peer:
         """Asks again and again, for ever."""
         while True:
             try:
-                await self.once(session)
+                if not await self.once(session):
+                    await asyncio.sleep(REST)
             except FAILURES as fault:
                 self.failed(fault)
                 await asyncio.sleep(self.pause * random.uniform(0.5, 1))

@@ -6,15 +6,17 @@ own connection.
 import asyncio, collections, hmac, json, pathlib, time, urllib.parse
 from aiohttp import web
 from niluppang import NiluppangError
+from .exchange import vector_of
 from .keeper import Busy, Unable
 
 MOST_MESSAGES = 8 << 20  # bytes of the body of a post of messages, or of a list
 SECONDS = 30  # for a request to come whole, and for a client to take a piece of an answer
 PIECE = 1 << 16
 MOST_TEXTS, MOST_DELTAS = 2, 8  # long answers that are made or sent at the same time
-MOST_WAIT = 30.0
+MOST_WAIT, MOST_COUNT = 30.0, (1 << 64) - 1
 MOST_EVENTS, MOST_BEHIND = 1000, 200  # events that are kept for a page that comes back, and those that may wait for a slow page
 MOST_PAGES = 100
+MOST_NAMES = 2000  # changed transfers that an event names; after more of them a page loads again
 QUIET = 15  # seconds after which a page that is silent gets an empty line
 TEXT, LINES = "text/plain", "application/x-ndjson"
 BLANK = b" \t\r"
@@ -32,7 +34,7 @@ class Events:
     def add(self, changes):
         self.number += 1
         found = [{"bank": bank, "tx": tx, **({} if lines is None else {"lines": lines.splitlines()})} for bank, tx, lines in changes]
-        event = self.text("transfers", found)
+        event = self.text("transfers", found) if len(found) <= MOST_NAMES else self.text("reset", [])
         self.last.append((self.number, event))
         for queue in list(self.queues):
             if queue.qsize() >= MOST_BEHIND:
@@ -219,17 +221,18 @@ class Service:
         have = request.query.get("have", "-")
         try:
             of, wait = int(request.query.get("of", "0")), min(float(request.query.get("wait", "0")), MOST_WAIT)
-            if not 0 <= of <= self.keeper.group or wait != wait:
+            held = min(vector_of(have).get(of, 0), MOST_COUNT) if of else 0
+            if not 0 <= of <= self.keeper.group or not wait >= 0 or held < 0:
                 raise ValueError
         except ValueError:
-            raise web.HTTPBadRequest(text="of is a site, and wait is seconds\n")
+            raise web.HTTPBadRequest(text="have is a vector, of is a site, and wait is seconds\n")
         if of and wait:
-            await self._until_more(have_of(have, of), of, wait)
+            await self._until_more(held, of, wait)
         vector = {}
 
         def question(site):
             vector["now"] = site.vector_text().decode()
-            return site.cut(above_of(site.counts(), have, of)) if of else site.cut(have)
+            return site.cut(above_of(site.counts(), held, of)) if of else site.cut(have)
         if self.deltas.locked():
             raise Busy()
         async with self.deltas:
@@ -295,18 +298,9 @@ class Service:
         return await self.sent(request, "".join(metric_lines(self)).encode(), TEXT)
 
 
-def have_of(vector, of):
-    """What a vector counts of an origin. A vector that is not one counts nothing, and the library refuses it later."""
-    for pair in vector.split(","):
-        origin, _, count = pair.partition(":")
-        if origin == str(of) and count.isdecimal():
-            return int(count)
-    return 0
-
-
-def above_of(counts, have, of):
-    """The counts above which only the entries of one origin are that a vector lacks."""
-    return [min(have_of(have, of), (1 << 64) - 1) if origin == of else count for origin, count in enumerate(counts, 1)]
+def above_of(counts, held, of):
+    """The counts above which only entries of one origin are, from a number on."""
+    return [held if origin == of else count for origin, count in enumerate(counts, 1)]
 
 
 def outcome_line(number, outcome):

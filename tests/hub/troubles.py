@@ -272,7 +272,8 @@ def catches_up(trial):
             delta = asked(hub.port, "/delta?have=1:6000").body
             yield "a delta that is posted again has nothing new", json.loads(asked(peer.port, "/deltas", delta).body) == {"fresh": 0}
             yield "a text that is no delta is refused", asked(peer.port, "/deltas", b"delta 2\nend 1\n").body == b"45 2\n"
-            yield "a vector that is none is refused", asked(peer.port, "/delta?have=1:1:1").body == b"72\n"
+            yield "a vector that is none is refused", [
+                asked(peer.port, f"/delta?have=1:1:1{more}").status for more in ("", "&of=1", "&of=2&wait=1")] == [400, 400, 400]
             held = asked(peer.port, "/archive").body
             hub.kill()
             peer.kill()
