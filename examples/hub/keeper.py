@@ -137,31 +137,36 @@ class Keeper:
 
     def _written(self, writes):
         """The result of each line and delta, after what is new is in the journal."""
-        own, runs, results = [], [], []
         unable = self._unable()
         if unable:
             return [(one, None, Unable(unable)) for one in writes]
-        for one in writes:
-            if one.kind == "take" and self.halted:
-                results.append((one, None, Unable(self.halted)))
-            elif one.kind == "take":
-                results.append((one, [self._take(line, own) for line in one.given], None))
-            else:
-                results.append((one, *self._accept(one.given, runs)))
+        own, runs = [], []
+        results = [(one, *self._done(one, own, runs)) for one in writes]
+        try:
+            self._commit(own, runs)
+        except Failed as fault:
+            self._begin_again(fault)
+            return [(one, None, Unable(f"the journal failed: {fault}")) for one in writes]
+        self.numbers.update(outcome.word for one, result, _ in results if one.kind == "take" for outcome in result or [])
+        self._show()
+        return results
+
+    def _done(self, one, own, runs):
+        """The result of lines or of a delta, or why there is none. What is new is put beside the new lines and runs."""
+        if one.kind == "accept":
+            return self._accept(one.given, runs)
+        if self.halted:
+            return None, Unable(self.halted)
+        return [self._take(line, own) for line in one.given], None
+
+    def _commit(self, own, runs):
+        """Writes what is new to the journal."""
         if own or runs:
             began = time.monotonic()
-            try:
-                self.journal.append(own, runs)
-            except Failed as fault:
-                self._begin_again(fault)
-                return [(one, None, Unable(f"the journal failed: {fault}")) for one in writes]
+            self.journal.append(own, runs)
             self.commits += 1
             self.commit_seconds += time.monotonic() - began
             self.own += len(own)
-        for word, amount in collections.Counter(it.word for one, result, _ in results if one.kind == "take" for it in result or []).items():
-            self.numbers[word] += amount
-        self._show()
-        return results
 
     def _take(self, line, own):
         """The outcome of a line, which is put beside the new ones if it is new."""
@@ -169,8 +174,8 @@ class Keeper:
             taken = self.site.take(line)
         except NiluppangError as fault:
             self.numbers[fault.number] += 1
-            why = str(fault.number) if fault.number == MEMORY else self.site.take_lines(line).refused_text.decode().strip()[len("line 1: "):]
-            return Outcome("REFUSED", fault.number, why)
+            text = b"line 1: 65" if fault.number == MEMORY else self.site.take_lines(line).refused_text
+            return Outcome("REFUSED", fault.number, text.decode().strip()[len("line 1: "):])
         if taken.is_repeat:
             return Outcome("REPEAT", 0, "")
         own.append((taken.number, line))

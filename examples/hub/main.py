@@ -115,7 +115,7 @@ async def serve(asked, keeper):
     for number in (signal.SIGINT, signal.SIGTERM):
         loop.add_signal_handler(number, ends.set)
     peers = Peers(dict(asked.peer), keeper, asked.most_delta, asked.silence)
-    service = Service(keeper, peers, os.environ.get("NILUPPANG_TOKEN"))
+    service = Service(keeper, peers, os.environ.get("NILUPPANG_TOKEN"), asked.most_delta)
     keeper.start(lambda: loop.call_soon_threadsafe(ends.set))
     runner = web.AppRunner(service.application(), access_log=None)
     await runner.setup()
@@ -162,8 +162,9 @@ class Child:
     def __init__(self, asked, number):
         peers = [f"--peer={other}=http://{asked.host}:{asked.port + other - 1}" for other in range(1, asked.sites + 1) if other != number]
         postgres = [f"--postgres={asked.postgres}"] if asked.postgres else []
+        limits = [f"--most-delta={asked.most_delta}", f"--silence={asked.silence}", f"--hear={asked.hear}"]
         self.words = [sys.executable, __file__, asked.folder, f"--site={number}", f"--group={asked.group}", f"--host={asked.host}",
-                      f"--port={asked.port + number - 1}", f"--most-delta={asked.most_delta}", f"--silence={asked.silence}", *peers, *postgres]
+                      f"--port={asked.port + number - 1}", *limits, *peers, *postgres]
         self.number, self.pause, self.next = number, FIRST_PAUSE, 0.0
         self.start()
 

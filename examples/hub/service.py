@@ -22,6 +22,7 @@ TEXT, LINES = "text/plain", "application/x-ndjson"
 BLANK = b" \t\r"
 LOCAL = {"localhost", "127.0.0.1", "::1"}
 STATUS = {65: 503, 42: 409, 43: 409, 41: 409}  # of a refusal by number; all others are 400
+POLICY = "default-src 'none'; style-src 'unsafe-inline'; script-src 'unsafe-inline'; connect-src 'self'"
 PAGE = pathlib.Path(__file__).with_name("desk.html")
 
 
@@ -57,8 +58,8 @@ class Events:
 
 
 class Service:
-    def __init__(self, keeper, peers, token):
-        self.keeper, self.peers, self.token = keeper, peers, token
+    def __init__(self, keeper, peers, token, most_delta):
+        self.keeper, self.peers, self.token, self.most_delta = keeper, peers, token, most_delta
         self.began = time.time()
         self.events = Events(f"{self.began:.0f}")
         self.news = asyncio.Event()
@@ -75,7 +76,7 @@ class Service:
             self.events.add(changes)
 
     def application(self):
-        it = web.Application(client_max_size=self.peers_most(), middlewares=[self.guarded])
+        it = web.Application(middlewares=[self.guarded])
         get, post = it.router.add_get, it.router.add_post
         get("/", self.page)
         post("/messages", self.messages)
@@ -91,9 +92,6 @@ class Service:
         get("/health", self.health)
         get("/metrics", self.metrics)
         return it
-
-    def peers_most(self):
-        return max([MOST_MESSAGES, *(peer.most for peer in self.peers.all)])
 
     # ---- who may ask
 
@@ -175,8 +173,7 @@ class Service:
     # ---- what a client asks
 
     async def page(self, request):
-        return web.FileResponse(PAGE, headers={"Cache-Control": "no-cache", "Content-Security-Policy":
-                                               "default-src 'none'; style-src 'unsafe-inline'; script-src 'unsafe-inline'; connect-src 'self'"})
+        return web.FileResponse(PAGE, headers={"Cache-Control": "no-cache", "Content-Security-Policy": POLICY})
 
     async def messages(self, request):
         """Takes JSON lines, and answers a line for each that is not blank."""
@@ -249,7 +246,7 @@ class Service:
                 return
 
     async def accept(self, request):
-        fresh = await self.keeper.accept(await self.body(request, self.peers_most()))
+        fresh = await self.keeper.accept(await self.body(request, self.most_delta))
         return web.json_response({"fresh": fresh})
 
     # ---- what a page and a monitor ask
@@ -290,8 +287,9 @@ class Service:
 
     async def health(self, request):
         faults = self.faults()
-        found = {"site": self.keeper.number, "group": self.keeper.group, "process": self.keeper.process, "vector": self.keeper.vector.decode(),
-                 "well": not faults, "faults": faults, "peers": {peer.number: peer.fault or "" for peer in self.peers.all}}
+        it, peers = self.keeper, {peer.number: peer.fault or "" for peer in self.peers.all}
+        found = {"site": it.number, "group": it.group, "process": it.process, "vector": it.vector.decode(), "well": not faults,
+                 "faults": faults, "peers": peers}
         return web.json_response(found, status=503 if faults else 200)
 
     async def metrics(self, request):

@@ -1,5 +1,5 @@
 """java.py: builds the Java package of bindings/java by its script, and runs its tests on the examples."""
-import pathlib, re, shutil, sys, tempfile
+import pathlib, re, shutil, tempfile
 from tests import harness
 from tests.harness import EXAMPLES, TOP
 from tests.hub import sites

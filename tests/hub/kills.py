@@ -12,7 +12,7 @@ gives up after the first failure. Meanwhile sites are killed by signal 9, and st
 `python3 -m tests.hub.kills --kills 100 --messages 20000` is the long form. The gate runs the short one. --postgres keeps the journals in
 a PostgreSQL database that the check makes.
 """
-import argparse, collections, contextlib, http.client, json, os, pathlib, random, re, signal, sqlite3, subprocess, sys, tempfile, threading, time
+import argparse, collections, contextlib, http.client, json, os, pathlib, random, re, signal, sqlite3, subprocess, tempfile, threading, time
 from tests import harness, inputs
 from tests.harness import reported
 from tests.hub import sites
@@ -147,7 +147,8 @@ def journals(folder, words, python):
 
 def is_kept(lines, kept):
     """Whether each number that was acknowledged has its line in the journal of that site."""
-    return all(kept.get((sent.site, sent.outcome["number"])) == sent.line for sent in lines.acknowledged if sent.outcome["outcome"] == "TAKEN")
+    taken = [sent for sent in lines.acknowledged if sent.outcome["outcome"] == "TAKEN"]
+    return all(kept.get((sent.site, sent.outcome["number"])) == sent.line for sent in taken)
 
 
 def messages_of(lines):

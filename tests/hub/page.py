@@ -2,13 +2,14 @@
 
 `python3 -m tests.hub.page PICTURE` writes a picture of it too.
 """
-import json, pathlib, shutil, subprocess, sys, tempfile, time
-from tests import inputs
+import json, pathlib, shutil, subprocess, sys, tempfile
 from tests.harness import EXAMPLES, reported
 from tests.hub import sites
 
 DRIVER = pathlib.Path(__file__).with_name("chromium.py")
 SEARCH = 'document.getElementById("transfer").innerText'
+TIMES = '[...document.querySelectorAll("#transfer tbody tr td:first-child")]'
+FIRST = 'document.querySelector("#news .id").textContent'
 NEWS = 'document.getElementById("news").innerText'
 
 
@@ -26,7 +27,7 @@ def steps(post):
         f'/CONTRADICTED/.test({SEARCH}) && /BothConfirmed It is accepted and rejected/.test({SEARCH})',
         'location.hash === "#LUTEFRPPXXX/LU20250310B6"',
         'document.querySelectorAll("#transfer tbody tr").length === 3',
-        '[...document.querySelectorAll("#transfer tbody tr td:first-child")].map(it => it.innerText).every((it, at, all) => !at || all[at - 1] <= it)',
+        f'{TIMES}.map(it => it.innerText).every((it, at, all) => !at || all[at - 1] <= it)',
         post,
         f'/HANSDEHHXXX HH-0005/.test({NEWS})',
         {"key": "Escape"},
@@ -37,7 +38,7 @@ def steps(post):
         {"key": "j"}, {"key": "j"}, {"key": "k"},
         'document.activeElement === document.querySelector("#news button")',
         {"key": "Enter"},
-        f'document.querySelectorAll("#transfer .finding").length > 0 && {SEARCH}.includes(document.querySelector("#news .id").textContent.split(" ")[0])',
+        f'document.querySelectorAll("#transfer .finding").length > 0 && {SEARCH}.includes({FIRST}.split(" ")[0])',
         '/^[0-9]/.test(document.querySelector("#totals td.number").innerText)',
         'document.documentElement.scrollWidth <= innerWidth',
         {"size": [420, 900]},

@@ -1,7 +1,7 @@
 """postgres.py: sites of examples/hub with their journals in PostgreSQL: killed while clients post, with a second process on a journal,
 without their server for a time, and on a server that acknowledges what is not on the disk.
 """
-import pathlib, sys, tempfile
+import tempfile
 from tests import harness
 from tests.harness import reported
 from tests.hub import kills, sites

@@ -1,5 +1,5 @@
 """sites.py: starts sites of examples/hub for a check, and asks them over HTTP."""
-import collections, contextlib, glob, http.client, json, os, pathlib, resource, shutil, signal, socket, subprocess, sys, tempfile, time
+import collections, contextlib, glob, http.client, json, os, pathlib, resource, shutil, socket, subprocess, sys, tempfile, time
 from tests import harness
 from tests.harness import EXAMPLES, TOP
 from tools import library as libraries
@@ -107,7 +107,8 @@ class Hub:
             if self.room is not None:
                 resource.setrlimit(resource.RLIMIT_FSIZE, (self.room, resource.RLIM_INFINITY))
         with open(self.log, "ab") as log:
-            self.process = subprocess.Popen(self.command, stdout=log, stderr=log, env=self.variables, preexec_fn=limit, restore_signals=False)
+            self.process = subprocess.Popen(self.command, stdout=log, stderr=log, env=self.variables, preexec_fn=limit,
+                                            restore_signals=False)
 
     def text(self):
         return self.log.read_text(errors="replace")

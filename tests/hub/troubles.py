@@ -1,7 +1,7 @@
 """troubles.py: sites of examples/hub in trouble: a full disk, peers that answer what is no delta, a journal that two processes open or
 that lost lines, a peer an hour behind, clients that are slow, cut off, too long or not allowed to.
 """
-import contextlib, http.server, json, os, pathlib, resource, shutil, socket, sqlite3, subprocess, tempfile, threading, time
+import contextlib, http.server, json, os, pathlib, resource, shutil, socket, sqlite3, tempfile, threading, time
 from bench.generate import messages
 from tests import harness, inputs
 from tests.harness import EXAMPLES, reported
@@ -241,7 +241,8 @@ def survives_odd_peers(trial):
         "no end": Odd.endless,
     }
     with odd_peer(kinds["rubbish"]) as server:
-        with trial.site(trial.fresh("odd"), "--most-delta=1000000", "--silence=1", f"--peer=2=http://127.0.0.1:{server.server_port}", is_well=False) as hub:
+        words = ["--most-delta=1000000", "--silence=1", f"--peer=2=http://127.0.0.1:{server.server_port}"]
+        with trial.site(trial.fresh("odd"), *words, is_well=False) as hub:
             for place, (kind, answer) in enumerate(kinds.items()):
                 server.answer, before = answer, server.asked
                 is_asked = until(lambda: server.asked > before)
@@ -373,8 +374,8 @@ def publishes(trial):
         yield "and loads again if that is not here any more", reset["event"] == "reset"
 
 
-CHECKS = [answers_examples, survives_a_full_disk, survives_a_full_file_system, refuses_a_second_process, notices_a_lost_line, retires_a_number,
-          survives_odd_peers, catches_up, survives_clients, guards, publishes]
+CHECKS = [answers_examples, survives_a_full_disk, survives_a_full_file_system, refuses_a_second_process, notices_a_lost_line,
+          retires_a_number, survives_odd_peers, catches_up, survives_clients, guards, publishes]
 
 
 def check(python, library):
