@@ -6,7 +6,7 @@
 
 NILUPPANG_LIBRARY names the library.
 """
-import argparse, contextlib, http.client, itertools, json, multiprocessing, os, pathlib, sqlite3, statistics, subprocess, sys, tempfile, threading, time
+import argparse, contextlib, http.client, itertools, multiprocessing, os, pathlib, sqlite3, statistics, subprocess, sys, tempfile, threading, time
 sys.path.insert(0, str(pathlib.Path(__file__).resolve().parents[1]))
 from bench.generate import messages
 from tests import inputs

@@ -13,7 +13,6 @@ TOP = pathlib.Path(__file__).resolve().parents[2]
 sys.path[:0] = [str(TOP / "examples")]
 sys.path.append(str(TOP / "bindings" / "python"))
 try:
-    import aiohttp
     from aiohttp import web
 except ImportError:
     print(f"hub: {sys.executable} has no aiohttp. Debian's package python3-aiohttp belongs to /usr/bin/python3: start this program with it",
