@@ -38,7 +38,7 @@ class Lines:
     """The lines as posts that the clients fetch, and what is known of each."""
 
     def __init__(self, r, lines):
-        self.lock, self.posts, self.all = threading.Lock(), collections.deque(), len(lines)
+        self.lock, self.posts, self.all, self.left = threading.Lock(), collections.deque(), len(lines), len(lines)
         while lines:
             size = r.choice([1, 3, 10, 40])
             self.posts.append(lines[:size])
@@ -47,14 +47,18 @@ class Lines:
         self.share = 0.0  # of the lines, how much may be sent by now
         self.posted, self.posted_to = threading.Event(), 0
 
+    def sent(self):
+        """The share of the lines that clients have fetched."""
+        return 1 - self.left / self.all
+
     def next(self):
         """The next post, when it is time for it. None if all are sent."""
         while True:
             with self.lock:
                 if not self.posts:
                     return None
-                left = sum(map(len, self.posts))
-                if self.all - left <= self.share * self.all:
+                if self.all - self.left <= self.share * self.all:
+                    self.left -= len(self.posts[0])
                     return self.posts.popleft()
             time.sleep(0.005)
 
@@ -101,8 +105,9 @@ def victim(r, hub, lines):
 def killed(r, hub, lines, kills):
     """Kills sites, each at any moment, and lets the clients go on meanwhile."""
     for number in range(1, kills + 1):
-        lines.share = number / (kills + 1)
-        time.sleep(r.uniform(0.1, 0.8))
+        lines.share = (number + 2) / (kills + 1)
+        sites.until(lambda: lines.sent() >= number / (kills + 1), 20)  # on a slow machine sites need their time to start
+        time.sleep(r.uniform(0, 0.1))
         process = victim(r, hub, lines)
         with contextlib.suppress(ProcessLookupError):
             os.kill(process, signal.SIGKILL)
