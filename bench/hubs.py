@@ -4,16 +4,18 @@
 - how long it takes until a peer shows a message: the median and the 99th of 100, without load and under load;
 - a site with a journal of a million messages: its start, its memory, and its first answer.
 
-NILUPPANG_LIBRARY names the library.
+With 0 messages, or a journal of 0, that part is left out. NILUPPANG_LIBRARY names the library.
 """
-import argparse, contextlib, http.client, itertools, multiprocessing, os, pathlib, sqlite3, statistics, subprocess, sys, tempfile, threading, time
+import argparse, contextlib, http.client, itertools, multiprocessing, os, pathlib, sqlite3, statistics, subprocess, sys, tempfile
+import threading, time
 sys.path.insert(0, str(pathlib.Path(__file__).resolve().parents[1]))
 from bench.generate import messages
 from tests import inputs
 from tests.hub import sites
 
 CLIENTS, SAMPLES = 4, 300
-TABLES = "CREATE TABLE site (number INTEGER NOT NULL, sites INTEGER NOT NULL); CREATE TABLE own (number INTEGER PRIMARY KEY, line BLOB NOT NULL)"
+TABLES = ("CREATE TABLE site (number INTEGER NOT NULL, sites INTEGER NOT NULL);"
+          "CREATE TABLE own (number INTEGER PRIMARY KEY, line BLOB NOT NULL)")
 
 
 def posted(port, posts):
@@ -72,12 +74,12 @@ def three_sites(python, library, more, many):
         for size, share in (1, 20), (10, 4), (100, 1):
             port = sites.free_ports(3)
             with tempfile.TemporaryDirectory() as folder, sites.Hub(python, library, f"{folder}/hub", f"--port={port}", "--group=64",
-                                                                    f"--sites={running}", *more(running, size)):
+                                                                    f"--sites={running}", *more()):
                 ports = [port + site for site in range(running)]
                 sites.until(lambda: all(map(sites.is_well, ports)))
                 a_second, rest = rate(ports, lines[:many // share], size)
-                print(f"{running} sites, posts of {size}: {a_second:.0f} messages a second acknowledged; all sites equal {rest:.2f} s after the last",
-                      flush=True)
+                print(f"{running} sites, posts of {size}: {a_second:.0f} messages a second acknowledged;"
+                      f" all sites equal {rest:.2f} s after the last", flush=True)
                 if running == 3 and size == 100:
                     print("a peer shows a message, without load (ms, median and 99th):", delays(port, port + 1, 10 ** 6)[0], flush=True)
                     ends = threading.Event()
@@ -111,7 +113,8 @@ def large_sqlite(folder, many):
         journal.execute("PRAGMA journal_mode = WAL")
         journal.executescript(TABLES)
         journal.execute("INSERT INTO site VALUES (1, 64)")
-        journal.executemany("INSERT INTO own VALUES (?, ?)", ((number, line[:-1].encode()) for number, line in enumerate(messages.lines(many), 1)))
+        rows = ((number, line[:-1].encode()) for number, line in enumerate(messages.lines(many), 1))
+        journal.executemany("INSERT INTO own VALUES (?, ?)", rows)
         journal.commit()
 
 
@@ -155,6 +158,11 @@ def large(python, library, words, many):
             large_site(hub, port, many)
 
 
+def new_database(stack):
+    """The word for a PostgreSQL database of its own."""
+    return [f"--postgres={stack.enter_context(sites.postgres())[0]}"]
+
+
 def main():
     it = argparse.ArgumentParser(description=__doc__, formatter_class=argparse.RawDescriptionHelpFormatter)
     it.add_argument("--postgres", action="store_true")
@@ -165,16 +173,12 @@ def main():
     print("load averages of the machine before:", *os.getloadavg(), flush=True)
     with sites.library() as library:
         if not asked.postgres:
-            three_sites(python, library, lambda *_: [], asked.messages)
-            large(python, library, None, asked.large)
-            return
-        for kind in "three", "large":
-            if kind == "large":
-                with sites.postgres() as (words, _):
-                    large(python, library, words, asked.large)
-            else:
+            if asked.messages:
                 with contextlib.ExitStack() as stack:
-                    three_sites(python, library, lambda *_: [f"--postgres={stack.enter_context(sites.postgres())[0]}"], asked.messages)
+                    three_sites(python, library, lambda: new_database(stack) if asked.postgres else [], asked.messages)
+            if asked.large:
+                with sites.postgres() if asked.postgres else contextlib.nullcontext((None, None)) as (words, _):
+                    large(python, library, words, asked.large)
 
 
 if __name__ == "__main__":

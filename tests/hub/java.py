@@ -13,8 +13,8 @@ def check(_, library):
         raise sites.Skipped("there is no JNA, or no JDK: apt-get install libjna-java openjdk-17-jdk-headless")
     with tempfile.TemporaryDirectory(prefix="hub-java-") as folder:
         path = f"{folder}/niluppang.jar:{folder}:{JNA}"
-        words = [["sh", SOURCES / "build.sh", folder],
-                 ["javac", "--release", "17", "-Xlint:all,-try", "-Werror", "-cp", path, "-d", folder, *SOURCES.glob("test/niluppang/*.java")],
+        javac = ["javac", "--release", "17", "-Xlint:all,-try", "-Werror", "-cp", path, "-d", folder]
+        words = [["sh", SOURCES / "build.sh", folder], [*javac, *SOURCES.glob("test/niluppang/*.java")],
                  ["java", f"-Dniluppang.library={library}", "-cp", path, "niluppang.SiteTest", str(EXAMPLES)]]
         for one in words:
             done = harness.run(one)

@@ -17,6 +17,7 @@ from tests import harness, inputs
 from tests.harness import reported
 from tests.hub import sites
 from tests.oracle import status as oracle
+from tests.oracle.exchange import message_in
 
 SITES, CLIENTS = 3, 5
 WRONG = re.compile(r".*(?:\b4[23] (?:Fork|OwnAhead)|Traceback|takes no more messages|cannot start).*")
@@ -118,18 +119,9 @@ def killed(r, hub, lines, kills):
 
 # ---- what must be
 
-def refusal_of(line):
-    """The refusal of a line, or None."""
-    try:
-        oracle.read_message(line)
-        return None
-    except oracle.Refused as refused:
-        return str(refused)
-
-
 def is_right(sent):
     """Whether the outcome of a line is right, but for its number."""
-    refusal = refusal_of(sent.line)
+    _, refusal = message_in(sent.line)
     if refusal is None:
         return sent.outcome["outcome"] in ("TAKEN", "REPEAT")
     return sent.outcome["outcome"] == "REFUSED" and sent.outcome["why"] == refusal
@@ -157,7 +149,8 @@ def is_kept(lines, kept):
 
 
 def messages_of(lines):
-    return {oracle.read_message(line) for line in lines if line.strip() and refusal_of(line) is None}
+    """The messages in some lines."""
+    return {message for message, refusal in map(message_in, lines) if refusal is None}
 
 
 def same_texts(port):
@@ -166,11 +159,9 @@ def same_texts(port):
     return {name: all_texts.pop() for name, all_texts in texts.items() if len(all_texts) == 1}
 
 
-def right_texts(archive):
-    """Whether the texts of an archive are those of the definitions, and those of the program if it is built."""
-    def is_right(texts):
-        return all(texts.get(name) == oracle.answer(name, archive)[0].encode() for name in oracle.TEXT)
-    return is_right
+def are_right(texts, held):
+    """Whether texts are those of the definitions on a set of messages."""
+    return all(texts.get(name) == text_of(held).encode() for name, text_of in oracle.TEXT.items())
 
 
 def program_texts(texts):
@@ -188,8 +179,7 @@ def vectors(port):
 
 def judged(lines, texts, kept, log):
     """What must be in the end, by what it says."""
-    archive = texts.get("archive", b"")
-    held = messages_of(archive.splitlines())
+    held = messages_of(texts.get("archive", b"").splitlines())
     sure, sent = (messages_of(them) for them in ([it.line for it in lines.acknowledged],
                                                  [it.line for it in lines.acknowledged] + lines.given_up))
     wrong = [found.group() for found in WRONG.finditer(log)]
@@ -199,7 +189,7 @@ def judged(lines, texts, kept, log):
     yield f"each of {len(sure)} acknowledged messages is held", sure <= held, f"{len(sure - held)} are lost"
     yield f"each of {len(held)} messages that are held was sent", held <= sent, f"{len(held - sent)} are made up"
     yield "no site refused a delta by 42 or 43, or ended by itself", not wrong, "\n".join(wrong[:5])
-    yield "the texts are those of tests/oracle", right_texts(archive)(texts), ""
+    yield "the texts are those of tests/oracle", are_right(texts, held), ""
     by_program = program_texts(texts) if len(texts) == len(oracle.TEXT) else False
     if by_program is not None:
         yield "the texts are those of the program", by_program, ""
