@@ -172,13 +172,12 @@ def main():
     python = sites.interpreter()
     print("load averages of the machine before:", *os.getloadavg(), flush=True)
     with sites.library() as library:
-        if not asked.postgres:
-            if asked.messages:
-                with contextlib.ExitStack() as stack:
-                    three_sites(python, library, lambda: new_database(stack) if asked.postgres else [], asked.messages)
-            if asked.large:
-                with sites.postgres() if asked.postgres else contextlib.nullcontext((None, None)) as (words, _):
-                    large(python, library, words, asked.large)
+        if asked.messages:
+            with contextlib.ExitStack() as stack:
+                three_sites(python, library, lambda: new_database(stack) if asked.postgres else [], asked.messages)
+        if asked.large:
+            with sites.postgres() if asked.postgres else contextlib.nullcontext((None, None)) as (words, _):
+                large(python, library, words, asked.large)
 
 
 if __name__ == "__main__":
