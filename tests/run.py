@@ -49,6 +49,13 @@ CHECKS = {
         "allocations": "refuses each allocation of the program",
         "group_memory": "compares what sites allocate in a small group and in a large one",
     },
+    "hub": {
+        "kills": "kills three sites of examples/hub while clients post",
+        "troubles": "brings sites of examples/hub into trouble",
+        "postgres": "does both with journals in PostgreSQL",
+        "page": "uses the page of a site in a browser",
+        "java": "runs the Java package on the examples",
+    },
     "times": {
         "growing_times": "times the program on a transfer, a script and a run of four times the size",
         "two_ways": "times the program on objects of texts, and on the same objects with a number",
@@ -70,11 +77,14 @@ CHECKS = {
 # the Debian packages that a check needs beside Python and the toolchain
 PACKAGES = {name: ["gcc"] for name in ["archive_growths", "view_growths", "desk_growths", "forms", "allocations", "group_memory"]}
 PACKAGES.update({name: ["gcc"] for name in CHECKS["embed"]})
+PACKAGES["kills"] = PACKAGES["troubles"] = ["python3-aiohttp"]
+PACKAGES["java"] = ["libjna-java", "openjdk-17-jdk-headless"]
+PACKAGES["postgres"], PACKAGES["page"] = ["python3-aiohttp", "python3-psycopg2", "postgresql"], ["python3-aiohttp", "chromium"]
 PACKAGES["parts"] = ["python3-dask", "python3-distributed"]
 # the Debian packages without which a part of a check is skipped, which the check says by itself
 HELPFUL = {"c_calls": ["valgrind"], "c_threads": ["valgrind"], "python_package": ["python3-pytest"], "release": ["pkg-config"]}
 SEEDED = ["c_calls"]  # checks that make up cases as the property checks do
-VARIABLES = ["SCT_SITES", "SCT_TEST_DRIVER", "SCT_C"]
+VARIABLES = ["SCT_SITES", "SCT_TEST_DRIVER", "SCT_C", "NILUPPANG_LIBRARY"]
 
 
 def options():
