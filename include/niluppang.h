@@ -2,7 +2,7 @@
  *
  * A site holds the messages that it took and those that it accepted from other sites, and answers about them. It works on bytes:
  * messages are JSON objects, and deltas and answers are texts (docs/FORMATS.md). It has no network, no file and no thread. It keeps
- * nothing when the program ends. The program keeps the site's journal, the messages that it took, and restores the site from it.
+ * nothing when the program ends. The program keeps the site's journal, its own messages, and restores the site from it.
  *
  *     #include <niluppang.h>                                   cc hub.c -lniluppang
  *
@@ -14,7 +14,8 @@
  *     sct_site_close(&site);
  *
  * What a caller owes. Nothing checks it:
- * - A handle (sct_site) is SCT_SITE_EMPTY before its first call. After that the caller neither writes into it nor copies it.
+ * - A handle (sct_site) is SCT_SITE_EMPTY, all zero, before its first call. After that the caller neither writes into it nor copies
+ *   it.
  * - One call at a time uses a handle. Different handles are independent: different threads may use them at once. A handle may pass
  *   from thread to thread by a lock, or by the start or the end of a thread.
  * - A pointer is not null, also if its length is 0, and that many items are there. What a call writes overlaps nothing else.
@@ -71,7 +72,7 @@ extern "C" {
 /* The version of the library that runs: 1000000 for each major, 1000 for each minor, 1 for each patch version. */
 uint32_t sct_version(void);
 
-/* A handle: 16 bytes that the caller keeps where it likes, and whose address it passes. */
+/* A handle: 16 bytes that the caller keeps anywhere, and whose address it passes. */
 typedef struct sct_site {
     void *address;
     bool is_full;
@@ -108,7 +109,7 @@ typedef struct sct_lines {
     size_t length;
 } sct_lines;
 
-/* What an accept came to: `fresh` messages of the delta are new. */
+/* What an accept came to: `fresh` entries of the delta are new. An entry is a message under its number at the site that took it. */
 typedef struct sct_accepted {
     bool ok;
     uint8_t code;
@@ -123,10 +124,12 @@ typedef struct sct_accepted {
  * Refusals: 44, 65, 71. */
 sct_outcome sct_site_open(sct_site *site, uint16_t number, uint16_t group);
 
-/* Opens a site that was there before, in an empty handle. The journal is the messages that it took, one JSON object on each line,
- * in the order in which it took them. The delta is a cut that it kept, or that a peer made. Without one, pass the delta without a
- * message, `delta 2\nend 0\n`. What is refused of the two is left out. The answer has a line for each refused line of the journal,
- * such as `file 1 line 8: 31`, and one if the delta is refused, such as `file 2: 41 3 0 7`. It is empty if nothing is refused.
+/* Opens a site that was there before, in an empty handle. The journal is the site's own messages, one JSON object on each line, in
+ * the order of their numbers: what it took, but no repeat. A repeat may be a message of another site: in the journal it would be
+ * given a number, and all after it another one than before (42, 43). The delta is a cut that the site kept, or that a peer made.
+ * Without one, pass the delta without a message, `delta 2\nend 0\n`. What is refused of the two is left out. The answer has a line
+ * for each refused line of the journal, such as `file 1 line 8: 31`, and one if the delta is refused, such as `file 2: 41 3 0 7`.
+ * It is empty if nothing is refused.
  * Refusals: 44, 65, 71. */
 sct_outcome sct_site_restore(sct_site *site, uint16_t number, uint16_t group, const uint8_t *journal, size_t journal_length,
                              const uint8_t *delta, size_t delta_length);
@@ -136,13 +139,14 @@ void sct_site_close(sct_site *site);
 
 /* ---- messages and deltas in ---- */
 
-/* Takes the message that one JSON object is. It becomes the site's own message `number`, unless the site holds it already.
- * Keep the object in the journal before you acknowledge it to anyone, and before the next cut.
+/* Takes the message that one JSON object is. It becomes the site's own message `number`, unless the site holds it already. If it is
+ * no repeat, write it to the journal, on one line, before you acknowledge it to anyone, and before the next cut.
  * Refusals: 31 to 38, 46, 56, 65, 70. */
 sct_taken sct_site_take(sct_site *site, const uint8_t *json, size_t length);
 
 /* Takes the messages of a text, one JSON object on each line. Blank lines are passed over. The answer has a line for each refused
- * line, such as `line 8: 36 InstgAgt 1`; `ok` is true all the same.
+ * line, such as `line 8: 36 InstgAgt 1`; `ok` is true all the same. It does not say which lines are repeats. The new ones, for the
+ * journal, are the messages of this site in a cut above the vector that it had before.
  * Refusals: 65, 70. With 65 some of the first messages may be taken; the text can be taken again. */
 sct_lines sct_site_take_lines(sct_site *site, const uint8_t *text, size_t length);
 
@@ -209,9 +213,9 @@ sct_outcome sct_site_messages_text(sct_site *site, const uint8_t *bank, size_t b
  * Refusals: 65, 70, 73 (1: the bank). */
 sct_outcome sct_site_bank_totals(sct_site *site, const uint8_t *bank, size_t bank_length);
 
-/* The answer becomes a line `BANK|TX` for each transfer whose lines may have changed since the call before, ascending. Every other
- * transfer has the lines that it had then. The first call begins the watch, and its answer is empty. From then on, the site keeps
- * the names of changed transfers until the next call.
+/* The answer becomes a line `BANK|TX` for each transfer whose lines may have changed since the call before, ascending. BANK has 11
+ * characters, and TX no `|`. Every other transfer has the lines that it had then. The first call begins the watch, and its answer
+ * is empty. From then on, the site keeps the names of changed transfers until the next call.
  * Refusals: 65, 70. */
 sct_outcome sct_site_changes(sct_site *site);
 

@@ -6,8 +6,9 @@ status that it ended with. A check that ends with another status than 0, or prin
 is 'N passed, M failed' of all checks. The exit status is 0 if none has failed. harness.py has the variables that name other programs
 than those of the gate.
 
---seed, --cases and --long are handed to the property checks (tests/property/cases.py). A check is skipped, and has not passed, if the
-machine lacks a Debian package that it needs. --install installs such packages first.
+--seed, --cases and --long are handed to the property checks (tests/property/cases.py) and to c_calls. A check is skipped, and has not
+passed, if the machine lacks a Debian package that it needs. Some skip a part, or all if the library is not built: a line that begins
+with 'skipped' says so. --install installs all such packages first.
 """
 import argparse, os, pathlib, re, shutil, subprocess, sys, time
 if sys.version_info < (3, 8):
@@ -59,14 +60,27 @@ CHECKS = {
         "made_up": "compares made-up sets, worlds and groups with the definitions",
         "hubs": "compares made-up hubs of sites that exchange files with the definitions",
     },
+    "embed": {
+        "c_answers": "calls the library from C on the examples, for each refusal, at sites 1 to 1024 and in 256 KB of stack",
+        "c_growths": "refuses memory to each call of the library, at each of its times",
+        "c_calls": "compares made-up calls from C with the definitions, under the address sanitizer and valgrind",
+        "c_threads": "runs threads with a site each",
+        "c_examples": "builds and runs the examples in C and Rust",
+        "python_package": "runs the tests of the Python package, judges its types and installs it",
+        "release": "unpacks the release and builds the C example on it",
+    },
 }
 # the Debian packages that a check needs beside Python and the toolchain
 PACKAGES = {name: ["gcc"] for name in ["archive_growths", "view_growths", "desk_growths", "forms", "allocations", "group_memory"]}
+PACKAGES.update({name: ["gcc"] for name in CHECKS["embed"]})
 PACKAGES["kills"] = PACKAGES["troubles"] = ["python3-aiohttp"]
 PACKAGES["java"] = ["libjna-java", "openjdk-17-jdk-headless"]
 PACKAGES["postgres"], PACKAGES["page"] = ["python3-aiohttp", "python3-psycopg2", "postgresql"], ["python3-aiohttp", "chromium"]
 PACKAGES["parts"] = ["python3-dask", "python3-distributed"]
-VARIABLES = ["SCT_SITES", "SCT_TEST_DRIVER", "NILUPPANG_LIBRARY"]
+# the Debian packages without which a part of a check is skipped, which the check says by itself
+HELPFUL = {"c_calls": ["valgrind"], "c_threads": ["valgrind"], "python_package": ["python3-pytest"], "release": ["pkg-config"]}
+SEEDED = ["c_calls"]  # checks that make up cases as the property checks do
+VARIABLES = ["SCT_SITES", "SCT_TEST_DRIVER", "SCT_C", "NILUPPANG_LIBRARY"]
 
 
 def options():
@@ -89,12 +103,12 @@ def chosen_by(words):
                 yield name, kind, does
 
 
-def lacking(name):
-    """The packages that a check needs and the machine lacks. None if it has no Debian packages."""
+def lacking(packages):
+    """Those of some packages that the machine lacks. None if it has no Debian packages."""
     if shutil.which("dpkg-query") is None:
         return []
     status = lambda package: harness.run(["dpkg-query", "--show", "--showformat=${Status}", package]).text
-    return [package for package in PACKAGES.get(name, []) if status(package) != b"install ok installed"]
+    return [package for package in packages if status(package) != b"install ok installed"]
 
 
 def install(packages):
@@ -119,9 +133,9 @@ def ran(module, words):
 
 def checked(name, kind, does, made_up):
     """How much of a check passed and how much failed, which is printed too."""
-    words = made_up.words() if kind == "property" else []
+    words = made_up.words() if kind == "property" or name in SEEDED else []
     print(f"{name} {does}" + (f", with {' '.join(words)}: " if words else ": "), end="", flush=True)
-    missing = lacking(name)
+    missing = lacking(PACKAGES.get(name, []))
     if missing:
         print(f"skipped: the machine lacks packages: apt-get install {' '.join(missing)}", flush=True)
         return 0, 0
@@ -136,7 +150,7 @@ def checked(name, kind, does, made_up):
 def main():
     asked = options()
     chosen = list(chosen_by(asked.words))
-    packages = sorted({package for name, _, _ in chosen for package in lacking(name)})
+    packages = lacking(sorted({package for name, _, _ in chosen for package in PACKAGES.get(name, []) + HELPFUL.get(name, [])}))
     if asked.install and packages:
         install(packages)
     harness.end_with([checked(*one, cases.chosen(asked)) for one in chosen])

@@ -60,7 +60,7 @@ def make_archive(folder):
     """Makes libniluppang.a in a folder."""
     library, heap = check_there()
     with tempfile.TemporaryDirectory() as place:
-        run("ld", "-r", "-o", "niluppang.o", "--whole-archive", library.resolve(), heap, folder=place)
+        run("ld", "-r", "-z", "noexecstack", "-o", "niluppang.o", "--whole-archive", library.resolve(), heap, folder=place)
         run("objcopy", "--enable-deterministic-archives", "--strip-debug", "--wildcard", "--keep-global-symbol=sct_*", "niluppang.o",
             folder=place)
         run("ar", "rcsD", "libniluppang.a", "niluppang.o", folder=place)
@@ -74,7 +74,7 @@ def make_shared(folder):
         exports = pathlib.Path(place, "exports")
         exports.write_text(EXPORTS)
         run("gcc", "-shared", "-o", SONAME, f"-Wl,-soname,{SONAME}", f"-Wl,--version-script={exports}", "-Wl,-z,defs", "-Wl,-z,relro",
-            "-Wl,-z,now", "-Wl,--whole-archive", "libniluppang.a", "-Wl,--no-whole-archive", folder=folder)
+            "-Wl,-z,now", "-Wl,-z,noexecstack", "-Wl,--whole-archive", "libniluppang.a", "-Wl,--no-whole-archive", folder=folder)
     link = pathlib.Path(folder, "libniluppang.so")
     link.unlink(missing_ok=True)
     link.symlink_to(SONAME)

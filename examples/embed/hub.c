@@ -7,6 +7,7 @@
  * A file is the journal of its site: were the process to end here, the same files would make the same sites again. A service that
  * takes messages one by one writes each to the journal before it acknowledges it.
  */
+#include <limits.h>
 #include <niluppang.h>
 #include <stdio.h>
 #include <stdlib.h>
@@ -27,7 +28,7 @@ static void must(bool ok, const char *call, int number, uint8_t code, uint64_t p
     exit(2);
 }
 
-/* Room for so many bytes, and one at least. */
+/* Room for a number of bytes, and for one at least. */
 static struct text room_for(size_t length) {
     struct text text = {malloc(length > 0 ? length : 1), length};
     if (text.bytes == NULL) {
@@ -42,7 +43,7 @@ static struct text file_text(const char *name) {
     FILE *file = fopen(name, "rb");
     long length = -1;
     if (file != NULL && fseek(file, 0, SEEK_END) == 0) length = ftell(file);
-    if (length < 0 || fseek(file, 0, SEEK_SET) != 0) {
+    if (length < 0 || length == LONG_MAX || fseek(file, 0, SEEK_SET) != 0) { /* a folder is LONG_MAX bytes long */
         fprintf(stderr, "hub: %s cannot be read\n", name);
         exit(2);
     }

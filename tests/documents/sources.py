@@ -126,11 +126,12 @@ def defined(crate):
 
 @functools.lru_cache(maxsize=None)
 def everywhere():
-    """What has a name in any crate, and the words of crates.txt, of the tests but for this check, of the benches and of the examples."""
+    """What has a name in any crate, and the words of crates.txt, of the tests but for this check, of the benches, of the examples, and
+    of the header, the packages and the tools."""
     found = set(re.findall(r"\w+", (TOP / "crates.txt").read_text()))
     for crate in names():
         found |= defined(crate)
-    for path in (path for folder in ("tests", "bench", "examples") for path in (TOP / folder).rglob("*")):
+    for path in (path for folder in ("tests", "bench", "examples", "include", "bindings", "tools") for path in (TOP / folder).rglob("*")):
         if path.is_file() and path.suffix not in (".md", ".pyc") and path != TOP / "tests" / "documents" / "names.py":
             found.add(path.stem)
             found.update(re.findall(r"\w+", path.read_text(errors="replace")))

@@ -5,7 +5,7 @@
 - Each number of the header once, with its place, and each call on a handle without a site.
 - Sites 1 to 1024 of the largest group. Each gives its message to site 1, and three are given all.
 - What needs the most stack: 99,999 opening brackets, a recall of 100 transactions, and 20,000 messages.
-- The library gives away the names of the header and no other, and needs nothing but the C library.
+- The library gives away the names of the header and no other, needs nothing but the C library, and no stack whose bytes run.
 """
 import json, re
 from bench.generate import messages, samples
@@ -14,7 +14,7 @@ from tests.embed import driving, model
 from tests.golden.examples import REPORTS
 from tests.harness import EXAMPLES, TOP, reported
 from tests.inputs import delta, instruction
-from tests.oracle import exchange, status
+from tests.oracle import status
 
 CALLED = {"malloc", "realloc", "free", "memcpy", "memmove", "memset", "memcmp"}
 OF_COMPILER = {"__udivti3", "__umodti3"}  # of the library that each compiler of C links
@@ -125,23 +125,30 @@ def refused_takes():
             (recall(one, 7), 46, 2), (recall(one, {**other, "Rsn": "fraud"}), 56, 2), (recall({**one, "CxlId": None}), 56, 1)]
 
 
+def refused_calls():
+    """A call for each other number, or several: on handle 0, which holds two messages of site 1 of 3, on handle 1, which holds one of
+    site 2 and the first of site 1, and on handle 2, which is empty. Each with the number and the place."""
+    header, items = b"DbtrAgt,TxId,Amt,Sts\n", [0] * (MOST_SITES + 1)
+    yield from [(("accept", 1, delta(1, 3, 4)), 41, 0), (("accept", 1, delta(1, 1, 2)), 42, 0), (("accept", 0, delta(1, 3, 4)), 43, 0),
+                (("accept", 0, delta(4, 1, 4)), 44, 0), (("accept", 0, b""), 45, 1), (("accept", 0, EMPTY_DELTA[:-2]), 45, 2)]
+    yield from [(("counts", 0, len(items)), 44, 0), (("cut_above", 0, items), 44, 0), (("cut", 0, b"1"), 72, 0), (("cut", 0, b""), 72, 0)]
+    yield from [(("open", 0, 1, 1), 71, 0), (("restore", 0, 1, 1, b"", EMPTY_DELTA), 71, 0)]
+    yield from [(("report", 0, BANK, DAY, b""), 48, 1), (("report", 0, BANK, DAY, header + b"\nx\n"), 48, 2),
+                (("report", 0, b"bankdeff", DAY, header), 73, 1), (("report", 0, BANK, b"today", header), 73, 2)]
+    yield from [(("transfer_text", 0, b"", b"T1"), 73, 1), (("transfer_text", 0, BANK, b""), 73, 2),
+                (("messages_text", 0, b"BANK", b"T1"), 73, 1), (("messages_text", 0, BANK, b"T//1"), 73, 2),
+                (("bank_totals", 0, b"X"), 73, 1), (("restore", 2, 0, 1, b"", EMPTY_DELTA), 44, 0)]
+    for number, group in ((0, 1), (2, 1), (1, 0), (1025, 1025), (1, 1025), (65535, 65535)):
+        yield ("open", 2, number, group), 44, 0
+    for name, words in on_no_site():
+        yield (name, 2, *words), 70, 0
+
+
 def refusals(program):
     """Each number once, with its place, and what a refusal leaves as it was."""
-    header = b"DbtrAgt,TxId,Amt,Sts\n"
     kept = [("open", 0, 1, 3), ("take", 0, instruction(1).encode()), ("take", 0, instruction(2).encode()),
             ("open", 1, 2, 3), ("take", 1, instruction(3).encode()), ("accept", 1, delta(1, 1, 1)), ("status_text", 0)]
-    refused = [(("take", 0, json), code, place) for json, code, place in refused_takes()]
-    refused += [(("accept", 1, delta(1, 3, 4)), 41, 0), (("accept", 1, delta(1, 1, 2)), 42, 0), (("accept", 0, delta(1, 3, 4)), 43, 0),
-                (("accept", 0, delta(4, 1, 4)), 44, 0), (("accept", 0, b""), 45, 1), (("accept", 0, EMPTY_DELTA[:-2]), 45, 2),
-                (("counts", 0, MOST_SITES + 1), 44, 0), (("cut_above", 0, [0] * (MOST_SITES + 1)), 44, 0), (("open", 0, 1, 1), 71, 0),
-                (("restore", 0, 1, 1, b"", EMPTY_DELTA), 71, 0), (("cut", 0, b"1"), 72, 0), (("cut", 0, b""), 72, 0),
-                (("report", 0, BANK, DAY, b""), 48, 1), (("report", 0, BANK, DAY, header + b"\nx\n"), 48, 2),
-                (("report", 0, b"bankdeff", DAY, header), 73, 1), (("report", 0, BANK, b"today", header), 73, 2),
-                (("transfer_text", 0, b"", b"T1"), 73, 1), (("transfer_text", 0, BANK, b""), 73, 2),
-                (("messages_text", 0, b"BANK", b"T1"), 73, 1), (("messages_text", 0, BANK, b"T//1"), 73, 2), (("bank_totals", 0, b"X"), 73, 1)]
-    wrong_sites = (0, 1), (2, 1), (1, 0), (1025, 1025), (1, 1025), (65535, 65535)
-    refused += [(("open", 2, number, group), 44, 0) for number, group in wrong_sites]
-    refused += [(("restore", 2, 0, 1, b"", EMPTY_DELTA), 44, 0), *(((name, 2, *words), 70, 0) for name, words in on_no_site())]
+    refused = [*((("take", 0, json), code, place) for json, code, place in refused_takes()), *refused_calls()]
     length = driving.asked(program, kept)[-1].fields["length"]
     after = [("answer", 0, length), ("counts", 0, 3), ("counts", 1, 3), ("archive_text", 0), ("archive_text", 1)]
     as_was = driving.asked(program, [*kept, *after])[len(kept):]
@@ -223,6 +230,8 @@ def names(folder):
         needed = {name.partition("@")[0] for kind, name in found if kind == "U"}
         yield reported(f"{path} has the names of the header alone", given == declared, f"{sorted(given ^ declared)}")
         yield reported(f"{path} needs the C library alone", needed <= outside, f"{sorted(needed - outside)}")
+    headers = harness.run(["readelf", "--program-headers", "--wide", folder / "libniluppang.so"]).text.decode()
+    yield reported("the shared library needs no stack that runs", re.search(r"GNU_STACK.* RW +0x", headers) is not None, headers)
 
 
 def main():

@@ -146,10 +146,12 @@ class Day:
         return self.site(place)
 
     def restore(self, place):
-        """The site as it was, or with a journal that lost lines, and with a delta."""
-        journal = list(self.handles[place].journal)
-        if journal and self.r.random() < 0.3:
+        """The site as it was, or with a journal that lost lines or has a line too many, and with a delta."""
+        journal, draw = list(self.handles[place].journal), self.r.random()
+        if journal and draw < 0.2:
             del journal[self.r.randrange(len(journal)):]
+        elif draw < 0.4:
+            journal.insert(self.r.randint(0, len(journal)), self.line())
         return [*self.site(place), b"\n".join(journal), self.accept(place)[0]]
 
 
@@ -193,7 +195,7 @@ def tried(program, before, seed, many):
 
 
 def checked(name, program, before, seed, many):
-    """How many calls passed, and how many runs of them failed. All has to be met if so many calls are made as usual."""
+    """How many calls passed, and how many runs of them failed. All has to be met if there are as many calls as usual, or more."""
     made, met, failures = tried(program, before, seed, many)
     print(f"{made} calls {name}: " + ", ".join(f"{thing} {met[thing]}" for thing in [*CALLS, *NUMBERS]), flush=True)
     for failure in failures[:3]:

@@ -54,7 +54,7 @@ def site_of(tried):
         return []
     takes = lambda lines: [("take", HANDLE, one) for one in lines]
     return [("open", HANDLE, 1, GROUP), *takes(EARLIER[:2]), ("changes", HANDLE), ("status_text", HANDLE), *takes(EARLIER[2:]),
-            ("accept", HANDLE, delta(2, 1, 4, 5)), ("transfer_text", HANDLE, b"BANKDEFF", b"T2"), *takes(LATER), ("vector_text", HANDLE)]
+            ("accept", HANDLE, delta(2, 1, 4, 5)), ("transfer_text", HANDLE, b"BANKDEFF", b"T2"), *takes(LATER), ("cut", HANDLE, b"1:3")]
 
 
 def seen():
@@ -83,7 +83,7 @@ class Trial:
         return driving.asked(self.program, [*self.begin, *requests])[len(self.begin):]
 
     def partly_taken(self, own):
-        """What can be seen of the site if the first messages of the lines were taken, so that it has so many of its own."""
+        """What can be seen of the site if its first lines were taken, up to this number of own messages."""
         handle = model.Handle()
         for name, _, *arguments in self.begin:
             handle.call(name, *arguments)

@@ -79,14 +79,14 @@ void *__wrap_realloc(void *old, size_t size) { return is_refused() ? NULL : __re
 
 /* ---- texts */
 
-/* So many bytes of standard input, and no byte more of memory. Also no bytes have an address. */
+/* Bytes of standard input, in memory of just this length. Also no bytes have an address. */
 static struct bytes bytes_in(size_t length) {
     struct bytes bytes = {malloc(length > 0 ? length : 1), length};
     must(bytes.at != NULL && fread(bytes.at, 1, length, stdin) == length, "the input ends early");
     return bytes;
 }
 
-/* Room for so many bytes, with bytes around it that have to stay. */
+/* Room for a number of bytes, with bytes around it that have to stay. */
 static struct bytes guarded(size_t length) {
     struct bytes bytes = {malloc(length + 2 * GUARD), length};
     must(bytes.at != NULL, "out of memory");

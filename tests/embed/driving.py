@@ -12,7 +12,7 @@ SOURCES = pathlib.Path(__file__).resolve().parent
 STRICT = ["-std=c99", "-Wall", "-Wextra", "-pedantic", "-Werror"]
 WRAPPED = ["-Wl,--wrap=malloc,--wrap=realloc"]
 CHECKED = ["-O1", "-g", "-fsanitize=address,undefined", "-fno-sanitize-recover=all"]
-VALGRIND = ["valgrind", "--quiet", "--leak-check=full", "--show-leak-kinds=all", "--error-exitcode=9"]
+VALGRIND = ["valgrind", "--quiet", "--leak-check=full", "--show-leak-kinds=all", "--errors-for-leak-kinds=all", "--error-exitcode=9"]
 
 OUTCOME = ("ok", "code", "place", "length")
 FIELDS = collections.defaultdict(lambda: OUTCOME, {
@@ -48,11 +48,11 @@ def libraries():
         yield pathlib.Path(folder)
 
 
-def built(folder, source, *words, name=None, compiler="gcc"):
+def built(folder, source, *words, name=None, wraps=WRAPPED, compiler="gcc"):
     """The program that a compiler makes of a source and the archive in a folder."""
     path = folder / (name or pathlib.Path(source).stem)
-    standard = STRICT if compiler == "gcc" else ["-Wall", "-Wextra", "-pedantic", "-Werror"]
-    made = harness.run([compiler, *standard, *words, f"-I{TOP / 'include'}", source, folder / "libniluppang.a", *WRAPPED, "-lpthread",
+    standard = STRICT if compiler == "gcc" else STRICT[1:]
+    made = harness.run([compiler, *standard, *words, f"-I{TOP / 'include'}", source, folder / "libniluppang.a", *wraps, "-lpthread",
                         "-o", path])
     if made.status:
         harness.stop(f"{source} is not built:\n{made.errors.decode(errors='replace')}")

@@ -1,6 +1,7 @@
 """model.py: what each call of the C interface must come to, by the definitions alone.
 
-A handle has a site of tests/oracle/exchange.py, the answer that was made last, and what it held when its changes were asked for last.
+A handle has a site of tests/oracle/exchange.py, its journal, the answer that was made last, and what it held when its changes were asked
+for last.
 Each call returns the fields of its result by their names, and the text that it makes or None. Memory never runs out here.
 """
 import csv, io, struct
@@ -160,7 +161,7 @@ class Handle:
         message = read(json)
         is_repeat = message in self.site.messages
         self.site.take(message)
-        self.journal.append(json.replace(b"\n", b" "))
+        self.journal += [] if is_repeat else [json.replace(b"\n", b" ")]
         return {"is_repeat": int(is_repeat), "number": 0 if is_repeat else self.site.have(self.site.own)}, None
 
     def take_lines(self, text):
@@ -168,8 +169,8 @@ class Handle:
         for number, line in lines:
             message, why = exchange.message_in(line)
             if why is None:
+                self.journal += [] if message in self.site.messages else [line]
                 self.site.take(message)
-                self.journal.append(line)
             else:
                 refused.append(f"line {number}: {why}\n")
         fresh = self.site.have(self.site.own) - before

@@ -26,7 +26,7 @@ MEANINGS: Dict[int, str] = {
     56: "the transaction at the place has a fault",
     65: "out of memory",
     70: "the site is closed",
-    71: "the place has a site already",
+    71: "the handle has a site already",
     72: "the text is not a version vector",
     73: "the argument at the place is not valid",
 }

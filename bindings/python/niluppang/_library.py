@@ -1,4 +1,4 @@
-"""The shared library: where it is found, and its functions as include/niluppang.h declares them."""
+"""The shared library: how it is found, and its functions as include/niluppang.h declares them."""
 import ctypes
 import os
 import pathlib
@@ -13,8 +13,8 @@ FILE = "libniluppang.so"
 SONAME = FILE + "." + ".".join(__version__.split(".")[:2])
 
 
-class Place(ctypes.Structure):
-    """What C calls sct_site: the place of a site. It is empty at first, and only the library writes into it."""
+class Handle(ctypes.Structure):
+    """What C calls sct_site. It is empty at first, and only the library writes into it."""
     _fields_ = [("address", ctypes.c_void_p), ("is_full", ctypes.c_bool)]
 
 
@@ -41,7 +41,7 @@ TEXT = [ctypes.c_char_p, ctypes.c_size_t]
 COUNTS = [ctypes.POINTER(ctypes.c_uint64), ctypes.c_size_t]
 GROUP = [ctypes.c_uint16, ctypes.c_uint16]
 
-# of each call on a place: the type of its result, and those of its arguments after the place
+# of each call on a handle: the type of its result, and those of its arguments after the handle
 CALLS: Dict[str, List[object]] = {
     "open": [Outcome, *GROUP], "restore": [Outcome, *GROUP, *TEXT, *TEXT], "close": [None],
     "take": [TakenOutcome, *TEXT], "take_lines": [LinesOutcome, *TEXT], "accept": [AcceptedOutcome, *TEXT],
@@ -94,7 +94,7 @@ def declared(library: ctypes.CDLL) -> ctypes.CDLL:
         library.sct_version.restype, library.sct_version.argtypes = ctypes.c_uint32, []
         for name, (result, *arguments) in CALLS.items():
             call = getattr(library, "sct_site_" + name)
-            call.restype, call.argtypes = result, [ctypes.POINTER(Place), *arguments]
+            call.restype, call.argtypes = result, [ctypes.POINTER(Handle), *arguments]
     except AttributeError as error:
         raise LibraryError(f"the library has not every function of this package: {error}") from None
     version = version_of(library)

@@ -1,18 +1,19 @@
 """The site of a hub, in a program."""
 import ctypes
+import operator
 import threading
 from dataclasses import dataclass
 from typing import Any, Callable, Generic, Iterable, List, NamedTuple, Optional, Tuple, Type, TypeVar, Union
 
 from ._errors import NiluppangError
-from ._library import Place, library
+from ._library import Handle, library
 
 Text = TypeVar("Text", str, bytes)
 Given = Union[str, bytes, bytearray, memoryview]
 Self = TypeVar("Self", bound="BaseSite[Any]")
 
 BAD_SITE, BAD_VECTOR = 44, 72
-MOST_SITES = 1024
+EMPTY_DELTA = b"delta 2\nend 0\n"
 
 
 class Taken(NamedTuple):
@@ -48,7 +49,7 @@ def bytes_of(text: Given) -> bytes:
     """The bytes of a text. Those of bytes are not copied. A lone surrogate becomes bytes that are not UTF-8, and are refused as such."""
     if isinstance(text, str):
         return text.encode("utf-8", "surrogatepass")
-    return text if isinstance(text, bytes) else bytes(text)
+    return text if isinstance(text, bytes) else memoryview(text).tobytes()
 
 
 def passed(*texts: Given) -> List[Any]:
@@ -58,6 +59,7 @@ def passed(*texts: Given) -> List[Any]:
 
 def site_number(number: int) -> int:
     """A number that fits into 16 bits. The library refuses those that are no site."""
+    number = operator.index(number)
     if not 0 <= number < 1 << 16:
         raise NiluppangError(BAD_SITE)
     return number
@@ -65,7 +67,7 @@ def site_number(number: int) -> int:
 
 def counted(counts: Iterable[int]) -> Tuple[Any, int]:
     """Counts as arguments of a call."""
-    items = list(counts)
+    items = [operator.index(count) for count in counts]
     if any(not 0 <= count < 1 << 64 for count in items):
         raise NiluppangError(BAD_VECTOR)
     return (ctypes.c_uint64 * max(1, len(items)))(*items), len(items)
@@ -79,26 +81,26 @@ class BaseSite(Generic[Text]):
     def __init__(self, number: int, group: int) -> None:
         """Opens site `number` of a group of `group` sites, both 1 to 1024. It holds nothing. Refusals: 44, 65."""
         self._begin(number, group)
-        self._checked(self._library.sct_site_open(self._place, self.number, self.group))
+        self._checked(self._library.sct_site_open(self._handle, self.number, self.group))
 
     def _begin(self, number: int, group: int) -> None:
-        self._place = Place()
-        self._turn = threading.Lock()
         self._library = library()
         self._refused: Optional[Text] = None
         self.number = site_number(number)
         self.group = site_number(group)
+        self._handle = Handle()
+        self._turn = threading.Lock()
 
     @classmethod
-    def restore(cls: Type[Self], number: int, group: int, journal: Given, delta: Given = b"") -> Self:
+    def restore(cls: Type[Self], number: int, group: int, journal: Given, delta: Given = EMPTY_DELTA) -> Self:
         """A site that was there before.
 
-        The journal is the messages that it took, one JSON object a line, in the order in which it took them. The delta is a cut that
-        it kept or that a peer made, or empty. What is refused of the two is left out, and `refused_text` has it. Refusals: 44, 65.
+        The journal is its own messages, one JSON object a line, in the order of their numbers: what it took, but no repeat. The delta
+        is a cut that it kept or that a peer made. What is refused of the two is left out, and `refused_text` has it. Refusals: 44, 65.
         """
         site = cls.__new__(cls)
         site._begin(number, group)
-        place = (site._place, site.number, site.group)
+        place = (site._handle, site.number, site.group)
         outcome = site._checked(site._library.sct_site_restore(*place, *passed(journal, delta)))
         site._refused = site._copied(outcome.length)
         return site
@@ -114,12 +116,12 @@ class BaseSite(Generic[Text]):
     def close(self) -> None:
         """Ends the site, and frees its memory. Each later call is refused by 70 Empty, but for another close."""
         with self._turn:
-            self._library.sct_site_close(self._place)
+            self._library.sct_site_close(self._handle)
 
     @property
     def is_closed(self) -> bool:
         """Whether the site is closed."""
-        return not self._place.is_full
+        return not self._handle.is_full
 
     def __enter__(self: Self) -> Self:
         return self
@@ -128,8 +130,10 @@ class BaseSite(Generic[Text]):
         self.close()
 
     def __del__(self) -> None:
-        if hasattr(self, "_turn"):
-            self.close()
+        # nobody holds the lock of a site that nobody has, but a child of fork may have been made while a thread held it
+        turn = getattr(self, "_turn", None)
+        if turn is not None and turn.acquire(blocking=False):
+            self._library.sct_site_close(self._handle)
 
     def __reduce_ex__(self, protocol: Any) -> Any:
         raise TypeError("a site cannot be copied or pickled: keep its journal and a cut, and restore it")
@@ -151,19 +155,20 @@ class BaseSite(Generic[Text]):
         return type(self)._read(lambda room, size: self._fill(room, size), length)
 
     def _fill(self, room: Any, size: int) -> None:
-        self._checked(self._library.sct_site_answer(self._place, room, size))
+        self._checked(self._library.sct_site_answer(self._handle, room, size))
 
     def _answered(self, call: Any, *arguments: Any) -> Text:
         """The answer that a call makes."""
         with self._turn:
-            return self._copied(self._checked(call(self._place, *arguments)).length)
+            return self._copied(self._checked(call(self._handle, *arguments)).length)
 
     # ---- messages and deltas in
 
     def take(self, message: Given) -> Taken:
-        """Takes the message that one JSON object is. Refusals: 31 to 38, 46, 56, 65."""
+        """Takes the message that one JSON object is. If it is no repeat, it belongs into the journal, on one line, before it is
+        acknowledged and before the next cut. Refusals: 31 to 38, 46, 56, 65."""
         with self._turn:
-            outcome = self._checked(self._library.sct_site_take(self._place, *passed(message)))
+            outcome = self._checked(self._library.sct_site_take(self._handle, *passed(message)))
         return Taken(outcome.is_repeat, None if outcome.is_repeat else outcome.number)
 
     def take_lines(self, text: Given) -> LinesTaken[Text]:
@@ -172,7 +177,7 @@ class BaseSite(Generic[Text]):
         Refusals: 65. After it some of the first messages may be taken; the text can be taken again.
         """
         with self._turn:
-            outcome = self._library.sct_site_take_lines(self._place, *passed(text))
+            outcome = self._library.sct_site_take_lines(self._handle, *passed(text))
             if not outcome.ok:
                 raise NiluppangError(outcome.code)
             return LinesTaken(outcome.fresh, outcome.repeats, outcome.refused, self._copied(outcome.length))
@@ -180,7 +185,7 @@ class BaseSite(Generic[Text]):
     def accept(self, delta: Given) -> Accepted:
         """Accepts a delta text, whole or not at all. Refusals: 41 to 45, 65."""
         with self._turn:
-            return Accepted(self._checked(self._library.sct_site_accept(self._place, *passed(delta))).fresh)
+            return Accepted(self._checked(self._library.sct_site_accept(self._handle, *passed(delta))).fresh)
 
     # ---- what the site holds, and deltas out
 
@@ -188,7 +193,7 @@ class BaseSite(Generic[Text]):
         """How many messages of site 1, 2, .. of the group this site holds: its version vector."""
         counts = (ctypes.c_uint64 * self.group)()
         with self._turn:
-            self._checked(self._library.sct_site_counts(self._place, counts, self.group))
+            self._checked(self._library.sct_site_counts(self._handle, counts, self.group))
         return list(counts)
 
     def vector_text(self) -> Text:
@@ -247,7 +252,7 @@ class BaseSite(Generic[Text]):
     def answer(self) -> Text:
         """The text that was made last, once more."""
         with self._turn:
-            return self._copied(self._checked(self._library.sct_site_answer(self._place, ctypes.byref(ctypes.c_uint8()), 0)).length)
+            return self._copied(self._checked(self._library.sct_site_answer(self._handle, ctypes.byref(ctypes.c_uint8()), 0)).length)
 
 
 def read_str(fill: Callable[[Any, int], None], length: int) -> str:

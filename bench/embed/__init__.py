@@ -1,0 +1,1 @@
+"""What calls of the C interface cost, from C and from Python."""

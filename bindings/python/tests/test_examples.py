@@ -1,0 +1,82 @@
+"""The examples of the repository, to the byte."""
+import re
+
+import pytest
+from conftest import EXAMPLES, bytes_in
+
+from niluppang import BytesSite, NiluppangError, Site
+
+STEMS = sorted(path.stem for path in EXAMPLES.glob("*.jsonl"))
+REPORTS = {"bank-day": ("LUTEFRPP", "2025-03-10"), "settlement-day": ("BANKDEFF", "2024-05-02"), "recall-batch": ("HANSDEHH", "2025-03-10")}
+SITES = {"str": Site, "bytes": BytesSite}
+
+
+def right(site, stem):
+    """Whether a site answers as the files of an example say."""
+    as_bytes = lambda text: text.encode() if isinstance(text, str) else text
+    assert as_bytes(site.archive_text()) == bytes_in(stem + ".archive")
+    assert as_bytes(site.status_text()) == bytes_in(stem + ".status")
+    assert as_bytes(site.totals_text()) == bytes_in(stem + ".totals")
+    if stem in REPORTS:
+        assert as_bytes(site.report(*REPORTS[stem], bytes_in(stem + ".list"))) == bytes_in(stem + ".report")
+
+
+@pytest.mark.parametrize("stem", STEMS)
+def test_lines_at_once(stem, kind):
+    with SITES[kind](1, 1) as site:
+        taken = site.take_lines(bytes_in(stem + ".jsonl"))
+        refused = bytes_in(stem + ".refused")
+        assert taken.refused_text == (refused if kind == "bytes" else refused.decode())
+        assert taken.refused == refused.count(b"\n")
+        assert taken.fresh == bytes_in(stem + ".archive").count(b"\n") == sum(site.counts())
+        right(site, stem)
+
+
+@pytest.mark.parametrize("stem", STEMS)
+def test_lines_one_by_one(stem):
+    why = dict(re.findall(r"^line (\d+): (\d+)", bytes_in(stem + ".refused").decode(), re.M))
+    with Site(1, 1) as site:
+        for place, line in enumerate(bytes_in(stem + ".jsonl").split(b"\n"), 1):
+            if line.strip():
+                try:
+                    site.take(line.decode())
+                    assert str(place) not in why
+                except NiluppangError as error:
+                    assert str(error.number) == why[str(place)]
+        right(site, stem)
+
+
+@pytest.mark.parametrize("stem", STEMS)
+def test_restored(stem):
+    with Site.restore(1, 1, bytes_in(stem + ".jsonl")) as site:
+        assert site.refused_text == "".join(f"file 1 {line}\n" for line in bytes_in(stem + ".refused").decode().splitlines())
+        right(site, stem)
+
+
+def test_hub_of_three_sites():
+    sites = [Site(number, 3) for number in (1, 2, 3)]
+    for number, site in enumerate(sites, 1):
+        site.take_lines(bytes_in(f"hub-morning.site{number}"))
+    first, *others = sites
+    for other in others:
+        first.accept(other.cut(first.vector_text()))
+    for other in others:
+        other.accept(first.cut(other.counts()))
+    for site in sites:
+        assert site.counts() == first.counts()
+        assert site.status_text().encode() == bytes_in("hub-morning.run") == bytes_in("hub-morning.status")
+        assert site.totals_text().encode() == bytes_in("hub-morning.totals")
+        assert site.archive_text().encode() == bytes_in("hub-morning.archive")
+
+
+def test_sites_that_exchange_by_files():
+    folder = "exchange/cases/"
+    with Site.restore(1, 2, bytes_in(folder + "one")) as one, Site.restore(2, 2, bytes_in(folder + "two"), one.cut()) as two:
+        assert (one.vector_text(), two.vector_text()) == ("1:2", "1:2,2:1")
+        assert one.cut().encode() == bytes_in(folder + "d1")
+        assert one.cut("1:1").encode() == bytes_in(folder + "e2")
+        one.accept(two.cut(one.counts()))
+        assert one.archive_text().encode() == two.archive_text().encode() == bytes_in(folder + "one-two.archive")
+        whole = two.cut()
+    with Site.restore(2, 2, bytes_in(folder + "two"), whole) as again:
+        assert (again.refused_text, again.cut()) == ("", whole)

@@ -1,0 +1,89 @@
+"""release.py: the release is the same bytes when it is made again, and works in the folder into which it is unpacked, without the repository.
+
+tools/package.py makes it twice. It is unpacked into a temporary folder. Its sums hold, BUILD names the version and the toolchain, and the
+program answers an example. By pkg-config and the release alone, the C example is built with each library and answers. Python imports the
+package from its place in the release, and finds the library there.
+"""
+import os, pathlib, re, shutil, tarfile, tempfile
+from tests import harness
+from tests.embed import driving
+from tests.harness import EXAMPLES, reported
+from tools import library, package
+
+ASK = "import niluppang; site = niluppang.Site(1, 1); site.take_lines(open(0, 'rb').read()); print(site.status_text(), end='')"
+
+
+def made(folder):
+    """The release, made twice, and whether both are the same bytes."""
+    try:
+        first, second = (package.make(folder / name) for name in ("first", "second"))
+    except library.Missing as missing:
+        driving.skip(missing)
+    return first, reported("the release made twice", first.read_bytes() == second.read_bytes())
+
+
+def unpacked(path, folder):
+    """The folder that the release has, unpacked."""
+    with tarfile.open(path) as tar:
+        tar.extractall(folder)
+    return folder / package.NAME
+
+
+def contents(place):
+    """What the release says of itself, and its program."""
+    sums = harness.run(["sha256sum", "--check", "--strict", "--quiet", "SHA256SUMS"], cwd=place)
+    yield reported("the sums", sums.status == 0, sums.text.decode() + sums.errors.decode())
+    listed = {line.split("  ")[1] for line in (place / "SHA256SUMS").read_text().splitlines()}
+    files = {path.relative_to(place).as_posix() for path in place.rglob("*") if path.is_file() and not path.is_symlink()}
+    yield reported("each file has a sum", files == listed | {"SHA256SUMS"}, f"{sorted(files ^ listed)}")
+    text = (place / "share" / "doc" / "niluppang" / "BUILD").read_text()
+    pattern = rf"niluppang {re.escape(library.VERSION)}\ncommit (\w{{40}}|unknown)(, with changes)?\ntoolchain \S+ logic \w+\n"
+    yield reported("BUILD", re.fullmatch(pattern, text) is not None, text)
+    answer = harness.run([place / "bin" / "sct_sites", "status"], (EXAMPLES / "bank-day.jsonl").read_bytes(), env=without_repository())
+    yield reported("the program", answer == ((EXAMPLES / "bank-day.status").read_bytes(), b"", 0), answer.errors.decode(errors="replace"))
+
+
+def without_repository(**more):
+    """The environment without the variables that name other files."""
+    return {**{name: value for name, value in os.environ.items() if not name.startswith(("SCT_", "NILUPPANG_"))}, **more}
+
+
+def built(place, folder):
+    """The C example, built as its first lines say, with each library."""
+    if not shutil.which("pkg-config"):
+        print("skipped: there is no command pkg-config on this machine: apt-get install pkg-config", flush=True)
+        return
+    at = without_repository(PKG_CONFIG_PATH=str(place / "lib" / "pkgconfig"), LD_LIBRARY_PATH=str(place / "lib"))
+    asked = harness.run(["pkg-config", "--modversion", "niluppang"], env=at)
+    yield reported("the version by pkg-config", asked.text.decode().strip() == library.VERSION, asked.errors.decode())
+    source = place / "share" / "doc" / "niluppang" / "examples" / "embed" / "hub.c"
+    flags = harness.run(["pkg-config", "--cflags", "--libs", "niluppang"], env=at).text.decode().split()
+    static = [*(word for word in flags if word != "-lniluppang"), "-l:libniluppang.a"]
+    for name, words in (("shared", flags), ("static", static)):
+        done = harness.run(["gcc", "-std=c99", "-Wall", "-Wextra", "-Werror", source, *words, "-o", folder / name], env=at)
+        yield reported(f"hub.c with the {name} library", done.status == 0, done.errors.decode(errors="replace"))
+        answer = harness.run([folder / name, *sorted(EXAMPLES.glob("hub-morning.site*"))], env=at)
+        right = answer.text == (EXAMPLES / "hub-morning.run").read_bytes()
+        yield reported(f"what it prints with the {name} library", right, str(answer.errors))
+
+
+def python(place, folder):
+    """The Python package at its place in the release."""
+    path = str(place / "share" / "niluppang" / "python")
+    data, variables = (EXAMPLES / "bank-day.jsonl").read_bytes(), without_repository(PYTHONPATH=path)
+    answer = harness.run(["python3", "-c", ASK], data, cwd=folder, env=variables)
+    right = answer.text == (EXAMPLES / "bank-day.status").read_bytes()
+    return reported("the Python package", right, answer.errors.decode(errors="replace"))
+
+
+def main():
+    driving.end_if_missing()
+    with tempfile.TemporaryDirectory() as name:
+        folder = pathlib.Path(name)
+        path, is_same = made(folder)
+        place = unpacked(path, folder)
+        harness.end_of([is_same, *contents(place), *built(place, folder), python(place, folder)])
+
+
+if __name__ == "__main__":
+    main()
