@@ -15,7 +15,7 @@
  *
  * What a caller owes. Nothing checks it:
  * - A handle (sct_site) is SCT_SITE_EMPTY, all zero, before its first call. After that the caller neither writes into it nor copies
- *   it.
+ *   it. It may move to another address between two calls, if the old one is not used any more.
  * - One call at a time uses a handle. Different handles are independent: different threads may use them at once. A handle may pass
  *   from thread to thread by a lock, or by the start or the end of a thread.
  * - A pointer is not null, also if its length is 0, and that many items are there. What a call writes overlaps nothing else.
@@ -72,6 +72,32 @@ extern "C" {
 /* The version of the library that runs: 1000000 for each major, 1000 for each minor, 1 for each patch version. */
 uint32_t sct_version(void);
 
+/* The numbers of refusals, as `code` has them. */
+typedef enum sct_code {
+    SCT_OK = 0,
+    SCT_NOT_JSON = 31,
+    SCT_NOT_OBJECT = 32,
+    SCT_UNKNOWN_KIND = 33,
+    SCT_MISSING = 34,
+    SCT_NOT_TEXT = 35,
+    SCT_ELEMENT = 36,
+    SCT_EXTRA = 37,
+    SCT_RULE = 38,
+    SCT_GAP = 41,
+    SCT_FORK = 42,
+    SCT_OWN_AHEAD = 43,
+    SCT_BAD_SITE = 44,
+    SCT_BAD_DELTA = 45,
+    SCT_BAD_TRANSACTIONS = 46,
+    SCT_BAD_LIST = 48,
+    SCT_AT = 56,
+    SCT_MEMORY = 65,
+    SCT_EMPTY = 70,
+    SCT_FULL = 71,
+    SCT_BAD_VECTOR = 72,
+    SCT_BAD_ARGUMENT = 73
+} sct_code;
+
 /* A handle: 16 bytes that the caller keeps anywhere, and whose address it passes. */
 typedef struct sct_site {
     void *address;
@@ -127,9 +153,8 @@ sct_outcome sct_site_open(sct_site *site, uint16_t number, uint16_t group);
 /* Opens a site that was there before, in an empty handle. The journal is the site's own messages, one JSON object on each line, in
  * the order of their numbers: what it took, but no repeat. A repeat may be a message of another site: in the journal it would be
  * given a number, and all after it another one than before (42, 43). The delta is a cut that the site kept, or that a peer made.
- * Without one, pass the delta without a message, `delta 2\nend 0\n`. What is refused of the two is left out. The answer has a line
- * for each refused line of the journal, such as `file 1 line 8: 31`, and one if the delta is refused, such as `file 2: 41 3 0 7`.
- * It is empty if nothing is refused.
+ * Without one its length is 0. What is refused of the two is left out. The answer has a line for each refused line of the journal,
+ * such as `file 1 line 8: 31`, and one if the delta is refused, such as `file 2: 41 3 0 7`. It is empty if nothing is refused.
  * Refusals: 44, 65, 71. */
 sct_outcome sct_site_restore(sct_site *site, uint16_t number, uint16_t group, const uint8_t *journal, size_t journal_length,
                              const uint8_t *delta, size_t delta_length);

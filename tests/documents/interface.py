@@ -94,6 +94,12 @@ def header_numbers():
     return {(int(number), name) for number, name in re.findall(r"^ \*     (\d+) ([A-Z]\w+) ", HEADER, re.M)}
 
 
+def enumerated():
+    """The pairs of numbers and names of the enumeration, whose names are written as those of the table."""
+    found = re.findall(r"^    SCT_(\w+) = (\d+)", HEADER, re.M)
+    return {(int(number), name.title().replace("_", "")) for name, number in found if name != "OK"}
+
+
 def python_fields(structure):
     """The fields of a structure of ctypes, as pairs of a name and a type of C."""
     names = {"c_void_p": "void *", "c_bool": "bool", "c_ubyte": "uint8_t", "c_ulong": "uint64_t"}
@@ -128,6 +134,7 @@ def main():
     right = [reported("VERSION is a line of three numbers", re.fullmatch(r"\d+\.\d+\.\d+\n", version) is not None)]
     right.append(reported("the macros of the header are VERSION", header_version() == version.strip()))
     right.append(reported("the version of the Python package is VERSION", _version.__version__ == version.strip()))
+    right.append(reported("the enumeration of the header has the numbers and names of its table", enumerated() == header_numbers()))
     right += python_checks()
     if re.search(r"^sct_c\b", (TOP / "crates.txt").read_text(encoding="utf-8"), re.M):
         right += crate_checks(version.strip())

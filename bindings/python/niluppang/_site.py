@@ -13,7 +13,6 @@ Given = Union[str, bytes, bytearray, memoryview]
 Self = TypeVar("Self", bound="BaseSite[Any]")
 
 BAD_SITE, BAD_VECTOR = 44, 72
-EMPTY_DELTA = b"delta 2\nend 0\n"
 
 
 class Taken(NamedTuple):
@@ -92,7 +91,7 @@ class BaseSite(Generic[Text]):
         self._turn = threading.Lock()
 
     @classmethod
-    def restore(cls: Type[Self], number: int, group: int, journal: Given, delta: Given = EMPTY_DELTA) -> Self:
+    def restore(cls: Type[Self], number: int, group: int, journal: Given, delta: Given = b"") -> Self:
         """A site that was there before.
 
         The journal is its own messages, one JSON object a line, in the order of their numbers: what it took, but no repeat. The delta

@@ -66,7 +66,7 @@ public final class Site implements AutoCloseable {
     /**
      * A site that was there before. The journal is the messages that it took, one JSON object a line, in the order in which it took them.
      * The delta is a cut that it kept or that a peer made. What is refused of the two is left out, and {@link #refusedText} has it.
-     * An empty delta has two lines, {@code delta 2} and {@code end 0}. Refusals: 44, 65.
+     * Without a delta, it is empty. Refusals: 44, 65.
      */
     public static Site restore(int number, int group, byte[] journal, byte[] delta) {
         return new Site(number, group, place -> Library.sct_site_restore(place, (short) number, (short) group, given(journal), journal.length,
