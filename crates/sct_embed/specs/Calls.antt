@@ -1,15 +1,18 @@
 -- The effects of calls of an embedded site, and why they are refused. Read by an auditor.
-use Rattle.std.specs.Prelude.{◌≡◌, ℕ, List, Some, None, Ok, Err, length, ⊤}
+use Rattle.std.specs.Prelude.{◌≡◌, ℕ, List, Option, Some, None, Result, Ok, Err, if◌then◌else◌, length, nat_lt, ⊤}
 use Rattle.sct_message.specs.declared.draft.Draft.{Draft}
 use Rattle.sct_json.specs.Reading.{message_in}
 use Rattle.sct_delta.specs.DeltaText.{delta_in}
 use Rattle.sct_delta.specs.Entries.{Placed}
+use Rattle.sct_delta.specs.Sites.{most_sites}
+use Rattle.sct_delta.specs.declared.fault.DeltaFault.TheVariants as delta
 use Rattle.sct_delta.specs.VectorText.{Pair, counts_of, vector_in}
 use Rattle.sct_site.specs.Cores.{Core, took_by, core_taken, core_joined, fresh_of, refusal_by}
 use Rattle.sct_site.specs.declared.answers.Took.{Took}
 use Rattle.sct_site.specs.declared.answers.Accepted.{Accepted}
 use Rattle.sct_exchange.specs.Rounds.{refusal_of}
 use Rattle.sct_exchange.specs.Sites.{cut_text}
+use Rattle.sct_embed.specs.Counts.{counted}
 use Rattle.sct_embed.specs.declared.faults.EmbedFault.{EmbedFault}
 use Rattle.sct_embed.specs.declared.faults.EmbedFault.TheVariants as fault
 
@@ -59,10 +62,15 @@ RefusesVector vector fault.BadVector = vector_in vector ≡ None
 RefusesVector vector fault.Memory = ⊤
 RefusesVector vector other = ⊥
 
--- the delta for a version vector of text, if it is one
-abbrev pub cut_answer : List ℕ → List Placed → Result (List ℕ) EmbedFault
-cut_answer vector arrivals = cut_for (vector_in vector) arrivals
-
+-- the delta for a version vector, if it is one
 abbrev pub cut_for : Option (List Pair) → List Placed → Result (List ℕ) EmbedFault
 cut_for None arrivals = Err fault.BadVector
 cut_for (Some pairs) arrivals = Ok (cut_text (counts_of pairs) arrivals)
+
+abbrev pub cut_answer : List ℕ → List Placed → Result (List ℕ) EmbedFault
+cut_answer vector arrivals = cut_for (vector_in vector) arrivals
+
+-- the delta above counts, if there are at most as many as a group has sites
+abbrev pub cut_above_answer : List ℕ → List Placed → Result (List ℕ) EmbedFault
+cut_above_answer counts arrivals =
+    if nat_lt most_sites (length counts) then Err (fault.Delta delta.BadSite) else Ok (cut_text (counted counts) arrivals)
