@@ -1,6 +1,6 @@
 -- What filing a row does to the rows of each transfer.
 use Rattle.std.specs.Prelude.{map, filter, length, get_or, take, ◌+◌, ◌<◌, ℕ}
-use Rattle.std.proofs.Common.{◌≡◌, ◌∙◌, ap, sym, subst, refl, Bool, true, false, cond, add-one, List, [], ◌∷◌, ◌++◌}
+use Rattle.std.proofs.Common.{◌≡◌, ◌∙◌, ap, sym, subst, refl, Bool, true, false, cond, List, [], ◌∷◌, ◌++◌}
 use Rattle.std.proofs.lemmas.List.{append-nil, map-append, take_more as longer}
 use Rattle.std.proofs.lemmas.List.Elements.{filter-append}
 use Rattle.std.specs.Global.{Vec}

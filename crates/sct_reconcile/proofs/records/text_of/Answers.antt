@@ -1,6 +1,5 @@
 -- `from_utf8` gives the field itself where it is UTF-8.
-use Rattle.std.proofs.Common.{◌≡◌, false, refl, inl, inr, List, ℕ}
-use Rattle.std.specs.Str.{IsUtf8, is_utf8}
+use Rattle.std.proofs.Common.{refl}
 use Rattle.std.proofs.lemmas.Bool.{false_from_ne_true}
 use Rattle.std.proofs.lemmas.Str.{IsUtf8-from_is_utf8, is_utf8-from_IsUtf8}
 use Rattle.sct_reconcile.proofs.records.text_of.Goals as goal

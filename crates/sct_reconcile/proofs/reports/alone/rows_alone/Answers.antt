@@ -1,5 +1,5 @@
 -- A key more is a row more.
-use Rattle.std.proofs.Common.{◌≡◌, ◌∙◌, ap, sym, ◌∷◌, List, [], ◌++◌, map, take}
+use Rattle.std.proofs.Common.{◌∙◌, ap, sym, ◌∷◌, List, [], ◌++◌, map, take}
 use Rattle.std.proofs.lemmas.List.{map_more}
 use Rattle.sct_reconcile.specs.Reports.{row_on, row_beside}
 use Rattle.sct_reconcile.specs.declared.rows.Listed.{Listed}
