@@ -1,37 +1,64 @@
--- What a call does to a place follows from what it does to the site that the place holds.
-use Rattle.std.proofs.Common.{◌≡◌, ap, sym, subst, ℕ, List, Option, Some, None, Result, Ok, Err, OnOk, OnErr, IfErr, length, true, false}
-use Rattle.std.specs.Prelude.{nat_lt, if◌then◌else◌}
+-- An empty place gets the site that was opened, or stays empty.
+use Rattle.std.proofs.Common.{◌≡◌, ◌≢◌, ◌∙◌, sym, subst, refl, ℕ, List, [], Bool, true, false, Option, Some, None, Result, Ok, Err, OnOk, IfOk, IfErr, inl, inr}
+use Rattle.std.specs.Option.{is_some}
+use Rattle.std.proofs.lemmas.Bool.{false≢true}
+use Rattle.sct_delta.specs.declared.fault.DeltaFault.TheVariants as delta
+use Rattle.sct_site.specs.Cores.{is_open}
 use Rattle.sct_embed.specs.Embeddings.{Embedding}
-use Rattle.sct_embed.specs.Outcomes.{done_as, refused_as}
-use Rattle.sct_embed.specs.Places.{IsAsked, IsCalled, IsHeld}
-use Rattle.sct_embed.specs.Questions.{Answers}
+use Rattle.sct_embed.specs.Places.{IsFilled, IsFilledWith, IsOpened, IsRestored, NoSite, Opens, Restores}
+use Rattle.sct_embed.specs.Restoring.{core_restored, restored_text}
 use Rattle.sct_embed.specs.declared.faults.EmbedFault.{EmbedFault}
 use Rattle.sct_embed.specs.declared.faults.EmbedFault.TheVariants as fault
 use Rattle.sct_embed.specs.declared.outcomes.Outcome.{Outcome}
 
-pub called : {Told : Type 0} (refused : EmbedFault → Told) (Does : Embedding → Told → Embedding → Type 0) (before after : Option Embedding)
-    (site later : Embedding) (outcome : Told)
-    → before ≡ Some site → after ≡ Some later → Does site outcome later → IsCalled refused Does before outcome after
-called refused Does before after site later outcome was is done =
-    subst (λ (b : Option Embedding). IsCalled refused Does b outcome after) (sym was)
-    (subst (IsHeld (Does site outcome)) (sym is) done)
+none_of : (held : Option Embedding) → is_some held ≡ false → held ≡ None
+none_of (Some site) empty = absurd (false≢true (sym empty))
+none_of None empty = refl
 
--- a question whose only refusal is out of memory
-pub text_answers : (text : List ℕ) (done : Result Unit EmbedFault) (answer : List ℕ)
-    → OnOk done (answer ≡ text) → IfErr done (λ reason. reason ≡ fault.Memory) → Answers (Ok text) done answer
-text_answers text (Ok done) answer is err = ap Ok (sym is)
-text_answers text (Err reason) answer is err = subst (λ (e : EmbedFault). Answers {X = Unit} (Ok text) (Err e) answer) (sym err) tt
+filled : (Opened : Embedding → Type 0) (Refused : EmbedFault → Type 0) (opened : Result Embedding EmbedFault) (before after : Option Embedding) (outcome : Outcome)
+    → before ≡ None → IfOk opened Opened → IfErr opened Refused → Refused fault.Memory → IsFilledWith opened before outcome after
+    → IsFilled Opened Refused before outcome after
+filled Opened Refused (Ok site) before after outcome empty there err memory (inl (told, is)) =
+    subst (λ (b : Option Embedding). IsFilled Opened Refused b outcome after) (sym empty)
+    (subst (IsFilled Opened Refused None outcome) (sym is) (told, there))
+filled Opened Refused (Ok site) before after outcome empty there err memory (inr (told, is)) =
+    subst (λ (b : Option Embedding). IsFilled Opened Refused b outcome after) (sym empty)
+    (subst (IsFilled Opened Refused None outcome) (sym (is ∙ empty)) (fault.Memory, (told, memory)))
+filled Opened Refused (Err reason) before after outcome empty there err memory (told, is) =
+    subst (λ (b : Option Embedding). IsFilled Opened Refused b outcome after) (sym empty)
+    (subst (IsFilled Opened Refused None outcome) (sym (is ∙ empty)) (reason, (told, err)))
 
-pub asked : (text : Embedding → Result (List ℕ) EmbedFault) (before after : Option Embedding) (site later : Embedding) (outcome : Outcome)
-    (done : Result Unit EmbedFault) → before ≡ Some site → after ≡ Some later → outcome ≡ done_as done (length later.answer)
-    → Answers (text site) done later.answer → later.core ≡ site.core → later.watched ≡ site.watched → OnErr done (later ≡ site)
-    → IsCalled refused_as (λ (s : Embedding). IsAsked (text s) s) before outcome after
-asked text before after site later outcome done was is told answer core watched unchanged =
-    called refused_as (λ (s : Embedding). IsAsked (text s) s) before after site later outcome was is (record {
-      done = done;
-      told = told;
-      answer = answer;
-      core = core;
-      watched = watched;
-      unchanged = unchanged;
-    })
+bad_site : (number group : ℕ) (reason : EmbedFault) → (reason ≡ fault.Delta delta.BadSite) × (is_open number group ≡ false) → NoSite number group reason
+bad_site number group reason (is, closed) = subst (NoSite number group) (sym is) closed
+
+bad_or_memory : (number group : ℕ) (reason : EmbedFault) → (reason ≢ fault.Memory → (reason ≡ fault.Delta delta.BadSite) × (is_open number group ≡ false)) → NoSite number group reason
+bad_or_memory number group fault.Memory bad = tt
+bad_or_memory number group (fault.Message m) bad = bad_site number group (fault.Message m) (bad (λ same. cc))
+bad_or_memory number group (fault.Delta d) bad = bad_site number group (fault.Delta d) (bad (λ same. cc))
+bad_or_memory number group (fault.BadList n) bad = bad_site number group (fault.BadList n) (bad (λ same. cc))
+bad_or_memory number group fault.Empty bad = bad_site number group fault.Empty (bad (λ same. cc))
+bad_or_memory number group fault.Full bad = bad_site number group fault.Full (bad (λ same. cc))
+bad_or_memory number group fault.BadVector bad = bad_site number group fault.BadVector (bad (λ same. cc))
+bad_or_memory number group (fault.BadArgument n) bad = bad_site number group (fault.BadArgument n) (bad (λ same. cc))
+
+pub opens : (number group : ℕ) (opened : Result Embedding EmbedFault) (before after : Option Embedding) (outcome : Outcome) → is_some before ≡ false
+    → IfOk opened (λ site. site ≡ record { core = record { number = number; group = group; arrivals = [] }; answer = []; watched = None })
+    → OnOk opened (is_open number group ≡ true) → IfErr opened (λ e. (e ≡ fault.Delta delta.BadSite) × (is_open number group ≡ false))
+    → IsFilledWith opened before outcome after → Opens number group before outcome after
+opens number group (Ok site) before after outcome empty is there err filling =
+    filled (IsOpened number group) (NoSite number group) (Ok site) before after outcome (none_of before empty) (there, is) tt tt filling
+opens number group (Err reason) before after outcome empty is there err filling =
+    filled (IsOpened number group) (NoSite number group) (Err reason) before after outcome (none_of before empty) tt (bad_site number group reason err) tt filling
+
+pub restores : (number group : ℕ) (journal text : List ℕ) (opened : Result Embedding EmbedFault) (before after : Option Embedding) (outcome : Outcome)
+    → is_some before ≡ false
+    → IfOk opened (λ site. site.core ≡ core_restored number group journal text) → IfOk opened (λ site. site.answer ≡ restored_text number group journal text)
+    → IfOk opened (λ site. site.watched ≡ None) → OnOk opened (is_open number group ≡ true)
+    → IfErr opened (λ e. e ≢ fault.Memory → (e ≡ fault.Delta delta.BadSite) × (is_open number group ≡ false))
+    → IsFilledWith opened before outcome after → Restores number group journal text before outcome after
+restores number group journal text (Ok site) before after outcome empty core answer watched there err filling =
+    filled (IsRestored number group journal text) (NoSite number group) (Ok site) before after outcome (none_of before empty)
+    (there, λ i. record { core = core i; answer = answer i; watched = watched i }) tt tt filling
+restores number group journal text (Err reason) before after outcome empty core answer watched there err filling =
+    filled (IsRestored number group journal text) (NoSite number group) (Err reason) before after outcome (none_of before empty)
+    tt (bad_or_memory number group reason err) tt filling

@@ -49,21 +49,27 @@ NoSite number group (fault.Delta delta.BadSite) = is_open number group ≡ false
 NoSite number group fault.Memory = ⊤
 NoSite number group other = ⊥
 
+-- There is such a site, and it is a new one: it holds nothing, and its answer is empty.
+abbrev pub IsOpened : ℕ → ℕ → Embedding → Type 0
+IsOpened number group site =
+    (is_open number group ≡ true)
+    × (site ≡ record { core = record { number = number; group = group; arrivals = [] }; answer = []; watched = None })
+
+-- There is such a site, and it is made anew from a journal and a text.
+abbrev pub IsRestored : ℕ → ℕ → List ℕ → List ℕ → Embedding → Type 0
+IsRestored number group journal text site =
+    (is_open number group ≡ true)
+    × (site ≡ record {
+      core = core_restored number group journal text;
+      answer = restored_text number group journal text;
+      watched = None;
+    })
+
 abbrev pub Opens : ℕ → ℕ → Option Embedding → Outcome → Option Embedding → Type 0
-Opens number group = IsFilled
-    (λ site. (is_open number group ≡ true)
-      × (site ≡ record { core = record { number = number; group = group; arrivals = [] }; answer = []; watched = None }))
-    (NoSite number group)
+Opens number group = IsFilled (IsOpened number group) (NoSite number group)
 
 abbrev pub Restores : ℕ → ℕ → List ℕ → List ℕ → Option Embedding → Outcome → Option Embedding → Type 0
-Restores number group journal text = IsFilled
-    (λ site. (is_open number group ≡ true)
-      × (site ≡ record {
-        core = core_restored number group journal text;
-        answer = restored_text number group journal text;
-        watched = None;
-      }))
-    (NoSite number group)
+Restores number group journal text = IsFilled (IsRestored number group journal text) (NoSite number group)
 
 -- A place gets a site that was opened; or it is out of memory for the site, and is as it was.
 abbrev pub IsFilledWith : Result Embedding EmbedFault → Option Embedding → Outcome → Option Embedding → Type 0
