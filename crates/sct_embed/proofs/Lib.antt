@@ -5,3 +5,4 @@ pub mod KeptSite
 pub mod PlaceLemmas
 pub mod ShownLemmas
 pub mod TakingLemmas
+pub mod WatchLemmas

@@ -1,10 +1,13 @@
 -- A view that shows the first arrivals of a site, and the transfers that changed since its changes were asked for.
 -- Serves proofs.
-use Rattle.std.specs.Prelude.{◌≡◌, ◌≤◌, ℕ, List, Option, Some, None, length, take, option_map, ⊤}
+use Rattle.std.specs.Prelude.{◌≡◌, ◌≤◌, ◌++◌, ℕ, List, [], Option, Some, None, length, take, option_map, flat_map, ⊤}
+use Rattle.sct_message.specs.Ascending.{ascending}
+use Rattle.sct_message.specs.Order.{transfer_order}
 use Rattle.sct_message.specs.Sets.{MessageSet}
 use Rattle.sct_message.specs.declared.keys.TransferKey.{TransferKey}
 use Rattle.sct_delta.specs.Entries.{Placed, messages_of}
 use Rattle.sct_view.specs.Touched.{touched_in}
+use Rattle.sct_embed.specs.Questions.{transfer_line}
 use Rattle.sct_embed.specs.declared.changes.Watch.{Watch}
 use Rattle.sct_embed.specs.declared.showing.Showing.{Showing}
 
@@ -29,3 +32,16 @@ IsWatched (Some watch) count arrivals = AreChanged watch.asked count arrivals wa
 pub record IsShowing (showing : Showing) (arrivals : List Placed) : Type 0 where
   pub shown : IsShown showing.count arrivals showing.view
   pub watched : IsWatched showing.watch showing.count arrivals
+
+-- The watch after a view that shows `held` is joined with a batch. Before changes were asked for, nothing is kept.
+abbrev pub IsLater : Option Watch → MessageSet → MessageSet → Option Watch → Type 0
+IsLater None held batch later = later ≡ None
+IsLater (Some watch) held batch None = ⊥
+IsLater (Some watch) held batch (Some later) =
+    (later.asked ≡ watch.asked)
+    × (later.changed.items ≡ ascending transfer_order (watch.changed.items ++ touched_in held batch))
+
+-- the text of what changed
+abbrev pub text_of_changes : Option Watch → List ℕ
+text_of_changes None = []
+text_of_changes (Some watch) = flat_map transfer_line watch.changed.items

@@ -1,6 +1,6 @@
 //! The transfers that changed since changes were asked for.
 
-ghost use Rattle.std.specs.Prelude.{◌≡◌, ◌++◌, IfOk, OnOk, string_bytes};
+ghost use Rattle.std.specs.Prelude.{◌≡◌, ◌++◌, IfErr, IfOk, OnOk, string_bytes};
 ghost use Rattle.std.specs.List.{flat_map};
 ghost use Rattle.sct_message.specs.Ascending.{ascending};
 ghost use Rattle.sct_message.specs.Order.{transfer_order};
@@ -8,6 +8,8 @@ ghost use Rattle.sct_message.specs.Sets.{messages_in};
 ghost use Rattle.sct_set.specs.Contents.{contents_of};
 ghost use Rattle.sct_view.specs.Touched.{touched_in};
 ghost use Rattle.sct_embed.specs.Questions.{transfer_line};
+ghost use Rattle.sct_embed.specs.Showing.{IsLater, text_of_changes};
+ghost use Rattle.sct_embed.specs.declared.faults.EmbedFault.TheVariants as fault;
 
 use crate::faults::EmbedFault;
 use sct_message::{Message, TransferKey};
@@ -45,6 +47,7 @@ impl Watch {
         ensures asked { IfOk result (λ watch. watch.asked ≡ self.now.asked) }
         ensures changed { IfOk result (λ watch. watch.changed.items ≡ ascending transfer_order
             (self.now.changed.items ++ touched_in view.now (contents_of (messages_in messages.now)))) }
+        ensures err { IfErr result (λ e. e ≡ fault.Memory) }
     {
         let mut changed = Vec::new(alloc);
         push_copies(&mut changed, &self.changed)?;
@@ -56,6 +59,34 @@ impl Watch {
             changed,
         })
     }
+}
+
+/// What changed also after the view is joined with messages; nothing is kept before changes were asked for.
+pub(crate) fn watch_after(
+    watch: &Option<Watch>,
+    alloc: Global,
+    view: &View,
+    messages: &[Arc<Message>],
+) -> Result<Option<Watch>, EmbedFault>
+    ensures later { IfOk result (IsLater watch.now view.now (contents_of (messages_in messages.now))) }
+    ensures err { IfErr result (λ e. e ≡ fault.Memory) }
+{
+    match watch {
+        Some(watch) => Ok(Some(watch.after(alloc, view, messages)?)),
+        None => Ok(None),
+    }
+}
+
+/// The text of what changed: a line for each transfer. Error: `Memory` (65).
+pub(crate) fn text_of_changes(alloc: Global, watch: &Option<Watch>) -> Result<Vec<u8>, EmbedFault>
+    ensures text { IfOk result (λ text. text.items ≡ text_of_changes watch.now) }
+    ensures err { IfErr result (λ e. e ≡ fault.Memory) }
+{
+    let mut text = String::new(alloc);
+    if let Some(watch) = watch {
+        push_transfers(&mut text, &watch.changed)?;
+    }
+    Ok(text.into_bytes())
 }
 
 // Appends the line of a transfer.

@@ -16,6 +16,7 @@ mod identities;
 mod outcomes;
 mod place;
 mod questions;
+mod restoring;
 mod showing;
 mod site;
 mod taking;

@@ -1,12 +1,12 @@
 //! Questions to an embedded site on one transfer, one bank or a list, and on what changed.
 
-ghost use Rattle.std.specs.Prelude.{◌≡◌, Ok, Some, length, IfErr, OnErr, OnOk};
+ghost use Rattle.std.specs.Prelude.{◌≡◌, Some, length, IfErr, OnErr, OnOk};
 ghost use Rattle.sct_delta.specs.Entries.{messages_of};
 ghost use Rattle.sct_embed.specs.Questions.{Answers, bank_answer, changes_since, messages_answer, report_answer, transfer_answer};
 ghost use Rattle.sct_embed.specs.declared.faults.EmbedFault.TheVariants as fault;
 
 use crate::arguments::{bank_of, day_of, transfer_of};
-use crate::changes::Watch;
+use crate::changes::{Watch, text_of_changes};
 use crate::faults::EmbedFault;
 use crate::site::EmbeddedSite;
 use sct_reconcile::{List, reconcile_alone};
@@ -93,7 +93,7 @@ impl EmbeddedSite {
         ensures unchanged { OnErr result (self.new ≡ self.old) }
     {
         self.showing.show_all(self.alloc, self.core.arrivals())?;
-        self.answer = self.showing.changes_text(self.alloc)?;
+        self.answer = text_of_changes(self.alloc, &self.showing.watch)?;
         self.showing.watch = Some(Watch {
             asked: self.showing.count,
             changed: Vec::new(self.alloc),

@@ -1,12 +1,11 @@
 //! A view that follows the arrivals of a site.
 
-ghost use Rattle.std.specs.Prelude.{◌≡◌, [], None, Some, length, option_map, IfErr, IfOk, OnErr, OnOk};
+ghost use Rattle.std.specs.Prelude.{◌≡◌, [], None, length, IfErr, OnOk};
 ghost use Rattle.sct_delta.specs.Entries.{messages_of};
-ghost use Rattle.sct_embed.specs.Questions.{changes_since};
-ghost use Rattle.sct_embed.specs.Showing.{IsShowing, changed_by, watched_by};
+ghost use Rattle.sct_embed.specs.Showing.{IsShowing, watched_by};
 ghost use Rattle.sct_embed.specs.declared.faults.EmbedFault.TheVariants as fault;
 
-use crate::changes::{Watch, push_transfers};
+use crate::changes::{Watch, watch_after};
 use crate::faults::EmbedFault;
 use sct_delta::{Entry, messages_in};
 use sct_view::View;
@@ -49,22 +48,10 @@ impl Showing {
             return Ok(());
         }
         let messages = messages_in(alloc, &arrivals[self.count..])?;
-        let watch = match &self.watch {
-            Some(watch) => Some(watch.after(alloc, &self.view, &messages)?),
-            None => None,
-        };
+        let watch = watch_after(&self.watch, alloc, &self.view, &messages)?;
         self.view.apply(&messages)?;
         self.watch = watch;
         self.count = arrivals.len();
         Ok(())
-    }
-
-    /// The text of what changed. O(transfers that changed).
-    pub(crate) fn changes_text(&self, alloc: Global) -> Result<Vec<u8>, EmbedFault> {
-        let mut text = String::new(alloc);
-        if let Some(watch) = &self.watch {
-            push_transfers(&mut text, &watch.changed)?;
-        }
-        Ok(text.into_bytes())
     }
 }

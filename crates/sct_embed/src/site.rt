@@ -19,10 +19,11 @@ ghost use Rattle.sct_embed.specs.declared.faults.EmbedFault.TheVariants as fault
 use crate::counts::{put_counts, vector_of};
 use crate::faults::EmbedFault;
 use crate::identities::push_identities;
+use crate::restoring::files_offered;
 use crate::showing::Showing;
 use crate::taking::{TakenLines, take_all};
 use sct_delta::{DeltaFault, MOST_SITES, read_delta, read_vector};
-use sct_exchange::{Exchanged, exchange, read_file, write_cut, write_held, write_refused_files};
+use sct_exchange::{Exchanged, exchange, write_cut, write_held, write_refused_files};
 use sct_json::MessageReader;
 use sct_lines::{Intake, read_lines_after};
 use sct_site::{Accepted, SiteCore, Took};
@@ -73,9 +74,9 @@ impl EmbeddedSite {
     }
 
     /// The site `number` of a group of `group` sites, made anew from its own journal and a delta text, as the command `site`
-    /// does it. It takes the messages of the journal, a JSON object on each line, and is then offered the text. The answer has
-    /// a line for each refused line of the journal, such as `file 1 line 8: 31`, and one for the text if it is refused, such as
-    /// `file 2: 41 3 0 7`. It is empty if nothing is refused.
+    /// does it. It takes the messages of the journal, a JSON object on each line. Then it is offered the text, if the text is
+    /// not empty. The answer has a line for each refused line of the journal, such as `file 1 line 8: 31`, and one for the
+    /// text if it is refused, such as `file 2: 41 3 0 7`. It is empty if nothing is refused.
     /// Errors: `BadSite` (44) as in [`EmbeddedSite::open`]; `Memory` (65).
     pub fn restore(
         alloc: Global,
@@ -92,8 +93,7 @@ impl EmbeddedSite {
             → (e ≡ fault.Delta delta.BadSite) × (is_open number group ≡ false)) }
     {
         let Intake { messages, refusals } = read_lines_after(alloc, "file 1 ", journal)?;
-        let mut files = Vec::new(alloc);
-        files.push(read_file(alloc, text)?)?;
+        let files = files_offered(alloc, text)?;
         let Exchanged { core, refused } = exchange(alloc, number, group, messages, files)?;
         let (mut told, _) = refusals.into_parts();
         told.push_str(write_refused_files(alloc, &refused)?.as_str())?;

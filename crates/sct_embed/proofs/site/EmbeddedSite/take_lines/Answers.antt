@@ -6,19 +6,19 @@ use Rattle.sct_message.specs.Sets.{messages_in}
 use Rattle.sct_lines.specs.Lines.{messages_read, told_after, told_text_of}
 use Rattle.sct_site.specs.Cores.{Core}
 use Rattle.sct_embed.specs.Embeddings.{Embedding}
-use Rattle.sct_embed.specs.Showing.{IsShown}
+use Rattle.sct_embed.specs.Showing.{IsShowing}
 use Rattle.sct_exchange.specs.Journals.{core_taking}
 use Rattle.sct_embed.specs.Taking.{AreTaken}
 use Rattle.sct_embed.specs.declared.taking.TakenLines.{TakenLines}
-use Rattle.sct_embed.proofs.ShownLemmas.{shown_after_takes}
+use Rattle.sct_embed.proofs.ShownLemmas.{showing_after_takes}
 use Rattle.sct_embed.proofs.TakingLemmas.{grown_to}
 use Rattle.sct_embed.proofs.site.EmbeddedSite.take_lines.Goals as goal
 
 pub invariant_of-self : goal.invariant_of-self
 invariant_of-self c =
     let s = c.self.inside in
-    subst (λ (core : Core). IsShown s.showing.count core.arrivals s.showing.view) (sym c.in_err-take_all.ensures.partly.left)
-    (shown_after_takes s.showing.count s.core (take c.in_err-take_all.ensures.partly.count (messages_in c.deref.result.now)) s.showing.view c.self.invariant)
+    subst (λ (core : Core). IsShowing s.showing core.arrivals) (sym c.in_err-take_all.ensures.partly.left)
+    (showing_after_takes s.showing s.core (take c.in_err-take_all.ensures.partly.count (messages_in c.deref.result.now)) c.self.invariant)
 
 pub overflow_sub-fresh : goal.overflow_sub-fresh
 overflow_sub-fresh c =
@@ -34,8 +34,8 @@ overflow_sub-repeats c =
 pub invariant_of-self-2 : goal.invariant_of-self-2
 invariant_of-self-2 c =
     let s = c.self.inside in
-    subst (λ (core : Core). IsShown s.showing.count core.arrivals s.showing.view) (sym c.in_ok-take_all.ensures.ok)
-    (shown_after_takes s.showing.count s.core (messages_in c.deref.result.now) s.showing.view c.self.invariant)
+    subst (λ (core : Core). IsShowing s.showing core.arrivals) (sym c.in_ok-take_all.ensures.ok)
+    (showing_after_takes s.showing s.core (messages_in c.deref.result.now) c.self.invariant)
 
 pub returns-clause-taken : goal.returns-clause-taken
 returns-clause-taken c =
