@@ -1,5 +1,5 @@
 -- An empty place gets the site that was opened, or stays empty.
-use Rattle.std.proofs.Common.{◌≡◌, ◌≢◌, ◌∙◌, sym, subst, refl, ℕ, List, [], Bool, true, false, Option, Some, None, Result, Ok, Err, OnOk, IfOk, IfErr, inl, inr}
+use Rattle.std.proofs.Common.{◌≡◌, ◌≢◌, ◌∙◌, sym, subst, refl, ℕ, List, [], true, false, Option, Some, None, Result, Ok, Err, OnOk, IfOk, IfErr, inl, inr}
 use Rattle.std.specs.Option.{is_some}
 use Rattle.std.proofs.lemmas.Bool.{false≢true}
 use Rattle.sct_delta.specs.declared.fault.DeltaFault.TheVariants as delta

@@ -3,7 +3,7 @@
 use Rattle.std.specs.Prelude.{◌≡◌, ◌≤◌, ◌⊎◌, ℕ, List, [], Option, Some, None, Result, Ok, Err, OnOk, OnErr, IfOk, IfErr, true, false, length, take, drop, ◌<◌, ⊤}
 use Rattle.sct_delta.specs.declared.fault.DeltaFault.TheVariants as delta
 use Rattle.sct_lines.specs.Lines.{messages_read, refusals_told, told_text_of}
-use Rattle.sct_site.specs.Cores.{Core, is_open}
+use Rattle.sct_site.specs.Cores.{is_open}
 use Rattle.sct_site.specs.declared.answers.Took.{Took}
 use Rattle.sct_site.specs.declared.answers.Accepted.{Accepted}
 use Rattle.sct_embed.specs.Calls.{IsTaken, IsAccepted, RefusesMessage, RefusesDelta}
