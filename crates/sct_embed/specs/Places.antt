@@ -1,9 +1,9 @@
 -- What calls do to a place in which a program in another language keeps a site: the site before and after, and what the call
 -- returns. Read by an auditor.
-use Rattle.std.specs.Prelude.{◌≡◌, ◌≤◌, ℕ, List, [], Option, Some, None, Result, Ok, Err, OnOk, OnErr, IfOk, IfErr, true, false, length, take, drop, ◌<◌, ⊤}
+use Rattle.std.specs.Prelude.{◌≡◌, ◌≤◌, ◌⊎◌, ℕ, List, [], Option, Some, None, Result, Ok, Err, OnOk, OnErr, IfOk, IfErr, true, false, length, take, drop, ◌<◌, ⊤}
 use Rattle.sct_delta.specs.declared.fault.DeltaFault.TheVariants as delta
 use Rattle.sct_lines.specs.Lines.{messages_read, refusals_told, told_text_of}
-use Rattle.sct_site.specs.Cores.{Core, is_open}
+use Rattle.sct_site.specs.Cores.{is_open}
 use Rattle.sct_site.specs.declared.answers.Took.{Took}
 use Rattle.sct_site.specs.declared.answers.Accepted.{Accepted}
 use Rattle.sct_embed.specs.Calls.{IsTaken, IsAccepted, RefusesMessage, RefusesDelta}
@@ -36,11 +36,12 @@ IsCalled refused Does (Some site) outcome after = IsHeld (Does site outcome) aft
 
 -- ---- a site begins
 
--- A place that has a site is refused with 71, and keeps it. A site that is opened has this property, and its answer this length.
+-- A place that has a site is refused with 71, and keeps it. An empty place has a site with this property afterwards, whose
+-- answer has the length that is returned; or it is refused for this reason, and stays empty.
 abbrev pub IsFilled : (Embedding → Type 0) → (EmbedFault → Type 0) → Option Embedding → Outcome → Option Embedding → Type 0
 IsFilled Opened Refused (Some site) outcome after = (outcome ≡ refused_as fault.Full) × (after ≡ Some site)
-IsFilled Opened Refused None outcome None = (reason : EmbedFault) × ((outcome ≡ refused_as reason) × Refused reason)
 IsFilled Opened Refused None outcome (Some site) = (outcome ≡ done_as (Ok tt) (length site.answer)) × Opened site
+IsFilled Opened Refused None outcome None = (reason : EmbedFault) × ((outcome ≡ refused_as reason) × Refused reason)
 
 -- There is no such site, or the call is out of memory.
 abbrev pub NoSite : ℕ → ℕ → EmbedFault → Type 0
@@ -48,19 +49,34 @@ NoSite number group (fault.Delta delta.BadSite) = is_open number group ≡ false
 NoSite number group fault.Memory = ⊤
 NoSite number group other = ⊥
 
-abbrev pub Opens : ℕ → ℕ → Option Embedding → Outcome → Option Embedding → Type 0
-Opens number group = IsFilled
-    (λ site. site ≡ record { core = record { number = number; group = group; arrivals = [] }; answer = []; watched = None })
-    (NoSite number group)
+-- There is such a site, and it is a new one: it holds nothing, and its answer is empty.
+abbrev pub IsOpened : ℕ → ℕ → Embedding → Type 0
+IsOpened number group site =
+    (is_open number group ≡ true)
+    × (site ≡ record { core = record { number = number; group = group; arrivals = [] }; answer = []; watched = None })
 
-abbrev pub Restores : ℕ → ℕ → List ℕ → List ℕ → Option Embedding → Outcome → Option Embedding → Type 0
-Restores number group journal text = IsFilled
-    (λ site. site ≡ record {
+-- There is such a site, and it is made anew from a journal and a text.
+abbrev pub IsRestored : ℕ → ℕ → List ℕ → List ℕ → Embedding → Type 0
+IsRestored number group journal text site =
+    (is_open number group ≡ true)
+    × (site ≡ record {
       core = core_restored number group journal text;
       answer = restored_text number group journal text;
       watched = None;
     })
-    (NoSite number group)
+
+abbrev pub Opens : ℕ → ℕ → Option Embedding → Outcome → Option Embedding → Type 0
+Opens number group = IsFilled (IsOpened number group) (NoSite number group)
+
+abbrev pub Restores : ℕ → ℕ → List ℕ → List ℕ → Option Embedding → Outcome → Option Embedding → Type 0
+Restores number group journal text = IsFilled (IsRestored number group journal text) (NoSite number group)
+
+-- A place gets a site that was opened; or it is out of memory for the site, and is as it was.
+abbrev pub IsFilledWith : Result Embedding EmbedFault → Option Embedding → Outcome → Option Embedding → Type 0
+IsFilledWith (Err reason) before outcome after = (outcome ≡ refused_as reason) × (after ≡ before)
+IsFilledWith (Ok site) before outcome after =
+    ((outcome ≡ done_as (Ok tt) (length site.answer)) × (after ≡ Some site))
+    ⊎ ((outcome ≡ refused_as fault.Memory) × (after ≡ before))
 
 -- ---- messages and deltas
 
@@ -99,7 +115,7 @@ pub record TakesLines (text : List ℕ) (site : Embedding) (outcome : LinesOutco
 
 -- The answer is the text that was asked for. Or the call is refused, and the site is as it was.
 pub record IsAsked (asked : Result (List ℕ) EmbedFault) (site : Embedding) (outcome : Outcome) (later : Embedding) : Type 0 where
-  pub done : Result ⊤ EmbedFault
+  pub done : Result Unit EmbedFault
   pub told : outcome ≡ done_as done (length later.answer)
   pub answer : Answers asked done later.answer
   pub core : later.core ≡ site.core
@@ -108,7 +124,7 @@ pub record IsAsked (asked : Result (List ℕ) EmbedFault) (site : Embedding) (ou
 
 -- The answer is what changed since changes were asked for last. Or the call is out of memory, and the site is as it was.
 pub record Changes (site : Embedding) (outcome : Outcome) (later : Embedding) : Type 0 where
-  pub done : Result ⊤ EmbedFault
+  pub done : Result Unit EmbedFault
   pub told : outcome ≡ done_as done (length later.answer)
   pub answer : OnOk done (later.answer ≡ changes_since site.watched site.core.arrivals)
   pub core : later.core ≡ site.core
@@ -120,7 +136,7 @@ pub record Changes (site : Embedding) (outcome : Outcome) (later : Embedding) : 
 
 -- The counts of origin 1, 2, .. are written, unless more than 1024 are asked for.
 pub record Counts (before after : List ℕ) (site : Embedding) (outcome : Outcome) (later : Embedding) : Type 0 where
-  pub done : Result ⊤ EmbedFault
+  pub done : Result Unit EmbedFault
   pub told : outcome ≡ done_as done 0
   pub counts : OnOk done (AreCounts site.core.arrivals after)
   pub err : IfErr done (λ reason. (reason ≡ fault.Delta delta.BadSite) × (1024 < length before))

@@ -1,10 +1,8 @@
 //! Calls of the site of a place: it opens and closes, takes and accepts, and its counts and its answer are copied out.
 
-ghost use Rattle.std.specs.Prelude.{◌≡◌, None};
-ghost use Rattle.sct_exchange.specs.Sites.{cut_text};
-ghost use Rattle.sct_embed.specs.Calls.{cut_above_answer};
+ghost use Rattle.std.specs.Prelude.{◌≡◌, None, false};
 ghost use Rattle.sct_embed.specs.Outcomes.{refused_accept, refused_as, refused_lines, refused_take};
-ghost use Rattle.sct_embed.specs.Places.{Accepts, Changes, Copies, Counts, IsAsked, IsCalled, Opens, Restores, Takes, TakesLines};
+ghost use Rattle.sct_embed.specs.Places.{Accepts, Copies, Counts, IsCalled, IsFilledWith, Opens, Restores, Takes, TakesLines};
 
 use crate::faults::EmbedFault;
 use crate::outcomes::{AcceptOutcome, LinesOutcome, Outcome, TakeOutcome};
@@ -13,8 +11,10 @@ use crate::site::EmbeddedSite;
 use std::alloc::Global;
 
 impl Place {
-    // Puts a site into the place, if it was opened.
-    fn fill(&mut self, alloc: Global, opened: Result<EmbeddedSite, EmbedFault>) -> Outcome {
+    // Puts a site that was opened into the place.
+    fn fill(&mut self, alloc: Global, opened: Result<EmbeddedSite, EmbedFault>) -> Outcome
+        ensures { IsFilledWith opened self.old.handle.held result self.new.handle.held }
+    {
         let site = match opened {
             Ok(site) => site,
             Err(fault) => return Outcome::refused(fault),
@@ -109,7 +109,8 @@ impl Place {
     /// Writes how many entries of each origin the site holds, that of origin 1 first. At most 1024 are asked for.
     /// Refusals: `BadSite` (44), `Empty` (70).
     pub fn counts(&mut self, alloc: Global, out: &mut [u64]) -> Outcome
-        ensures { IsCalled refused_as (Counts out.old out.new) self.old.handle.held result self.new.handle.held }
+        ensures called { IsCalled refused_as (Counts out.old out.new) self.old.handle.held result self.new.handle.held }
+        ensures unwritten { result.ok ≡ false → out.new ≡ out.old }
     {
         let Some(site) = self.take_out(alloc) else {
             return Outcome::refused(EmbedFault::Empty);
@@ -119,38 +120,10 @@ impl Place {
         outcome
     }
 
-    /// The delta above a vector of counts becomes the answer, that of origin 1 first. An origin after them counts 0.
-    /// Refusals: `BadSite` (44), `Memory` (65), `Empty` (70).
-    pub fn cut_above(&mut self, alloc: Global, counts: &[u64]) -> Outcome
-        ensures { IsCalled refused_as (λ site. IsAsked (cut_above_answer counts.now site.core.arrivals) site)
-            self.old.handle.held result self.new.handle.held }
-    {
-        let Some(mut site) = self.take_out(alloc) else {
-            return Outcome::refused(EmbedFault::Empty);
-        };
-        let done = site.cut_above(counts);
-        let outcome = Outcome::of(done, site.answer().len());
-        self.put_in(site);
-        outcome
-    }
-
-    /// What changed since the call before becomes the answer: a line for each transfer. The first call begins the watch.
-    /// Refusals: `Memory` (65), `Empty` (70).
-    pub fn changes_text(&mut self, alloc: Global) -> Outcome
-        ensures { IsCalled refused_as Changes self.old.handle.held result self.new.handle.held }
-    {
-        let Some(mut site) = self.take_out(alloc) else {
-            return Outcome::refused(EmbedFault::Empty);
-        };
-        let done = site.changes_text();
-        let outcome = Outcome::of(done, site.answer().len());
-        self.put_in(site);
-        outcome
-    }
-
     /// Copies the answer, if it fits, and says its length. Refusal: `Empty` (70).
     pub fn answer(&mut self, alloc: Global, out: &mut [u8]) -> Outcome
-        ensures { IsCalled refused_as (Copies out.old out.new) self.old.handle.held result self.new.handle.held }
+        ensures called { IsCalled refused_as (Copies out.old out.new) self.old.handle.held result self.new.handle.held }
+        ensures unwritten { result.ok ≡ false → out.new ≡ out.old }
     {
         let Some(site) = self.take_out(alloc) else {
             return Outcome::refused(EmbedFault::Empty);

@@ -1,6 +1,6 @@
 //! Version vectors as counts, that of origin 1 first.
 
-ghost use Rattle.std.specs.Prelude.{◌≡◌, ◌<◌, ◌≤◌, ◌+◌, ℕ, length, slice_index, IfErr, IfOk};
+ghost use Rattle.std.specs.Prelude.{◌≡◌, ◌<◌, ◌≤◌, ◌+◌, ℕ, length, slice_index, IfErr, IfOk, OnOk};
 ghost use Rattle.sct_delta.specs.Vectors.{count_in};
 ghost use Rattle.sct_embed.specs.Counts.{counted, pairs_from, RefusesCounts};
 
@@ -23,6 +23,7 @@ fn pairs_of(alloc: Global, counts: &[u64]) -> Result<Vec<(u16, u64)>, AllocError
 /// Errors: `BadSite` (44) if there are more than 1024 counts; `Memory` (40).
 pub(crate) fn vector_of(alloc: Global, counts: &[u64]) -> Result<Vector, DeltaFault>
     ensures counts { IfOk result (λ vector. (origin : ℕ) → count_in vector origin ≡ counted counts.now origin) }
+    ensures fits { OnOk result (length counts.now ≤ 1024) }
     ensures err { IfErr result (RefusesCounts counts.now) }
 {
     if counts.len() > MOST_SITES as usize {

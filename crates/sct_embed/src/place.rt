@@ -1,6 +1,6 @@
 //! A place in which a program in another language keeps a site.
 
-ghost use Rattle.std.specs.Prelude.{◌≡◌, None, Ok, Some, option_map};
+ghost use Rattle.std.specs.Prelude.{◌≡◌, None, Some, option_map};
 ghost use Rattle.std.specs.Option.{is_some};
 ghost use Rattle.sct_embed.specs.Values.{value_of};
 

@@ -1,6 +1,6 @@
 //! A site of a group, and the text that it was asked for last.
 
-ghost use Rattle.std.specs.Prelude.{◌≡◌, ◌≢◌, ◌<◌, [], None, length, true, false, IfErr, IfOk, OnErr, OnOk};
+ghost use Rattle.std.specs.Prelude.{◌≡◌, ◌≢◌, ◌<◌, ◌≤◌, [], None, length, true, false, IfErr, IfOk, OnErr, OnOk};
 ghost use Rattle.sct_delta.specs.Entries.{messages_of};
 ghost use Rattle.sct_delta.specs.declared.fault.DeltaFault.TheVariants as delta;
 ghost use Rattle.sct_lines.specs.Lines.{messages_read, refusals_told, told_text_of};
@@ -244,6 +244,7 @@ impl EmbeddedSite {
     /// Errors: `BadSite` (44) if there are more than 1024 counts; `Memory` (65).
     pub fn cut_above(&mut self, counts: &[u64]) -> Result<(), EmbedFault>
         ensures cut { OnOk result (self.new.answer ≡ cut_text (counted counts.now) self.old.core.arrivals) }
+        ensures fits { OnOk result (length counts.now ≤ 1024) }
         ensures core { self.new.core ≡ self.old.core }
         ensures watched { self.new.watched ≡ self.old.watched }
         ensures err { IfErr result (λ e. e ≢ fault.Memory
