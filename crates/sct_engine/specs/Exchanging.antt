@@ -52,7 +52,7 @@ text_by_exchange gathered = wanted_text (wanted_of gathered.wanting) (exchanged_
 abbrev pub count_by_exchange : Gathered → ℕ
 count_by_exchange gathered = gathered.refusals.count + length (refused_by_exchange gathered)
 
--- the group can have so many sites, and has this one
+-- the group can have this number of sites, and the site is one of them
 abbrev pub is_possible : Gathered → Bool
 is_possible gathered = is_open gathered.site gathered.sites
 

@@ -1,6 +1,5 @@
 -- The streams of a run, and the faults that may end the reading of files. Read by an auditor.
 use Rattle.std.specs.Prelude.{ℕ, ◌≡◌, ◌<◌, ◌++◌, ◌∷◌, List, length, Option, IfSome}
-use Rattle.std.specs.List.{Contains}
 use Rattle.sct_engine.specs.declared.fault.ProgramFault.{ProgramFault}
 use Rattle.sct_engine.specs.declared.fault.ProgramFault.TheVariants.{TooLong, Read, Memory}
 use Rattle.sct_streams.specs.Files.{AreGiven}
@@ -24,17 +23,11 @@ EndsFile bytes Memory = Unit {0}
 EndsFile bytes _ = ⊥
 
 -- The file of the first path that cannot be read ends the reading. Those before it were read.
-pub record EndsFirst (gives : List ℕ → Option (List ℕ)) (paths : List (List ℕ)) (fault : ProgramFault) : Type 0 where
+pub record EndsFiles (gives : List ℕ → Option (List ℕ)) (paths : List (List ℕ)) (fault : ProgramFault) : Type 0 where
   pub before : List (List ℕ)
   pub path : List ℕ
   pub after : List (List ℕ)
   pub inputs : List (List ℕ)
   pub paths_are : paths ≡ before ++ path ∷ after
   pub read : AreGiven gives before inputs
-  pub ends : EndsFile (gives path) fault
-
--- the file of one of the paths ends the reading of all
-pub record EndsFiles (gives : List ℕ → Option (List ℕ)) (paths : List (List ℕ)) (fault : ProgramFault) : Type 0 where
-  pub path : List ℕ
-  pub named : Contains paths path
   pub ends : EndsFile (gives path) fault
