@@ -59,15 +59,9 @@ fn report_command<'a>(alloc: Global) -> Result<Command<'a>, AllocError>
     ensures app { IfOk result (λ c. app_of c ≡ report_command) }
     ensures own { IfOk result (λ c. (out-Command c).has_globals ≡ false) }
 {
-    let bank = Arg::new(alloc, "BANK")
-        .required(true)
-        .help("The BIC of the bank");
-    let day = Arg::new(alloc, "DAY")
-        .required(true)
-        .help("The settlement day");
-    let list = Arg::new(alloc, "LIST")
-        .required(true)
-        .help("The path of the bank's list");
+    let bank = Arg::new(alloc, "BANK").required(true);
+    let day = Arg::new(alloc, "DAY").required(true);
+    let list = Arg::new(alloc, "LIST").required(true);
     Command::new(alloc, "report")
         .about("Compares a bank's list for a settlement day with the messages on standard input")
         .arg(bank)?
@@ -82,8 +76,7 @@ fn run_command<'a>(alloc: Global) -> Result<Command<'a>, AllocError>
 {
     let file = Arg::new(alloc, "FILE")
         .required(true)
-        .action(ArgAction::Append)
-        .help("The path of a file of messages");
+        .action(ArgAction::Append);
     Command::new(alloc, "run")
         .about(
             "Brings sites to one answer, each filled from a file, and writes the status of each transfer",
@@ -126,12 +119,8 @@ fn place_command<'a>(
     ensures app { IfOk result (λ c. app_of c ≡ place_command name.now) }
     ensures own { IfOk result (λ c. (out-Command c).has_globals ≡ false) }
 {
-    let site = Arg::new(alloc, "SITE")
-        .required(true)
-        .help("The number of the site");
-    let sites = Arg::new(alloc, "SITES")
-        .required(true)
-        .help("The number of sites of the group");
+    let site = Arg::new(alloc, "SITE").required(true);
+    let sites = Arg::new(alloc, "SITES").required(true);
     Command::new(alloc, name).about(about).arg(site)?.arg(sites)
 }
 
@@ -141,12 +130,8 @@ fn with_files_of_a_site<'a>(alloc: Global, command: Command<'a>) -> Result<Comma
     ensures own { (out-Command command.entry).has_globals ≡ false
         → IfOk result (λ c. (out-Command c).has_globals ≡ false) }
 {
-    let journal = Arg::new(alloc, "JOURNAL")
-        .required(true)
-        .help("The path of the site's journal");
-    let delta = Arg::new(alloc, "DELTA")
-        .action(ArgAction::Append)
-        .help("The path of a delta");
+    let journal = Arg::new(alloc, "JOURNAL").required(true);
+    let delta = Arg::new(alloc, "DELTA").action(ArgAction::Append);
     command.arg(journal)?.arg(delta)
 }
 
@@ -181,9 +166,7 @@ fn cut_command<'a>(alloc: Global) -> Result<Command<'a>, AllocError>
     ensures app { IfOk result (λ c. app_of c ≡ cut_command) }
     ensures own { IfOk result (λ c. (out-Command c).has_globals ≡ false) }
 {
-    let have = Arg::new(alloc, "HAVE")
-        .required(true)
-        .help("The version vector of the site that the delta is for");
+    let have = Arg::new(alloc, "HAVE").required(true);
     let place = place_command(
         alloc,
         "cut",
