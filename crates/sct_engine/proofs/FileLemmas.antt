@@ -1,5 +1,5 @@
 -- Files that are read, one path more at a time, and what ends this. Proof plumbing.
-use Rattle.std.proofs.Common.{◌≡◌, ℕ, suc, ◌+◌, ◌<◌, List, [], ◌∷◌, ◌++◌, Option, Some, None, Result, Ok, Err, length, take, drop, map, get_or, IfSome, IfErr, sym, ap, ◌∙◌, subst, arith}
+use Rattle.std.proofs.Common.{◌≡◌, ℕ, suc, ◌+◌, ◌<◌, ◌≤◌, List, [], ◌∷◌, ◌++◌, Option, Some, None, Result, Ok, Err, length, take, drop, map, get_or, IfSome, IfErr, sym, ap, ◌∙◌, subst, arith}
 use Rattle.std.proofs.lemmas.Grind.{take_at_read}
 use Rattle.std.proofs.lemmas.List.{length-map, map-append, take-map}
 use Rattle.std.proofs.Math.Seq.{split_at}
@@ -8,7 +8,7 @@ use Rattle.sct_streams.specs.Whole.{EndsReading}
 use Rattle.sct_streams.specs.declared.whole.ReadFault.{ReadFault}
 use Rattle.sct_streams.specs.declared.whole.ReadFault.TheVariants as reading
 use Rattle.sct_engine.specs.Fault.{fault_of_read}
-use Rattle.sct_engine.specs.Stream.{EndsFile, EndsFiles}
+use Rattle.sct_engine.specs.Stream.{AreWithin, EndsFile, EndsFiles}
 use Rattle.sct_engine.specs.declared.fault.ProgramFault.{ProgramFault}
 use Rattle.sct_engine.specs.declared.fault.ProgramFault.TheVariants as fault
 
@@ -55,17 +55,29 @@ file_ends given left fault.Held opened ends = absurd ends
 file_ends given left (fault.Refused number) opened ends = absurd ends
 file_ends given left fault.NoWorker opened ends = absurd ends
 
+-- one input more that is within the limit
+pub within_more : (inputs : List (List ℕ)) (bytes : List ℕ) → AreWithin inputs → length bytes ≤ 1073741824 → AreWithin (inputs ++ bytes ∷ [])
+within_more [] bytes so_far now = (now, tt)
+within_more (b ∷ bs) bytes so_far now = (so_far.0, within_more bs bytes so_far.1 now)
+
+-- the same of the bytes of items
+pub items_within : {Y : Type 0} (items : Y → List ℕ) (inputs : List Y) (input : Y) → AreWithin (map items inputs) → length (items input) ≤ 1073741824
+    → AreWithin (map items (inputs ++ input ∷ []))
+items_within items inputs input so_far now =
+    subst AreWithin (sym (map-append items inputs (input ∷ []))) (within_more (map items inputs) (items input) so_far now)
+
 -- the file at a place ends the reading
 pub ends_at : {X : Type 0} (gives : List ℕ → Option (List ℕ)) (name : X → List ℕ) (paths : List X) (n : ℕ) (d : X) (inputs : List (List ℕ)) (e : ProgramFault)
-    → n < length paths → AreGiven gives (map name (take n paths)) inputs → EndsFile (gives (name (get_or paths n d))) e
+    → n < length paths → AreGiven gives (map name (take n paths)) inputs → AreWithin inputs → EndsFile (gives (name (get_or paths n d))) e
     → EndsFiles gives (map name paths) e
-ends_at gives name paths n d inputs e below read ends = record {
+ends_at gives name paths n d inputs e below read within ends = record {
   before = map name (take n paths);
   path = name (get_or paths n d);
   after = map name (drop (suc n) paths);
   inputs = inputs;
   paths_are = ap (map name) (split_at paths n d below) ∙ map-append name (take n paths) (get_or paths n d ∷ drop (suc n) paths);
   read = read;
+  within = within;
   ends = ends;
 }
 
@@ -76,9 +88,9 @@ ended_by P (Err f) e is holds = subst P (sym is) holds
 
 -- memory may be out at any path
 pub memory_at : {T X : Type 0} (result : Result T ProgramFault) (gives : List ℕ → Option (List ℕ)) (name : X → List ℕ) (paths : List X) (n : ℕ) (inputs : List (List ℕ))
-    → n < length paths → AreGiven gives (map name (take n paths)) inputs → IfErr result (λ e. e ≡ fault.Memory)
+    → n < length paths → AreGiven gives (map name (take n paths)) inputs → AreWithin inputs → IfErr result (λ e. e ≡ fault.Memory)
     → IfErr result (EndsFiles gives (map name paths))
-memory_at result gives name paths n inputs below read memory =
+memory_at result gives name paths n inputs below read within memory =
     let below_named : n < length (map name paths) = subst (λ m. n < m) (sym (length-map paths name)) below in
     ended_by (EndsFiles gives (map name paths)) result fault.Memory memory (record {
       before = take n (map name paths);
@@ -87,5 +99,6 @@ memory_at result gives name paths n inputs below read memory =
       inputs = inputs;
       paths_are = split_at (map name paths) n [] below_named;
       read = subst (λ ps. AreGiven gives ps inputs) (sym (take-map name n paths)) read;
+      within = within;
       ends = tt;
     })

@@ -1,5 +1,5 @@
 -- The files of a command on one site are read, or the first that cannot be read ends this.
-use Rattle.std.proofs.Common.{◌≡◌, ◌∷◌, ◌∙◌, codes, map, IfErr, ap, ap₂, rules, refl, subst}
+use Rattle.std.proofs.Common.{◌≡◌, ◌≤◌, ◌∷◌, ◌∙◌, codes, length, map, IfErr, ap, ap₂, rules, refl, subst}
 use Rattle.sct_exchange.specs.Journals.{core_taking, opened}
 use Rattle.sct_exchange.specs.Rounds.{exchanged}
 use Rattle.sct_lines.specs.Lines.{messages_read, refusals_told, told_after}
@@ -32,9 +32,10 @@ returns-in_err-deltas-clause-faults g c =
     let gives = g.R.Files.gives c.args.files.now in
     let deltas = map (λ path. path.now) c.args.command.deltas.items in
     let paths : c.deref-2.result.now ≡ c.args.command.deltas.items = c.deref-2.ensures.value in
+    let short : length c.in_ok-journal.journal.items ≤ 1073741824 = search rules in
     let is : IfErr c.from_residual-in_err-deltas.result (λ e. e ≡ c.in_err-deltas.field-0.0) = search rules in
     ended_by (EndsFiles gives (c.args.command.journal.now ∷ deltas)) c.from_residual-in_err-deltas.result c.in_err-deltas.field-0.0 is
-    (ends_later gives c.args.command.journal.now c.in_ok-journal.journal.items deltas c.in_err-deltas.field-0.0 c.in_ok-journal.ensures.given
+    (ends_later gives c.args.command.journal.now c.in_ok-journal.journal.items deltas c.in_err-deltas.field-0.0 c.in_ok-journal.ensures.given short
     (subst (λ ps. EndsFiles gives (map (λ path. path.now) ps) c.in_err-deltas.field-0.0) paths c.in_err-deltas.ensures.faults))
 
 pub returns-clause-gathered : goal.returns-clause-gathered
