@@ -1,9 +1,10 @@
 -- The orders that the words of a command line give, by clap's own definitions. Read by an auditor.
-use Rattle.std.specs.Prelude.{◌≡◌, ◌≢◌, ◌↔◌, true, List, [], ◌∷◌, Option, Some, None, option_and_then, IsTrue, Result, Ok, Err, codes}
+use Rattle.std.specs.Prelude.{◌≡◌, ◌≢◌, ◌↔◌, true, List, [], ◌∷◌, ◌++◌, Option, Some, None, option_and_then, IsTrue, Result, Ok, Err, codes, string_bytes}
 use Rattle.clap.specs.Words.{App, Rule, Text, new_app, new_rule, subcommand_of, with_rule, with_subcommand, fault_of, IsAmong}
 use Rattle.clap.specs.declared.builder.action.ArgAction.TheVariants.{Append}
 use Rattle.clap.specs.declared.error.kind.ErrorKind.{ErrorKind}
 use Rattle.clap.specs.declared.error.kind.ErrorKind.TheVariants as kind
+use Rattle.sct_version.specs.declared.TheConstants.{VERSION}
 use Rattle.sct_element.specs.Bank.{written_bic}
 use Rattle.sct_element.specs.Date.{written_day}
 use Rattle.sct_engine.specs.declared.jobs.Job.TheVariants.{Status, Archive, Totals, Replay}
@@ -14,11 +15,11 @@ use Rattle.sct_engine.specs.declared.request.Request.TheVariants.{Help, Mistake}
 use Rattle.sct_engine.specs.Places.{counts_in, delta, messages, place_named, vector, Wanted}
 use Rattle.sct_engine.specs.Request.{exchange, is_mistake, job, order_named, order_of, report, sites, Order}
 
--- a command that requires one of its subcommands
+-- a command that requires one of its subcommands, and has a version
 abbrev pub wanting_one : App → App
-wanting_one app = record app { top = record app.top { subcommand_required = true } }
+wanting_one app = record app { top = record app.top { subcommand_required = true; has_version = true } }
 
--- the program with the commands `status` and `archive`; one of its commands is required
+-- the program with the commands `status` and `archive`; one of its commands is required, or the option `--version`
 abbrev pub listing_commands : App
 listing_commands =
     with_subcommand (with_subcommand (wanting_one (new_app (codes "sct_sites"))) (new_app (codes "status")).top)
@@ -78,13 +79,19 @@ command_line = with_subcommand (with_subcommand (with_subcommand running_command
 abbrev pub order_asked : List Text → Option Order
 order_asked words = option_and_then (λ found. order_named found.0 found.1) (subcommand_of command_line words)
 
+-- the line that `--version` prints: the name of the program, a space and its version
+abbrev pub version_line : Text
+version_line = codes "sct_sites " ++ VERSION.now ++ 10 ∷ []
+
 -- clap counts this kind as an error, not as a request for help
 abbrev pub IsMistakeKind : ErrorKind → Type 0
 IsMistakeKind k = (k ≢ kind.DisplayHelp) × (k ≢ kind.DisplayVersion)
 
--- the request is not an order but clap's answer by an error of this kind
+-- The request is not an order but clap's answer by an error of this kind. The answer to a request for the version is
+-- the line with the version.
 abbrev pub AnswersKind : Request → ErrorKind → Type 0
-AnswersKind (Help text) k = IsTrue (is_mistake (Help text)) ↔ IsMistakeKind k
+AnswersKind (Help text) k =
+    (IsTrue (is_mistake (Help text)) ↔ IsMistakeKind k) × (k ≡ kind.DisplayVersion → string_bytes text ≡ version_line)
 AnswersKind (Mistake text) k = IsTrue (is_mistake (Mistake text)) ↔ IsMistakeKind k
 AnswersKind _ k = ⊥
 
@@ -141,3 +148,15 @@ pub record CommandsAskForTheirOrders : Type 0 where
   pub cut_all : (program : Text)
       → AskFor (program ∷ codes "cut" ∷ codes "1" ∷ codes "2" ∷ codes "-" ∷ codes "journal" ∷ [])
       (option_and_then (λ counts. exchange_at (delta counts) (codes "1") (codes "2") (codes "journal") []) (counts_in (codes "-")))
+
+-- clap answers the words by an error of this kind alone, and they give no order
+pub record AskForText (words : List Text) (k : ErrorKind) : Type 0 where
+  pub answer : fault_of command_line words ≡ k ∷ []
+  pub no_order : order_asked words ≡ None
+
+-- the options ask for the help and for the version, whatever the program is called
+pub record OptionsAskForTheirTexts : Type 0 where
+  pub help : (program : Text) → AskForText (program ∷ codes "--help" ∷ []) kind.DisplayHelp
+  pub help_by_letter : (program : Text) → AskForText (program ∷ codes "-h" ∷ []) kind.DisplayHelp
+  pub version : (program : Text) → AskForText (program ∷ codes "--version" ∷ []) kind.DisplayVersion
+  pub version_by_letter : (program : Text) → AskForText (program ∷ codes "-V" ∷ []) kind.DisplayVersion

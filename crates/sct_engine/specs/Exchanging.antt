@@ -1,5 +1,5 @@
 -- The commands on one site: the site is made of the files that are named, and what is wanted of it is written. Read by an auditor.
-use Rattle.std.specs.Prelude.{ℕ, ◌≡◌, ◌+◌, ◌++◌, ◌∷◌, List, [], codes, length, map, Bool, Option}
+use Rattle.std.specs.Prelude.{ℕ, ◌≡◌, ◌≤◌, ◌+◌, ◌++◌, ◌∷◌, List, [], codes, length, map, Bool, Option}
 use Rattle.sct_delta.specs.DeltaText.{delta_in}
 use Rattle.sct_delta.specs.Entries.{Placed}
 use Rattle.sct_exchange.specs.RefusedFiles.{refused_text}
@@ -11,6 +11,7 @@ use Rattle.sct_lines.specs.Lines.{refusals_told, told_after}
 use Rattle.sct_message.specs.Sets.{messages_in}
 use Rattle.sct_site.specs.Cores.{is_open}
 use Rattle.sct_streams.specs.Files.{AreGiven, IsGiven}
+use Rattle.sct_engine.specs.Stream.{AreWithin}
 use Rattle.sct_engine.specs.Places.{delta, messages, vector, wanted_of, Wanted}
 use Rattle.sct_engine.specs.declared.exchanging.Gathered.{Gathered}
 use Rattle.sct_engine.specs.declared.fault.ProgramFault.{ProgramFault}
@@ -52,22 +53,25 @@ text_by_exchange gathered = wanted_text (wanted_of gathered.wanting) (exchanged_
 abbrev pub count_by_exchange : Gathered → ℕ
 count_by_exchange gathered = gathered.refusals.count + length (refused_by_exchange gathered)
 
--- the group can have so many sites, and has this one
+-- the group can have this number of sites, and the site is one of them
 abbrev pub is_possible : Gathered → Bool
 is_possible gathered = is_open gathered.site gathered.sites
 
 -- ---- the files
 
--- The file is what a text is read as, and the text is that of the path, if that is known.
+-- The file is what a text is read as. The text is that of the path, if that is known, and has at most 1,073,741,824 bytes.
 pub record IsReadAs (gives : List ℕ → Option (List ℕ)) (path : List ℕ) (file : File) : Type 0 where
   pub text : List ℕ
   pub given : IsGiven gives path text
+  pub within : length text ≤ 1073741824
   pub read : file ≡ delta_in text
 
--- The files are what texts are read as, and the texts are those of the paths, in their order.
+-- The files are what texts are read as. The texts are those of the paths, in their order, and none has more than
+-- 1,073,741,824 bytes.
 pub record AreReadAs (gives : List ℕ → Option (List ℕ)) (paths : List (List ℕ)) (files : List File) : Type 0 where
   pub texts : List (List ℕ)
   pub given : AreGiven gives paths texts
+  pub within : AreWithin texts
   pub read : files ≡ files_in texts
 
 -- The files of a command on one site were read, each from its own path. The site is then the one that takes its journal and

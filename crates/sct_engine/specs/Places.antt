@@ -2,9 +2,8 @@
 use Rattle.std.specs.Prelude.{ℕ, List, [], if◌then◌else◌, Option, Some, None, codes, option_and_then, option_map}
 use Rattle.clap.specs.Words.{Row, Text, all_of, first_of}
 use Rattle.sct_delta.specs.Vectors.{count_in}
-use Rattle.sct_delta.specs.TextLines.{number_in}
 use Rattle.sct_delta.specs.VectorText.{counts_of, vector_in}
-use Rattle.sct_script.specs.Events.{site_named}
+use Rattle.sct_script.specs.Events.{site_in}
 use Rattle.sct_site.specs.Cores.{is_open}
 use Rattle.sct_engine.specs.declared.places.Wanting.{Wanting}
 use Rattle.sct_engine.specs.declared.places.Wanting.TheVariants as wanting
@@ -21,20 +20,17 @@ wanted_of wanting.Messages = messages
 wanted_of wanting.Vector = vector
 wanted_of (wanting.Delta have) = delta (count_in have)
 
--- the number that a word writes in decimals, without a sign and without leading zeros, if it is below 65,536
-abbrev pub number_named : Text → Option ℕ
-number_named word = option_and_then site_named (number_in word)
-
+-- the number that an argument writes in decimals, without a sign and without leading zeros, if it is below 65,536
 abbrev pub number_ordered : Text → List Row → Option ℕ
-number_ordered name given = option_and_then number_named (first_of name given)
+number_ordered name given = option_and_then site_in (first_of name given)
 
--- the number of a site and the number of sites, if a group can have so many sites and has this one
+-- the number of a site and the number of sites, if a group can have this number of sites and the site is one of them
 abbrev pub place_from : ℕ → ℕ → Option (ℕ × ℕ)
 place_from site sites = if is_open site sites then Some (site, sites) else None
 
 -- the same from the words that write the numbers
 abbrev pub place_named : Text → Text → Option (ℕ × ℕ)
-place_named number group = option_and_then (λ site. option_and_then (λ sites. place_from site sites) (number_named group)) (number_named number)
+place_named number group = option_and_then (λ site. option_and_then (λ sites. place_from site sites) (site_in group)) (site_in number)
 
 abbrev pub place_ordered : List Row → Option (ℕ × ℕ)
 place_ordered given =

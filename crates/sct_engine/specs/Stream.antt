@@ -1,6 +1,5 @@
 -- The streams of a run, and the faults that may end the reading of files. Read by an auditor.
-use Rattle.std.specs.Prelude.{ℕ, ◌≡◌, ◌<◌, ◌++◌, ◌∷◌, List, length, Option, IfSome}
-use Rattle.std.specs.List.{Contains}
+use Rattle.std.specs.Prelude.{ℕ, ◌≡◌, ◌<◌, ◌++◌, ◌∷◌, List, length, Option, IfSome, ◌≤◌, []}
 use Rattle.sct_engine.specs.declared.fault.ProgramFault.{ProgramFault}
 use Rattle.sct_engine.specs.declared.fault.ProgramFault.TheVariants.{TooLong, Read, Memory}
 use Rattle.sct_streams.specs.Files.{AreGiven}
@@ -23,18 +22,18 @@ EndsFile bytes TooLong = IfSome bytes (λ known. 1073741824 < length known)
 EndsFile bytes Memory = Unit {0}
 EndsFile bytes _ = ⊥
 
--- The file of the first path that cannot be read ends the reading. Those before it were read.
-pub record EndsFirst (gives : List ℕ → Option (List ℕ)) (paths : List (List ℕ)) (fault : ProgramFault) : Type 0 where
+-- none of the inputs has more than 1,073,741,824 bytes
+abbrev pub AreWithin : List (List ℕ) → Type 0
+AreWithin [] = Unit {0}
+AreWithin (input ∷ inputs) = (length input ≤ 1073741824) × AreWithin inputs
+
+-- The file of the first path that cannot be read ends the reading. Those before it were read, and none of them was too long.
+pub record EndsFiles (gives : List ℕ → Option (List ℕ)) (paths : List (List ℕ)) (fault : ProgramFault) : Type 0 where
   pub before : List (List ℕ)
   pub path : List ℕ
   pub after : List (List ℕ)
   pub inputs : List (List ℕ)
   pub paths_are : paths ≡ before ++ path ∷ after
   pub read : AreGiven gives before inputs
-  pub ends : EndsFile (gives path) fault
-
--- the file of one of the paths ends the reading of all
-pub record EndsFiles (gives : List ℕ → Option (List ℕ)) (paths : List (List ℕ)) (fault : ProgramFault) : Type 0 where
-  pub path : List ℕ
-  pub named : Contains paths path
+  pub within : AreWithin inputs
   pub ends : EndsFile (gives path) fault

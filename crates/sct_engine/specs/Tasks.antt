@@ -18,7 +18,7 @@ use Rattle.sct_engine.specs.Exchanging.{count_by_exchange, text_by_exchange, tol
 use Rattle.sct_engine.specs.declared.task.Task.{Task}
 use Rattle.sct_engine.specs.declared.task.Task.TheVariants.{Work, Settle, Exchange, Help, Mistake}
 use Rattle.sct_engine.specs.Engine.{bad_row_of, job_text_if_told, refused_of, told_text_if_told}
-use Rattle.sct_engine.specs.Stream.{EndsFile, EndsFiles, EndsFirst}
+use Rattle.sct_engine.specs.Stream.{EndsFile, EndsFiles}
 use Rattle.sct_streams.specs.Files.{AreGiven, IsGiven}
 
 -- ---- the files
@@ -43,7 +43,7 @@ IsTaskOf gives _ _ = ⊥
 abbrev pub EndsFilesOf : (List ℕ → Option (List ℕ)) → Request → ProgramFault → Type 0
 EndsFilesOf gives (request.Reconcile with) fault = EndsFile (gives with.list.now) fault
 EndsFilesOf gives (request.Settle files) fault = EndsFiles gives (map (λ path. path.now) files.items) fault
-EndsFilesOf gives (request.Exchange command) fault = EndsFirst gives (command.journal.now ∷ map (λ path. path.now) command.deltas.items) fault
+EndsFilesOf gives (request.Exchange command) fault = EndsFiles gives (command.journal.now ∷ map (λ path. path.now) command.deltas.items) fault
 EndsFilesOf gives _ fault = ⊥
 
 -- the task of a request with the bytes of its files, or the fault by which these could not be read

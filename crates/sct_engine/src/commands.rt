@@ -1,11 +1,39 @@
 //! The command line, as clap sees it.
-ghost use Rattle.std.specs.Prelude.{◌≡◌, IfOk, false};
+ghost use Rattle.std.specs.Prelude.{◌≡◌, IfOk, false, string_bytes};
 ghost use Rattle.clap.specs.Words.{app_of};
 ghost use Rattle.clap.specs.declared.builder.command.Command.TheViews.{out-Command};
-ghost use Rattle.sct_engine.specs.CommandLine.{command_line, comparing_commands, cut_command, files_of_a_site, listing_commands, place_command, report_command, run_command, running_commands, site_command, vector_command};
+ghost use Rattle.sct_engine.specs.CommandLine.{command_line, comparing_commands, cut_command, files_of_a_site, listing_commands, place_command, report_command, run_command, running_commands, site_command, vector_command, version_line};
 
 use clap::{Arg, ArgAction, Command};
+use sct_version::VERSION;
 use std::alloc::{AllocError, Global};
+
+// The end of the help: the arguments of the commands, and the exit statuses.
+const END_OF_HELP: &str = "Arguments of the commands:
+  BANK     The BIC of the bank, of 8 or 11 characters
+  DAY      The settlement day, as 2024-05-02
+  LIST     The path of the bank's list
+  FILE     The path of a file of messages. There are 1 to 16 of them
+  SITE     The number of the site, from 1 to SITES
+  SITES    The number of sites of the group, from 1 to 1024
+  HAVE     The version vector of the site that the delta is for, as 1:3,2:5, or - for a site without entries
+  JOURNAL  The path of the site's journal
+  DELTA    The path of a delta. There may be none
+
+Exit status:
+  0  Every line was taken, or a help or the version was printed
+  1  Some line or file was refused
+  2  A fault ended the run
+  3  The program was out of memory
+
+The page docs/CODES.md and the man page sct_sites(1) explain the numbers on standard error.";
+
+/// The line that `--version` prints. Error: out of memory.
+pub fn version_line(alloc: Global) -> Result<String, AllocError>
+    ensures { IfOk result (λ line. string_bytes line ≡ version_line) }
+{
+    format!(in alloc; "sct_sites {VERSION}\n")
+}
 
 // The program with the commands `status` and `archive`.
 fn listing_commands<'a>(alloc: Global) -> Result<Command<'a>, AllocError>
@@ -19,6 +47,8 @@ fn listing_commands<'a>(alloc: Global) -> Result<Command<'a>, AllocError>
     );
     Command::new(alloc, "sct_sites")
         .about("Answers on the SEPA Instant messages of a clearing hub")
+        .after_help(END_OF_HELP)
+        .version(VERSION)
         .subcommand_required(true)
         .subcommand(status)?
         .subcommand(archive)

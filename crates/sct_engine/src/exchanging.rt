@@ -7,7 +7,7 @@ ghost use Rattle.sct_exchange.specs.Sites.{cut_text};
 ghost use Rattle.sct_engine.specs.Engine.{AreCutOff};
 ghost use Rattle.sct_engine.specs.Exchanging.{count_by_exchange, is_possible, text_by_exchange, told_by_exchange, vector_line, wanted_text, AreReadAs, EndsExchange, IsGathered, IsReadAs};
 ghost use Rattle.sct_engine.specs.Places.{wanted_of};
-ghost use Rattle.sct_engine.specs.Stream.{EndsFile, EndsFirst};
+ghost use Rattle.sct_engine.specs.Stream.{EndsFile, EndsFiles};
 ghost use Rattle.sct_engine.specs.declared.fault.ProgramFault.TheVariants as fault;
 ghost use Rattle.sct_set.specs.Archive.{archive_text_of};
 ghost use Rattle.sct_set.specs.Pieces.{joined};
@@ -69,7 +69,7 @@ fn read_deltas<R: Files>(
     paths: &[&str],
 ) -> Result<Vec<DeltaFile>, ProgramFault>
     ensures read { IfOk result (λ deltas. AreReadAs (R.gives files.now) (map (λ path. path.now) paths.now) deltas.items) }
-    ensures faults { IfErr result (EndsFirst (R.gives files.now) (map (λ path. path.now) paths.now)) }
+    ensures faults { IfErr result (EndsFiles (R.gives files.now) (map (λ path. path.now) paths.now)) }
 {
     let mut deltas = Vec::new(alloc);
     for path in paths {
@@ -88,7 +88,7 @@ pub fn gather<T: Threads + Sync, R: Files>(
     command: SiteCommand<'_>,
 ) -> Result<Gathered, ProgramFault>
     ensures gathered { IfOk result (IsGathered (R.gives files.now) command.entry) }
-    ensures faults { IfErr result (EndsFirst (R.gives files.now)
+    ensures faults { IfErr result (EndsFiles (R.gives files.now)
         (command.entry.journal.now ∷ map (λ path. path.now) command.entry.deltas.items)) }
 {
     let journal = read_file(alloc, files, command.journal)?;

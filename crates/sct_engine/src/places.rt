@@ -2,8 +2,7 @@
 ghost use Rattle.std.specs.Prelude.{◌≡◌, codes, map, option_map, IfErr, IfOk};
 ghost use Rattle.clap.specs.Words.{first_of, found_of, rows_of};
 ghost use Rattle.sct_delta.specs.Vectors.{count_in};
-ghost use Rattle.sct_engine.specs.Places.{deltas_ordered, have_ordered, number_named, number_ordered, place_ordered, wanted_of};
-ghost use Rattle.sct_script.specs.Events.{site_named};
+ghost use Rattle.sct_engine.specs.Places.{deltas_ordered, have_ordered, number_ordered, place_ordered, wanted_of};
 ghost use Rattle.sct_engine.specs.Request.{cut_ordered, exchange_from, IsOrdered};
 ghost use Rattle.sct_engine.specs.declared.fault.ProgramFault.TheVariants as fault;
 ghost use Rattle.sct_site.specs.Cores.{is_open};
@@ -11,7 +10,8 @@ ghost use Rattle.sct_site.specs.Cores.{is_open};
 use crate::fault::ProgramFault;
 use crate::request::Request;
 use clap::ArgMatches;
-use sct_delta::{MOST_SITES, Vector, number_of, read_vector};
+use sct_delta::{MOST_SITES, Vector, read_vector};
+use sct_script::site_of;
 use std::alloc::Global;
 
 /// What is wanted of a site.
@@ -40,28 +40,13 @@ pub struct SiteCommand<'a> {
     pub deltas: Vec<&'a str>,
 }
 
-// The number, if it is below 65,536.
-fn in_16_bits(number: u64) -> Option<u16>
-    ensures { result ≡ site_named number }
-{
-    u16::try_from(number).ok()
-}
-
-// The number that a word writes in decimals, if it is below 65,536.
-fn number_named(word: &str) -> Option<u16>
-    ensures { result ≡ number_named word.now }
-{
-    let number = number_of(word.as_bytes())?;
-    in_16_bits(number)
-}
-
 // The number that an argument writes.
 #[tactic(auto, using(crate::proofs::Values::value_given))]
 fn number_given(given: &ArgMatches<'_>, name: &str) -> Option<u16>
     ensures { result ≡ number_ordered name.now (rows_of (found_of given.now)) }
 {
     let word = given.get_str(name)?;
-    number_named(word)
+    site_of(word.as_bytes())
 }
 
 // Whether a group can have this many sites, and the site is one of them.

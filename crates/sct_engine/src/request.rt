@@ -5,11 +5,11 @@ ghost use Rattle.sct_engine.specs.Ending.{EndsAsking, words_fault};
 ghost use Rattle.std.specs.IoError.{error_kind};
 ghost use Rattle.clap.specs.Words.{all_of, found_of, rows_of, subcommand_rows_of};
 ghost use Rattle.clap.specs.Values.{kind_of};
-ghost use Rattle.sct_engine.specs.CommandLine.{AnswersKind, AreAsking, CommandsAskForTheirOrders};
+ghost use Rattle.sct_engine.specs.CommandLine.{AnswersKind, AreAsking, CommandsAskForTheirOrders, OptionsAskForTheirTexts};
 ghost use Rattle.clap.specs.declared.error.kind.ErrorKind.TheVariants as kind;
 ghost use Rattle.sct_engine.specs.Request.{job_named, is_mistake, order_named, report_ordered, report_with, sites_from, AsksForNoOrder, IsOrdered};
 
-use crate::commands::command;
+use crate::commands::{command, version_line};
 use crate::fault::ProgramFault;
 use crate::jobs::Job;
 use crate::places::{SiteCommand, Wanting, request_of_cut, request_on_site};
@@ -43,7 +43,7 @@ pub enum Request<'a> {
     Settle(Vec<&'a str>),
     /// Make a site of its journal and deltas, and write what is wanted of it.
     Exchange(SiteCommand<'a>),
-    /// Show this help.
+    /// Show this help, or this line with the version.
     Help(String),
     /// A mistake in the command line: the text of clap says why.
     Mistake(String),
@@ -71,7 +71,7 @@ pub fn read_words(alloc: Global, words: io::Result<Args>) -> Result<Vec<String>,
     }
 }
 
-// The request if clap reports an error in place of matches: help, or a mistake.
+// The request if clap reports an error in place of matches: help, the version, or a mistake.
 fn request_of_error<'a>(alloc: Global, error: &Error) -> Result<Request<'a>, ProgramFault>
     ensures no_order { IfOk result AsksForNoOrder }
     ensures mistake { IfOk result (λ r. IsTrue (is_mistake r)
@@ -82,6 +82,9 @@ fn request_of_error<'a>(alloc: Global, error: &Error) -> Result<Request<'a>, Pro
 {
     if error.kind() == ErrorKind::OutOfMemory {
         return Err(ProgramFault::Memory);
+    }
+    if error.kind() == ErrorKind::DisplayVersion {
+        return Ok(Request::Help(version_line(alloc)?));
     }
     let text = format!(in alloc; "{error}")?;
     if error.use_stderr() {
@@ -178,6 +181,11 @@ fn request_of_matches<'a>(
 // A law: each of the commands, after any name of the program, asks for its order.
 fn commands_ask_for_their_orders()
     ensures { CommandsAskForTheirOrders }
+{}
+
+// A law: the options ask for the help and for the version, after any name of the program.
+fn options_ask_for_their_texts()
+    ensures { OptionsAskForTheirTexts }
 {}
 
 /// Reads the words of a command line, the first of which is the program's name. Errors: `Usage` (64) if the words ask

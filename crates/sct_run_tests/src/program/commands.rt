@@ -31,8 +31,8 @@ pub static JOBS: [Command; 2] = [
     },
 ];
 
-/// Words that ask for no job, and words that ask for help.
-pub static WORDS: [Command; 2] = [
+/// Words that ask for no job, and words that ask for help or for the version.
+pub static WORDS: [Command; 3] = [
     Command {
         words: &["sct_sites", "status", "archive"],
         input: BOTH,
@@ -45,6 +45,13 @@ pub static WORDS: [Command; 2] = [
         input: BOTH,
         status: 0,
         out: b"Writes the status of each transfer in the messages on standard input\n\nUsage: sct_sites status\n\nOptions:\n  -h, --help  Print help\n",
+        err: b"",
+    },
+    Command {
+        words: &["sct_sites", "--version"],
+        input: BOTH,
+        status: 0,
+        out: b"sct_sites 0.2.0\n",
         err: b"",
     },
 ];
