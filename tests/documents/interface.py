@@ -1,6 +1,7 @@
 """interface.py: VERSION, the C header, the Python package and the crate sct_c have one version, one interface and one list of numbers.
 
-VERSION has the version. The macros of include/niluppang.h, bindings/python and the function `sct_version` of sct_c agree with it. Each
+VERSION has the version. The macros of include/niluppang.h, bindings/python, the crate sct_version and the function `sct_version` of
+sct_c agree with it. Each
 function that the header declares is an export of sct_c with the same types, and there is no other export. The results have the same
 fields in the header, in the crate and in Python. The numbers and names of the header's table are those of Python, and are numbers of
 the code. What concerns sct_c is compared if crates.txt names it.
@@ -76,6 +77,8 @@ def crate_checks(version):
     source = (CRATES / "sct_c" / "src" / "lib.rt").read_text(encoding="utf-8")
     number = re.search(r"\bfn sct_version\(\).*?\{\s*(\d+)\s*\}", source, re.S)
     major, minor, patch = map(int, version.split("."))
+    printed = (TOP / "crates" / "sct_version" / "src" / "lib.rt").read_text(encoding="utf-8")
+    yield reported("what the program prints is VERSION", f'pub const VERSION: &str = "{version}";\n' in printed)
     yield reported("sct_version of sct_c is VERSION", number and int(number.group(1)) == major * 1000000 + minor * 1000 + patch)
     ours, theirs = declared(), exported(source)
     for name in sorted({*ours, *theirs}):
