@@ -1,10 +1,9 @@
 """interface.py: VERSION, the C header, the Python package and the crate sct_c have one version, one interface and one list of numbers.
 
 VERSION has the version. The macros of include/niluppang.h, bindings/python, the crate sct_version and the function `sct_version` of
-sct_c agree with it. Each
-function that the header declares is an export of sct_c with the same types, and there is no other export. The results have the same
-fields in the header, in the crate and in Python. The numbers and names of the header's table are those of Python, and are numbers of
-the code. What concerns sct_c is compared if crates.txt names it.
+sct_c agree with it. Each function that the header declares is an export of sct_c with the same types, and there is no other export.
+The results have the same fields in the header, in the crate and in Python. The numbers and names of the header's table are those of
+its enumeration and of Python, and are numbers of the code. What concerns sct_c is compared if crates.txt names it.
 """
 import re, sys
 from tests import harness

@@ -6,7 +6,7 @@ from tests.harness import CRATES, TOP
 # body does nothing. The ghost members of an `impl`, and the ghost fields of a type, make up one that has no name.
 Function = collections.namedtuple("Function", "name type trait file clauses is_law")
 
-HEAD = re.compile(r"( *)(?:pub(?:\([a-z]+\))? )?(?:const |unsafe )*fn (\w+)")
+HEAD = re.compile(r"( *)(?:pub(?:\([a-z]+\))? )?(?:const |unsafe |extern \"C\" )*fn (\w+)")
 OWNER = re.compile(r"(?:pub(?:\([a-z]+\))? )?(impl|trait)\b(?:<(?:[^<>]|<[^<>]*>)*>)? +(.*?)(?: where .*)?\{?$")
 CLAUSE = re.compile(r" +ensures(?: (\w+))? \{")
 STRUCT = re.compile(r"(?:pub(?:\([a-z]+\))? )?struct (\w+).* \{$")
