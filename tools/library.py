@@ -1,15 +1,17 @@
-"""library.py: makes libniluppang.a and libniluppang.so of the static library that `rt lib` leaves in crates/sct_c.
+"""library.py: makes libniluppang.a and libniluppang.so of the static library of crates/sct_c.
 
 Usage: tools/library.py FOLDER
 
 The archive has one object: the library, and the code of the toolchain that calls malloc, realloc and free. So a program needs nothing
 but the C library. The shared library is made of it. Both give away the names that begin with `sct_` and no other. The same inputs
-make the same bytes. It needs gcc and binutils. The variable SCT_C names another static library.
+make the same bytes. It needs gcc and binutils. `rt lib` makes the static library first, if it is not there or not of these sources
+(kept.py). The variable SCT_C names another one.
 """
 import os, pathlib, shutil, subprocess, sys, tempfile
+sys.path.insert(0, str(pathlib.Path(__file__).resolve().parents[1]))
+from tools import kept
 
-TOP = pathlib.Path(__file__).resolve().parents[1]
-BUILT = TOP / "crates" / "sct_c" / "out" / "libsct_c.a"
+TOP = kept.TOP
 VERSION = (TOP / "VERSION").read_text(encoding="utf-8").strip()
 SONAME = "libniluppang.so." + ".".join(VERSION.split(".")[:2])
 EXPORTS = "{ global: sct_*; local: *; };\n"
@@ -22,10 +24,13 @@ class Missing(Exception):
 
 def static_library():
     """The static library of sct_c."""
-    path = pathlib.Path(os.environ.get("SCT_C") or BUILT)
-    if not path.is_file():
-        raise Missing(f"there is no static library {path}; `rt lib` in crates/sct_c makes it")
-    return path
+    named = os.environ.get("SCT_C")
+    if named and not pathlib.Path(named).is_file():
+        raise Missing(f"there is no static library {named}, which SCT_C names")
+    why = None if named else kept.make()
+    if why:
+        raise Missing(f"the static library is not made: {why}")
+    return pathlib.Path(named or kept.BUILT)
 
 
 def toolchain():

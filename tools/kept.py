@@ -1,0 +1,77 @@
+"""kept.py: has `rt lib` make the static library of sct_c over the libraries that `rt ci` proved on this machine.
+
+`rt ci` checks a static library and builds none, and `rt lib` takes no library of `rt ci` by itself: it would prove all crates below again,
+which takes most of an hour. So the libraries that the gate proved and kept are put where `rt lib` looks for them, each under the key
+by which `rt ci` itself finds it again: the sum of its sources, of its line in crates.txt and of the libraries below it. What was not kept,
+`rt lib` proves. It proves sct_c in each case.
+"""
+import contextlib, hashlib, importlib.machinery, importlib.util, io, os, pathlib, shutil, subprocess, sys
+
+TOP = pathlib.Path(__file__).resolve().parents[1]
+CRATE = TOP / "crates" / "sct_c"
+BUILT = CRATE / "out" / "libsct_c.a"
+
+
+def sources():
+    """A sum of all that the library is made of: crates.txt, and the files of each crate."""
+    sums = hashlib.sha256((TOP / "crates.txt").read_bytes())
+    for path in sorted(path for part in ("src", "specs", "proofs") for path in TOP.glob(f"crates/*/{part}/**/*") if path.is_file()):
+        sums.update(f"{path.relative_to(TOP)} ".encode() + path.read_bytes())
+    return sums.hexdigest()
+
+
+def module_of(rt):
+    """The command rt as a module, for its own names of what it kept."""
+    sys.path.insert(0, str(pathlib.Path(rt).resolve().parent))
+    loader = importlib.machinery.SourceFileLoader("rt", str(pathlib.Path(rt).resolve()))
+    module = importlib.util.module_from_spec(importlib.util.spec_from_loader("rt", loader))
+    loader.exec_module(module)
+    return module
+
+
+def take(module, kept, crate):
+    """Puts a library that was kept where `rt lib` looks for it. Returns whether it is there."""
+    if any(below.name not in kept.rlibs for below in crate.below()):
+        return False
+    if not os.path.isdir(kept.place(crate, False, kept.key(crate))):
+        return False
+    shutil.rmtree(f"{crate.folder}/out/rlib", ignore_errors=True)
+    if not kept.give(crate, False, kept.key(crate)):
+        return False
+    pathlib.Path(crate.folder, "out", "rlib", "stamp").write_text(crate.stamp(), encoding="utf-8")
+    kept.is_built(crate)
+    return True
+
+
+def take_all(rt):
+    """Puts each library below sct_c that was kept where `rt lib` looks for it."""
+    module = module_of(rt)
+    module.Crate.allowed = module.handles_of(str(TOP))
+    crates = module.crates_of(str(TOP))
+    kept = module.Kept(crates)
+    below = next(crate for crate in crates if crate.name == "sct_c").below()
+    for crate in crates:
+        if crate in below and not take(module, kept, crate):
+            return
+
+
+def make():
+    """Has `rt lib` make the static library, unless it is there and of these sources. Returns why it could not, or None."""
+    mark, now = BUILT.with_suffix(".sum"), sources()
+    if BUILT.is_file() and mark.is_file() and mark.read_text(encoding="utf-8") == now:
+        return None
+    rt = shutil.which("rt")
+    if rt is None:
+        return "there is no command rt on this machine"
+    with contextlib.suppress(Exception, SystemExit), contextlib.redirect_stdout(io.StringIO()):
+        here = os.getcwd()
+        os.chdir(TOP)
+        try:
+            take_all(rt)
+        finally:
+            os.chdir(here)
+    ran = subprocess.run(["rt", "lib"], cwd=CRATE, stdin=subprocess.DEVNULL, capture_output=True, text=True, errors="replace")
+    if ran.returncode or not BUILT.is_file():
+        return f"`rt lib` in crates/sct_c ended with status {ran.returncode}: {ran.stderr.strip()[-300:]}"
+    mark.write_text(now, encoding="utf-8")
+    return None
