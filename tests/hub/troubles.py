@@ -15,7 +15,7 @@ EXAMPLE = ["bank-day", "hub-morning", "recall-batch", "refusals", "settlement-da
 
 
 def lines_of(first, many):
-    """Lines of so many instructions from a number on."""
+    """Lines of instructions, from a number on."""
     return "".join(map(inputs.instruction, range(first, first + many))).encode()
 
 
@@ -339,7 +339,7 @@ def guards(trial):
 
 
 def events(connection, many):
-    """So many server-sent events, each as its fields."""
+    """The next server-sent events, each as its fields."""
     found, fields = [], {}
     while len(found) < many:
         line = connection.readline().decode().rstrip("\n")
