@@ -129,7 +129,7 @@ class Journal:
             self.connection.commit()
 
     def _insert(self, cursor, words, rows, at_once):
-        """Inserts rows, so many in one statement if the database takes several."""
+        """Inserts rows, some of them in one statement if the database takes several."""
         cursor.executemany(words, rows)
 
     def try_room(self):
