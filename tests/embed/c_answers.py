@@ -109,7 +109,7 @@ def exchanged(program):
         for text in deltas:
             requests += [("restore", 0, 1, 2, journal.read_bytes(), text.read_bytes()), ("archive_text", 0), ("vector_text", 0)]
             requests += [("close", 0)]
-    return as_modelled(f"{len(journals)} journals with {len(deltas)} deltas each", program, requests)
+    yield as_modelled(f"{len(journals)} journals with {len(deltas)} deltas each", program, requests)
 
 
 # ---- refusals
@@ -187,7 +187,7 @@ def most_sites(program):
     wanted += [({"ok": 1, "fresh": MOST_SITES - 1}, None)] * len(whole[1:])
     counts = b"".join([(1).to_bytes(8, "little")] * MOST_SITES)
     wanted += [({"ok": 1}, text) for _ in whole for text in (vector, counts, statuses)]
-    return right("sites 1 to 1024", program, requests + asked, wanted)
+    yield right("sites 1 to 1024", program, requests + asked, wanted)
 
 
 def written(number):
@@ -234,13 +234,27 @@ def names(folder):
     yield reported("the shared library needs no stack that runs", re.search(r"GNU_STACK.* RW +0x", headers) is not None, headers)
 
 
+def examples(program):
+    """All examples."""
+    for stem in sorted(path.stem for path in EXAMPLES.glob("*.jsonl")):
+        yield from example(program, stem)
+
+
+def done(check, program):
+    """What a check finds. If the driver ends as it must not, that is a failure too."""
+    try:
+        yield from check(program)
+    except driving.Failed as failed:
+        yield reported(check.__name__, False, str(failed))
+
+
 def main():
     driving.end_if_missing()
     with driving.libraries() as folder:
         program = driving.built_driver(folder)
-        done = [one for stem in sorted(path.stem for path in EXAMPLES.glob("*.jsonl")) for one in example(program, stem)]
-        done += [*hub(program), exchanged(program), *refusals(program), most_sites(program), *little_stack(program), *names(folder)]
-    harness.end_of(done)
+        checks = examples, hub, exchanged, refusals, most_sites, little_stack
+        found = [one for check in checks for one in done(check, program)]
+        harness.end_of([*found, *names(folder)])
 
 
 if __name__ == "__main__":

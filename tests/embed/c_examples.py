@@ -1,7 +1,8 @@
 """c_examples.py: the examples in C and in Rust are built without a warning, and print what three sites together answer.
 
-examples/embed/hub.c is built by gcc, and by clang if it is there. It runs under the address sanitizer too, and so does the program
-of docs/EMBEDDING.md. The Rust one is built by cargo, without a crate of a registry. The header is read as C99, as C11 and as C++. Each compiler that is missing is named.
+examples/embed/hub.c is built by gcc, and by clang if it is there. It runs under the address sanitizer too, and so does the program of
+docs/EMBEDDING.md. The Rust one is built by cargo, without a crate of a registry. The header is read as C99, as C11 and as C++. Each
+compiler that is missing is named.
 """
 import os, re, shutil
 from tests import harness

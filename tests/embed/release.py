@@ -1,4 +1,4 @@
-"""release.py: the release is the same bytes when it is made again, and works in the folder into which it is unpacked, without the repository.
+"""release.py: the release is the same bytes when it is made again, and works in any folder, without the repository.
 
 tools/package.py makes it twice. It is unpacked into a temporary folder. Its sums hold, BUILD names the version and the toolchain, and the
 program answers an example. By pkg-config and the release alone, the C example is built with each library and answers. Python imports the
