@@ -107,7 +107,7 @@ def background(ports, lines, ends):
 
 
 def large_sqlite(folder, many):
-    """A journal of so many messages."""
+    """Makes a journal of a number of messages."""
     pathlib.Path(folder).mkdir()
     with contextlib.closing(sqlite3.connect(f"{folder}/site1.db")) as journal:
         journal.execute("PRAGMA journal_mode = WAL")
@@ -119,7 +119,7 @@ def large_sqlite(folder, many):
 
 
 def large_postgres(words, many):
-    """A journal of so many messages in a schema that a site has made."""
+    """Fills the journal in a schema that a site has made."""
     connection = "import psycopg2, sys\nc = psycopg2.connect(sys.argv[1])\n"
     program = connection + "c.cursor().copy_expert('COPY niluppang_site_1.own FROM STDIN', sys.stdin.buffer)\nc.commit()"
     with subprocess.Popen([sites.interpreter(), "-c", program, words], stdin=subprocess.PIPE) as copy:

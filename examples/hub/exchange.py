@@ -11,6 +11,7 @@ from .keeper import Busy, Unable
 
 WAIT = 2.0  # seconds that a peer waits for new entries, and between two questions for everything
 FIRST_PAUSE, MOST_PAUSE = 0.05, 2.0
+MOST_SILENCE = 600.0  # seconds: a peer that cuts a very long delta may need more time than a peer has at first
 REST = 0.01  # seconds after an answer that had nothing new
 GAP = 41
 
@@ -32,8 +33,9 @@ def vector_of(text):
 class Peer:
     """A peer, and what is known of it."""
 
-    def __init__(self, number, address, keeper, most):
+    def __init__(self, number, address, keeper, most, silence):
         self.number, self.address, self.keeper, self.most = number, address.rstrip("/"), keeper, most
+        self.first_silence = self.silence = silence
         self.pause, self.asked_all_at, self.heard_at, self.fault = FIRST_PAUSE, 0.0, None, None
         self.counts, self.failures = {}, 0
 
@@ -49,7 +51,8 @@ class Peer:
         words = {"have": self.keeper.vector.decode()}
         if not asks_all:
             words.update(of=str(self.number), wait=str(WAIT))
-        async with session.get(f"{self.address}/delta", params=words) as answer:
+        timeout = aiohttp.ClientTimeout(total=None, sock_connect=2, sock_read=WAIT + self.silence)
+        async with session.get(f"{self.address}/delta", params=words, timeout=timeout) as answer:
             if answer.status != 200:
                 raise BadAnswer(f"it answered with status {answer.status}")
             self.counts = vector_of(answer.headers.get("Niluppang-Vector", "-"))
@@ -64,7 +67,7 @@ class Peer:
             return fresh
         if asks_all:
             self.asked_all_at = time.monotonic()
-        self.heard_at, self.pause = time.monotonic(), FIRST_PAUSE
+        self.heard_at, self.pause, self.silence = time.monotonic(), FIRST_PAUSE, self.first_silence
         if self.fault:
             log.info("site %d answers again", self.number)
             self.fault = None
@@ -83,6 +86,8 @@ class Peer:
     def failed(self, fault):
         """Remembers that the peer failed, and logs it if it did not fail so before."""
         self.failures += 1
+        if isinstance(fault, asyncio.TimeoutError):
+            self.silence = min(2 * self.silence, MOST_SILENCE)
         text = str(fault) or type(fault).__name__
         if text != self.fault:
             log.warning("site %d at %s: %s", self.number, self.address, text)
@@ -104,15 +109,13 @@ class Peers:
     """All peers of a site."""
 
     def __init__(self, addresses, keeper, most, silence):
-        self.all = [Peer(number, address, keeper, most) for number, address in sorted(addresses.items())]
-        self.silence = silence
+        self.all = [Peer(number, address, keeper, most, silence) for number, address in sorted(addresses.items())]
         self.tasks, self.session = [], None
 
     async def hear(self, seconds):
         """Asks each peer once, before the site takes anything: one that has entries of this site which the journal lacks shows it now. A
         peer that is away is not waited for."""
-        timeout = aiohttp.ClientTimeout(total=None, sock_connect=2, sock_read=WAIT + self.silence)
-        self.session = aiohttp.ClientSession(timeout=timeout, auto_decompress=False)
+        self.session = aiohttp.ClientSession(auto_decompress=False)
 
         async def one(peer):
             try:

@@ -12,6 +12,7 @@ import collections, contextlib, fcntl, os, sqlite3, urllib.parse
 Run = collections.namedtuple("Run", "origin first count lines")  # entries of one origin; each line ends with a line feed
 Kept = collections.namedtuple("Kept", "own journal delta")  # how many own lines, their text, and a delta text of all accepted entries
 
+MOST_RUN = 5000  # entries of a run that is kept: a database has a limit for one value
 PROBE = 1 << 16  # bytes that a journal must be able to write after it was full
 
 
@@ -28,13 +29,20 @@ class Failed(Exception):
 
 
 def runs_of(delta):
-    """The runs of a delta text of form 2, as the library writes it."""
+    """The runs of a delta text of form 2, as the library writes it, each of a limited number of entries."""
     lines = delta.split(b"\n")
     place = 1
     while lines[place].startswith(b"origin "):
         origin, first, count = map(int, lines[place].split()[1:])
-        yield Run(origin, first, count, b"\n".join(lines[place + 1:place + 1 + count]) + b"\n")
+        yield from pieces(origin, first, lines[place + 1:place + 1 + count])
         place += 1 + count
+
+
+def pieces(origin, first, lines):
+    """The runs of the entries of one origin."""
+    for begin in range(0, len(lines), MOST_RUN):
+        some = lines[begin:begin + MOST_RUN]
+        yield Run(origin, first + begin, len(some), b"\n".join(some) + b"\n")
 
 
 def delta_of(runs):
@@ -115,12 +123,13 @@ class Journal:
         marks = lambda many: ", ".join([self.mark] * many)
         with self._asked() as cursor:
             if own:
-                self._insert(cursor, f"INSERT INTO own VALUES ({marks(2)})", own)
+                self._insert(cursor, f"INSERT INTO own VALUES ({marks(2)})", own, 1000)
             if runs:
-                self._insert(cursor, f"INSERT INTO accepted VALUES ({marks(4)})", runs)
+                self._insert(cursor, f"INSERT INTO accepted VALUES ({marks(4)})", runs, 10)
             self.connection.commit()
 
-    def _insert(self, cursor, words, rows):
+    def _insert(self, cursor, words, rows, at_once):
+        """Inserts rows, some of them in one statement if the database takes several."""
         cursor.executemany(words, rows)
 
     def try_room(self):
@@ -219,6 +228,6 @@ class PostgresJournal(Journal):
             cursor.execute(f"SELECT line FROM {self.schema}.own ORDER BY number")
             yield from (bytes(line) for line, in cursor)
 
-    def _insert(self, cursor, words, rows):
+    def _insert(self, cursor, words, rows, at_once):
         before = words[:words.index("VALUES")]
-        self.psycopg2.extras.execute_values(cursor, before + "VALUES %s", rows, page_size=1000)
+        self.psycopg2.extras.execute_values(cursor, before + "VALUES %s", rows, page_size=at_once)

@@ -14,7 +14,7 @@ from .journal import Failed, Wrong, runs_of
 
 MOST_ROUND = 4 << 20  # bytes of lines and deltas that one transaction has, unless one request alone has more
 MOST_WAITING = 64 << 20  # bytes that wait for the thread at most
-MOST_TOLD = 200  # changed transfers of a round whose lines are published; of the others only the names are
+MOST_PUBLISHED = 200  # changed transfers of a round whose lines are published; of the others only the names are
 MOST_UNSEEN = 10_000  # new messages after which a question is asked, so that no client has to wait for a question on more of them
 MEMORY, FORK, OWN_AHEAD = 65, 42, 43
 
@@ -234,7 +234,7 @@ class Keeper:
         changed = self.site.changes()
         if not self.watchers or not was_watched:
             return []
-        return [(*name, self.site.transfer(*name).decode() if place < MOST_TOLD else None) for place, name in enumerate(changed)]
+        return [(*name, self.site.transfer(*name).decode() if place < MOST_PUBLISHED else None) for place, name in enumerate(changed)]
 
     def watch(self, more):
         """Someone begins or stops to watch. To be called by `ask`."""

@@ -1,7 +1,7 @@
 """main.py: the sites of a hub as services, each with a journal in a database, over HTTP.
 
 Without --site it starts three sites on ports of this machine, each as a process of its own, and starts one again that ends. With --site
-it is one site. A word such as @site1.conf stands for the words in that file, one on each line. docs/users/hub.md has more.
+it is one site. In place of a word such as @site1.conf come the words in that file, one on each line. docs/users/hub.md has more.
 
 The variable NILUPPANG_LIBRARY names the library libniluppang.so. The variable NILUPPANG_TOKEN has the token that whoever writes must send.
 Without a token only this machine is served. The exit status is 2 if a site must not start, and 3 if its database is away. Standard error

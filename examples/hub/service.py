@@ -3,7 +3,7 @@
 A request has a limit of bytes and of seconds, and so has the writing of an answer. A client that is slow or gone holds nothing but its
 own connection.
 """
-import asyncio, collections, hmac, json, pathlib, time, urllib.parse
+import asyncio, collections, contextlib, hmac, json, pathlib, time, urllib.parse
 from aiohttp import web
 from niluppang import NiluppangError
 from .exchange import vector_of
@@ -275,7 +275,8 @@ class Service:
             pass
         finally:
             self.events.queues.discard(queue)
-            await asyncio.shield(self.keeper.ask(lambda site: self.keeper.watch(-1)))
+            with contextlib.suppress(Unable):
+                await asyncio.shield(self.keeper.ask(lambda site: self.keeper.watch(-1)))
         return answer
 
     def faults(self):

@@ -26,7 +26,7 @@ Sent = collections.namedtuple("Sent", "site line outcome")
 
 
 def made_lines(r, many):
-    """So many lines in any order, each with the refusal that it has, or with None."""
+    """A number of lines in any order: messages, repeats, contradictions, refused lines and blank ones."""
     lines = inputs.long_input(many * 9 // 10).split(b"\n")
     instructions = [json.loads(line) for line in lines if b'"IntrBkSttlmAmt"' in line and b'"CdtrAcct"' in line]
     lines += [json.dumps({**one, "IntrBkSttlmAmt": "7.77"}).encode() for one in r.sample(instructions, many // 50)]

@@ -15,7 +15,7 @@ EXAMPLE = ["bank-day", "hub-morning", "recall-batch", "refusals", "settlement-da
 
 
 def lines_of(first, many):
-    """Lines of so many instructions from a number on."""
+    """Lines of instructions, from a number on."""
     return "".join(map(inputs.instruction, range(first, first + many))).encode()
 
 
@@ -257,6 +257,12 @@ def survives_odd_peers(trial):
                 lambda: b"42 Fork" in asked(hub.port, "/health").body and asked(hub.port, "/messages", lines_of(200, 1)).status == 503)
 
 
+def runs_in(journal):
+    """How many runs of other sites a journal has."""
+    with contextlib.closing(sqlite3.connect(journal)) as connection:
+        return connection.execute("SELECT count(*) FROM accepted WHERE count >= 100").fetchone()[0]
+
+
 def catches_up(trial):
     """A peer that was away for an hour, and one that asks while messages come."""
     with trial.site(trial.fresh("first")) as hub:
@@ -276,6 +282,7 @@ def catches_up(trial):
             yield "a vector that is none is refused", [
                 asked(peer.port, f"/delta?have=1:1:1{more}").status for more in ("", "&of=1", "&of=2&wait=1")] == [400, 400, 400]
             held = asked(peer.port, "/archive").body
+            yield "and has it in several pieces", runs_in(peer.folder / "site2.db") > 1
             hub.kill()
             peer.kill()
             peer.start()
@@ -332,7 +339,7 @@ def guards(trial):
 
 
 def events(connection, many):
-    """So many server-sent events, each as its fields."""
+    """The next server-sent events, each as its fields."""
     found, fields = [], {}
     while len(found) < many:
         line = connection.readline().decode().rstrip("\n")
