@@ -149,7 +149,7 @@ class Handle:
 
     def restore(self, number, group, journal, delta):
         self.begin(number, group)
-        self.site, refused, _ = exchange.exchanged(number, group, journal, [delta])
+        self.site, refused, _ = exchange.exchanged(number, group, journal, [delta] if delta else [])
         self.journal = [line for _, line in lines_of(journal)]
         return self.made("".join(refused))
 
