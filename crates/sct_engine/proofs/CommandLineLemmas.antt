@@ -1,5 +1,5 @@
 -- What is asked for where clap answers matches or an error. Proof plumbing.
-use Rattle.std.proofs.Common.{◌≡◌, ◌≢◌, List, true, Option, Some, None, Result, Ok, Err, IfOk, IfErr, refl, sym, ◌∙◌, subst, inl, inr}
+use Rattle.std.proofs.Common.{◌≡◌, ◌≢◌, List, [], true, Option, Some, None, Result, Ok, Err, IfOk, IfErr, refl, sym, ◌∙◌, subst, inl, inr}
 use Rattle.clap.specs.Words.{Text, HasKind, fault_of, is_simple, is_simple_and_free, kind_of}
 use Rattle.clap.specs.declared.error.Error.{Error}
 use Rattle.clap.specs.declared.error.kind.ErrorKind.TheVariants as kind
@@ -39,32 +39,32 @@ asked_by_error words e (Ok request) has answers memory = asked_in_place words e 
 asked_by_error words e (Err f) has answers memory = subst (λ g. AreAsking words (Err g)) (sym memory) tt
 
 -- what is ordered is what is asked for
-asked_in_order : (words : List Text) (order : Option Order) (request : Request) → order_asked words ≡ order → IsOrdered order (Ok request) → AsksFor words request
-asked_in_order words None request is ordered = absurd ordered
-asked_in_order words (Some order) (Run job) is ordered = is ∙ sym ordered
-asked_in_order words (Some order) (Reconcile with) is ordered = is ∙ sym ordered
-asked_in_order words (Some order) (Settle files) is ordered = is ∙ sym ordered
-asked_in_order words (Some order) (Exchange request) is ordered = is ∙ sym ordered
-asked_in_order words (Some order) (Help text) is ordered = cc
-asked_in_order words (Some order) (Mistake text) is ordered = cc
+asked_in_order : (words : List Text) (order : Option Order) (request : Request) → fault_of command_line words ≡ [] → order_asked words ≡ order → IsOrdered order (Ok request) → AsksFor words request
+asked_in_order words None request clean is ordered = absurd ordered
+asked_in_order words (Some order) (Run job) clean is ordered = (clean, is ∙ sym ordered)
+asked_in_order words (Some order) (Reconcile with) clean is ordered = (clean, is ∙ sym ordered)
+asked_in_order words (Some order) (Settle files) clean is ordered = (clean, is ∙ sym ordered)
+asked_in_order words (Some order) (Exchange request) clean is ordered = (clean, is ∙ sym ordered)
+asked_in_order words (Some order) (Help text) clean is ordered = cc
+asked_in_order words (Some order) (Mistake text) clean is ordered = cc
 
-pub asked_by_order : (words : List Text) (order : Option Order) (result : Result Request ProgramFault) → order_asked words ≡ order → IsOrdered order result → AreAsking words result
-asked_by_order words order (Ok request) is ordered = asked_in_order words order request is ordered
-asked_by_order words None (Err fault.Usage) is ordered = is
-asked_by_order words (Some order) (Err fault.Usage) is ordered = is ∙ ordered
-asked_by_order words None (Err fault.Memory) is ordered = tt
-asked_by_order words (Some order) (Err fault.Memory) is ordered = tt
-asked_by_order words None (Err fault.TooLong) is ordered = absurd ordered
-asked_by_order words (Some order) (Err fault.TooLong) is ordered = absurd ordered
-asked_by_order words None (Err fault.Read) is ordered = absurd ordered
-asked_by_order words (Some order) (Err fault.Read) is ordered = absurd ordered
-asked_by_order words None (Err fault.Write) is ordered = absurd ordered
-asked_by_order words (Some order) (Err fault.Write) is ordered = absurd ordered
-asked_by_order words None (Err (fault.BadList row)) is ordered = absurd ordered
-asked_by_order words (Some order) (Err (fault.BadList row)) is ordered = absurd ordered
-asked_by_order words None (Err fault.Held) is ordered = absurd ordered
-asked_by_order words (Some order) (Err fault.Held) is ordered = absurd ordered
-asked_by_order words None (Err (fault.Refused number)) is ordered = absurd ordered
-asked_by_order words (Some order) (Err (fault.Refused number)) is ordered = absurd ordered
-asked_by_order words None (Err fault.NoWorker) is ordered = absurd ordered
-asked_by_order words (Some order) (Err fault.NoWorker) is ordered = absurd ordered
+pub asked_by_order : (words : List Text) (order : Option Order) (result : Result Request ProgramFault) → fault_of command_line words ≡ [] → order_asked words ≡ order → IsOrdered order result → AreAsking words result
+asked_by_order words order (Ok request) clean is ordered = asked_in_order words order request clean is ordered
+asked_by_order words None (Err fault.Usage) clean is ordered = (clean, is)
+asked_by_order words (Some order) (Err fault.Usage) clean is ordered = (clean, is ∙ ordered)
+asked_by_order words None (Err fault.Memory) clean is ordered = tt
+asked_by_order words (Some order) (Err fault.Memory) clean is ordered = tt
+asked_by_order words None (Err fault.TooLong) clean is ordered = absurd ordered
+asked_by_order words (Some order) (Err fault.TooLong) clean is ordered = absurd ordered
+asked_by_order words None (Err fault.Read) clean is ordered = absurd ordered
+asked_by_order words (Some order) (Err fault.Read) clean is ordered = absurd ordered
+asked_by_order words None (Err fault.Write) clean is ordered = absurd ordered
+asked_by_order words (Some order) (Err fault.Write) clean is ordered = absurd ordered
+asked_by_order words None (Err (fault.BadList row)) clean is ordered = absurd ordered
+asked_by_order words (Some order) (Err (fault.BadList row)) clean is ordered = absurd ordered
+asked_by_order words None (Err fault.Held) clean is ordered = absurd ordered
+asked_by_order words (Some order) (Err fault.Held) clean is ordered = absurd ordered
+asked_by_order words None (Err (fault.Refused number)) clean is ordered = absurd ordered
+asked_by_order words (Some order) (Err (fault.Refused number)) clean is ordered = absurd ordered
+asked_by_order words None (Err fault.NoWorker) clean is ordered = absurd ordered
+asked_by_order words (Some order) (Err fault.NoWorker) clean is ordered = absurd ordered

@@ -95,18 +95,19 @@ AnswersKind (Help text) k =
 AnswersKind (Mistake text) k = IsTrue (is_mistake (Mistake text)) ↔ IsMistakeKind k
 AnswersKind _ k = ⊥
 
--- the words ask for the request: an order is that of the command found in them; help or a mistake needs an error
--- of such a kind that clap has for the words
+-- the words ask for the request: an order is that of the command found in them, and clap has no error for the words;
+-- help or a mistake needs an error of such a kind that clap has for the words
 abbrev pub AsksFor : List Text → Request → Type 0
 AsksFor words (Help text) = (k : ErrorKind) × (IsAmong k (fault_of command_line words) × AnswersKind (Help text) k)
 AsksFor words (Mistake text) = (k : ErrorKind) × (IsAmong k (fault_of command_line words) × AnswersKind (Mistake text) k)
-AsksFor words request = order_asked words ≡ order_of request
+AsksFor words request = (fault_of command_line words ≡ []) × (order_asked words ≡ order_of request)
 
--- the words ask for the request; or there is no request: the call is out of memory, or there is no order
+-- the words ask for the request; or there is no request: the call is out of memory, or clap has no error for the words
+-- and there is no order
 abbrev pub AreAsking : List Text → Result Request ProgramFault → Type 0
 AreAsking words (Ok request) = AsksFor words request
 AreAsking words (Err fault.Memory) = Unit {0}
-AreAsking words (Err fault.Usage) = order_asked words ≡ None
+AreAsking words (Err fault.Usage) = (fault_of command_line words ≡ []) × (order_asked words ≡ None)
 AreAsking words (Err _) = ⊥
 
 -- clap has no error for the words, and they give this order, if any

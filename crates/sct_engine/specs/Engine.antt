@@ -126,6 +126,17 @@ pub record IsPastLimit (limit : ℕ) (before after : Input) : Type 0 where
   pub longer : IfSome before.left (λ input. limit < length input)
   pub taken : HasTakenIfTold before.left after.left (limit + 1)
 
+-- the faults that may end a job: a bad list (48), an input past the limit (60), a failed read (62) or write (63), a limit
+-- or an input that the job cannot have (64), and out of memory (65)
+abbrev pub EndsWork : ProgramFault → Type 0
+EndsWork (fault.BadList row) = Unit {0}
+EndsWork fault.TooLong = Unit {0}
+EndsWork fault.Read = Unit {0}
+EndsWork fault.Write = Unit {0}
+EndsWork fault.Usage = Unit {0}
+EndsWork fault.Memory = Unit {0}
+EndsWork _ = ⊥
+
 -- One write failed. Either standard error got a prefix of its text, and standard output is as it was. Or standard error
 -- got its whole text, and standard output a prefix of its own.
 abbrev pub AreCutOff : (err err_now out out_now : Output) (told text : Option (List ℕ)) → Type 0

@@ -7,7 +7,7 @@ use Rattle.sct_engine.specs.declared.fault.ProgramFault.TheVariants as fault
 use Rattle.sct_engine.specs.declared.request.Request.{Request}
 use Rattle.sct_engine.specs.CommandLine.{AreAsking}
 use Rattle.sct_engine.specs.Ending.{ending_text_of, exit_status_of}
-use Rattle.sct_engine.specs.Engine.{AreCutOff, IsRefusedInput, StandsOnList}
+use Rattle.sct_engine.specs.Engine.{AreCutOff, EndsWork, IsRefusedInput, StandsOnList}
 use Rattle.sct_engine.specs.Exchanging.{is_possible, EndsExchange}
 use Rattle.sct_engine.specs.Fault.{failed_reads}
 use Rattle.sct_engine.specs.Stream.{Streams}
@@ -37,7 +37,7 @@ CannotBeDone _ before after = ⊥
 
 -- the faults that may end a task that has its files: a help and a mistake only by a failed write
 abbrev pub EndsTask : Task → ProgramFault → Type 0
-EndsTask (task.Work job) fault = Unit {0}
+EndsTask (task.Work job) fault = EndsWork fault
 EndsTask (task.Settle inputs) fault = EndsSettling fault
 EndsTask (task.Exchange gathered) fault = EndsExchange fault
 EndsTask (task.Help text) fault.Write = Unit {0}

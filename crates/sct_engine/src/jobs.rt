@@ -6,6 +6,7 @@ ghost use Rattle.sct_engine.specs.Engine.{
   job_text_if_told,
   told_text_if_told,
   AreCutOff,
+  EndsWork,
   IsBadLimit,
   IsDone,
   IsPastLimit,
@@ -80,6 +81,7 @@ pub fn engine<T: Threads + Sync, R: Source, O: Sink, E: Sink>(
         done.refused) }
 
     // The cases of each fault.
+    ensures ends { IfErr result EndsWork }
     ensures limit { IsBadLimit limit → (result ≡ Err fault.Usage) × (reader.new ≡ reader.old) }
     ensures usage { result ≡ Err fault.Usage
         → IsBadLimit limit ⊎ IsRefusedInput job.now limit (R.state reader.old) (R.state reader.new) }

@@ -1,5 +1,5 @@
 -- What is asked for where clap has matches or an error for the words.
-use Rattle.std.proofs.Common.{◌≡◌, ◌∙◌, ap, option_and_then, sym, subst, map, string_bytes}
+use Rattle.std.proofs.Common.{◌≡◌, ◌∙◌, [], ap, option_and_then, sym, subst, map, string_bytes}
 use Rattle.clap.specs.Words.{HasKind, HasMatchesOf, app_of, fault_of, is_simple_and_free}
 use Rattle.sct_engine.specs.CommandLine.{command_line}
 use Rattle.sct_engine.specs.Request.{order_named}
@@ -10,7 +10,11 @@ pub returns-in-Ok-clause-asked : goal.returns-in-Ok-clause-asked
 returns-in-Ok-clause-asked c =
     let found : HasMatchesOf command_line (map string_bytes c.args.words.now) c.in-Ok.matches =
     subst (λ app. HasMatchesOf app (map string_bytes c.args.words.now) c.in-Ok.matches) c.in_ok-command.ensures c.in-Ok.ensures.matches in
-    asked_by_order (map string_bytes c.args.words.now) _ c.request_of_matches.result
+    let is : app_of c.in_ok-command.field-0 ≡ command_line = c.in_ok-command.ensures in
+    let clean : fault_of command_line (map string_bytes c.args.words.now) ≡ [] =
+    subst (λ app. fault_of app (map string_bytes c.args.words.now) ≡ []) is
+    (c.in-Ok.ensures.kinds (ap is_simple_and_free is ∙ command_line_is_free)) in
+    asked_by_order (map string_bytes c.args.words.now) _ c.request_of_matches.result clean
     (ap (option_and_then (λ found. order_named found.0 found.1)) (sym (found command_line_is_simple).1)) c.request_of_matches.ensures
 
 pub returns-in-Err-clause-asked : goal.returns-in-Err-clause-asked
