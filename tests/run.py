@@ -55,10 +55,14 @@ CHECKS = {
         "made_up": "compares made-up sets, worlds and groups with the definitions",
         "hubs": "compares made-up hubs of sites that exchange files with the definitions",
     },
+    "page": {"browser": "compares the page in Chromium with the program, by its files and by its keys, and looks for connections"},
 }
 # the Debian packages that a check needs beside Python and the toolchain
 PACKAGES = {name: ["gcc"] for name in ["archive_growths", "view_growths", "desk_growths", "forms", "allocations", "group_memory"]}
 PACKAGES["parts"] = ["python3-dask", "python3-distributed"]
+PACKAGES["browser"] = ["chromium"]
+# the file that a check needs, and what makes it
+MADE = {"browser": ("web/out/niluppang.html", "web/build")}
 VARIABLES = ["SCT_SITES", "SCT_TEST_DRIVER"]
 
 
@@ -117,6 +121,10 @@ def checked(name, kind, does, made_up):
     missing = lacking(name)
     if missing:
         print(f"skipped: the machine lacks packages: apt-get install {' '.join(missing)}", flush=True)
+        return 0, 0
+    path, maker = MADE.get(name, ("", ""))
+    if not (harness.TOP / path).exists():
+        print(f"skipped: there is no {path}; {maker} makes it", flush=True)
         return 0, 0
     began = time.monotonic()
     passed, failed, lines = ran(f"tests.{kind}.{name}", words)
