@@ -1,5 +1,5 @@
 -- What a call is asked for, by the bytes that it is given. Read by an auditor.
-use Rattle.std.specs.Prelude.{ℕ, List, [], ◌∷◌, ◌++◌, Option, Some, None, Result, Ok, Err, codes, take, drop, if◌then◌else◌}
+use Rattle.std.specs.Prelude.{ℕ, List, [], ◌∷◌, ◌++◌, Option, Some, None, Result, Ok, Err, codes, option_map, take, drop, if◌then◌else◌}
 use Rattle.sct_element.specs.Bank.{written_bic}
 use Rattle.sct_element.specs.Date.{written_day}
 use Rattle.sct_lines.specs.Lines.{refusals_told, set_read, told_after, told_text_of}
@@ -7,7 +7,7 @@ use Rattle.sct_set.specs.Archive.{archive_text_of}
 use Rattle.sct_view.specs.StatusText.{status_text_of}
 use Rattle.sct_view.specs.TotalsText.{totals_text_of}
 use Rattle.sct_delta.specs.Entries.{Placed}
-use Rattle.sct_delta.specs.VectorText.{Pair, counts_of, vector_in}
+use Rattle.sct_delta.specs.VectorText.{counts_of, vector_in}
 use Rattle.sct_site.specs.Cores.{is_open}
 use Rattle.sct_exchange.specs.RefusedFiles.{refused_text}
 use Rattle.sct_exchange.specs.Sites.{arrivals_after, cut_text, held_text, refused_after, site_text}
@@ -90,11 +90,11 @@ site_asked = held_at site_text
 abbrev pub vector_asked : ℕ → ℕ → List ℕ → List (List ℕ) → Result Answer PageFault
 vector_asked = held_at held_text
 
--- the delta for a version vector, if it is one
-abbrev pub cut_from : Option (List Pair) → ℕ → ℕ → List ℕ → List (List ℕ) → Result Answer PageFault
+-- the delta for a version vector, if there is one
+abbrev pub cut_from : Option (ℕ → ℕ) → ℕ → ℕ → List ℕ → List (List ℕ) → Result Answer PageFault
 cut_from None number group journal texts = Err fault.BadVector
-cut_from (Some pairs) number group journal texts = held_at (cut_text (counts_of pairs)) number group journal texts
+cut_from (Some counts) number group journal texts = held_at (cut_text counts) number group journal texts
 
 -- `cut`: the delta text of its entries above a version vector
 abbrev pub cut_asked : ℕ → ℕ → List ℕ → List ℕ → List (List ℕ) → Result Answer PageFault
-cut_asked number group have journal texts = cut_from (vector_in have) number group journal texts
+cut_asked number group have journal texts = cut_from (option_map counts_of (vector_in have)) number group journal texts

@@ -52,30 +52,18 @@ fn view_of(alloc: Global, archive: Archive) -> Result<View, PageFault>
     Ok(View::of(alloc, archive)?)
 }
 
-// The status text of a view.
-fn status_of(view: &View) -> Result<Vec<u8>, PageFault>
-    ensures text { IfOk result (λ text. text.items ≡ status_text_of view.now) }
-    ensures err { IfErr result (λ e. e ≡ fault.Memory) }
-{
-    Ok(view.status_text()?)
-}
-
-// The totals text of a view.
-fn totals_of(view: &View) -> Result<Vec<u8>, PageFault>
-    ensures text { IfOk result (λ text. text.items ≡ totals_text_of view.now) }
-    ensures err { IfErr result (λ e. e ≡ fault.Memory) }
-{
-    Ok(view.totals_text()?)
-}
-
 /// The status text and the totals text of an input. Error: `Memory` (65).
 pub(crate) fn answers(alloc: Global, input: &[u8]) -> Result<Texts, PageFault>
     ensures { Gives (Ok (answers_of input.now)) result }
 {
     let Input { refused, archive } = input_of(alloc, input)?;
     let view = view_of(alloc, archive)?;
-    let text = status_of(&view)?;
-    let totals = totals_of(&view)?;
+    let Ok(text) = view.status_text() else {
+        return Err(PageFault::Memory);
+    };
+    let Ok(totals) = view.totals_text() else {
+        return Err(PageFault::Memory);
+    };
     Ok(Texts {
         refused,
         text,
