@@ -73,6 +73,9 @@ CHECKS = {
         "python_package": "runs the tests of the Python package, judges its types and installs it",
         "release": "unpacks the release and builds the C example on it",
     },
+    "page": {
+        "browser": "compares the page in Chromium with the program, by its files and by its keys, and looks for connections",
+    },
 }
 # the Debian packages that a check needs beside Python and the toolchain
 PACKAGES = {name: ["gcc"] for name in ["archive_growths", "view_growths", "desk_growths", "forms", "allocations", "group_memory"]}
@@ -81,6 +84,9 @@ PACKAGES["kills"] = PACKAGES["troubles"] = ["python3-aiohttp"]
 PACKAGES["java"] = ["libjna-java", "openjdk-17-jdk-headless"]
 PACKAGES["postgres"], PACKAGES["page"] = ["python3-aiohttp", "python3-psycopg2", "postgresql"], ["python3-aiohttp", "chromium"]
 PACKAGES["parts"] = ["python3-dask", "python3-distributed"]
+PACKAGES["browser"] = ["chromium"]
+# the file that a check needs, and what makes it
+MADE = {"browser": ("web/out/niluppang.html", "web/build")}
 # the Debian packages without which a part of a check is skipped, which the check says by itself
 HELPFUL = {"c_calls": ["valgrind"], "c_threads": ["valgrind"], "python_package": ["python3-pytest"], "release": ["pkg-config"]}
 SEEDED = ["c_calls"]  # checks that make up cases as the property checks do
@@ -142,6 +148,10 @@ def checked(name, kind, does, made_up):
     missing = lacking(PACKAGES.get(name, []))
     if missing:
         print(f"skipped: the machine lacks packages: apt-get install {' '.join(missing)}", flush=True)
+        return 0, 0
+    path, maker = MADE.get(name, ("", ""))
+    if not (harness.TOP / path).exists():
+        print(f"skipped: there is no {path}; {maker} makes it", flush=True)
         return 0, 0
     began = time.monotonic()
     passed, failed, lines = ran(f"tests.{kind}.{name}", words)

@@ -1,0 +1,3 @@
+-- The lemmas of the page.
+pub mod SetLemmas
+pub mod TextsLemmas

@@ -1,0 +1,4 @@
+-- The definitions of the calls of the page.
+pub mod Answer
+pub mod Calls
+pub mod Faults

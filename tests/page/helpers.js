@@ -1,0 +1,52 @@
+// What the tests evaluate in the page, beside the page's own script.
+const as_text = (bytes) => { let text = ""; for (let i = 0; i < bytes.length; i += 32768) text += String.fromCharCode(...bytes.subarray(i, i + 32768)); return btoa(text); };
+const as_bytes = (text) => Uint8Array.from(atob(text), (letter) => letter.charCodeAt(0));
+const kept_text = async (name) => as_text((await ask("text", { name })).bytes);
+
+// The compiled module, and an instance of it.
+let module_kept;
+const instance = async () => {
+  module_kept ??= await WebAssembly.compile(as_bytes(at("core").textContent.trim()));
+  return (await WebAssembly.instantiate(module_kept, {})).exports;
+};
+
+// Calls an export over bytes, numbers of 16 bits, and lists of numbers of 64 bits: what it returns, whether it left the buffer as it
+// was, the lengths, and the texts. With `full`, no memory is left for the call.
+async function called_with(name, words, room, full) {
+  const calls = await instance();
+  const put = (bytes) => { const at = calls.heap_take(BigInt(Math.max(bytes.length, 1))); new Uint8Array(calls.memory.buffer, Number(at), bytes.length).set(bytes); return at; };
+  const passed = words.flatMap((word) => typeof word === "number" ? [word] : typeof word === "string" ? [put(as_bytes(word)), BigInt(as_bytes(word).length)]
+    : [put(new Uint8Array(BigUint64Array.from(word.map(BigInt)).buffer)), BigInt(word.length)]);
+  const before = new Uint8Array(room).fill(165), out = put(before), lengths = put(new Uint8Array(32).fill(165));
+  if (full) {
+    for (let pages = 65536; pages >= 1;) { try { calls.memory.grow(BigInt(pages)); } catch { pages = Math.floor(pages / 2); } }
+    while (calls.heap_take(1n << 20n) !== 0n);
+    for (const size of [65536n, 4096n, 256n, 16n]) while (calls.heap_take(size) !== 0n);
+  }
+  const code = calls["sct_page_" + name](...passed, out, BigInt(room), lengths);
+  const numbers = [...new BigUint64Array(calls.memory.buffer, Number(lengths), 4)].map(Number);
+  const after = new Uint8Array(calls.memory.buffer, Number(out), room).slice();
+  const untouched = after.every((byte) => byte === 165), count = code === 0 ? numbers[0] + numbers[1] + numbers[2] : 0;
+  return { code, numbers, untouched, bytes: as_text(after.subarray(0, count)), rest: after.subarray(count).every((byte) => byte === 165) };
+}
+
+// What is answered to each of many inputs.
+async function many(name, inputs) {
+  const answers = [];
+  for (const input of inputs) answers.push(await called_with(name, [input], as_bytes(input).length * 8 + 65536));
+  return answers;
+}
+
+// Tries every kind of connection to an address. What each gives does not matter: the server must see nothing.
+async function connect(address) {
+  const tried = [() => fetch(address + "fetch"), () => { const x = new XMLHttpRequest(); x.open("POST", address + "xhr"); x.send("x"); }, () => { new Image().src = address + "image"; },
+    () => navigator.sendBeacon(address + "beacon", "x"), () => new WebSocket(address.replace("http", "ws") + "socket"), () => new EventSource(address + "events"),
+    () => document.body.append(made("iframe", "", { src: address + "frame" })), () => document.head.append(made("link", "", { rel: "stylesheet", href: address + "style" })),
+    () => document.head.append(made("script", "", { src: address + "script" })), () => import(address + "module.js"), () => new Worker(address + "worker.js"),
+    () => { const form = made("form", "", { action: address + "form", method: "post" }); document.body.append(form); form.submit(); },
+    () => document.body.append(made("object", "", { data: address + "object" })), () => document.body.append(made("video", "", { src: address + "video" })),
+    () => document.head.append(made("link", "", { rel: "prefetch", href: address + "prefetch" }))];
+  for (const one of tried) { try { await Promise.race([one(), new Promise((kept) => setTimeout(kept, 300))]); } catch { /* refused */ } }
+  await new Promise((kept) => setTimeout(kept, 1000));
+  return tried.length;
+}

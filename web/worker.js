@@ -1,0 +1,190 @@
+// The worker: it has the module, reads the files, keeps the texts, and answers the page's questions about their rows.
+"use strict";
+
+class Fault extends Error {
+  constructor(code, place) { super(`fault ${code} ${place}`); this.code = code; this.place = place; }
+}
+
+const decoded = (bytes) => new TextDecoder().decode(bytes);
+const MEMORY = 65, NO_ROOM = 74;
+let core; // the compiled module
+let input; // the file of messages
+const texts = {}; // the bytes that can be saved
+const tables = {}; // the lines of each table
+
+// ---- calls of the module
+
+// An instance for each call: all of its memory goes back at the end.
+const opened = () => new WebAssembly.Instance(core, {}).exports;
+
+function taken(calls, size) {
+  const at = calls.heap_take(BigInt(Math.max(size, 1)));
+  if (at === 0n) throw new Fault(MEMORY, 0);
+  return at;
+}
+
+// The place and the length of bytes that are copied into the module's memory.
+function put(calls, bytes) {
+  const at = taken(calls, bytes.length);
+  new Uint8Array(calls.memory.buffer, Number(at), bytes.length).set(bytes);
+  return [at, BigInt(bytes.length)];
+}
+
+// The same of a file, which goes piece by piece into the module's memory.
+async function streamed(calls, file) {
+  const at = taken(calls, file.size), reader = file.stream().getReader();
+  let count = 0, shown = 0;
+  for (;;) {
+    const { done, value } = await reader.read();
+    if (done) break;
+    if (count + value.length > file.size) throw new Error("changed");
+    new Uint8Array(calls.memory.buffer, Number(at) + count, value.length).set(value);
+    count += value.length;
+    if (count - shown > file.size / 50) { shown = count; postMessage({ read: count / file.size }); }
+  }
+  if (count !== file.size) throw new Error("changed");
+  postMessage({ read: 1 });
+  return [at, BigInt(count)];
+}
+
+// Calls an export with room for so many bytes, and again with more room if the texts are longer.
+function called(calls, name, words, room) {
+  const lengths = taken(calls, 32);
+  for (;;) {
+    const out = taken(calls, room);
+    const code = calls["sct_page_" + name](...words, out, BigInt(room), lengths);
+    const [refused, text, totals, place] = [...new BigUint64Array(calls.memory.buffer, Number(lengths), 4)].map(Number);
+    if (code === NO_ROOM) { calls.heap_give(out); room = refused + text + totals; continue; }
+    if (code !== 0) throw new Fault(code, place);
+    const part = (from, count) => new Uint8Array(calls.memory.buffer, Number(out) + from, count).slice();
+    return { refused: part(0, refused), text: part(refused, text), totals: part(refused + text, totals) };
+  }
+}
+
+// ---- the rows of the texts
+
+const lines_of = (bytes) => { const lines = decoded(bytes).split("\n"); lines.pop(); return lines; };
+
+// The fields of a line of a report, which is CSV.
+function record_of(line) {
+  const fields = [];
+  for (const found of line.matchAll(/(?:"((?:[^"]|"")*)"|([^,]*))(?:,|$)/g)) {
+    fields.push(found[1] === undefined ? found[2] : found[1].replaceAll('""', '"'));
+    if (fields.length === 7) break;
+  }
+  return fields;
+}
+
+const FIELDS = {
+  transfers: (line) => line.split("|").slice(1),
+  findings: (line) => { const [, bank, transfer, finding, ...more] = line.split("|"); return [bank, transfer, finding, more.join(" ")]; },
+  recalls: (line) => line.split("|").slice(1),
+  totals: (line) => line.split("|"),
+  refused: (line) => { const [, number, code, rest] = /^line (\d+): (\d+) ?(.*)$/.exec(line); return [number, code, rest]; },
+  report: record_of,
+};
+// the field of each table by which its rows are counted and chosen
+const WORD = { transfers: 2, findings: 2, recalls: 3, refused: 1, report: 2 };
+
+function counted(name) {
+  const counts = {};
+  if (name in WORD) for (const line of tables[name]) { const word = FIELDS[name](line)[WORD[name]]; counts[word] = (counts[word] ?? 0) + 1; }
+  return { rows: tables[name].length, counts };
+}
+
+function keep_answers({ refused, text, totals }) {
+  Object.assign(texts, { refused, status: text, totals });
+  const status = lines_of(text);
+  tables.transfers = status.filter((line) => line[0] === "T");
+  tables.findings = status.filter((line) => line[0] === "F");
+  tables.recalls = status.filter((line) => line[0] === "R");
+  tables.totals = lines_of(totals);
+  tables.refused = lines_of(refused);
+}
+
+// Some rows of a table: those that have the search text, of that bank, with one of those words.
+function rows_of({ table, search, bank, words, from, count }) {
+  const fields_of = FIELDS[table], sought = search.toLowerCase(), chosen = [];
+  let matched = 0;
+  for (const line of tables[table] ?? []) {
+    if (sought && !line.toLowerCase().includes(sought)) continue;
+    const fields = fields_of(line);
+    if (bank && table !== "refused" && !fields[0].startsWith(bank)) continue;
+    if (words.length && !words.includes(fields[WORD[table]])) continue;
+    if (matched >= from && chosen.length < count) chosen.push(fields);
+    matched += 1;
+  }
+  return { rows: chosen, matched };
+}
+
+// ---- the messages on a transfer
+
+async function archive() {
+  if (!texts.archive) {
+    const calls = opened(), words = await streamed(calls, input);
+    texts.archive = called(calls, "archive", words, Math.ceil(input.size * 1.3) + 65536).text;
+  }
+  return texts.archive;
+}
+
+// The lines of bytes, some megabytes at a time.
+function* pieces(bytes) {
+  for (let from = 0; from < bytes.length;) {
+    let end = Math.min(from + (1 << 24), bytes.length);
+    while (end < bytes.length && bytes[end - 1] !== 10) end += 1;
+    yield* lines_of(bytes.subarray(from, end));
+    from = end;
+  }
+}
+
+// Whether an object of a message is about a transfer.
+const is_about = (members, bank, transfer) => members.DbtrAgt === bank && (members.OrgnlTxId ?? members.TxId) === transfer;
+
+async function messages({ bank, transfer }) {
+  const found = [], sought = JSON.stringify(transfer);
+  for (const line of pieces(await archive())) {
+    if (!line.includes(sought)) continue;
+    const message = JSON.parse(line);
+    if ([message, ...(message.TxInf ?? [])].some((members) => is_about(members, bank, transfer))) found.push([message, line]);
+  }
+  found.sort(([a], [b]) => (a.CreDtTm < b.CreDtTm ? -1 : a.CreDtTm > b.CreDtTm ? 1 : 0));
+  return { rows: found.map(([m, line]) => [m.CreDtTm, m.MsgNmId, m.InstgAgt, m.MsgId, line]) };
+}
+
+// ---- the page's questions
+
+const ASKED = {
+  async core({ bytes }) { core = await WebAssembly.compile(bytes); return {}; },
+  async answers({ file }) {
+    input = file;
+    for (const kept of [texts, tables]) for (const name of Object.keys(kept)) delete kept[name];
+    const began = performance.now(), calls = opened(), words = await streamed(calls, file);
+    postMessage({ working: true });
+    keep_answers(called(calls, "answers", words, file.size + 65536));
+    const milliseconds = performance.now() - began, memory = calls.memory.buffer.byteLength;
+    const found = {};
+    for (const name of Object.keys(tables)) found[name] = counted(name);
+    return { found, milliseconds, memory };
+  },
+  async report({ bank, day, list }) {
+    delete texts.report; delete tables.report;
+    const calls = opened(), encoder = new TextEncoder();
+    const listed = await streamed(calls, list), words = await streamed(calls, input);
+    postMessage({ working: true });
+    const asked = [...words, ...put(calls, encoder.encode(bank)), ...put(calls, encoder.encode(day)), ...listed];
+    texts.report = called(calls, "report", asked, 4 * list.size + input.size + 65536).text;
+    tables.report = lines_of(texts.report).slice(1);
+    return { found: { report: counted("report") } };
+  },
+  rows: rows_of,
+  messages,
+  async text({ name }) { return { bytes: name === "archive" ? await archive() : texts[name] }; },
+};
+
+onmessage = async ({ data }) => {
+  try {
+    postMessage({ id: data.id, answer: await ASKED[data.ask](data) });
+  } catch (error) {
+    postMessage({ id: data.id, fault: { code: error.code ?? (error instanceof RangeError ? MEMORY : 0), place: error.place ?? 0, text: String(error.message) } });
+  }
+};
