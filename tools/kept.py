@@ -1,9 +1,9 @@
-"""kept.py: has `rt lib` make the static library of sct_c over the libraries that `rt ci` proved on this machine.
+"""kept.py: has `rt lib` make a static library over the libraries that `rt ci` proved on this machine.
 
 `rt ci` checks a static library and builds none, and `rt lib` takes no library of `rt ci` by itself: it would prove all crates below again,
 which takes most of an hour. So the libraries that the gate proved and kept are put where `rt lib` looks for them, each under the key
 by which `rt ci` itself finds it again: the sum of its sources, of its line in crates.txt and of the libraries below it. What was not kept,
-`rt lib` proves. It proves sct_c in each case.
+`rt lib` proves. It proves the static library in each case.
 """
 import contextlib, hashlib, importlib.machinery, importlib.util, io, os, pathlib, shutil, subprocess, sys
 
@@ -43,33 +43,38 @@ def take(module, kept, crate):
     return True
 
 
-def take_all(rt):
-    """Puts each library below sct_c that was kept where `rt lib` looks for it."""
+def take_all(name, rt):
+    """Puts each library below a crate that was kept where `rt lib` looks for it."""
     module = module_of(rt)
     module.Crate.allowed = module.handles_of(str(TOP))
     crates = module.crates_of(str(TOP))
     kept = module.Kept(crates)
-    below = next(crate for crate in crates if crate.name == "sct_c").below()
+    below = next(crate for crate in crates if crate.name == name).below()
     for crate in crates:
         if crate in below and not take(module, kept, crate):
             return
 
 
+def prepare(name, rt):
+    """Puts what was kept where `rt lib` looks for it, as far as that can be done: `rt lib` makes the rest."""
+    with contextlib.suppress(Exception, SystemExit), contextlib.redirect_stdout(io.StringIO()):
+        here = os.getcwd()
+        os.chdir(TOP)
+        try:
+            take_all(name, rt)
+        finally:
+            os.chdir(here)
+
+
 def make():
-    """Has `rt lib` make the static library, unless it is there and of these sources. Returns why it could not, or None."""
+    """Has `rt lib` make the library of sct_c, unless it is there and of these sources. Returns why it could not, or None."""
     mark, now = BUILT.with_suffix(".sum"), sources()
     if BUILT.is_file() and mark.is_file() and mark.read_text(encoding="utf-8") == now:
         return None
     rt = shutil.which("rt")
     if rt is None:
         return "there is no command rt on this machine"
-    with contextlib.suppress(Exception, SystemExit), contextlib.redirect_stdout(io.StringIO()):
-        here = os.getcwd()
-        os.chdir(TOP)
-        try:
-            take_all(rt)
-        finally:
-            os.chdir(here)
+    prepare("sct_c", rt)
     ran = subprocess.run(["rt", "lib"], cwd=CRATE, stdin=subprocess.DEVNULL, capture_output=True, text=True, errors="replace")
     if ran.returncode or not BUILT.is_file():
         return f"`rt lib` in crates/sct_c ended with status {ran.returncode}: {ran.stderr.strip()[-300:]}"
