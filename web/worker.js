@@ -47,7 +47,7 @@ async function streamed(calls, file) {
   return [at, BigInt(count)];
 }
 
-// Calls an export with room for so many bytes, and again with more room if the texts are longer.
+// Calls an export with room for a number of bytes, and again with more room if the texts are longer.
 function called(calls, name, words, room) {
   const lengths = taken(calls, 32);
   for (;;) {

@@ -47,8 +47,7 @@ def check(python, library):
         right += [reported(*one) for one in refuses_a_second_process(trial, word)]
         right += [reported(*one) for one in survives_its_server(trial, word, control)]
         if not all(right):
-            for log in sorted(trial.folder.glob("*.log")):
-                print(f"--- {log.name}", *log.read_text(errors="replace").splitlines()[-8:], sep="\n")
+            trial.print_logs()
         return right
 
 

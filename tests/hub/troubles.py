@@ -390,8 +390,7 @@ def check(python, library):
         trial = Trial(python, library, folder)
         right = [reported(*one) for each in CHECKS for one in each(trial)]
         if not all(right):
-            for log in sorted(trial.folder.glob("*.log")):
-                print(f"--- {log.name}", *log.read_text(errors="replace").splitlines()[-8:], sep="\n")
+            trial.print_logs()
         return right
 
 

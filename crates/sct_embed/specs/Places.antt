@@ -143,7 +143,7 @@ pub record Counts (before after : List ℕ) (site : Embedding) (outcome : Outcom
   pub unwritten : OnErr done (after ≡ before)
   pub same : later ≡ site
 
--- The answer is copied to the start of the room if it fits, and nothing is written otherwise. Its length is told.
+-- The answer is copied to the start of the room if it fits, and nothing is written otherwise. Its length is returned.
 pub record Copies (before after : List ℕ) (site : Embedding) (outcome : Outcome) (later : Embedding) : Type 0 where
   pub told : outcome ≡ done_as (Ok tt) (length site.answer)
   pub copied : length site.answer ≤ length before → take (length site.answer) after ≡ site.answer

@@ -61,7 +61,7 @@ report_asked input bank day list = report_from input (read_by written_bic bank) 
 
 -- ---- a site by its journal and the deltas that it was given
 
--- The texts that stand one after another in one buffer, by their lengths. Past the end of the buffer there is nothing.
+-- The texts that one buffer has one after another, by their lengths. Past the end of the buffer there is nothing.
 unfoldable pub texts_in : List ℕ → List ℕ → List (List ℕ)
 texts_in buffer [] = []
 texts_in buffer (length ∷ lengths) = take length buffer ∷ texts_in (drop length buffer) lengths
