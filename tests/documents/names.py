@@ -1,4 +1,4 @@
-"""names.py: the names that README.md, docs/*.md and examples/README.md write are those of the code.
+"""names.py: the names that README.md, the pages in docs and examples/README.md write are those of the code.
 
 Names in backquotes are declared in a crate, or are words of crates.txt, of the tests, benches or examples, or of OUTSIDE. Those of a
 crate, as "`settle` of sct_world", and those that follow a file, are declared there. Files in backquotes exist, and links lead to a file
@@ -13,7 +13,7 @@ from tests.documents import sources
 from tests.documents.pages import codes, rows
 from tests.harness import CRATES, TOP
 
-PAGES = [*sorted(TOP.glob("*.md")), *sorted((TOP / "docs").glob("*.md")), TOP / "examples" / "README.md"]
+PAGES = [*sorted(TOP.glob("*.md")), *sorted((TOP / "docs").rglob("*.md")), TOP / "examples" / "README.md"]
 
 # names of std, of the language and of the kit, commands of the shell, and names that a page has because they are wrong here
 OUTSIDE = set("""

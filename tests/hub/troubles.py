@@ -39,6 +39,11 @@ class Trial:
             until(lambda: sites.is_well(port) if is_well else asked(port, "/health"))
             yield hub
 
+    def print_logs(self):
+        """Prints the last lines of each site."""
+        for log in sorted(self.folder.glob("*.log")):
+            print(f"--- {log.name}", *log.read_text(errors="replace").splitlines()[-8:], sep="\n")
+
 
 # ---- examples
 
