@@ -1,7 +1,7 @@
 /* Niluppang: the proved site of a clearing hub for SEPA Instant Credit Transfers, for programs in C and in languages that call C.
  *
  * A site holds the messages that it took and those that it accepted from other sites, and answers about them. It works on bytes:
- * messages are JSON objects, and deltas and answers are texts (docs/FORMATS.md). It has no network, no file and no thread. It keeps
+ * messages are JSON objects, and deltas and answers are texts (docs/users/formats.md). It has no network, no file and no thread. It keeps
  * nothing when the program ends. The program keeps the site's journal, its own messages, and restores the site from it.
  *
  *     #include <niluppang.h>                                   cc hub.c -lniluppang
@@ -52,7 +52,7 @@
  *     72 BadVector         the text is not a version vector
  *     73 BadArgument       a bank, an identification or a day is not valid; `place` says which, from 1, in the call's order
  *
- * `place` counts from 1. It is 0 with every other number. docs/CODES.md has a remedy for each.
+ * `place` counts from 1. It is 0 with every other number. docs/users/codes.md has a remedy for each.
  */
 #ifndef NILUPPANG_H
 #define NILUPPANG_H

@@ -20,8 +20,8 @@ from tests.property import cases
 CHECKS = {
     "documents": {
         "names": "compares the names in documents with the code",
-        "page_examples": "runs the program on the examples of docs/MODEL.md and docs/FORMATS.md, and looks up the code of docs/DESKS.md",
-        "codes": "compares the numbers of docs/CODES.md with the code and its lines with the examples, and makes the man page",
+        "page_examples": "runs the program on the examples of model.md and formats.md, and looks up the code of sites.md",
+        "codes": "compares the numbers of codes.md with the code and its lines with the examples, and makes the man page",
         "interface": "compares VERSION, the C header, the Python package and the exports of the library",
     },
     "golden": {

@@ -84,7 +84,7 @@ def files(folder):
              doc + "BUILD": built_of().encode(), doc + "VERSION": read("VERSION")}
     for name in ("libniluppang.a", library.SONAME):
         found["lib/" + name] = pathlib.Path(folder, name).read_bytes()
-    for page in [*PAGES, *(path.relative_to(TOP).as_posix() for path in (TOP / "docs").glob("*.md"))]:
+    for page in [*PAGES, *below("docs")]:
         found[doc + page] = read(page)
     for name in PYTHON:
         found[python + name] = read("bindings/python/" + name)

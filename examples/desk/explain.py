@@ -2,7 +2,7 @@
 
 It knows refused lines and deltas (`line 8: 31`), also as day.mend has them, faults (`fault 62`), lines of a status text, outcomes
 of a replay that are refused, and rows of a report. Other lines are printed as they are. Names and remedies are those of the
-tables of CODES.md, which is looked for beside this script, and then in the folder docs of its repository.
+tables of codes.md, which is looked for beside this script, and then in the folder docs of its repository.
 
 Usage: explain.py [FILE..]   (without FILE it reads standard input)
 """
@@ -19,11 +19,11 @@ RESULT = re.compile(r'[A-Z0-9]{11},(?:[^",]+|"[^"]+"),([A-Z_]+),')  # the first 
 
 
 def page():
-    """The text of CODES.md."""
-    for path in [HERE / "CODES.md", *sorted((HERE.parents[1] / "docs").rglob("CODES.md"))]:
+    """The text of codes.md."""
+    for path in [HERE / "codes.md", *sorted((HERE.parents[1] / "docs").rglob("codes.md"))]:
         if path.is_file():
             return path.read_text(encoding="utf-8")
-    sys.exit(f"explain: there is no CODES.md in {HERE}, and none in {HERE.parents[1] / 'docs'}")
+    sys.exit(f"explain: there is no codes.md in {HERE}, and none in {HERE.parents[1] / 'docs'}")
 
 
 def plain(cell):

@@ -1,4 +1,4 @@
-"""fields.py: what the tools of the desk know of fields that somebody types or lists. docs/FORMATS.md, section 3, has the types."""
+"""fields.py: what the tools of the desk know of fields that somebody types or lists. docs/users/formats.md, section 3, has the types."""
 import datetime, re
 
 BIC = re.compile(r"[A-Z0-9]{4}[A-Z]{2}[A-Z0-9]{2}(?:[A-Z0-9]{3})?")

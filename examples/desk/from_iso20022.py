@@ -3,7 +3,7 @@ it: it is outside the proofs, and a wrong converter makes wrong answers. Check i
 you use it.
 
 It reads files of pacs.002, pacs.004, pacs.008, pacs.028, camt.029 and camt.056 messages, each with one Document or several, and
-writes the lines to standard output. It keeps the elements that docs/FORMATS.md names, and drops all others. Texts are kept as
+writes the lines to standard output. It keeps the elements that docs/users/formats.md names, and drops all others. Texts are kept as
 they are: sct_sites judges them. A bank is its BICFI, or its BIC as in pacs.008.001.02 and other old versions.
 
 - A camt.056 of several transactions becomes one line with TxInf. Of more than 100 it has no line: the sender has to cut it.

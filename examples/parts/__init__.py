@@ -1,1 +1,1 @@
-"""Answers on more messages than one machine takes: parts that share nothing, on Dask. docs/PARTS.md says how."""
+"""Answers on more messages than one machine takes: parts that share nothing, on Dask. docs/users/parts.md says how."""

@@ -2,7 +2,7 @@
 
 The answers are those of `sct_sites` on all lines together. FOLDER gets whole.status, whole.totals, whole.archive and whole.report,
 as they are asked for, and whole.refused. All workers must see FOLDER, the files, the program and this package under the same paths.
-docs/PARTS.md has more.
+docs/users/parts.md has more.
 """
 import argparse, contextlib, fcntl, importlib, json, logging, os, pathlib, shutil, subprocess, sys, warnings
 
@@ -40,7 +40,7 @@ def words():
     """The words of the command line."""
     it = argparse.ArgumentParser(prog="main.py", description=__doc__, formatter_class=argparse.RawDescriptionHelpFormatter)
     it.add_argument("folder", metavar="FOLDER", help="where the answers go")
-    it.add_argument("files", metavar="FILE", nargs="+", help="a file of messages, as docs/FORMATS.md says")
+    it.add_argument("files", metavar="FILE", nargs="+", help="a file of messages, as docs/users/formats.md says")
     it.add_argument("--ask", metavar="WORDS", default="status,totals,archive", help="which of these three, with commas (all)")
     it.add_argument("--report", metavar=("BANK", "DAY", "LIST"), nargs=3, help="a report on a bank's list too")
     it.add_argument("--scheduler", metavar="ADDRESS", help="the scheduler of a cluster (workers on this machine)")

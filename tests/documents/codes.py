@@ -1,4 +1,4 @@
-"""codes.py: docs/CODES.md has the numbers and names of the code and lines of the examples, and makes the man page.
+"""codes.py: docs/users/codes.md has the numbers and names of the code and lines of the examples, and makes the man page.
 
 The numbers and names in the tables are those of the functions `number` of the code, and so are the numbers that the page says are not
 assigned. Each line that a table shows in its column Line or Example is a line of some file of examples/, or is `fault N` and N ends a
@@ -44,13 +44,13 @@ def numbers(text, table, pairs):
     """Whether the tables have the numbers of the code, and the page those that are not assigned."""
     named = {(row["Number"], re.match(r"`(\w+)`", row["Name"]).group(1)) for row in table if "Number" in row}
     for pair in sorted(pairs - named, key=lambda pair: (int(pair[0]), pair[1])):
-        yield reported(f"CODES.md has no row {pair[0]} {pair[1]}", False)
+        yield reported(f"codes.md has no row {pair[0]} {pair[1]}", False)
     for pair in sorted(named - pairs):
-        yield reported(f"CODES.md has a row {pair[0]} {pair[1]}, and the code has not", False)
-    yield reported("the numbers of CODES.md are those of the code", named == pairs)
+        yield reported(f"codes.md has a row {pair[0]} {pair[1]}, and the code has not", False)
+    yield reported("the numbers of codes.md are those of the code", named == pairs)
     taken = {int(number) for number, _ in pairs}
     free = [number for number in range(1, MOST + 1) if number not in taken]
-    yield reported("CODES.md says which numbers are not assigned", free == said_free(text))
+    yield reported("codes.md says which numbers are not assigned", free == said_free(text))
 
 
 def lines_shown(table, ends):
@@ -61,13 +61,13 @@ def lines_shown(table, ends):
             for line in pages.codes(row.get(column, "")):
                 fault = re.fullmatch(r"fault (\d+)", line)
                 right = fault.group(1) in ends if fault else line in examples
-                yield reported(f"CODES.md shows {line}", right)
+                yield reported(f"codes.md shows {line}", right)
 
 
 def is_man_page_made(text):
     """Whether the man page is what the script makes of the page."""
     made = (TOP / "docs" / "sct_sites.1").read_text(encoding="utf-8")
-    return reported("sct_sites.1 is made of CODES.md", man_page.made(text) == made)
+    return reported("sct_sites.1 is made of codes.md", man_page.made(text) == made)
 
 
 def main():

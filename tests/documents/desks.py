@@ -1,4 +1,4 @@
-"""desks.py: the code of docs/DESKS.md, and what the files have that the page names.
+"""desks.py: the code of docs/developers/sites.md, and what the files have that the page names.
 
 The line before a block names a file. The lines of the block are lines of that file, one after another. A line `..` is left out code.
 Spaces at the beginning of a line do not count.
@@ -23,8 +23,8 @@ def compared(file, block):
 
 def examples(_):
     """Each block by its name, with the pairs of what the page and the file have."""
-    page = Page("DESKS.md")
+    page = Page("developers/sites.md")
     for block in page.blocks():
         before = page.text[:page.text.index(block.text)].splitlines()[-3]
         named = re.fullmatch(r"`([^`]*)`:", before)
-        yield f"DESKS.md, line {block.line}", compared(named.group(1) if named else "no file that is named", block.text)
+        yield f"sites.md, line {block.line}", compared(named.group(1) if named else "no file that is named", block.text)

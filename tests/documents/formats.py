@@ -1,4 +1,4 @@
-"""formats.py: the examples and tables of docs/FORMATS.md, each with what the page says and what the program answers.
+"""formats.py: the examples and tables of docs/users/formats.md, each with what the page says and what the program answers.
 
 Section 2 has messages that are all read. A row of section 5 names one of them, what is changed in it, and how that line is refused.
 Section 3 has names of kinds, each given to the message of its kind, and reasons, each shown for a rejection and for the refusal of a
@@ -224,15 +224,15 @@ PARTS = [refusals, written_forms, kinds, reasons, script_lines, script, example_
 
 def examples(program):
     """Each example by its name, with the pairs of what the page says and what is answered."""
-    page = Page("FORMATS.md")
+    page = Page("users/formats.md")
     messages = messages_of(page)
     text, refused, status = answered(program, ["archive"], "\n".join(messages.values()))
-    yield "FORMATS.md, the messages of section 2", [((7, "", 0), (text.count("\n"), refused, status))]
+    yield "formats.md, the messages of section 2", [((7, "", 0), (text.count("\n"), refused, status))]
     for part_of_page in PARTS:
         lines = {}
         for line, stated, found in part_of_page(program, page, messages):
             lines.setdefault(line, []).append((stated, found))
         if not lines:
-            stop(f"FORMATS.md has nothing for {part_of_page.__name__}")
+            stop(f"formats.md has nothing for {part_of_page.__name__}")
         for line, pairs in lines.items():
-            yield f"FORMATS.md, line {line}", pairs
+            yield f"formats.md, line {line}", pairs

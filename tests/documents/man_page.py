@@ -1,4 +1,4 @@
-"""man_page.py: makes the manual page docs/sct_sites.1 of docs/CODES.md, whose sections and tables it takes over in their order.
+"""man_page.py: makes the manual page docs/sct_sites.1 of docs/users/codes.md, whose sections and tables it takes over in their order.
 
 A heading of two marks begins a section, one of three a part of it. A row of a table is an entry: its first cell or cells are
 what is printed, and the others follow with the names of their columns. Links are their words.
@@ -9,12 +9,12 @@ import re, sys
 from tests.documents.pages import cells
 from tests.harness import TOP
 
-PAGE = TOP / "docs" / "CODES.md"
+PAGE = TOP / "docs" / "users" / "codes.md"
 # the columns that name an entry; the others are what it says
 NAMES = ["Number", "Name"]
 # signs that troff would read as something else, the first of them before the others
 SIGNS = {"\\": "\\e", "-": "\\-", "'": "\\(aq", "`": "\\(ga", "~": "\\(ti", "^": "\\(ha"}
-HEAD = """.\\" Made by tests/documents/man_page.py of docs/CODES.md. Change that page, and make this one again.
+HEAD = """.\\" Made by tests/documents/man_page.py of docs/users/codes.md. Change that page, and make this one again.
 .TH SCT_SITES 1 "" "Niluppang" "User commands"
 .SH NAME
 sct_sites \\- answers on the SEPA Instant messages of a clearing hub
@@ -40,7 +40,7 @@ It keeps nothing between two runs.
 .SH WHAT YOU SEE
 """
 FOOT = """.SH SEE ALSO
-README.md, docs/FORMATS.md, docs/MODEL.md, docs/DESK.md, docs/EXCHANGE.md and docs/PARTICIPANTS.md of the source.
+README.md, and the pages formats.md, model.md, desk.md, exchange.md and participants.md in docs/users of the source.
 """
 
 

@@ -1,4 +1,4 @@
-"""model.py: the worked examples of docs/MODEL.md, each with what the page says and what the program answers.
+"""model.py: the worked examples of docs/users/model.md, each with what the page says and what the program answers.
 
 The messages of an example are written in the words of the table at the head of the page, whose values they have. An example is a block
 of a form of FORMS, or a script with its events. A block of another form stops the check, and so does a message in other words.
@@ -240,7 +240,7 @@ def of_block(program, block):
     if next(iter(parts), None) == "events":
         return replayed(program, parts.pop("events"), **parts)
     if tuple(parts) not in FORMS:
-        stop(f"MODEL.md, line {block.line}: this block is of no form that is known")
+        stop(f"model.md, line {block.line}: this block is of no form that is known")
     return FORMS[tuple(parts)](program, *parts.values())
 
 
@@ -263,10 +263,10 @@ def of_notation(row):
 
 def examples(program):
     """Each example by its name, with the pairs of what the page says and what is answered."""
-    page = Page("MODEL.md")
+    page = Page("users/model.md")
     for row in page.rows(None, "In short", "Message"):
-        yield f"MODEL.md, line {row.line}", of_notation(row)
+        yield f"model.md, line {row.line}", of_notation(row)
     for block in page.blocks():
-        yield f"MODEL.md, line {block.line}", of_block(program, block)
+        yield f"model.md, line {block.line}", of_block(program, block)
     for row in page.rows("3. Transfer and recall", "Message", "Transfers", "Recalls"):
-        yield f"MODEL.md, line {row.line}", of_message(program, row)
+        yield f"model.md, line {row.line}", of_message(program, row)

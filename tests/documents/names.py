@@ -286,10 +286,10 @@ def check_kit(report, page, text):
 
 BY_PAGE = {
     "README.md": [check_pages],
-    "docs/PROMISES.md": [check_promises],
-    "docs/PROOF_REVIEW.md": [check_edits, check_taken_away],
-    "docs/ARCHITECTURE.md": [check_sources],
-    "docs/PROVED.md": [check_carried, check_quotes, check_kit],
+    "docs/auditors/promises.md": [check_promises],
+    "docs/auditors/review.md": [check_edits, check_taken_away],
+    "docs/developers/architecture.md": [check_sources],
+    "docs/auditors/proved.md": [check_carried, check_quotes, check_kit],
 }
 
 

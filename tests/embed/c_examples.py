@@ -1,7 +1,7 @@
 """c_examples.py: the examples in C and in Rust are built without a warning, and print what three sites together answer.
 
 examples/embed/hub.c is built by gcc, and by clang if it is there. It runs under the address sanitizer too, and so does the program of
-docs/EMBEDDING.md. The Rust one is built by cargo, without a crate of a registry. The header is read as C99, as C11 and as C++. Each
+docs/users/embedding.md. The Rust one is built by cargo, without a crate of a registry. The header is read as C99, as C11 and as C++. Each
 compiler that is missing is named.
 """
 import os, re, shutil
@@ -62,12 +62,12 @@ def c_example(folder):
 
 
 def page(folder):
-    """The program in C on docs/EMBEDDING.md, which prints what the page shows."""
-    in_c, _, shown = (block.text for block in Page("EMBEDDING.md").blocks())
+    """The program in C on docs/users/embedding.md, which prints what the page shows."""
+    in_c, _, shown = (block.text for block in Page("users/embedding.md").blocks())
     source = folder / "page.c"
     source.write_text(in_c)
     answer = harness.run([driving.built(folder, source, *driving.CHECKED, wraps=())])
-    yield reported("the program in C of docs/EMBEDDING.md", answer == (shown.encode(), b"", 0), str(answer))
+    yield reported("the program in C of docs/users/embedding.md", answer == (shown.encode(), b"", 0), str(answer))
 
 
 def rust_example(folder):

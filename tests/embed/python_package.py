@@ -53,13 +53,13 @@ def tests(shared):
 
 
 def page(folder, shared):
-    """The program in Python on docs/EMBEDDING.md, which prints what the page shows."""
-    _, in_python, shown = (block.text for block in Page("EMBEDDING.md").blocks())
+    """The program in Python on docs/users/embedding.md, which prints what the page shows."""
+    _, in_python, shown = (block.text for block in Page("users/embedding.md").blocks())
     source = folder / "page.py"
     source.write_text(in_python)
     variables = {**os.environ, "NILUPPANG_LIBRARY": str(shared), "PYTHONPATH": str(FOLDER), "PYTHONDONTWRITEBYTECODE": "1"}
     answer = harness.run([sys.executable, source], env=variables)
-    yield reported("the program in Python of docs/EMBEDDING.md", answer == (shown.encode(), b"", 0), str(answer))
+    yield reported("the program in Python of docs/users/embedding.md", answer == (shown.encode(), b"", 0), str(answer))
 
 
 def types(folder):

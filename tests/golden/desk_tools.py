@@ -187,7 +187,7 @@ EXPLAINED = [("fault 62", ["Read"]), ("fault 64", ["Usage"]), ("fault 66 42", ["
 
 def explained(folder, commands):
     """Whether each number of a refused line gets its name, each remedy is that of the page, and other lines nothing."""
-    page = (harness.TOP / "docs" / "CODES.md").read_text(encoding="utf-8")
+    page = (harness.TOP / "docs" / "users" / "codes.md").read_text(encoding="utf-8")
     explain = "python3 desk/explain.py "
     text, status = shell(explain + "refusals.refused", folder, commands)
     names = re.findall(r"^    (\w+): ", text, re.MULTILINE)
@@ -209,7 +209,7 @@ def explained(folder, commands):
                          ('LUTEFRPPXXX,"LU,10",LISTED_TWICE,,,1.00,ACCEPTED', "leave one row")]:
         (folder / "lines").write_text(line)
         yield answers(f"explain says {remedy}", explain + "lines", (f"{line}\n    {remedy}\n", 0), folder, commands)
-    (folder / "desk" / "CODES.md").write_text(page.replace("remove spaces; ask", "REMOVE SPACES; ask"))
+    (folder / "desk" / "codes.md").write_text(page.replace("remove spaces; ask", "REMOVE SPACES; ask"))
     text, _ = shell("echo 'line 1: 36 DbtrAcct 2' | " + explain, folder, commands)
     yield reported("explain reads the page beside it", "REMOVE SPACES" in text, text)
 

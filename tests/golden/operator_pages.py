@@ -7,14 +7,14 @@ from tests import harness
 from tests.golden.shown import copied, is_printed, place, shell, shown
 from tests.harness import TOP
 
-PAGES = ["CODES.md", "DESK.md", "EXCHANGE.md", "PARTICIPANTS.md"]
+PAGES = ["codes.md", "desk.md", "exchange.md", "participants.md"]
 
 
 def page_runs(name, program):
     """Whether each command of a page prints what the page shows."""
     with tempfile.TemporaryDirectory() as folder:
         commands, copy = place(folder, program), copied(folder)
-        for number, command, lines in shown((TOP / "docs" / name).read_text(encoding="utf-8")):
+        for number, command, lines in shown((TOP / "docs" / "users" / name).read_text(encoding="utf-8")):
             text, _ = shell(command, copy, commands)
             yield harness.reported(f"{name}, line {number}", is_printed(lines, text), text)
 

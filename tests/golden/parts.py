@@ -7,7 +7,7 @@
 - A full disk, a run that goes on where another one stopped, a run on other files in its folder, and messages that are tied together
   and too large for a part.
 - A program that names one transfer or one identity in each part, and one that takes what is not a message: the check finds that.
-- The commands of docs/PARTS.md.
+- The commands of docs/users/parts.md.
 
 It needs the Debian packages python3-dask and python3-distributed. Without them nothing passes and nothing fails, and a line says so.
 """
@@ -281,11 +281,11 @@ def all_made_up(many, python, program, folder):
 
 
 def page(python, program, folder):
-    """The commands of docs/PARTS.md, in a copy of examples/."""
+    """The commands of docs/users/parts.md, in a copy of examples/."""
     commands, copy = place(folder, program), shutil.copytree(EXAMPLES, f"{folder}/examples")
-    for number, command, lines in shown((TOP / "docs" / "PARTS.md").read_text(encoding="utf-8")):
+    for number, command, lines in shown((TOP / "docs" / "users" / "parts.md").read_text(encoding="utf-8")):
         text, _ = shell(command.replace("/usr/bin/python3", python), copy, commands)
-        yield reported(f"PARTS.md, line {number}", is_printed(lines, text), text)
+        yield reported(f"parts.md, line {number}", is_printed(lines, text), text)
 
 
 def main():

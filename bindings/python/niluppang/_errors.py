@@ -35,8 +35,8 @@ MEANINGS: Dict[int, str] = {
 class NiluppangError(Exception):
     """A call was refused, and changed nothing.
 
-    `number` and `name` say why (docs/CODES.md). `place` is the line, the record, the transaction or the argument that is wrong, from
-    1, or 0 if the number has no place.
+    `number` and `name` say why (docs/users/codes.md). `place` is the line, the record, the transaction or the argument that is wrong,
+    from 1, or 0 if the number has no place.
     """
 
     def __init__(self, number: int, place: int = 0) -> None:

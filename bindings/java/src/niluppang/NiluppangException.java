@@ -3,8 +3,8 @@ package niluppang;
 import java.util.Map;
 
 /**
- * A call was refused, and changed nothing. {@link #number()} says why (docs/CODES.md), and {@link #place()} is the line, the record, the
- * transaction or the argument that is wrong, from 1, or 0 if the number has no place.
+ * A call was refused, and changed nothing. {@link #number()} says why (docs/users/codes.md), and {@link #place()} is the line, the
+ * record, the transaction or the argument that is wrong, from 1, or 0 if the number has no place.
  */
 public final class NiluppangException extends RuntimeException {
     private static final long serialVersionUID = 1L;

@@ -45,7 +45,7 @@ extern "C" {
     fn sct_site_answer(site: *mut Handle, out: *mut u8, room: usize) -> Outcome;
 }
 
-/// Why a call was refused: the number, and the place or 0. docs/CODES.md has each.
+/// Why a call was refused: the number, and the place or 0. docs/users/codes.md has each.
 #[derive(Clone, Copy, Debug, PartialEq, Eq)]
 pub struct Refused {
     pub number: u8,
