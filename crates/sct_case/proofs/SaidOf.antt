@@ -16,7 +16,7 @@ use Rattle.sct_case.specs.declared.finding.Finding.TheVariants as finding
 use Rattle.sct_case.specs.declared.said.Said.{Said}
 use Rattle.sct_case.specs.Inside.{IsOneMore, IsSaidOf, all_found, standing_said}
 use Rattle.sct_case.specs.Said.{amounts_by, instructions_by, is_acceptance, is_investigation, recalls_by, refusals_by, rejections_by, requests_by, returns_by}
-use Rattle.sct_case.specs.Statuses.{first, known, standing_of}
+use Rattle.sct_case.specs.Statuses.{first, standing_by, standing_of}
 use Rattle.sct_case.specs.Told.{both_answers, cxls, differ, differing_recalls, differing_refusals, findings_of, findings_of_instruction, findings_of_recalls, has_some, names_another, same_reason, same_return, where_found}
 
 regroup : {X : Type 0} (i a b c d e : List X) → i ++ a ++ b ++ c ++ d ++ e ≡ i ++ (a ++ b ++ c ++ d ++ e)
@@ -65,5 +65,10 @@ module _ (t : TransferKey) (clean : List Draft) (said : Said) (s : IsSaidOf t cl
 
   pub standing_said_of : standing_said said ≡ standing_of t clean
   standing_said_of =
-      λ i. known (has_some (s.instructions i)) (option_map (λ r. r.reason) (first (s.rejections i))) (s.accepted i)
-      (option_map (λ r. r.amount) (first (s.returns i))) (s.investigated i)
+      λ i. standing_by (record {
+        instructed = has_some (s.instructions i);
+        rejected = option_map (λ r. r.reason) (first (s.rejections i));
+        accepted = s.accepted i;
+        returned = option_map (λ r. r.amount) (first (s.returns i));
+        investigated = s.investigated i;
+      })

@@ -22,9 +22,9 @@ use Rattle.sct_case.specs.declared.said.RecallMade.{RecallMade}
 use Rattle.sct_case.specs.declared.said.RefusalMade.{RefusalMade}
 use Rattle.sct_case.specs.declared.said.ReturnMade.{ReturnMade}
 use Rattle.sct_case.specs.Said.{cancellations_in, made_in, named_in, recalls_by, recalls_named_by, refusals_by, requests_by, returns_by, where_of}
-use Rattle.sct_case.specs.Statuses.{amount_returned, answer_of, is_made, is_named, named_of_it, reason_refused, recall_standing_of, recalled, request_of_it}
+use Rattle.sct_case.specs.Statuses.{RecallFacts, amount_returned, is_made, is_named, named_of_it, reason_refused, recall_facts_of, recall_standing_by, recall_standing_of, request_of_it}
 use Rattle.sct_case.specs.Told.{recall_of_it, refusal_of_it, return_of_it}
-use Rattle.sct_case.specs.Inside.{IsOneMoreOn, IsSaidOn, SayAlike, judged}
+use Rattle.sct_case.specs.Inside.{IsOneMoreOn, IsSaidOn, SayAlike, recall_standing_said}
 use Rattle.sct_case.proofs.OfOneRecall.{first_alike, some_alike}
 
 -- ---- a message names a recall in one of four ways
@@ -99,10 +99,15 @@ module _ (t : TransferKey) (cxl : List ℕ) where
 
   -- so these four give the status of the recall
   pub judged_is : (ms : List Draft)
-      → judged (is_made t ms cxl) (amount_returned cxl (flat_map (returns_by t) ms)) (reason_refused cxl (flat_map (refusals_by t) ms)) (list_any (request_of_it cxl) (flat_map (requests_by t) ms))
-      ≡ recall_standing_of t ms cxl
+      → recall_standing_said (record {
+        made = is_made t ms cxl;
+        returned = amount_returned cxl (flat_map (returns_by t) ms);
+        refused = reason_refused cxl (flat_map (refusals_by t) ms);
+        chased = list_any (request_of_it cxl) (flat_map (requests_by t) ms);
+      }) ≡ recall_standing_of t ms cxl
   judged_is ms =
-      ap (λ b. recalled b (is_made t ms cxl) (answer_of t ms cxl))
+      let facts = recall_facts_of t ms cxl in
+      ap (λ b. recall_standing_by (record { named = b; made = facts.made; returned = facts.returned; refused = facts.refused; chased = facts.chased }))
       ((λ i. is_made t ms cxl || is_found (λ r. r.amount) (return_of_it cxl) (flat_map (returns_by t) ms) i
       || is_found (λ r. r.reason) (refusal_of_it cxl) (flat_map (refusals_by t) ms) i || list_any (request_of_it cxl) (flat_map (requests_by t) ms))
       ∙ sym (named ms))
@@ -136,10 +141,20 @@ module _ (t : TransferKey) (cxl : List ℕ) where
 module _ (made other_made : List RecallMade) (returns other_returns : List ReturnMade) (refusals other_refusals : List RefusalMade) (requests other_requests : List RecallAsked) where
   pub judged_alike : SayAlike (λ m. m.cxl) made other_made → SayAlike (λ m. m.cxl) returns other_returns
       → SayAlike (λ m. m.cxl) refusals other_refusals → SayAlike (λ m. m.cxl) requests other_requests
-      → (cxl : List ℕ) → judged (list_any (recall_of_it cxl) made) (amount_returned cxl returns) (reason_refused cxl refusals) (list_any (request_of_it cxl) requests)
-      ≡ judged (list_any (recall_of_it cxl) other_made) (amount_returned cxl other_returns) (reason_refused cxl other_refusals) (list_any (request_of_it cxl) other_requests)
-  judged_alike m r f q cxl = λ i.
-      judged (some_alike (recall_of_it cxl) made other_made (m cxl) i)
-      (option_map (λ x. x.amount) (first_alike (return_of_it cxl) returns other_returns (r cxl) i))
-      (option_map (λ x. x.reason) (first_alike (refusal_of_it cxl) refusals other_refusals (f cxl) i))
-      (some_alike (request_of_it cxl) requests other_requests (q cxl) i)
+      → (cxl : List ℕ) → recall_standing_said (record {
+        made = list_any (recall_of_it cxl) made;
+        returned = amount_returned cxl returns;
+        refused = reason_refused cxl refusals;
+        chased = list_any (request_of_it cxl) requests;
+      }) ≡ recall_standing_said (record {
+        made = list_any (recall_of_it cxl) other_made;
+        returned = amount_returned cxl other_returns;
+        refused = reason_refused cxl other_refusals;
+        chased = list_any (request_of_it cxl) other_requests;
+      })
+  judged_alike m r f q cxl = λ i. recall_standing_said (record {
+    made = some_alike (recall_of_it cxl) made other_made (m cxl) i;
+    returned = option_map (λ x. x.amount) (first_alike (return_of_it cxl) returns other_returns (r cxl) i);
+    refused = option_map (λ x. x.reason) (first_alike (refusal_of_it cxl) refusals other_refusals (f cxl) i);
+    chased = some_alike (request_of_it cxl) requests other_requests (q cxl) i;
+  })

@@ -16,7 +16,7 @@ use Rattle.sct_case.specs.declared.recalls.RecallSaid.{RecallSaid}
 use Rattle.sct_case.specs.declared.said.Said.{Said}
 use Rattle.sct_case.specs.declared.status.RecallStatus.{RecallStatus}
 use Rattle.sct_case.specs.Said.{amounts_by, instructions_by, is_acceptance, is_investigation, recalls_by, refusals_by, rejections_by, requests_by, returns_by}
-use Rattle.sct_case.specs.Statuses.{Standing, amount_returned, answered, first, known, reason_refused, recalled, request_of_it}
+use Rattle.sct_case.specs.Statuses.{Standing, amount_returned, first, reason_refused, recall_standing_by, request_of_it, standing_by}
 use Rattle.sct_case.specs.Told.{both_answers, cxls, differ, differing_recalls, differing_refusals, has_some, names_another, recall_of_it, same_reason, same_return, where_found}
 
 -- ---- what messages say of a transfer
@@ -66,9 +66,13 @@ all_found said asides =
 
 -- the status by these statements, if nothing is found
 abbrev pub standing_said : Said → Standing
-standing_said said =
-    known (has_some said.instructions.items) (option_map (λ r. r.reason) (first said.rejections.items)) said.accepted
-    (option_map (λ r. r.amount) (first said.returns.items)) said.investigated
+standing_said said = standing_by (record {
+  instructed = has_some said.instructions.items;
+  rejected = option_map (λ r. r.reason) (first said.rejections.items);
+  accepted = said.accepted;
+  returned = option_map (λ r. r.amount) (first said.returns.items);
+  investigated = said.investigated;
+})
 
 -- ---- what they say of its recalls
 
@@ -84,11 +88,15 @@ said_of recall cxl said = filter (λ m. is_text (recall m) cxl) said
 abbrev pub SayAlike : {X : Type 0} → (X → List ℕ) → List X → List X → Type 0
 SayAlike recall one other = (cxl : List ℕ) → said_of recall cxl one ≡ said_of recall cxl other
 
--- the status of a recall by whether it is made, the amount that is returned, the reason of a refusal, and whether its
--- status is asked for; a message names it in one of these ways
-abbrev pub judged : Bool → Option ℕ → Option Reason → Bool → RecallStatus
-judged made returned refused chased =
-    recalled (made || is_some returned || is_some refused || chased) made (answered returned refused chased)
+-- the status of a recall by these statements, if nothing is found; a message names a recall in one of four ways
+abbrev pub recall_standing_said : RecallSaid → RecallStatus
+recall_standing_said said = recall_standing_by (record {
+  named = said.made || is_some said.returned || is_some said.refused || said.chased;
+  made = said.made;
+  returned = said.returned;
+  refused = said.refused;
+  chased = said.chased;
+})
 
 -- these are the statements of the messages about one recall: of several returns or refusals the first one
 pub record IsSaidOn (transfer : TransferKey) (clean : List Draft) (cxl : List ℕ) (said : RecallSaid) : Type 0 where

@@ -4,7 +4,7 @@ ghost use Rattle.std.specs.Prelude.{◌≡◌, List, IfOk, map};
 ghost use Rattle.std.specs.List.{flat_map, list_any};
 ghost use Rattle.sct_message.specs.Sets.{messages_in};
 ghost use Rattle.sct_message.specs.declared.keys.Identity.{Identity as IdentityOf};
-ghost use Rattle.sct_case.specs.Inside.{IsByRecall, SayAlike, judged};
+ghost use Rattle.sct_case.specs.Inside.{IsByRecall, SayAlike, recall_standing_said};
 ghost use Rattle.sct_case.specs.Said.{recalls_by, refusals_by, requests_by, returns_by};
 ghost use Rattle.sct_case.specs.Statuses.{amount_returned, reason_refused, recall_standing_of, recall_status_of, request_of_it, told, transfer_status_of};
 ghost use Rattle.sct_case.specs.Told.{recall_of_it};
@@ -78,9 +78,12 @@ impl SaidByRecall {
 
     /// The status of a recall, if its transfer has no finding. O(log n) in the number of statements.
     fn standing(&self, cxl: &Id35) -> RecallStatus
-        ensures { result ≡ judged (list_any (recall_of_it cxl.now) self.now.made.items)
-            (amount_returned cxl.now self.now.returns.items) (reason_refused cxl.now self.now.refusals.items)
-            (list_any (request_of_it cxl.now) self.now.requests.items) }
+        ensures { result ≡ recall_standing_said (record {
+          made = list_any (recall_of_it cxl.now) self.now.made.items;
+          returned = amount_returned cxl.now self.now.returns.items;
+          refused = reason_refused cxl.now self.now.refusals.items;
+          chased = list_any (request_of_it cxl.now) self.now.requests.items;
+        }) }
     {
         let said = RecallSaid {
             made: is_some_on(&self.made, cxl),

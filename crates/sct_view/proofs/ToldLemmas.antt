@@ -13,7 +13,7 @@ use Rattle.sct_message.specs.Transfers.{is_on, messages_on, instruction_of}
 use Rattle.sct_message.specs.declared.keys.TransferKey.{TransferKey}
 use Rattle.sct_message.proofs.AscendingLemmas.{ascending-same, ascending-sorted}
 use Rattle.sct_case.specs.declared.finding.Finding.{Finding}
-use Rattle.sct_case.specs.Statuses.{Unknown, first_standing, known, transfer_status_of}
+use Rattle.sct_case.specs.Statuses.{Unknown, first_standing, standing_by, transfer_status_of}
 use Rattle.sct_view.specs.Answers.{status_of, found_on, cxls_named_by, recalls_of}
 use Rattle.sct_view.specs.Kept.{Kept, no_messages, case_of, contradicted_on, instruction_in}
 use Rattle.sct_view.specs.Listed.{found_in, recalls_in, lines_of_recalls}
@@ -27,7 +27,7 @@ use Rattle.sct_view.proofs.StandingLemmas.{split}
 
 -- nothing that is told by sentence is a contradiction
 first_found : (found : List Finding) (unknown has : Bool) (reason : Option Reason) (accepted : Bool) (amount : Option ℕ) (investigated : Bool)
-    → found_in (first_standing found unknown (known has reason accepted amount investigated)) ≡ found
+    → found_in (first_standing found unknown (standing_by (record { instructed = has; rejected = reason; accepted = accepted; returned = amount; investigated = investigated }))) ≡ found
 first_found found unknown has reason accepted amount investigated = grind arith
 
 -- the findings of a transfer stand in its status
