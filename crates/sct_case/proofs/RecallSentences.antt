@@ -14,7 +14,7 @@ use Rattle.sct_case.specs.declared.finding.Finding.{Finding}
 use Rattle.sct_case.specs.declared.status.RecallStatus.{RecallStatus}
 use Rattle.sct_case.specs.declared.status.RecallStatus.TheVariants as recall
 use Rattle.sct_case.specs.declared.said.RefusalMade.{RefusalMade}
-use Rattle.sct_case.specs.Said.{IsSaid, recalls_by, returns_by, refusals_by, requests_by, recalls_named_by}
+use Rattle.sct_case.specs.Said.{IsSaid, recalls_made_by, returns_by, refusals_by, requests_by, recalls_named_by}
 use Rattle.sct_case.specs.Told.{findings_of, recall_of_it, return_of_it, refusal_of_it}
 use Rattle.sct_case.specs.Statuses.{named_of_it, request_of_it, amount_returned, reason_refused, is_named, is_made, first_recall, recall_facts_of, recall_standing_by, recall_status_of}
 use Rattle.sct_case.specs.Sentences.{IsConsistent}
@@ -32,7 +32,7 @@ module _ (t : TransferKey) (clean : List Draft) (c : List ℕ) where
       (λ s. (record { cxl = c }, s, refl)) (any_said-Decides (recalls_named_by t) clean (named_of_it c) (λ m. m.cxl ≡ c) (λ m. bytes_decides m.cxl c))
 
   made-Decides : Decides (is_made t clean c) (IsMade t clean c)
-  made-Decides = any_said-Decides (recalls_by t) clean (recall_of_it c) (λ m. m.cxl ≡ c) (λ m. bytes_decides m.cxl c)
+  made-Decides = any_said-Decides (recalls_made_by t) clean (recall_of_it c) (λ m. m.cxl ≡ c) (λ m. bytes_decides m.cxl c)
 
   chased-Decides : Decides (list_any (request_of_it c) (flat_map (requests_by t) clean)) (IsChased t clean c)
   chased-Decides = Decides-like _

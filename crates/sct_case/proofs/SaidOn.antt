@@ -21,8 +21,8 @@ use Rattle.sct_case.specs.declared.said.RecallAsked.{RecallAsked}
 use Rattle.sct_case.specs.declared.said.RecallMade.{RecallMade}
 use Rattle.sct_case.specs.declared.said.RefusalMade.{RefusalMade}
 use Rattle.sct_case.specs.declared.said.ReturnMade.{ReturnMade}
-use Rattle.sct_case.specs.Said.{cancellations_in, made_in, named_in, recalls_by, recalls_named_by, refusals_by, requests_by, returns_by, where_of}
-use Rattle.sct_case.specs.Statuses.{RecallFacts, amount_returned, is_made, is_named, named_of_it, reason_refused, recall_facts_of, recall_standing_by, recall_standing_of, request_of_it}
+use Rattle.sct_case.specs.Said.{cancellations_in, made_in, named_in, recalls_made_by, recalls_named_by, refusals_by, requests_by, returns_by, where_of}
+use Rattle.sct_case.specs.Statuses.{amount_returned, is_made, is_named, named_of_it, reason_refused, recall_facts_of, recall_standing_by, recall_standing_of, request_of_it}
 use Rattle.sct_case.specs.Told.{recall_of_it, refusal_of_it, return_of_it}
 use Rattle.sct_case.specs.Inside.{IsOneMoreOn, IsSaidOn, SayAlike, recall_standing_said}
 use Rattle.sct_case.proofs.OfOneRecall.{first_alike, some_alike}
@@ -69,7 +69,7 @@ module _ (t : TransferKey) (cxl : List ℕ) where
       ]
 
   named_by : (m : Draft) → list_any (named_of_it cxl) (recalls_named_by t m)
-      ≡ (list_any (recall_of_it cxl) (recalls_by t m) || list_any (return_of_it cxl) (returns_by t m)
+      ≡ (list_any (recall_of_it cxl) (recalls_made_by t m) || list_any (return_of_it cxl) (returns_by t m)
       || list_any (refusal_of_it cxl) (refusals_by t m) || list_any (request_of_it cxl) (requests_by t m))
   named_by (draft.CreditTransfer d) = refl
   named_by (draft.StatusReport d) = refl
@@ -91,8 +91,8 @@ module _ (t : TransferKey) (cxl : List ℕ) where
   named (m ∷ ms) =
       list_any-append (named_of_it cxl) (recalls_named_by t m) (flat_map (recalls_named_by t) ms)
       ∙ (λ i. named_by m i || named ms i)
-      ∙ or_fours (list_any (recall_of_it cxl) (recalls_by t m)) (list_any (return_of_it cxl) (returns_by t m)) (list_any (refusal_of_it cxl) (refusals_by t m)) (list_any (request_of_it cxl) (requests_by t m)) _ _ _ _
-      ∙ (λ i. sym (list_any-append (recall_of_it cxl) (recalls_by t m) (flat_map (recalls_by t) ms)) i
+      ∙ or_fours (list_any (recall_of_it cxl) (recalls_made_by t m)) (list_any (return_of_it cxl) (returns_by t m)) (list_any (refusal_of_it cxl) (refusals_by t m)) (list_any (request_of_it cxl) (requests_by t m)) _ _ _ _
+      ∙ (λ i. sym (list_any-append (recall_of_it cxl) (recalls_made_by t m) (flat_map (recalls_made_by t) ms)) i
       || sym (list_any-append (return_of_it cxl) (returns_by t m) (flat_map (returns_by t) ms)) i
       || sym (list_any-append (refusal_of_it cxl) (refusals_by t m) (flat_map (refusals_by t) ms)) i
       || sym (list_any-append (request_of_it cxl) (requests_by t m) (flat_map (requests_by t) ms)) i)
@@ -130,7 +130,7 @@ module _ (t : TransferKey) (cxl : List ℕ) where
 
   pub more_on : (ms : List Draft) (m : Draft) (old new : RecallSaid) → IsSaidOn t ms cxl old → IsOneMoreOn t m cxl old new → IsSaidOn t (ms ++ m ∷ []) cxl new
   more_on ms m old new said more = record {
-    made = more.made ∙ ap (λ b. b || list_any (recall_of_it cxl) (recalls_by t m)) said.made ∙ any_more (recalls_by t) (recall_of_it cxl) ms m;
+    made = more.made ∙ ap (λ b. b || list_any (recall_of_it cxl) (recalls_made_by t m)) said.made ∙ any_more (recalls_made_by t) (recall_of_it cxl) ms m;
     returned = more.returned ∙ ap (λ (o : Option ℕ). option_or o (amount_returned cxl (returns_by t m))) said.returned ∙ first_more (returns_by t) (return_of_it cxl) (λ r. r.amount) ms m;
     refused = more.refused ∙ ap (λ (o : Option Reason). option_or o (reason_refused cxl (refusals_by t m))) said.refused ∙ first_more (refusals_by t) (refusal_of_it cxl) (λ r. r.reason) ms m;
     chased = more.chased ∙ ap (λ b. b || list_any (request_of_it cxl) (requests_by t m)) said.chased ∙ any_more (requests_by t) (request_of_it cxl) ms m;

@@ -15,7 +15,7 @@ use Rattle.sct_case.specs.declared.said.RecallAsked.{RecallAsked}
 use Rattle.sct_case.specs.declared.said.RecallNamed.{RecallNamed}
 use Rattle.sct_case.specs.declared.said.ReturnMade.{ReturnMade}
 use Rattle.sct_case.specs.declared.said.RefusalMade.{RefusalMade}
-use Rattle.sct_case.specs.Said.{is_acceptance, is_investigation, instructions_by, rejections_by, recalls_by, returns_by, refusals_by, requests_by, recalls_named_by}
+use Rattle.sct_case.specs.Said.{is_acceptance, is_investigation, instructions_by, rejections_by, recalls_made_by, returns_by, refusals_by, requests_by, recalls_named_by}
 use Rattle.sct_case.specs.Told.{findings_of, has_some, recall_of_it, return_of_it, refusal_of_it}
 
 -- ---- tables of statuses
@@ -135,7 +135,7 @@ abbrev pub is_named : TransferKey → List Draft → List ℕ → Bool
 is_named transfer clean cxl = list_any (named_of_it cxl) (flat_map (recalls_named_by transfer) clean)
 
 abbrev pub is_made : TransferKey → List Draft → List ℕ → Bool
-is_made transfer clean cxl = list_any (recall_of_it cxl) (flat_map (recalls_by transfer) clean)
+is_made transfer clean cxl = list_any (recall_of_it cxl) (flat_map (recalls_made_by transfer) clean)
 
 -- What the clean messages on a transfer say of one of its recalls: whether one names it, whether one makes it, the amount
 -- of a return, the reason of a refusal, and whether one asks for its status.

@@ -5,7 +5,7 @@ ghost use Rattle.std.specs.List.{flat_map, list_any};
 ghost use Rattle.sct_message.specs.Sets.{messages_in};
 ghost use Rattle.sct_message.specs.declared.keys.Identity.{Identity as IdentityOf};
 ghost use Rattle.sct_case.specs.Inside.{IsByRecall, SayAlike, recall_standing_said};
-ghost use Rattle.sct_case.specs.Said.{recalls_by, refusals_by, requests_by, returns_by};
+ghost use Rattle.sct_case.specs.Said.{recalls_made_by, refusals_by, requests_by, returns_by};
 ghost use Rattle.sct_case.specs.Statuses.{amount_returned, reason_refused, recall_standing_of, recall_status_of, request_of_it, told, transfer_status_of};
 ghost use Rattle.sct_case.specs.Told.{recall_of_it};
 ghost use Rattle.sct_case.specs.declared.status.RecallStatus.TheVariants as recall;
@@ -59,7 +59,7 @@ impl SaidByRecall {
         clean: &[Arc<Message>],
     ) -> Result<SaidByRecall, AllocError>
         ensures made { IfOk result (λ said. SayAlike (λ m. m.cxl) said.made.items
-            (flat_map (recalls_by transfer.now) (messages_in clean.now))) }
+            (flat_map (recalls_made_by transfer.now) (messages_in clean.now))) }
         ensures returns { IfOk result (λ said. SayAlike (λ m. m.cxl) said.returns.items
             (flat_map (returns_by transfer.now) (messages_in clean.now))) }
         ensures refusals { IfOk result (λ said. SayAlike (λ m. m.cxl) said.refusals.items

@@ -5,7 +5,7 @@ ghost use Rattle.sct_message.specs.Sets.{messages_in};
 ghost use Rattle.sct_message.specs.declared.draft.Draft.TheVariants as draft;
 ghost use Rattle.sct_message.specs.declared.keys.Identity.{Identity as IdentityOf};
 ghost use Rattle.sct_case.specs.Inside.{IsOneMoreOn, IsSaidOn, recall_standing_said};
-ghost use Rattle.sct_case.specs.Said.{made_in, recalls_by, refusals_by, requests_by, returns_by};
+ghost use Rattle.sct_case.specs.Said.{made_in, recalls_made_by, refusals_by, requests_by, returns_by};
 ghost use Rattle.sct_case.specs.Statuses.{amount_returned, reason_refused, request_of_it, recall_standing_by, recall_standing_of, recall_status_of, told, transfer_status_of};
 ghost use Rattle.sct_case.specs.Told.{recall_of_it};
 
@@ -103,7 +103,7 @@ fn any_makes(txs: &[RecallTx], transfer: &TransferKey, cxl: &Id35) -> bool
 /// Whether a message makes the recall.
 fn makes(request: &CancellationRequest, transfer: &TransferKey, cxl: &Id35) -> bool
     ensures { result
-        ≡ list_any (recall_of_it cxl.now) (recalls_by transfer.now (draft.CancellationRequest request.now)) }
+        ≡ list_any (recall_of_it cxl.now) (recalls_made_by transfer.now (draft.CancellationRequest request.now)) }
 {
     any_makes(&request.txs, transfer, cxl)
 }
