@@ -49,15 +49,15 @@ pub data Standing : Type 0 where
   Pending : Standing
 
 -- the status with its findings as a list
-abbrev pub told : Status → Standing
-told (status.Contradicted found) = Contradicted found.items
-told status.Unknown = Unknown
-told status.Missing = Missing
-told (status.Rejected reason) = Rejected reason
-told (status.Returned amount) = Returned amount
-told status.Accepted = Accepted
-told status.Investigated = Investigated
-told status.Pending = Pending
+abbrev pub as_standing : Status → Standing
+as_standing (status.Contradicted found) = Contradicted found.items
+as_standing status.Unknown = Unknown
+as_standing status.Missing = Missing
+as_standing (status.Rejected reason) = Rejected reason
+as_standing (status.Returned amount) = Returned amount
+as_standing status.Accepted = Accepted
+as_standing status.Investigated = Investigated
+as_standing status.Pending = Pending
 
 abbrev pub first : {X : Type 0} → List X → Option X
 first [] = None

@@ -6,7 +6,7 @@ ghost use Rattle.sct_message.specs.Sets.{messages_in};
 ghost use Rattle.sct_message.specs.declared.keys.Identity.{Identity as IdentityOf};
 ghost use Rattle.sct_case.specs.Inside.{IsByRecall, SayAlike, recall_standing_said};
 ghost use Rattle.sct_case.specs.Said.{recalls_made_by, refusals_by, requests_by, returns_by};
-ghost use Rattle.sct_case.specs.Statuses.{amount_returned, reason_refused, recall_standing_of, recall_status_of, request_of_it, told, transfer_status_of};
+ghost use Rattle.sct_case.specs.Statuses.{amount_returned, reason_refused, recall_standing_of, recall_status_of, request_of_it, as_standing, transfer_status_of};
 ghost use Rattle.sct_case.specs.Told.{recall_of_it};
 ghost use Rattle.sct_case.specs.declared.status.RecallStatus.TheVariants as recall;
 
@@ -136,7 +136,7 @@ pub fn recall_statuses(
     cxls: &[Id35],
 ) -> Result<Vec<(Id35, RecallStatus)>, CaseFault>
     ensures { (asides : List IdentityOf)
-        → told status.now ≡ transfer_status_of transfer.now (messages_in clean.now) asides
+        → as_standing status.now ≡ transfer_status_of transfer.now (messages_in clean.now) asides
         → IfOk result (λ found. found.items
         ≡ map (λ cxl. (cxl, recall_status_of transfer.now (messages_in clean.now) asides cxl)) cxls.now) }
 {

@@ -6,7 +6,7 @@ ghost use Rattle.sct_message.specs.declared.draft.Draft.TheVariants as draft;
 ghost use Rattle.sct_message.specs.declared.keys.Identity.{Identity as IdentityOf};
 ghost use Rattle.sct_case.specs.Inside.{IsOneMoreOn, IsSaidOn, recall_standing_said};
 ghost use Rattle.sct_case.specs.Said.{made_in, recalls_made_by, refusals_by, requests_by, returns_by};
-ghost use Rattle.sct_case.specs.Statuses.{amount_returned, reason_refused, request_of_it, recall_standing_by, recall_standing_of, recall_status_of, told, transfer_status_of};
+ghost use Rattle.sct_case.specs.Statuses.{amount_returned, reason_refused, request_of_it, recall_standing_by, recall_standing_of, recall_status_of, as_standing, transfer_status_of};
 ghost use Rattle.sct_case.specs.Told.{recall_of_it};
 
 use crate::said::{is_of, recalls};
@@ -185,7 +185,7 @@ pub fn recall_status_by(
     cxl: &Id35,
 ) -> RecallStatus
     ensures { (asides : List IdentityOf)
-        → told status.now ≡ transfer_status_of transfer.now (messages_in clean.now) asides
+        → as_standing status.now ≡ transfer_status_of transfer.now (messages_in clean.now) asides
         → result ≡ recall_status_of transfer.now (messages_in clean.now) asides cxl.now }
 {
     match status {

@@ -1,7 +1,7 @@
 //! The status of a transfer without findings.
 ghost use Rattle.std.specs.Prelude.{◌≡◌};
 ghost use Rattle.sct_case.specs.Inside.{standing_said};
-ghost use Rattle.sct_case.specs.Statuses.{told};
+ghost use Rattle.sct_case.specs.Statuses.{as_standing};
 
 use crate::differ::first;
 use crate::said::Said;
@@ -10,7 +10,7 @@ use crate::status::Status;
 impl Said {
     /// The status of the transfer, if it has no finding.
     pub(crate) fn standing(&self) -> Status
-        ensures { told result ≡ standing_said self.now }
+        ensures { as_standing result ≡ standing_said self.now }
     {
         if self.instructions.is_empty() {
             return Status::Missing;
