@@ -1,19 +1,18 @@
 -- What is told of a transfer by what is kept of it is what is told of it in the set. Proof plumbing.
-use Rattle.std.proofs.Common.{◌≡◌, ◌∙◌, refl, sym, ap, ℕ, Bool, false, not, Option, List, [], ◌∷◌, ◌++◌, filter, append-nil, append_assoc, arith}
+use Rattle.std.proofs.Common.{◌≡◌, ◌∙◌, refl, sym, ap, ℕ, Bool, false, not, List, [], ◌∷◌, ◌++◌, filter, append-nil, append_assoc, arith}
 use Rattle.std.specs.List.{list_any, flat_map}
 use Rattle.std.specs.List.Sorted.{IsStrictlySortedBy}
 use Rattle.std.specs.Ordering.{eq_by_cmp}
 use Rattle.std.specs.Cmp.Lexicographic.{nat_list_cmp_total}
 use Rattle.std.proofs.lemmas.Grind.{flat_map-append}
 use Rattle.std.proofs.lemmas.List.Folds.{list_any-append}
-use Rattle.sct_reason.specs.declared.reasons.Reason.{Reason}
 use Rattle.sct_message.specs.Order.{text_order}
 use Rattle.sct_message.specs.Sets.{MessageSet, clean_messages, contradicted_messages, in_order, is_contradicted}
 use Rattle.sct_message.specs.Transfers.{is_on, messages_on, instruction_of}
 use Rattle.sct_message.specs.declared.keys.TransferKey.{TransferKey}
 use Rattle.sct_message.proofs.AscendingLemmas.{ascending-same, ascending-sorted}
 use Rattle.sct_case.specs.declared.finding.Finding.{Finding}
-use Rattle.sct_case.specs.Statuses.{Unknown, first_standing, known, transfer_status_of}
+use Rattle.sct_case.specs.Statuses.{Unknown, TransferFacts, facts_of, first_standing, standing_by, transfer_status_of}
 use Rattle.sct_view.specs.Answers.{status_of, found_on, cxls_named_by, recalls_of}
 use Rattle.sct_view.specs.Kept.{Kept, no_messages, case_of, contradicted_on, instruction_in}
 use Rattle.sct_view.specs.Listed.{found_in, recalls_in, lines_of_recalls}
@@ -26,14 +25,14 @@ use Rattle.sct_view.proofs.StandingLemmas.{split}
 -- ---- findings stand in the status
 
 -- nothing that is told by sentence is a contradiction
-first_found : (found : List Finding) (unknown has : Bool) (reason : Option Reason) (accepted : Bool) (amount : Option ℕ) (investigated : Bool)
-    → found_in (first_standing found unknown (known has reason accepted amount investigated)) ≡ found
-first_found found unknown has reason accepted amount investigated = grind arith
+first_found : (found : List Finding) (unknown : Bool) (facts : TransferFacts)
+    → found_in (first_standing found unknown (standing_by facts)) ≡ found
+first_found found unknown facts = grind arith
 
 -- the findings of a transfer stand in its status
 pub found_on_status : (s : MessageSet) (t : TransferKey) → found_in (status_of s t) ≡ found_on s t
 unfolding status_of found_on transfer_status_of
-found_on_status s t = first_found _ _ _ _ _ _ _
+found_on_status s t = first_found _ _ (facts_of t (messages_on s t))
 
 -- ---- the messages that are kept
 

@@ -11,7 +11,7 @@ use Rattle.sct_element.specs.Text.{is_text}
 use Rattle.sct_message.specs.Transfers.{is_on, is_instruction, messages_on, sole}
 use Rattle.sct_message.specs.declared.draft.Draft.{Draft}
 use Rattle.sct_message.specs.declared.keys.TransferKey.{TransferKey}
-use Rattle.sct_case.specs.Statuses.{Standing, Returned, Unknown, told}
+use Rattle.sct_case.specs.Statuses.{Standing, Returned, Unknown, as_standing}
 use Rattle.sct_view.specs.Answers.{status_of}
 use Rattle.sct_view.specs.Totals.{nothing, share, totals_over, cents_in, beneficiary_in}
 use Rattle.sct_view.specs.declared.case.Case.{Case}
@@ -43,7 +43,7 @@ abbrev pub kept_in : Case → Kept
 kept_in case = record {
   clean = messages_in case.clean.items;
   contradicted = messages_in case.contradicted.items;
-  stands = told case.status;
+  stands = as_standing case.status;
 }
 
 abbrev pub kept_or_none : Option Case → Kept

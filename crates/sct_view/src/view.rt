@@ -4,7 +4,7 @@ ghost use Rattle.std.specs.Prelude.{◌≡◌, ◌≤◌, ◌+◌, ◌*◌, leng
 ghost use Rattle.std.specs.Arc.{arc_value};
 ghost use Rattle.std.specs.FinSet as set;
 ghost use Rattle.std.specs.Option.{option_copied};
-ghost use Rattle.sct_case.specs.Statuses.{told};
+ghost use Rattle.sct_case.specs.Statuses.{as_standing};
 ghost use Rattle.sct_message.specs.Sets.{messages_in};
 ghost use Rattle.sct_message.specs.Transfers.{instruction_of};
 ghost use Rattle.sct_set.specs.Contents.{contents_of};
@@ -60,7 +60,7 @@ pub struct View {
 impl Model for View {
     ghost use Rattle.std.specs.Prelude.{◌≡◌};
     ghost use Rattle.std.specs.FinSet as set;
-    ghost use Rattle.sct_case.specs.Statuses.{told, Unknown};
+    ghost use Rattle.sct_case.specs.Statuses.{as_standing, Unknown};
     ghost use Rattle.sct_message.specs.contracts.messages.Message as message;
     ghost use Rattle.sct_message.specs.Order.{message_order};
     ghost use Rattle.sct_view.specs.Kept.{AreCasesOf};
@@ -71,7 +71,7 @@ impl Model for View {
 
     ghost view = { λ v. v.archive };
 
-    ghost invariant = { λ v. AreCasesOf v.archive v.tables.cases × (told v.unknown ≡ Unknown) };
+    ghost invariant = { λ v. AreCasesOf v.archive v.tables.cases × (as_standing v.unknown ≡ Unknown) };
 }
 
 impl View {
@@ -166,7 +166,7 @@ impl View {
 
     /// The status of a transfer; `Unknown` if no message is on it. Expected O(1).
     pub fn status(&self, transfer: &TransferKey) -> &Status
-        ensures { told result.now ≡ status_of self.now transfer.now }
+        ensures { as_standing result.now ≡ status_of self.now transfer.now }
     {
         match self.case_on(transfer) {
             Some(case) => &case.status,
