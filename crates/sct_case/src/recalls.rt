@@ -1,12 +1,12 @@
 //! The status of one recall of a transfer, from what messages say of it. No call allocates.
-ghost use Rattle.std.specs.Prelude.{◌≡◌, ◌||◌, List, true};
+ghost use Rattle.std.specs.Prelude.{◌≡◌, ◌||◌, List};
 ghost use Rattle.std.specs.List.{list_any};
 ghost use Rattle.sct_message.specs.Sets.{messages_in};
 ghost use Rattle.sct_message.specs.declared.draft.Draft.TheVariants as draft;
 ghost use Rattle.sct_message.specs.declared.keys.Identity.{Identity as IdentityOf};
 ghost use Rattle.sct_case.specs.Inside.{IsOneMoreOn, IsSaidOn, recall_standing_said};
 ghost use Rattle.sct_case.specs.Said.{made_in, recalls_made_by, refusals_by, requests_by, returns_by};
-ghost use Rattle.sct_case.specs.Statuses.{amount_returned, reason_refused, request_of_it, recall_standing_by, recall_standing_of, recall_status_of, as_standing, transfer_status_of};
+ghost use Rattle.sct_case.specs.Statuses.{amount_returned, reason_refused, request_of_it, recall_standing_of, recall_status_of, as_standing, transfer_status_of};
 ghost use Rattle.sct_case.specs.Told.{recall_of_it};
 
 use crate::said::{is_of, recalls};
@@ -82,7 +82,14 @@ impl RecallSaid {
         if !self.made {
             return RecallStatus::Unasked;
         }
-        answered(self.returned, self.refused, self.chased)
+        if let Some(amount) = self.returned {
+            return RecallStatus::Returned(amount);
+        }
+        match self.refused {
+            Some(reason) => RecallStatus::Refused(reason),
+            None if self.chased => RecallStatus::Chased,
+            None => RecallStatus::Open,
+        }
     }
 }
 
@@ -152,26 +159,6 @@ fn reason_of(resolution: &Resolution, transfer: &TransferKey, cxl: &Id35) -> Opt
         Some(resolution.reason.copy())
     } else {
         None
-    }
-}
-
-/// The status of a recall that a message makes.
-fn answered(returned: Option<Amount>, refused: Option<Reason>, chased: bool) -> RecallStatus
-    ensures { result ≡ recall_standing_by (record {
-      named = true;
-      made = true;
-      returned = returned;
-      refused = refused;
-      chased = chased;
-    }) }
-{
-    match returned {
-        Some(amount) => RecallStatus::Returned(amount),
-        None => match refused {
-            Some(reason) => RecallStatus::Refused(reason),
-            None if chased => RecallStatus::Chased,
-            None => RecallStatus::Open,
-        },
     }
 }
 
