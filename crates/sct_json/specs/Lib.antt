@@ -6,5 +6,6 @@ pub mod Line
 pub mod Members
 pub mod Names
 pub mod Objects
+pub mod Places
 pub mod Reading
 pub mod Writing
