@@ -1,6 +1,7 @@
 -- The definitions of the JSON form.
 pub mod Faults
 pub mod Form
+pub mod KeyLookups
 pub mod Keys
 pub mod Line
 pub mod Members
