@@ -3,6 +3,8 @@ pub mod CutLemmas
 pub mod DeltaLemmas
 pub mod EmptyLemmas
 pub mod EntryLemmas
+pub mod FirstGapLemmas
+pub mod FirstPlaceLemmas
 pub mod FittingLemmas
 pub mod FormLemmas
 pub mod FrontLemmas
