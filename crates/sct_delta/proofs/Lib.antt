@@ -1,6 +1,7 @@
 -- The lemmas of entries, deltas and logs.
 pub mod CutLemmas
 pub mod DeltaLemmas
+pub mod DueLemmas
 pub mod EmptyLemmas
 pub mod EntryLemmas
 pub mod FirstGapLemmas
