@@ -1,6 +1,6 @@
 -- The written text is the form 2 of its delta. Proof plumbing.
 use Rattle.std.proofs.Common.{ℕ, ◌≡◌, ◌+◌, ◌<◌, ◌≤◌, ◌^◌, ◌++◌, ◌∷◌, [], List, true, false, cond, None, length, refl, sym, ap, ◌∙◌, arith, append_assoc, subst, All}
-use Rattle.std.specs.Prelude.{nat_eq, nat_le, nat_lt, decimal, flat_map, codes}
+use Rattle.std.specs.Prelude.{nat_eq, nat_le, nat_lt, decimal, flat_map}
 use Rattle.std.specs.List.{list_all}
 use Rattle.std.proofs.lemmas.Bool.{and_parts, and_from, eqb-true}
 use Rattle.std.proofs.lemmas.Bool.Decides.{nat_tests}

@@ -27,7 +27,7 @@ pub record IsPassed (own group : ℕ) (log : ℕ → List Draft) (delta : List P
   pub no_gap : list_any (is_past log) (firsts_after 0 delta) ≡ false
   pub no_fork : list_any (is_fork log) delta ≡ false
 
-told_none : (tells : Placed → DeltaFault) (p : Placed → Bool) (ds : List Placed) → told tells (find p ds) ≡ None → list_any p ds ≡ false
+pub told_none : (tells : Placed → DeltaFault) (p : Placed → Bool) (ds : List Placed) → told tells (find p ds) ≡ None → list_any p ds ≡ false
 told_none tells p [] none = refl
 told_none tells p (d ∷ ds) none =
     elim (p d) as (λ b. told tells (cond b (Some d) (find p ds)) ≡ None → (b || list_any p ds) ≡ false) [
