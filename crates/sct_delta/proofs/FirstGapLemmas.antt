@@ -9,7 +9,7 @@ use Rattle.std.proofs.lemmas.Option.{same_Some}
 use Rattle.std.proofs.lemmas.Map.Keys.{sorted_tail}
 use Rattle.sct_message.specs.declared.draft.Draft.{Draft}
 use Rattle.sct_delta.specs.Entries.{Placed, entries_from, held_from, log_of, numbered, holds, place_order, IsDelta}
-use Rattle.sct_delta.specs.Refusals.{firsts_after, gap_refusal, is_past, told, vector_of}
+use Rattle.sct_delta.specs.Refusals.{firsts_after, gap_refusal, is_past, fault_of_entry, vector_of}
 use Rattle.sct_delta.specs.Laws.{Held, IsFirstGap, IsGap, ReportsTheFirstGap}
 use Rattle.sct_delta.specs.Shapes.{are_of_sites}
 use Rattle.sct_delta.specs.declared.fault.DeltaFault.{DeltaFault}
@@ -163,7 +163,7 @@ record Reported (log : Held) (found : Option Placed) (origin have least : ℕ) :
   pub count : have ≡ vector_of log entry.origin
   pub number : least ≡ entry.n
 
-reported : (log : Held) (found : Option Placed) (origin have least : ℕ) → told (gap_at log) found ≡ Some (fault.Gap origin have least) → Reported log found origin have least
+reported : (log : Held) (found : Option Placed) (origin have least : ℕ) → fault_of_entry (gap_at log) found ≡ Some (fault.Gap origin have least) → Reported log found origin have least
 reported log None origin have least is = cc
 reported log (Some e) origin have least is = record { entry = e; is_found = refl; of = cc; count = cc; number = cc }
 
@@ -179,9 +179,9 @@ same_gap log delta origin a b p q =
 
 from_first : (log : Held) (delta : List Placed) (origin have least : ℕ) → IsDelta delta → have ≡ vector_of log origin → IsFirstGap log delta origin least → gap_refusal log delta ≡ Some (fault.Gap origin have least)
 from_first log delta origin have least shape count g =
-    elim (find (is_past log) (firsts_after 0 delta)) as (λ r. find (is_past log) (firsts_after 0 delta) ≡ r → told (gap_at log) r ≡ Some (fault.Gap origin have least)) [
+    elim (find (is_past log) (firsts_after 0 delta)) as (λ r. find (is_past log) (firsts_after 0 delta) ≡ r → fault_of_entry (gap_at log) r ≡ Some (fault.Gap origin have least)) [
       | None ↦ λ is.
-          let none : list_any (is_past log) (firsts_after 0 delta) ≡ false = told_none (gap_at log) (is_past log) (firsts_after 0 delta) (ap (told (gap_at log)) is) in
+          let none : list_any (is_past log) (firsts_after 0 delta) ≡ false = told_none (gap_at log) (is_past log) (firsts_after 0 delta) (ap (fault_of_entry (gap_at log)) is) in
           let p : FirstPast log delta origin = begins log delta origin least shape g.gap in
           absurd (false≢true (sym (first_reached log origin 0 delta p.first p.rest (not_0 delta origin p.first p.rest shape.sites p.head) none p.head) ∙ p.past))
       | Some e ↦ λ is.

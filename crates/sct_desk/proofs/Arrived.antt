@@ -11,7 +11,7 @@ use mathlib.Core.List.{IsPrefix}
 use Rattle.logbook.specs.Pages.{Book}
 use Rattle.sct_message.specs.declared.draft.Draft.{Draft}
 use Rattle.sct_delta.specs.Entries.{Placed}
-use Rattle.sct_delta.specs.Refusals.{ahead_refusal, first_refusal, firsts_after, gap_refusal, is_ahead, is_fork, is_held, is_outside, is_past, outside_refusal, told, vector_of}
+use Rattle.sct_delta.specs.Refusals.{ahead_refusal, first_refusal, firsts_after, gap_refusal, is_ahead, is_fork, is_held, is_outside, is_past, outside_refusal, fault_of_entry, vector_of}
 use Rattle.sct_delta.specs.declared.fault.DeltaFault.{DeltaFault}
 use Rattle.sct_delta.specs.declared.fault.DeltaFault.TheVariants as delta_fault
 use Rattle.sct_history.specs.Sights.{Sight}
@@ -136,7 +136,7 @@ either_refuses None p one other = other
 either_refuses (Some refusal) p one other = one
 
 entry_refuses : (tells : Placed → DeltaFault) (o : Option Placed) → ((entry : Placed) → IsDeltaRefusal (tells entry))
-    → IfSome (told tells o) IsDeltaRefusal
+    → IfSome (fault_of_entry tells o) IsDeltaRefusal
 entry_refuses tells None each = tt
 entry_refuses tells (Some entry) each = each entry
 

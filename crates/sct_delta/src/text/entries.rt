@@ -3,7 +3,7 @@ ghost use Rattle.std.specs.Prelude.{◌≡◌, ◌+◌, ◌<◌, ◌^◌, [], Ok
 ghost use Rattle.sct_delta.specs.declared.fault.DeltaFault.TheVariants as fault;
 ghost use Rattle.sct_delta.specs.DeltaText.{Reads};
 ghost use Rattle.sct_delta.specs.EntryText.{entries_in, entry_in};
-ghost use Rattle.sct_delta.specs.TextLines.{lines_of};
+ghost use Rattle.sct_delta.specs.TextLines.{lines_by_end};
 
 use crate::delta::may_be_next;
 use crate::entry::Entry;
@@ -36,8 +36,8 @@ fn read_entry(alloc: Global, line: &[u8]) -> Result<Option<Entry>, DeltaFault>
 #[tactic(auto, using(crate::proofs::ReadingLemmas::read_missing))]
 pub fn read_entries(alloc: Global, text: &[u8]) -> Result<Vec<Entry>, DeltaFault>
     requires { length text.now + 4 < 2 ^ 64 }
-    ensures read { IfOk result (λ entries. entries_in 2 0 0 [] (lines_of text.now) ≡ Ok entries.items) }
-    ensures wrong { IfErr result (λ refusal. Reads (Err refusal) (entries_in 2 0 0 [] (lines_of text.now))) }
+    ensures read { IfOk result (λ entries. entries_in 2 0 0 [] (lines_by_end text.now) ≡ Ok entries.items) }
+    ensures wrong { IfErr result (λ refusal. Reads (Err refusal) (entries_in 2 0 0 [] (lines_by_end text.now))) }
 {
     let mut entries = Vec::new(alloc);
     let mut rest = text;

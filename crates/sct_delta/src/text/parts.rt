@@ -4,7 +4,7 @@ ghost use Rattle.std.specs.Result.{result_ok};
 ghost use Rattle.sct_json.specs.Reading.{message_in};
 ghost use Rattle.sct_delta.specs.declared.fault.DeltaFault.TheVariants as fault;
 ghost use Rattle.sct_delta.specs.DeltaText.{Reads};
-ghost use Rattle.sct_delta.specs.TextLines.{after_prefix, entries_ended, is_end_line, lines_of, number_in};
+ghost use Rattle.sct_delta.specs.TextLines.{after_prefix, entries_ended, is_end_line, lines_by_end, number_in};
 
 use crate::entry::Entry;
 use crate::fault::DeltaFault;
@@ -53,10 +53,10 @@ pub fn ended(
     after: &[u8],
 ) -> Result<Vec<Entry>, DeltaFault>
     requires { place < 2 ^ 64 - 1 }
-    ensures read { IfOk result (λ read. entries_ended place entries.items line.now (lines_of after.now)
+    ensures read { IfOk result (λ read. entries_ended place entries.items line.now (lines_by_end after.now)
         ≡ Ok read.items) }
     ensures wrong { IfErr result (λ refusal.
-        Reads (Err refusal) (entries_ended place entries.items line.now (lines_of after.now))) }
+        Reads (Err refusal) (entries_ended place entries.items line.now (lines_by_end after.now))) }
 {
     if !is_end_line(line, entries.len() as u64) {
         return Err(DeltaFault::BadDelta(place));

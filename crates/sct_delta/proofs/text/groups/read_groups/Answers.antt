@@ -2,13 +2,13 @@
 use Rattle.std.proofs.Common.{sym, ◌∙◌, arith, ◌≡◌, ◌≤◌, ◌+◌, ◌-◌, ◌^◌, [], true}
 use Rattle.std.specs.Arc.{arc_value}
 use Rattle.sct_delta.specs.GroupText.{groups_in, may_begin}
-use Rattle.sct_delta.specs.TextLines.{lines_of, entries_ended}
+use Rattle.sct_delta.specs.TextLines.{lines_by_end, entries_ended}
 use Rattle.sct_delta.proofs.GroupReadingLemmas.{read_message_more, read_message_wrong, begun, not_begun, read_origin_more, read_origin_wrong, read_groups_end}
 use Rattle.sct_delta.proofs.GroupLemmas.{first_above_0, last_below}
 use Rattle.sct_delta.proofs.text.groups.read_groups.Goals as goal
 use Rattle.sct_delta.proofs.text.groups.read_groups.Goals.{then-due-eq0+in-Some-origin_of+in-Some-site_of_group, else-due-eq0+in_ok-message+in-Some-2+in_ok-message-2+in_ok-push}
 
-at_end : (c : goal.After-ended) → groups_in 2 0 1 0 [] (lines_of c.args.text.now) ≡ entries_ended c.loop-line.place c.loop-line.entries.items c.in-Some.line.now (lines_of c.in-Some.after.now)
+at_end : (c : goal.After-ended) → groups_in 2 0 1 0 [] (lines_by_end c.args.text.now) ≡ entries_ended c.loop-line.place c.loop-line.entries.items c.in-Some.line.now (lines_by_end c.in-Some.after.now)
 at_end c = c.loop-line.invariant.left ∙ read_groups_end _ _ _ _ _ _ _ _ c.in-Some.ensures.lines c.if-due-eq0.true c.in_default-origin_of.ensures
 
 pub returns-in_default-origin_of-clause-read : goal.returns-in_default-origin_of-clause-read
