@@ -7,6 +7,7 @@ use crate::entry::Entry;
 use crate::fault::DeltaFault;
 use crate::logs::Logs;
 use sct_message::Message;
+use std::alloc::AllocError;
 use std::sync::Arc;
 
 impl Logs {
@@ -18,11 +19,10 @@ impl Logs {
     ghost use Rattle.sct_delta.specs.Refusals.{first_refusal, fresh_in, is_outside, joined};
 
     // Makes room for the entries of a delta. If out of memory, some of the room may have been made.
-    fn room_for_each(&mut self, delta: &Delta) -> Result<(), DeltaFault>
+    fn room_for_each(&mut self, delta: &Delta) -> Result<(), AllocError>
         ensures group { self.new.group ≡ self.old.group }
         ensures same { HoldSame self.new self.old }
         ensures ok { OnOk result (HasRoomFor self.new delta.now) }
-        ensures err { IfErr result (λ refusal. refusal ≡ fault.Memory) }
         ensures there { HasRoomFor self.old delta.now → IsOk result }
         ensures due { OnOk result (KeepsNoEmpty self.old
             → KeepsEmptyIfDue (λ origin. held_from origin delta.now) self.new) }
@@ -53,9 +53,9 @@ impl Logs {
             → KeepsEmptyIfDue (λ origin. held_from origin delta.now) self.new) }
         ensures filled { OnErr result (KeepsNoEmpty self.new) }
     {
-        if let Err(refusal) = self.room_for_each(delta) {
+        if let Err(_) = self.room_for_each(delta) {
             self.drop_empty();
-            return Err(refusal);
+            return Err(DeltaFault::Memory);
         }
         Ok(())
     }

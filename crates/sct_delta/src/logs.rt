@@ -16,7 +16,7 @@ use crate::shelf::Shelf;
 use crate::sites::is_site;
 use crate::vector::Vector;
 use sct_message::Message;
-use std::alloc::Global;
+use std::alloc::{AllocError, Global};
 use std::marker::Model;
 use std::sync::Arc;
 
@@ -142,13 +142,12 @@ impl Logs {
     }
 
     // Makes room for `places` more messages of an origin, whether or not the group has it.
-    pub(crate) fn room_for(&mut self, origin: u16, places: usize) -> Result<(), DeltaFault>
+    pub(crate) fn room_for(&mut self, origin: u16, places: usize) -> Result<(), AllocError>
         ensures group { self.new.group ≡ self.old.group }
         ensures same { HoldSame self.new self.old }
         ensures keeps { (k : ℕ) → room_at self.old k ≤ room_at self.new k }
         ensures ok { OnOk result (places ≤ room_at self.new origin) }
         ensures few { OnOk result (places < 2 ^ 63) }
-        ensures err { IfErr result (λ refusal. refusal ≡ fault.Memory) }
         ensures there { places ≤ room_at self.old origin → 1 ≤ places → IsOk result }
         ensures due { OnOk result ((due : ℕ → ℕ) → 1 ≤ due origin → KeepsEmptyIfDue due self.old
             → KeepsEmptyIfDue due self.new) }
@@ -188,9 +187,9 @@ impl Logs {
         if !self.has_site(origin) {
             return Err(DeltaFault::BadSite);
         }
-        if let Err(refusal) = self.room_for(origin, 1) {
+        if let Err(_) = self.room_for(origin, 1) {
             self.drop_empty();
-            return Err(refusal);
+            return Err(DeltaFault::Memory);
         }
         Ok(())
     }

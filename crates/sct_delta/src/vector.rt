@@ -58,10 +58,9 @@ fn refusal(pairs: &[(u16, u64)]) -> Option<DeltaFault>
 }
 
 // The vector with the counts of the pairs.
-fn counted(alloc: Global, pairs: &[(u16, u64)]) -> Result<Vector, DeltaFault>
-    ensures counts { IfOk result (λ vector. (origin : ℕ)
+fn counted(alloc: Global, pairs: &[(u16, u64)]) -> Result<Vector, AllocError>
+    ensures { IfOk result (λ vector. (origin : ℕ)
         → count_in vector origin ≡ count_among pairs.now origin 0) }
-    ensures memory { IfErr result (λ refusal. refusal ≡ fault.Memory) }
 {
     let mut vector = Vector::empty(alloc);
     for pair in pairs {
@@ -95,7 +94,7 @@ impl Vector {
         if let Some(refusal) = refusal(pairs) {
             return Err(refusal);
         }
-        counted(alloc, pairs)
+        Ok(counted(alloc, pairs)?)
     }
 
     /// How many entries of the origin are held; 0 if the vector does not name it. O(log origins).

@@ -1,6 +1,5 @@
 //! Form 1 of the delta text: reads entry lines as entries.
 ghost use Rattle.std.specs.Prelude.{◌≡◌, ◌+◌, ◌<◌, ◌^◌, [], Ok, Err, IfOk, IfErr, length};
-ghost use Rattle.sct_delta.specs.declared.fault.DeltaFault.TheVariants as fault;
 ghost use Rattle.sct_delta.specs.DeltaText.{Reads};
 ghost use Rattle.sct_delta.specs.EntryText.{entries_in, entry_in};
 ghost use Rattle.sct_delta.specs.TextLines.{lines_by_end};
@@ -11,14 +10,13 @@ use crate::fault::DeltaFault;
 use crate::text::fields::fields_of;
 use crate::text::lines::first_line;
 use crate::text::parts::{ended, message_of};
-use std::alloc::Global;
+use std::alloc::{AllocError, Global};
 use std::sync::Arc;
 
 // The entry of a line, or none if it is not an entry line.
 #[tactic(auto, unfolding(crate::specs::EntryText::entry_in))]
-fn read_entry(alloc: Global, line: &[u8]) -> Result<Option<Entry>, DeltaFault>
-    ensures read { IfOk result (λ entry. entry ≡ entry_in line.now) }
-    ensures memory { IfErr result (λ refusal. refusal ≡ fault.Memory) }
+fn read_entry(alloc: Global, line: &[u8]) -> Result<Option<Entry>, AllocError>
+    ensures { IfOk result (λ entry. entry ≡ entry_in line.now) }
 {
     let Some((origin, n, json)) = fields_of(line) else {
         return Ok(None);

@@ -26,7 +26,7 @@ returns-in_default-site_of_group-clause-wrong c =
 pub returns-in_default-2-clause-wrong : goal.returns-in_default-2-clause-wrong
 returns-in_default-2-clause-wrong c =
     c.loop-line.invariant.left
-    ∙ read_message_wrong _ _ _ _ _ _ _ _ c.in-Some.ensures.lines c.if-due-eq0.false (sym c.in_default-2.is ∙ c.in_ok-message.ensures.read)
+    ∙ read_message_wrong _ _ _ _ _ _ _ _ c.in-Some.ensures.lines c.if-due-eq0.false (sym c.in_default-2.is ∙ c.in_ok-message.ensures)
 
 pub loop-line-preserved : goal.loop-line-preserved
 loop-line-preserved c =
@@ -54,7 +54,7 @@ loop-line-preserved c =
             fits = let some : c.loop-line.due ≡ 0 → ⊥ = w.if-due-eq0.false in grind (arith, some, before_is, due_is, c.loop-line.invariant.fits);
             left =
                 let more = c.loop-line.invariant.left
-                ∙ read_message_more _ _ _ _ _ _ _ _ w.in-Some-2.message c.in-Some.ensures.lines w.if-due-eq0.false (sym w.in-Some-2.is ∙ w.in_ok-message.ensures.read) in
+                ∙ read_message_more _ _ _ _ _ _ _ _ w.in-Some-2.message c.in-Some.ensures.lines w.if-due-eq0.false (sym w.in-Some-2.is ∙ w.in_ok-message.ensures) in
                 let shared : arc_value w.in_ok-message-2.message ≡ w.in-Some-2.message = w.in_ok-message-2.ensures.ok in
                 rw (before_is, due_is, w.origin-is, w.entries-is, w.in_ok-push.ensures.items, shared) more;
           }
