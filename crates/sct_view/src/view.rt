@@ -87,7 +87,7 @@ impl View {
         }
     }
 
-    /// Builds the view of an archive in one thread; each transfer is evaluated once. Error: `Memory` (39).
+    /// Builds the view of an archive in one thread. Error: `Memory` (39).
     /// With a runtime use [`View::of_messages`].
     pub fn of(alloc: Global, archive: Archive) -> Result<Self, CaseFault>
         ensures { IfOk result (λ view. view ≡ archive) }
@@ -120,7 +120,7 @@ impl View {
         })
     }
 
-    /// Adds a batch of messages, and evaluates each touched transfer once. Touched are the transfers of fresh messages,
+    /// Adds a batch of messages, and evaluates the touched transfers again. Touched are the transfers of fresh messages,
     /// and those of held messages that fresh ones contradict. Error: `Memory` (39), with the view unchanged.
     /// O(messages of the batch and of the touched transfers), however many messages the view holds.
     pub fn apply(&mut self, messages: &[Arc<Message>]) -> Result<Applied, CaseFault>
