@@ -166,36 +166,44 @@ def found(name, functions):
     return [one for one in functions if one.name == name] or members
 
 
-def check_promise(report, page, number, cells):
-    """A row: Promise, Function, Clause, Edit, File."""
-    _, named, clauses, edits, in_files = cells
-    in_files = codes(in_files)
-    in_crates = {file.split("/")[0] for file in in_files}
-    functions = [one for crate in in_crates if crate in sources.names() for one in sources.functions(crate) if one.file in in_files]
-    meant = {name: found(name, functions) for name in codes(named)}
-    for name, ones in meant.items():
-        report.check(page, number, bool(ones), f"no file of the row has {name}")
-    for file in in_files:
-        used = any(one.file == file for ones in meant.values() for one in ones)
-        report.check(page, number, used, f"{file} has no function of the row")
-    ones = [one for many in meant.values() for one in many]
-    wanted = codes(re.sub(r"\(.*?\)", "", clauses))
-    for clause in wanted:
-        report.check(page, number, any(clause in one.clauses for one in ones), f"no function of the row has the clause {clause}")
-    plain = re.sub(r"`.*?`|\(.*?\)", "", clauses)
-    for one in ones:
-        is_carried = set(wanted) & set(one.clauses) or ("only" in plain and len(one.clauses) == 1) or ("law" in plain and one.is_law)
-        is_carried = is_carried or one.name is None and (plain.strip() == "invariant" or not one.clauses)
-        report.check(page, number, is_carried, f"{one.file} carries no clause of the row by {one.name or one.trait}")
-    for edit in codes(edits):
-        crate = re.search(rf"`{edit}` \((sct_\w+)\)", edits)
-        among = [crate.group(1)] if crate else in_crates
-        report.check(page, number, any(edit in sources.edits(one) for one in among), f"there is no edit {edit} of {', '.join(among)}")
+def carriers(cell):
+    """The items of a cell: what they are (a law, an invariant or nothing), functions, clauses, and crates that are named."""
+    for item in cell.split("; "):
+        kind = re.match(r"law |invariant of |", item).group().split(" ")[0]
+        named, _, clauses = item.partition(": ")
+        yield kind, codes(named), codes(clauses), re.findall(r"\((sct_\w+)\)", item)
+
+
+def is_carried(one, kind, clauses):
+    """Whether a function, or a type, carries one of some clauses. Without a clause a function has a single one."""
+    if kind == "law":
+        return one.is_law
+    if kind == "invariant":
+        return one.name is None and set(clauses) <= set(one.clauses)
+    return bool(set(clauses) & set(one.clauses)) if clauses else len(one.clauses) == 1
+
+
+def check_promise(report, page, number, cell, its):
+    """The second cell of a row, in the section of these crates."""
+    for kind, names, clauses, crates in carriers(cell):
+        functions = [one for crate in crates or its for one in sources.functions(crate)]
+        report.check(page, number, bool(names), f"no function is named in {cell}")
+        carrying = []
+        for name in names:
+            ones = found(name, functions)
+            carrying += [one for one in ones if is_carried(one, kind, clauses)]
+            report.check(page, number, bool(ones), f"{', '.join(crates or its)} has no {name}")
+            report.check(page, number, any(one in carrying for one in ones), f"{name} carries no clause of the row")
+        for clause in clauses:
+            report.check(page, number, any(clause in one.clauses for one in carrying), f"no function of the row has the clause {clause}")
 
 
 def check_promises(report, page, text):
-    for number, cells in rows(text.splitlines(), 1, ["Promise", "Function", "Clause", "Edit that shows it", "File"]):
-        check_promise(report, page, number, cells)
+    """Every row of promises, by the crates of the heading above it."""
+    for heading, first, lines in sections(text):
+        if not heading.startswith("Promises"):
+            for number, cells in rows(lines, first, ["Promise", "Function: clauses"]):
+                check_promise(report, page, number, cells[1], crates_of(heading))
 
 
 def crates_of(heading):
