@@ -2,10 +2,10 @@
 
 Names in backquotes are declared in a crate, or are words of crates.txt, of the tests, benches or examples, or of OUTSIDE. Those of a
 crate, as "`settle` of sct_world", and those that follow a file, are declared there. Files in backquotes exist, and links lead to a file
-and a heading. README.md links to every page. Rows of promises have functions of their files, clauses of these functions and edits of
-their crates: *only* needs a single clause, and *law* an empty body. Every edit of the crates of a table of edits has a row. Sections
-of the architecture name every source of their crates. The page for auditors has functions with their clauses, definitions, code at
-its line, and every crate of the kit that is used. Edits that were taken away are gone.
+and a heading. README.md links to every page. Rows of promises have functions of the crate of their section, and clauses of these
+functions: without a clause a function has a single one, and a law has an empty body. The first line of each edit says what it does.
+So does that of each source and each file of definitions. The page for auditors has functions with their clauses, definitions, code at
+its line, and every crate of the kit that is used.
 """
 import functools, os, pathlib, re
 from tests import harness
@@ -17,14 +17,13 @@ PAGES = [*sorted(TOP.glob("*.md")), *sorted((TOP / "docs").rglob("*.md")), TOP /
 
 # names of std, of the language and of the kit, commands of the shell, and names that a page has because they are wrong here
 OUTSIDE = set("""
-    Brand Copy Debug Display IfErr OnErr OnOk Option String Vec Wait Writer dac8208d650f15bf ptr_eq replace_with try_send
+    Brand Copy Debug Display IfErr OnErr OnOk String Vec Wait Writer dac8208d650f15bf ptr_eq replace_with try_send
     comm diff grep
     Ctgy HANSDEHH370 PDCR txid
 """.split())
 
 NAME = re.compile(r"[A-Za-z_]\w*(?:::\w+)*(?:\(\))?")
 FILE = re.compile(r"[\w.*/-]+\.(?:rt|antt|py|md|edit|txt|jsonl|list|c|script)")
-TAKEN_AWAY = "## Edits that were taken away"
 
 
 class Report:
@@ -68,13 +67,10 @@ def sections(text):
 # ---- names, files and links
 
 def check_names(report, page, text):
-    """Every name in backquotes. The edits that were taken away are judged by themselves."""
-    gone = text.find(TAKEN_AWAY)
-    end = text.find("\n## ", gone + 1) if gone >= 0 else gone
-    skipped = range(text.count("\n", 0, gone) + 1, text.count("\n", 0, end if end > 0 else len(text)) + 2) if gone >= 0 else ()
+    """Every name in backquotes."""
     for number, line in prose(text):
         for name in codes(line):
-            if NAME.fullmatch(name) and number not in skipped:
+            if NAME.fullmatch(name):
                 known = all(word in sources.everywhere() or word in OUTSIDE for word in words_of(name))
                 report.check(page, number, known, f"there is no {name}")
         for name, crate in re.findall(r"`(\w+(?:::\w+)*)` (?:\(|of |in )(sct_\w+)", line):
@@ -211,48 +207,18 @@ def crates_of(heading):
 
 
 def check_edits(report, page, text):
-    """The tables of edits, by the crates of their sections, and whether each edit of these has a row."""
-    for heading, first, lines in sections(text):
-        its = crates_of(heading)
-        table = list(rows(lines, first, ["Edit", "What it shows", "Refused at"])) if its else []
-        listed = {name for _, cells in table for name in codes(cells[0])}
-        there = {edit for crate in its for edit in sources.edits(crate)}
-        for number, cells in table:
-            for name in codes(cells[0]):
-                report.check(page, number, name in there, f"there is no edit {name} of {heading}")
-        for name in sorted(there) if table else []:
-            report.check(page, first, name in listed, f"{heading} has no row for the edit {name}")
-
-
-def check_taken_away(report, page, text):
-    """The edits that were taken away, by the crates of their sections."""
-    _, _, after = text.partition(TAKEN_AWAY + "\n")
-    first = text.count("\n", 0, len(text) - len(after))
-    for heading, line, lines in sections(re.split(r"^## ", after, flags=re.MULTILINE)[0]):
-        its = {edit for crate in crates_of(heading) for edit in sources.edits(crate)}
-        for number, words in enumerate(lines, first + line):
-            for name in re.findall(r"^- `(\w+)`:", words):
-                report.check(page, number, name not in its, f"{name} is an edit of {heading}")
-
-
-def is_source(name, crate):
-    """Whether a crate has a source with this path or one that ends so."""
-    return any(f"/{crate}/src/{file}".endswith(f"/{name}") for file in sources.files(crate))
+    """Whether the first line of each edit says what it does, which the page points to."""
+    for path in sorted(CRATES.glob("*/must-fail/*.edit")):
+        line = path.read_text(encoding="utf-8").split("\n")[0]
+        report.check(path, 1, re.fullmatch(r"# [^a-z].*\.", line) is not None, "the first line does not say what the edit does")
 
 
 def check_sources(report, page, text):
-    """Whether a section on crates that names sources names each of them, and no others but as those of another crate."""
-    for heading, first, lines in sections(text):
-        named = {name for line in lines for name in codes(line) if name.endswith(".rt")}
-        its = crates_of(heading)
-        if its and named:
-            for crate, file in ((crate, file) for crate in its for file in sources.files(crate)):
-                is_listed = file == "lib.rt" or any(f"/{crate}/src/{file}".endswith(f"/{name}") for name in named)
-                report.check(page, first, is_listed, f"{heading} lacks {file} of {crate}")
-            others = re.findall(r"`([\w/]+\.rt)` (?:\(|of |in )(sct_\w+)", "\n".join(lines))
-            for name in named:
-                is_there = any(is_source(name, crate) for crate in its) or any(is_source(*other) for other in others if other[0] == name)
-                report.check(page, first, is_there, f"{heading} has no {name}")
+    """Whether each source and each file of definitions says in its first line what it does, which the page points to."""
+    for crate in sources.names():
+        for path in [*sources.files(crate).values(), *sorted((CRATES / crate / "specs").glob("*.antt"))]:
+            mark = "//! " if path.suffix == ".rt" else "-- "
+            report.check(path, 1, path.read_text(encoding="utf-8").startswith(mark), "the first line does not say what the file does")
 
 
 # ---- the page for auditors
@@ -295,7 +261,7 @@ def check_kit(report, page, text):
 BY_PAGE = {
     "README.md": [check_pages],
     "docs/auditors/promises.md": [check_promises],
-    "docs/auditors/review.md": [check_edits, check_taken_away],
+    "docs/auditors/review.md": [check_edits],
     "docs/developers/architecture.md": [check_sources],
     "docs/auditors/proved.md": [check_carried, check_quotes, check_kit],
 }
