@@ -17,7 +17,7 @@ PAGES = [*sorted(TOP.glob("*.md")), *sorted((TOP / "docs").rglob("*.md")), TOP /
 
 # names of std, of the language and of the kit, commands of the shell, and names that a page has because they are wrong here
 OUTSIDE = set("""
-    Brand Copy Debug Display IfErr OnErr OnOk String Vec Wait Writer dac8208d650f15bf ptr_eq replace_with try_send
+    Brand Debug Display IfErr OnErr OnOk Vec Wait dac8208d650f15bf try_send
     comm diff grep
     Ctgy HANSDEHH370 PDCR txid
 """.split())
