@@ -4,8 +4,8 @@ Names in backquotes are declared in a crate, or are words of crates.txt, of the 
 crate, as "`settle` of sct_world", and those that follow a file, are declared there. Files in backquotes exist, and links lead to a file
 and a heading. README.md links to every page. Rows of promises have functions of the crate of their section, and clauses of these
 functions: without a clause a function has a single one, and a law has an empty body. The first line of each edit says what it does.
-So does that of each source and each file of definitions. The page for auditors has functions with their clauses, definitions, code at
-its line, and every crate of the kit that is used.
+So does that of each source and each file of definitions. The page for auditors has functions with their clauses, definitions and
+their number, code at its line, and every crate of the kit that is used.
 """
 import functools, os, pathlib, re
 from tests import harness
@@ -239,6 +239,15 @@ def check_carried(report, page, text):
             report.check(page, number, name in there, f"no file of the row declares {name}")
 
 
+def check_counts(report, page, text):
+    """How many files of definitions there are, and on how many the headline rests."""
+    table = next(list(rows(lines, 1, ["Definition", "Says", "File"])) for heading, _, lines in sections(text) if "headline" in heading)
+    files = [path_of(file) for _, (_, _, named) in table for file in codes(named)]
+    counts = [len(sources.rests_on(files)), len([*CRATES.glob("*/specs/*.antt")]), len(sources.rests_on(files[:1]))]
+    stated = re.search(r"these are (\d+) of the (\d+) files of definitions\. `\w+` alone rests on (\d+) files", text.replace("\n", " "))
+    report.check(page, 1, stated is not None and [*map(int, stated.groups())] == counts, f"the files of definitions are {counts}")
+
+
 def check_quotes(report, page, text):
     """Code that a page shows with its file and line."""
     for match in re.finditer(r"`([\w./-]+):(\d+)`:\n\n((?:    .*\n)+)", text):
@@ -263,7 +272,7 @@ BY_PAGE = {
     "docs/auditors/promises.md": [check_promises],
     "docs/auditors/review.md": [check_edits],
     "docs/developers/architecture.md": [check_sources],
-    "docs/auditors/proved.md": [check_carried, check_quotes, check_kit],
+    "docs/auditors/proved.md": [check_carried, check_counts, check_quotes, check_kit],
 }
 
 
