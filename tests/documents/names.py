@@ -163,7 +163,8 @@ def found(name, functions):
 
 
 def carriers(cell):
-    """The items of a cell: what they are (a law, an invariant or nothing), functions, clauses, and crates that are named."""
+    """The items of a cell: what they are (a law, an invariant or nothing), functions, clauses, and crates that are named. A function
+    without a type may be of the type before it."""
     for item in cell.split("; "):
         kind = re.match(r"law |invariant of |", item).group().split(" ")[0]
         named, _, clauses = item.partition(": ")
@@ -184,9 +185,10 @@ def check_promise(report, page, number, cell, its):
     for kind, names, clauses, crates in carriers(cell):
         functions = [one for crate in crates or its for one in sources.functions(crate)]
         report.check(page, number, bool(names), f"no function is named in {cell}")
-        carrying = []
+        carrying, owner = [], ""
         for name in names:
-            ones = found(name, functions)
+            ones = found(f"{owner}::{name}", functions) or found(name, functions)
+            owner = name.rpartition("::")[0] or owner
             carrying += [one for one in ones if is_carried(one, kind, clauses)]
             report.check(page, number, bool(ones), f"{', '.join(crates or its)} has no {name}")
             report.check(page, number, any(one in carrying for one in ones), f"{name} carries no clause of the row")
