@@ -4,8 +4,8 @@ Names in backquotes are declared in a crate, or are words of crates.txt, of the 
 crate, as "`settle` of sct_world", and those that follow a file, are declared there. Files in backquotes exist, and links lead to a file
 and a heading. README.md links to every page. Rows of promises have functions of the crate of their section, and clauses of these
 functions: without a clause a function has a single one, and a law has an empty body. The first line of each edit says what it does.
-So does that of each source and each file of definitions. The page for auditors has functions with their clauses, definitions and
-their number, code at its line, and every crate of the kit that is used.
+So does that of each source and each file of definitions, and the files of the table of places declare what it names. The page for
+auditors has functions with their clauses, definitions and their number, code at its line, and every crate of the kit that is used.
 """
 import functools, os, pathlib, re
 from tests import harness
@@ -215,6 +215,16 @@ def check_edits(report, page, text):
         report.check(path, 1, re.fullmatch(r"# [^a-z].*\.", line) is not None, "the first line does not say what the edit does")
 
 
+def check_places(report, page, text):
+    """The rows that say where things are: files of the crate, or of the one before them, each with what it declares."""
+    for number, cells in rows(text.splitlines(), 1, ["What", "Crate", "Function", "Definition"]):
+        for other, file, named in re.findall(r"(?:(sct_\w+)'s )?`([\w/]+\.(?:rt|antt))`((?:,? `\w+`)*)", " ".join(cells[2:])):
+            path = CRATES / (other or cells[1]) / ("src" if file.endswith(".rt") else "specs") / file
+            report.check(page, number, path.is_file(), f"{other or cells[1]} has no {file}")
+            for name in codes(named) if path.is_file() else []:
+                report.check(page, number, name in sources.declared(path), f"{file} of {other or cells[1]} declares no {name}")
+
+
 def check_sources(report, page, text):
     """Whether each source and each file of definitions says in its first line what it does, which the page points to."""
     for crate in sources.names():
@@ -273,7 +283,7 @@ BY_PAGE = {
     "README.md": [check_pages],
     "docs/auditors/promises.md": [check_promises],
     "docs/auditors/review.md": [check_edits],
-    "docs/developers/architecture.md": [check_sources],
+    "docs/developers/architecture.md": [check_places, check_sources],
     "docs/auditors/proved.md": [check_carried, check_counts, check_quotes, check_kit],
 }
 
