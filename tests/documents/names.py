@@ -252,11 +252,11 @@ def check_carried(report, page, text):
 
 
 def check_counts(report, page, text):
-    """How many files of definitions there are, and on how many the headline rests."""
+    """On how many files of definitions the headline rests, and its first definition alone."""
     table = next(list(rows(lines, 1, ["Definition", "Says", "File"])) for heading, _, lines in sections(text) if "headline" in heading)
     files = [path_of(file) for _, (_, _, named) in table for file in codes(named)]
-    counts = [len(sources.rests_on(files)), len([*CRATES.glob("*/specs/*.antt")]), len(sources.rests_on(files[:1]))]
-    stated = re.search(r"these are (\d+) of the (\d+) files of definitions\. `\w+` alone rests on (\d+) files", text.replace("\n", " "))
+    counts = [len(sources.rests_on(files)), len(sources.rests_on(files[:1]))]
+    stated = re.search(r"these are (\d+) files of definitions\. `\w+` alone rests on (\d+) files", text.replace("\n", " "))
     report.check(page, 1, stated is not None and [*map(int, stated.groups())] == counts, f"the files of definitions are {counts}")
 
 
