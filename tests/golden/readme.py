@@ -1,7 +1,8 @@
 """readme.py: the commands of README.md print what the page shows, at the top of the repository.
 
 `rt try -- WORDS` and `rt run -- WORDS` build the program and run it. Here the program runs with these words in their place. It must
-end with status 0 and print what the example has for its input. The page has each of the two, and the command of `.ci/run`.
+end with status 0 and print what the example has for its input. A file that `--data` names has its path in place of that name. The page
+has each of the two, and the command of `.ci/run`.
 """
 import re, tempfile
 from tests import harness
