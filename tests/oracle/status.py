@@ -108,9 +108,17 @@ def kind_named(s):
 
 # ---- one line
 
+class Object(dict):
+    """A JSON object. Of two members at one key the last counts. All members, as they are written, are in `written`."""
+
+    def __init__(self, written):
+        super().__init__(written)
+        self.written = written
+
+
 def depth(v):
-    if isinstance(v, dict):
-        return 1 + max([depth(x) for x in v.values()], default=0)
+    if isinstance(v, Object):
+        return 1 + max([depth(x) for _, x in v.written], default=0)
     if isinstance(v, list):
         return 1 + max([depth(x) for x in v], default=0)
     return 0
@@ -119,8 +127,8 @@ def depth(v):
 def has_surrogate(v):
     if isinstance(v, str):
         return any(0xD800 <= ord(c) <= 0xDFFF for c in v)
-    if isinstance(v, dict):
-        return any(has_surrogate(k) or has_surrogate(x) for k, x in v.items())
+    if isinstance(v, Object):
+        return any(has_surrogate(k) or has_surrogate(x) for k, x in v.written)
     return isinstance(v, list) and any(map(has_surrogate, v))
 
 
@@ -137,7 +145,8 @@ def finite(s):
 
 def parse(line):
     try:
-        v = json.loads(line.decode("utf-8"), parse_constant=no_constant, parse_float=finite, parse_int=finite)
+        v = json.loads(line.decode("utf-8"), object_pairs_hook=Object, parse_constant=no_constant, parse_float=finite,
+                       parse_int=finite)
     except (ValueError, RecursionError):
         raise Refused("31")
     if depth(v) > 127 or has_surrogate(v):

@@ -13,9 +13,9 @@ use Rattle.sct_message.specs.declared.keys.Identity.{Identity}
 use Rattle.sct_message.specs.declared.keys.TransferKey.{TransferKey}
 use Rattle.sct_case.specs.declared.finding.Finding.{Finding}
 use Rattle.sct_case.specs.declared.finding.Finding.TheVariants as finding
-use Rattle.sct_case.specs.Said.{IsSaid, is_acceptance, rejections_by, recalls_by, returns_by, refusals_by}
+use Rattle.sct_case.specs.Said.{IsSaid, is_acceptance, rejections_by, recalls_made_by, returns_by, refusals_by}
 use Rattle.sct_case.specs.Findings.{IsFound, IsBothConfirmed, DoReasonsDiffer, DoRecallsDiffer, DoRefusalsDiffer, HasTwoReturns, HasReturnOfRejected}
-use Rattle.sct_case.specs.Told.{where_found, cxls, differ_among, is_both_confirmed, do_reasons_differ, recall_of_it, return_of_it, refusal_of_it, same_reason, same_recall, same_return, same_refusal, has_two_returns, has_return_of_rejected, findings_of}
+use Rattle.sct_case.specs.Told.{where_found, cxls, differ_among, is_both_confirmed, do_reasons_differ, recall_of_it, return_of_it, refusal_of_it, same_reason, same_recall_made, same_return, same_refusal, has_two_returns, has_return_of_rejected, findings_of}
 use Rattle.sct_case.specs.Laws.{AreApart, TellsExactly, place}
 use Rattle.sct_case.proofs.Membership.{both, nothing, here, only, in_map, mapped_in, in_filter, filtered_in, in_flat_map, flat_mapped_in, in_ascending, ascending_in, any-Decides, said_in, in_said, some_said-Decides, any_said-Decides, differ_said-Decides}
 use Rattle.sct_case.proofs.Same.{reason-Decides, recall-Decides, return-Decides, refusal-Decides}
@@ -41,11 +41,11 @@ module _ (clean : List Draft) where
       (differ_said-Decides rejections_by clean (λ r. true) Any (λ r. (λ h. tt, λ h. refl)) same_reason reason-Decides)
 
 module _ (t : TransferKey) (clean : List Draft) where
-  recalls-Decides : (c : List ℕ) → Decides (differ_among (recall_of_it c) same_recall (flat_map (recalls_by t) clean)) (DoRecallsDiffer t clean c)
+  recalls-Decides : (c : List ℕ) → Decides (differ_among (recall_of_it c) same_recall_made (flat_map (recalls_made_by t) clean)) (DoRecallsDiffer t clean c)
   recalls-Decides c = Decides-like _
       (λ d. record { one = d.one; other = d.other; one_made = d.one_said; other_made = d.other_said; one_of_it = d.one_is; other_of_it = d.other_is; different = d.different })
       (λ d. record { one = d.one; other = d.other; one_said = d.one_made; other_said = d.other_made; one_is = d.one_of_it; other_is = d.other_of_it; different = d.different })
-      (differ_said-Decides (recalls_by t) clean (recall_of_it c) (λ m. m.cxl ≡ c) (λ m. bytes_decides m.cxl c) same_recall recall-Decides)
+      (differ_said-Decides (recalls_made_by t) clean (recall_of_it c) (λ m. m.cxl ≡ c) (λ m. bytes_decides m.cxl c) same_recall_made recall-Decides)
 
   refusals-Decides : (c : List ℕ) → Decides (differ_among (refusal_of_it c) same_refusal (flat_map (refusals_by t) clean)) (DoRefusalsDiffer t clean c)
   refusals-Decides c = Decides-like _
@@ -105,7 +105,7 @@ module _ (t : TransferKey) (clean : List Draft) (asides : List Identity) (apart 
       (both (of_where _ finding.BothConfirmed f (confirmed-Decides clean))
       (both (of_where _ finding.ReasonsDiffer f (reasons-Decides clean))
       (both (of_where _ finding.AmountDiffers f (amount-Decides clean t apart))
-      (both (of_map (λ c. finding.RecallsDiffer c) _ f (λ c h. (recalls-Decides t clean c).0 (in_kept (λ m. m.cxl) (recalls_by t) clean _ c h).3))
+      (both (of_map (λ c. finding.RecallsDiffer c) _ f (λ c h. (recalls-Decides t clean c).0 (in_kept (λ m. m.cxl) (recalls_made_by t) clean _ c h).3))
       (both (of_map (λ c. finding.BothAnswers c) _ f (λ c h.
       let q = in_kept (λ m. m.cxl) (refusals_by t) clean _ c h in
       let r = (returned-Decides t clean c).0 q.3 in
@@ -132,7 +132,7 @@ module _ (t : TransferKey) (clean : List Draft) (asides : List Identity) (apart 
   in_piece finding.AmountDiffers h = in_where _ finding.AmountDiffers (amount-Decides clean t apart) h
   in_piece (finding.RecallsDiffer c) h =
       mapped_in (λ c. finding.RecallsDiffer c) _ c
-      (kept_in (λ m. m.cxl) (recalls_by t) clean _ c h.one h.one_made h.one_of_it ((recalls-Decides t clean c).1 h))
+      (kept_in (λ m. m.cxl) (recalls_made_by t) clean _ c h.one h.one_made h.one_of_it ((recalls-Decides t clean c).1 h))
   in_piece (finding.BothAnswers c) h =
       mapped_in (λ c. finding.BothAnswers c) _ c
       (kept_in (λ m. m.cxl) (refusals_by t) clean _ c h.refusal h.refused h.refusal_of_it ((returned-Decides t clean c).1 (h.return, h.returned, h.return_of_it)))

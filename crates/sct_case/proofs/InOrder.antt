@@ -18,7 +18,7 @@ use Rattle.sct_message.specs.declared.keys.TransferKey.{TransferKey}
 use Rattle.sct_message.proofs.AscendingLemmas.{ascending_rises}
 use Rattle.sct_case.specs.declared.finding.Finding.{Finding}
 use Rattle.sct_case.specs.declared.finding.Finding.TheVariants as finding
-use Rattle.sct_case.specs.Told.{where_found, cxls, has_two_instructions, is_both_confirmed, do_reasons_differ, does_amount_differ, told_recalls, told_answers, told_refusals, has_two_returns, has_return_of_rejected, findings_of_instruction, findings_of_recalls, findings_of}
+use Rattle.sct_case.specs.Told.{where_found, cxls, has_two_instructions, is_both_confirmed, do_reasons_differ, does_amount_differ, recall_findings, answer_findings, refusal_findings, has_two_returns, has_return_of_rejected, findings_of_instruction, findings_of_recalls, findings_of}
 use Rattle.sct_case.specs.Laws.{place, named_order, finding_order, TellsInOrder}
 use Rattle.sct_case.proofs.Membership.{both, here, in_map, later, nothing, only}
 
@@ -31,9 +31,9 @@ pieces t clean asides =
     ∷ (where_found (is_both_confirmed clean) finding.BothConfirmed
     ∷ (where_found (do_reasons_differ clean) finding.ReasonsDiffer
     ∷ (where_found (does_amount_differ t clean) finding.AmountDiffers
-    ∷ (told_recalls t clean
-    ∷ (told_answers t clean
-    ∷ (told_refusals t clean
+    ∷ (recall_findings t clean
+    ∷ (answer_findings t clean
+    ∷ (refusal_findings t clean
     ∷ (where_found (has_two_returns t clean) finding.TwoReturns
     ∷ (where_found (has_return_of_rejected t clean) finding.ReturnOfRejected ∷ [])))))))))
 

@@ -12,7 +12,7 @@ use Rattle.sct_message.specs.declared.keys.TransferKey.{TransferKey}
 use Rattle.sct_message.proofs.AscendingLemmas.{ascending-sorted}
 use Rattle.sct_case.specs.declared.finding.Finding.{Finding}
 use Rattle.sct_case.specs.declared.finding.Finding.TheVariants as finding
-use Rattle.sct_case.specs.Told.{has_some, cxls, differ_among, recall_of_it, return_of_it, refusal_of_it, same_recall, same_refusal, findings_of_instruction, findings_of_recalls, findings_of}
+use Rattle.sct_case.specs.Told.{has_some, cxls, differ_among, recall_of_it, return_of_it, refusal_of_it, same_recall_made, same_refusal, findings_of_instruction, findings_of_recalls, findings_of}
 use Rattle.std.specs.FinSet.{nat_cmp-IsAntisymmetric, slice_cmp-IsAntisymmetric}
 use Rattle.sct_case.specs.Statuses.{Contradicted, Unknown, first_standing, is_unknown, standing_of, transfer_status_of}
 
@@ -25,7 +25,7 @@ no_cxls = ascending-sorted nat_list_cmp_total (slice_cmp-IsAntisymmetric nat_cmp
 no_recalls : (t : TransferKey) → findings_of_recalls t [] ≡ []
 unfolding findings_of_recalls
 no_recalls t = λ i.
-    map (λ c. finding.RecallsDiffer c) (filter (λ c. differ_among (recall_of_it c) same_recall []) (no_cxls i))
+    map (λ c. finding.RecallsDiffer c) (filter (λ c. differ_among (recall_of_it c) same_recall_made []) (no_cxls i))
     ++ map (λ c. finding.BothAnswers c) (filter (λ c. list_any (return_of_it c) []) (no_cxls i))
     ++ map (λ c. finding.RefusalsDiffer c) (filter (λ c. differ_among (refusal_of_it c) same_refusal []) (no_cxls i))
     ++ []

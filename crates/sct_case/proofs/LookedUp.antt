@@ -11,7 +11,7 @@ use Rattle.sct_case.specs.declared.status.Status.{Status}
 use Rattle.sct_case.specs.declared.status.Status.TheVariants as status
 use Rattle.sct_case.specs.declared.status.RecallStatus.TheVariants as recall
 use Rattle.sct_case.specs.Sentences.{IsConsistent, IsStatus}
-use Rattle.sct_case.specs.Statuses.{Standing, Contradicted, Unknown, Missing, Rejected, Returned, Accepted, Investigated, Pending, first_recall, recall_standing_of, recall_status_of, told, transfer_status_of}
+use Rattle.sct_case.specs.Statuses.{Standing, Contradicted, Unknown, Missing, Rejected, Returned, Accepted, Investigated, Pending, first_recall, recall_standing_of, recall_status_of, as_standing, transfer_status_of}
 use Rattle.sct_case.specs.Told.{findings_of}
 use Rattle.sct_case.proofs.Judged.{found_of_asides}
 use Rattle.sct_case.proofs.RecallSentences.{contradicted}
@@ -50,6 +50,6 @@ module _ (t : TransferKey) (clean : List Draft) (asides : List Identity) where
     recall_clear_by clear = λ i. first_recall (sym (nothing_found s stands clear) i) (recall_standing_of t clean cxl)
 
 -- a status other than contradicted has no findings
-pub told_clear : (s : Status) → ((found : Vec Finding) → s ≡ status.Contradicted found → ⊥) → IsContradictedStanding (told s) → ⊥
+pub told_clear : (s : Status) → ((found : Vec Finding) → s ≡ status.Contradicted found → ⊥) → IsContradictedStanding (as_standing s) → ⊥
 told_clear (status.Contradicted found) other h = other found refl
 told_clear s other h = h

@@ -11,9 +11,7 @@ use Rattle.std.proofs.lemmas.Bool.Decides.{Decides-and, Decides-like, Decides-no
 use Rattle.std.proofs.lemmas.List.{get_or-map, length-map}
 use Rattle.std.proofs.lemmas.List.Elements.{All-contains, All-contains_itself, All-filter, All-map, Contains-append_cases, Contains-append_left, Contains-append_right, Contains-get_or, filter_passes}
 use Rattle.std.proofs.lemmas.List.Folds.{Any-from_list_any, list_any-from_Any}
-use Rattle.std.proofs.lemmas.Map.Views.{Contains-from_any}
-use Rattle.sct_message.specs.Ascending.{ascending}
-use Rattle.sct_message.proofs.AscendingLemmas.{members_ascending}
+pub use Rattle.sct_message.proofs.AscendingLemmas.{in_ascending, ascending_in}
 use Rattle.sct_message.proofs.Members.{tie_is, ties_itself}
 use Rattle.sct_message.specs.declared.draft.Draft.{Draft}
 use Rattle.sct_case.specs.Said.{IsSaid}
@@ -95,12 +93,6 @@ module _ {K : Type 0} {R : K → K → Ordering} (o : IsTotalOrder R) (apart : I
 
   pub any_tie : (ks : List K) (q : K) → Contains ks q → list_any (eq_by_cmp R q) ks ≡ true
   any_tie ks q (k, within, is) = list_any-from_Any (eq_by_cmp R q) ks (k, q, within, is, ties_itself o apart q)
-
-  pub in_ascending : (ks : List K) (q : K) → Contains (ascending R ks) q → Contains ks q
-  in_ascending ks q h = Contains-from_any (tie_is o apart) q ks (sym (members_ascending o apart ks q) ∙ any_tie (ascending R ks) q h)
-
-  pub ascending_in : (ks : List K) (q : K) → Contains ks q → Contains (ascending R ks) q
-  ascending_in ks q h = Contains-from_any (tie_is o apart) q (ascending R ks) (members_ascending o apart ks q ∙ any_tie ks q h)
 
 -- values that cannot differ are equal
 pub equal_unless : {X : Type 0} {x y : X} (b : Bool) → Decides b (x ≡ y) → (x ≢ y → ⊥) → x ≡ y

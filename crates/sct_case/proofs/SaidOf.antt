@@ -14,10 +14,10 @@ use Rattle.sct_message.specs.declared.keys.Identity.{Identity}
 use Rattle.sct_message.specs.declared.keys.TransferKey.{TransferKey}
 use Rattle.sct_case.specs.declared.finding.Finding.TheVariants as finding
 use Rattle.sct_case.specs.declared.said.Said.{Said}
-use Rattle.sct_case.specs.Inside.{IsOneMore, IsSaidOf, all_found, standing_said}
-use Rattle.sct_case.specs.Said.{amounts_by, instructions_by, is_acceptance, is_investigation, recalls_by, refusals_by, rejections_by, requests_by, returns_by}
-use Rattle.sct_case.specs.Statuses.{first, known, standing_of}
-use Rattle.sct_case.specs.Told.{both_answers, cxls, differ, differing_recalls, differing_refusals, findings_of, findings_of_instruction, findings_of_recalls, has_some, names_another, same_reason, same_return, where_found}
+use Rattle.sct_case.specs.Inside.{IsOneMore, IsSaidOf, all_found, both_answers, differing_recalls, differing_refusals, standing_said}
+use Rattle.sct_case.specs.Said.{amounts_by, instructions_by, is_acceptance, is_investigation, recalls_made_by, refusals_by, rejections_by, requests_by, returns_by}
+use Rattle.sct_case.specs.Statuses.{first, standing_by, standing_of}
+use Rattle.sct_case.specs.Told.{cxls, differ, findings_of, findings_of_instruction, findings_of_recalls, has_some, names_another, same_reason, same_return, where_found}
 
 regroup : {X : Type 0} (i a b c d e : List X) → i ++ a ++ b ++ c ++ d ++ e ≡ i ++ (a ++ b ++ c ++ d ++ e)
 regroup i a b c d e = simp append_assoc
@@ -40,7 +40,7 @@ module _ (t : TransferKey) (ms : List Draft) (m : Draft) where
     accepted = more.accepted ∙ (λ i. said.accepted i || is_acceptance m) ∙ test_more is_acceptance;
     rejections = more.rejections ∙ (λ i. said.rejections i ++ rejections_by m) ∙ flat_map_more rejections_by [] ms m;
     investigated = more.investigated ∙ (λ i. said.investigated i || is_investigation m) ∙ test_more is_investigation;
-    recalls = more.recalls ∙ (λ i. said.recalls i ++ recalls_by t m) ∙ flat_map_more (recalls_by t) [] ms m;
+    recalls = more.recalls ∙ (λ i. said.recalls i ++ recalls_made_by t m) ∙ flat_map_more (recalls_made_by t) [] ms m;
     amounts = more.amounts ∙ (λ i. said.amounts i ++ amounts_by t m) ∙ flat_map_more (amounts_by t) [] ms m;
     returns = more.returns ∙ (λ i. said.returns i ++ returns_by t m) ∙ flat_map_more (returns_by t) [] ms m;
     refusals = more.refusals ∙ (λ i. said.refusals i ++ refusals_by t m) ∙ flat_map_more (refusals_by t) [] ms m;
@@ -65,5 +65,10 @@ module _ (t : TransferKey) (clean : List Draft) (said : Said) (s : IsSaidOf t cl
 
   pub standing_said_of : standing_said said ≡ standing_of t clean
   standing_said_of =
-      λ i. known (has_some (s.instructions i)) (option_map (λ r. r.reason) (first (s.rejections i))) (s.accepted i)
-      (option_map (λ r. r.amount) (first (s.returns i))) (s.investigated i)
+      λ i. standing_by (record {
+        instructed = has_some (s.instructions i);
+        rejected = option_map (λ r. r.reason) (first (s.rejections i));
+        accepted = s.accepted i;
+        returned = option_map (λ r. r.amount) (first (s.returns i));
+        investigated = s.investigated i;
+      })

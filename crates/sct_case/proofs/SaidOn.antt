@@ -21,10 +21,10 @@ use Rattle.sct_case.specs.declared.said.RecallAsked.{RecallAsked}
 use Rattle.sct_case.specs.declared.said.RecallMade.{RecallMade}
 use Rattle.sct_case.specs.declared.said.RefusalMade.{RefusalMade}
 use Rattle.sct_case.specs.declared.said.ReturnMade.{ReturnMade}
-use Rattle.sct_case.specs.Said.{cancellations_in, made_in, named_in, recalls_by, recalls_named_by, refusals_by, requests_by, returns_by, where_of}
-use Rattle.sct_case.specs.Statuses.{amount_returned, answer_of, is_made, is_named, named_of_it, reason_refused, recall_standing_of, recalled, request_of_it}
+use Rattle.sct_case.specs.Said.{cancellations_in, made_in, named_in, recalls_made_by, recalls_named_by, refusals_by, requests_by, returns_by, where_of}
+use Rattle.sct_case.specs.Statuses.{amount_returned, is_made, is_named, named_of_it, reason_refused, recall_facts_of, recall_standing_by, recall_standing_of, request_of_it}
 use Rattle.sct_case.specs.Told.{recall_of_it, refusal_of_it, return_of_it}
-use Rattle.sct_case.specs.Inside.{IsOneMoreOn, IsSaidOn, SayAlike, judged}
+use Rattle.sct_case.specs.Inside.{IsOneMoreOn, IsSaidOn, SayAlike, recall_standing_said}
 use Rattle.sct_case.proofs.OfOneRecall.{first_alike, some_alike}
 
 -- ---- a message names a recall in one of four ways
@@ -69,7 +69,7 @@ module _ (t : TransferKey) (cxl : List ℕ) where
       ]
 
   named_by : (m : Draft) → list_any (named_of_it cxl) (recalls_named_by t m)
-      ≡ (list_any (recall_of_it cxl) (recalls_by t m) || list_any (return_of_it cxl) (returns_by t m)
+      ≡ (list_any (recall_of_it cxl) (recalls_made_by t m) || list_any (return_of_it cxl) (returns_by t m)
       || list_any (refusal_of_it cxl) (refusals_by t m) || list_any (request_of_it cxl) (requests_by t m))
   named_by (draft.CreditTransfer d) = refl
   named_by (draft.StatusReport d) = refl
@@ -91,18 +91,23 @@ module _ (t : TransferKey) (cxl : List ℕ) where
   named (m ∷ ms) =
       list_any-append (named_of_it cxl) (recalls_named_by t m) (flat_map (recalls_named_by t) ms)
       ∙ (λ i. named_by m i || named ms i)
-      ∙ or_fours (list_any (recall_of_it cxl) (recalls_by t m)) (list_any (return_of_it cxl) (returns_by t m)) (list_any (refusal_of_it cxl) (refusals_by t m)) (list_any (request_of_it cxl) (requests_by t m)) _ _ _ _
-      ∙ (λ i. sym (list_any-append (recall_of_it cxl) (recalls_by t m) (flat_map (recalls_by t) ms)) i
+      ∙ or_fours (list_any (recall_of_it cxl) (recalls_made_by t m)) (list_any (return_of_it cxl) (returns_by t m)) (list_any (refusal_of_it cxl) (refusals_by t m)) (list_any (request_of_it cxl) (requests_by t m)) _ _ _ _
+      ∙ (λ i. sym (list_any-append (recall_of_it cxl) (recalls_made_by t m) (flat_map (recalls_made_by t) ms)) i
       || sym (list_any-append (return_of_it cxl) (returns_by t m) (flat_map (returns_by t) ms)) i
       || sym (list_any-append (refusal_of_it cxl) (refusals_by t m) (flat_map (refusals_by t) ms)) i
       || sym (list_any-append (request_of_it cxl) (requests_by t m) (flat_map (requests_by t) ms)) i)
 
   -- so these four give the status of the recall
   pub judged_is : (ms : List Draft)
-      → judged (is_made t ms cxl) (amount_returned cxl (flat_map (returns_by t) ms)) (reason_refused cxl (flat_map (refusals_by t) ms)) (list_any (request_of_it cxl) (flat_map (requests_by t) ms))
-      ≡ recall_standing_of t ms cxl
+      → recall_standing_said (record {
+        made = is_made t ms cxl;
+        returned = amount_returned cxl (flat_map (returns_by t) ms);
+        refused = reason_refused cxl (flat_map (refusals_by t) ms);
+        chased = list_any (request_of_it cxl) (flat_map (requests_by t) ms);
+      }) ≡ recall_standing_of t ms cxl
   judged_is ms =
-      ap (λ b. recalled b (is_made t ms cxl) (answer_of t ms cxl))
+      let facts = recall_facts_of t ms cxl in
+      ap (λ b. recall_standing_by (record { named = b; made = facts.made; returned = facts.returned; refused = facts.refused; chased = facts.chased }))
       ((λ i. is_made t ms cxl || is_found (λ r. r.amount) (return_of_it cxl) (flat_map (returns_by t) ms) i
       || is_found (λ r. r.reason) (refusal_of_it cxl) (flat_map (refusals_by t) ms) i || list_any (request_of_it cxl) (flat_map (requests_by t) ms))
       ∙ sym (named ms))
@@ -125,7 +130,7 @@ module _ (t : TransferKey) (cxl : List ℕ) where
 
   pub more_on : (ms : List Draft) (m : Draft) (old new : RecallSaid) → IsSaidOn t ms cxl old → IsOneMoreOn t m cxl old new → IsSaidOn t (ms ++ m ∷ []) cxl new
   more_on ms m old new said more = record {
-    made = more.made ∙ ap (λ b. b || list_any (recall_of_it cxl) (recalls_by t m)) said.made ∙ any_more (recalls_by t) (recall_of_it cxl) ms m;
+    made = more.made ∙ ap (λ b. b || list_any (recall_of_it cxl) (recalls_made_by t m)) said.made ∙ any_more (recalls_made_by t) (recall_of_it cxl) ms m;
     returned = more.returned ∙ ap (λ (o : Option ℕ). option_or o (amount_returned cxl (returns_by t m))) said.returned ∙ first_more (returns_by t) (return_of_it cxl) (λ r. r.amount) ms m;
     refused = more.refused ∙ ap (λ (o : Option Reason). option_or o (reason_refused cxl (refusals_by t m))) said.refused ∙ first_more (refusals_by t) (refusal_of_it cxl) (λ r. r.reason) ms m;
     chased = more.chased ∙ ap (λ b. b || list_any (request_of_it cxl) (requests_by t m)) said.chased ∙ any_more (requests_by t) (request_of_it cxl) ms m;
@@ -136,10 +141,20 @@ module _ (t : TransferKey) (cxl : List ℕ) where
 module _ (made other_made : List RecallMade) (returns other_returns : List ReturnMade) (refusals other_refusals : List RefusalMade) (requests other_requests : List RecallAsked) where
   pub judged_alike : SayAlike (λ m. m.cxl) made other_made → SayAlike (λ m. m.cxl) returns other_returns
       → SayAlike (λ m. m.cxl) refusals other_refusals → SayAlike (λ m. m.cxl) requests other_requests
-      → (cxl : List ℕ) → judged (list_any (recall_of_it cxl) made) (amount_returned cxl returns) (reason_refused cxl refusals) (list_any (request_of_it cxl) requests)
-      ≡ judged (list_any (recall_of_it cxl) other_made) (amount_returned cxl other_returns) (reason_refused cxl other_refusals) (list_any (request_of_it cxl) other_requests)
-  judged_alike m r f q cxl = λ i.
-      judged (some_alike (recall_of_it cxl) made other_made (m cxl) i)
-      (option_map (λ x. x.amount) (first_alike (return_of_it cxl) returns other_returns (r cxl) i))
-      (option_map (λ x. x.reason) (first_alike (refusal_of_it cxl) refusals other_refusals (f cxl) i))
-      (some_alike (request_of_it cxl) requests other_requests (q cxl) i)
+      → (cxl : List ℕ) → recall_standing_said (record {
+        made = list_any (recall_of_it cxl) made;
+        returned = amount_returned cxl returns;
+        refused = reason_refused cxl refusals;
+        chased = list_any (request_of_it cxl) requests;
+      }) ≡ recall_standing_said (record {
+        made = list_any (recall_of_it cxl) other_made;
+        returned = amount_returned cxl other_returns;
+        refused = reason_refused cxl other_refusals;
+        chased = list_any (request_of_it cxl) other_requests;
+      })
+  judged_alike m r f q cxl = λ i. recall_standing_said (record {
+    made = some_alike (recall_of_it cxl) made other_made (m cxl) i;
+    returned = option_map (λ x. x.amount) (first_alike (return_of_it cxl) returns other_returns (r cxl) i);
+    refused = option_map (λ x. x.reason) (first_alike (refusal_of_it cxl) refusals other_refusals (f cxl) i);
+    chased = some_alike (request_of_it cxl) requests other_requests (q cxl) i;
+  })

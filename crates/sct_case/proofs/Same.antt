@@ -11,7 +11,7 @@ use Rattle.sct_case.specs.declared.said.RejectionReason.{RejectionReason}
 use Rattle.sct_case.specs.declared.said.RecallMade.{RecallMade}
 use Rattle.sct_case.specs.declared.said.ReturnMade.{ReturnMade}
 use Rattle.sct_case.specs.declared.said.RefusalMade.{RefusalMade}
-use Rattle.sct_case.specs.Told.{same_reason, same_recall, same_return, same_refusal}
+use Rattle.sct_case.specs.Told.{same_reason, same_recall_made, same_return, same_refusal}
 
 code-Decides : (r q : Reason) → Decides (is_text (reason_text r) (reason_text q)) (r ≡ q)
 code-Decides r q = Decides-like _ (same_text r q) (ap reason_text) (bytes_decides (reason_text r) (reason_text q))
@@ -19,7 +19,7 @@ code-Decides r q = Decides-like _ (same_text r q) (ap reason_text) (bytes_decide
 pub reason-Decides : (a b : RejectionReason) → Decides (same_reason a b) (a ≡ b)
 reason-Decides a b = Decides-like _ (λ e i. record { reason = e i }) (λ e i. (e i).reason) (code-Decides a.reason b.reason)
 
-pub recall-Decides : (a b : RecallMade) → Decides (same_recall a b) (a ≡ b)
+pub recall-Decides : (a b : RecallMade) → Decides (same_recall_made a b) (a ≡ b)
 recall-Decides a b = Decides-like _
     (λ e i. record { cxl = e.0.0 i; amount = e.0.1 i; reason = e.1 i })
     (λ e. ((λ i. (e i).cxl, λ i. (e i).amount), λ i. (e i).reason))

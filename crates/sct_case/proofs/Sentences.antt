@@ -14,7 +14,7 @@ use Rattle.sct_case.specs.declared.finding.Finding.TheVariants as finding
 use Rattle.sct_case.specs.declared.said.RejectionReason.{RejectionReason}
 use Rattle.sct_case.specs.Said.{IsSaid, is_acceptance, is_investigation, instructions_by, rejections_by, returns_by}
 use Rattle.sct_case.specs.Told.{has_some, findings_of}
-use Rattle.sct_case.specs.Statuses.{Standing, Contradicted, Unknown, Missing, Rejected, Returned, Accepted, Investigated, Pending, first, rejection_told, return_told, confirmed, known, first_standing, is_unknown, standing_of, transfer_status_of}
+use Rattle.sct_case.specs.Statuses.{Standing, Contradicted, Unknown, Missing, Rejected, Returned, Accepted, Investigated, Pending, first, rejection_reason, return_amount, first_standing, is_unknown, standing_by, standing_of, transfer_status_of}
 use Rattle.sct_case.specs.Sentences.{IsConsistent, IsInstructed, IsRejectedFor, IsAccepted, IsReturned, IsInvestigated, Goes, IsStatus, TellsEachStatus}
 use Rattle.sct_case.specs.Laws.{AreApart}
 use Rattle.sct_case.proofs.Membership.{nothing, any-Decides, Picks, picks_none, picks_some, picks_like, said_picks}
@@ -37,13 +37,17 @@ first_picks by clean f =
     (picks_like (λ y. (x : _) × IsSaid by clean x × Unit {0} × (f x ≡ y)) (λ y. (x : _) × IsSaid by clean x × (f x ≡ y)) _
     (λ y s. (s.0, s.1, s.3)) (λ y s. (s.0, s.1, tt, s.2)) (said_picks by clean (λ x. true) (λ x. Unit {0}) (λ x. (λ h. tt, λ h. refl)) f))
 
-rejection_picks : (clean : List Draft) → Picks (rejection_told clean) (IsRejectedFor clean)
+rejection_picks : (clean : List Draft) → Picks (rejection_reason clean) (IsRejectedFor clean)
 rejection_picks clean = picks_like (λ r. (x : RejectionReason) × IsSaid rejections_by clean x × (x.reason ≡ r)) (IsRejectedFor clean) _
     (λ r s. let same : s.0 ≡ record { reason = r } = λ i. record { reason = s.2 i } in subst (IsSaid rejections_by clean) same s.1)
     (λ r s. (record { reason = r }, s, refl)) (first_picks rejections_by clean (λ x. x.reason))
 
-return_picks : (t : TransferKey) (clean : List Draft) → Picks (return_told t clean) (IsReturned t clean)
+return_picks : (t : TransferKey) (clean : List Draft) → Picks (return_amount t clean) (IsReturned t clean)
 return_picks t clean = first_picks (returns_by t) clean (λ x. x.amount)
+
+-- the status of a transfer by its facts in their order
+abbrev stands_by : Bool → Option Reason → Bool → Option ℕ → Bool → Standing
+stands_by i r a m v = standing_by (record { instructed = i; rejected = r; accepted = a; returned = m; investigated = v })
 
 module _ (t : TransferKey) (clean : List Draft) (asides : List Identity) where
   unknown-Decides : Decides (is_unknown clean asides) ((clean ≡ []) × (asides ≡ []))
@@ -52,7 +56,7 @@ module _ (t : TransferKey) (clean : List Draft) (asides : List Identity) where
   holds : (found : List Finding) → findings_of t clean asides ≡ found → (u : Bool) → Decides u ((clean ≡ []) × (asides ≡ []))
       → (i : Bool) → Decides i (IsInstructed clean) → (r : Option Reason) → Picks r (IsRejectedFor clean)
       → (a : Bool) → Decides a (IsAccepted clean) → (m : Option ℕ) → Picks m (IsReturned t clean) → (v : Bool) → Decides v (IsInvestigated clean)
-      → IsStatus t clean asides (first_standing found u (known i r a m v))
+      → IsStatus t clean asides (first_standing found u (stands_by i r a m v))
   holds (f ∷ fs) e u U i I r R a A m M v V = (sym e, λ k. cc)
   holds [] e true U i I r R a A m M v V = U.0 refl
   holds [] e false U false I r R a A m M v V =
@@ -72,40 +76,40 @@ module _ (t : TransferKey) (clean : List Draft) (asides : List Identity) where
   stands e some = sym (not_contradicted t clean asides [] (sym e) refl (true_from_ne_false _ (λ n. some (none_in clean n))))
 
   instructed_stands : IsConsistent t clean asides → IsInstructed clean
-      → transfer_status_of t clean asides ≡ known true (rejection_told clean) (list_any is_acceptance clean) (return_told t clean) (list_any is_investigation clean)
+      → transfer_status_of t clean asides ≡ stands_by true (rejection_reason clean) (list_any is_acceptance clean) (return_amount t clean) (list_any is_investigation clean)
   instructed_stands e m =
       stands e (λ n. nothing m.0 (subst (λ ms. Contains ms m.0) n m.1))
-      ∙ ap (λ b. known b (rejection_told clean) (list_any is_acceptance clean) (return_told t clean) (list_any is_investigation clean)) ((instructed-Decides clean).1 m)
+      ∙ ap (λ b. stands_by b (rejection_reason clean) (list_any is_acceptance clean) (return_amount t clean) (list_any is_investigation clean)) ((instructed-Decides clean).1 m)
 
-  goes_on : Goes t clean asides → transfer_status_of t clean asides ≡ confirmed (list_any is_acceptance clean) (return_told t clean) (list_any is_investigation clean)
+  goes_on : Goes t clean asides → transfer_status_of t clean asides ≡ stands_by true None (list_any is_acceptance clean) (return_amount t clean) (list_any is_investigation clean)
   goes_on g =
       instructed_stands g.consistent g.instructed
-      ∙ ap (λ r. known true r (list_any is_acceptance clean) (return_told t clean) (list_any is_investigation clean)) (picks_none (IsRejectedFor clean) _ (rejection_picks clean) g.not_rejected)
+      ∙ ap (λ r. stands_by true r (list_any is_acceptance clean) (return_amount t clean) (list_any is_investigation clean)) (picks_none (IsRejectedFor clean) _ (rejection_picks clean) g.not_rejected)
 
   pub holds_told : AreApart clean → (s : Standing) → IsStatus t clean asides s → transfer_status_of t clean asides ≡ s
   holds_told apart (Contradicted found) h = sym (contradicted t clean asides found h.0 (true_from_ne_false _ (λ n. h.1 (none_in found n))))
   holds_told apart Unknown h = sym (unknown t clean asides [] (sym (ap (map (λ i. finding.Identity i)) h.1) ∙ found_of_asides t clean asides h.0) refl h.0)
   holds_told apart Missing h =
       let i = false_from_ne_true (has_some (flat_map instructions_by clean)) (λ k. h.2 ((instructed-Decides clean).0 k)) in
-      stands h.0 h.1 ∙ ap (λ b. known b (rejection_told clean) (list_any is_acceptance clean) (return_told t clean) (list_any is_investigation clean)) i
+      stands h.0 h.1 ∙ ap (λ b. stands_by b (rejection_reason clean) (list_any is_acceptance clean) (return_amount t clean) (list_any is_investigation clean)) i
   holds_told apart (Rejected r) h =
       let one = consistent_say_one_thing t clean asides apart h.0 in
       let told = picks_some (IsRejectedFor clean) _ (rejection_picks clean) r h.2 (λ q s. ap (λ x. x.reason) (one.rejections (record { reason = q }) (record { reason = r }) s h.2)) in
-      instructed_stands h.0 h.1 ∙ ap (λ o. known true o (list_any is_acceptance clean) (return_told t clean) (list_any is_investigation clean)) told
+      instructed_stands h.0 h.1 ∙ ap (λ o. stands_by true o (list_any is_acceptance clean) (return_amount t clean) (list_any is_investigation clean)) told
   holds_told apart (Returned amount) h =
       let one = consistent_say_one_thing t clean asides apart h.0.consistent in
       let told = picks_some (IsReturned t clean) _ (return_picks t clean) amount h.2 (λ n s. sym s.2 ∙ ap (λ x. x.amount) (one.returns s.0 h.2.0 s.1 h.2.1) ∙ h.2.2) in
-      goes_on h.0 ∙ (λ i. confirmed ((held-Decides is_acceptance clean).1 h.1 i) (told i) (list_any is_investigation clean))
+      goes_on h.0 ∙ (λ i. stands_by true None ((held-Decides is_acceptance clean).1 h.1 i) (told i) (list_any is_investigation clean))
   holds_told apart Accepted h =
       let told = picks_none (IsReturned t clean) _ (return_picks t clean) h.2 in
-      goes_on h.0 ∙ (λ i. confirmed ((held-Decides is_acceptance clean).1 h.1 i) (told i) (list_any is_investigation clean))
+      goes_on h.0 ∙ (λ i. stands_by true None ((held-Decides is_acceptance clean).1 h.1 i) (told i) (list_any is_investigation clean))
   holds_told apart Investigated h =
       let none = false_from_ne_true (list_any is_acceptance clean) (λ k. h.1 ((held-Decides is_acceptance clean).0 k)) in
-      goes_on h.0 ∙ (λ i. confirmed (none i) (return_told t clean) ((held-Decides is_investigation clean).1 h.2 i))
+      goes_on h.0 ∙ (λ i. stands_by true None (none i) (return_amount t clean) ((held-Decides is_investigation clean).1 h.2 i))
   holds_told apart Pending h =
       let none = false_from_ne_true (list_any is_acceptance clean) (λ k. h.1 ((held-Decides is_acceptance clean).0 k)) in
       let nobody = false_from_ne_true (list_any is_investigation clean) (λ k. h.2 ((held-Decides is_investigation clean).0 k)) in
-      goes_on h.0 ∙ (λ i. confirmed (none i) (return_told t clean) (nobody i))
+      goes_on h.0 ∙ (λ i. stands_by true None (none i) (return_amount t clean) (nobody i))
 
 pub tells_each_status : TellsEachStatus
 tells_each_status t clean asides apart s =

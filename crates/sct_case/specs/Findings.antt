@@ -12,7 +12,7 @@ use Rattle.sct_case.specs.declared.said.RecallMade.{RecallMade}
 use Rattle.sct_case.specs.declared.said.OriginalAmount.{OriginalAmount}
 use Rattle.sct_case.specs.declared.said.ReturnMade.{ReturnMade}
 use Rattle.sct_case.specs.declared.said.RefusalMade.{RefusalMade}
-use Rattle.sct_case.specs.Said.{IsSaid, is_acceptance, instructions_by, rejections_by, recalls_by, amounts_by, returns_by, refusals_by}
+use Rattle.sct_case.specs.Said.{IsSaid, is_acceptance, instructions_by, rejections_by, recalls_made_by, amounts_by, returns_by, refusals_by}
 
 -- Two different messages instruct the transfer.
 pub record HasTwoInstructions (clean : List Draft) : Type 0 where
@@ -60,8 +60,8 @@ pub record DoesAmountDiffer (transfer : TransferKey) (clean : List Draft) : Type
 pub record DoRecallsDiffer (transfer : TransferKey) (clean : List Draft) (cxl : List ℕ) : Type 0 where
   pub one : RecallMade
   pub other : RecallMade
-  pub one_made : IsSaid (recalls_by transfer) clean one
-  pub other_made : IsSaid (recalls_by transfer) clean other
+  pub one_made : IsSaid (recalls_made_by transfer) clean one
+  pub other_made : IsSaid (recalls_made_by transfer) clean other
   pub one_of_it : one.cxl ≡ cxl
   pub other_of_it : other.cxl ≡ cxl
   pub different : one ≢ other

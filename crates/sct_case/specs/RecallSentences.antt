@@ -9,7 +9,7 @@ use Rattle.sct_case.specs.declared.said.RecallMade.{RecallMade}
 use Rattle.sct_case.specs.declared.said.ReturnMade.{ReturnMade}
 use Rattle.sct_case.specs.declared.status.RecallStatus.{RecallStatus}
 use Rattle.sct_case.specs.declared.status.RecallStatus.TheVariants as recall
-use Rattle.sct_case.specs.Said.{IsSaid, recalls_by, returns_by, refusals_by, requests_by, recalls_named_by}
+use Rattle.sct_case.specs.Said.{IsSaid, recalls_made_by, returns_by, refusals_by, requests_by, recalls_named_by}
 use Rattle.sct_case.specs.Told.{findings_of}
 use Rattle.sct_case.specs.Statuses.{recall_status_of}
 use Rattle.sct_case.specs.Sentences.{IsConsistent, Not}
@@ -21,7 +21,7 @@ IsNamed transfer clean cxl = IsSaid (recalls_named_by transfer) clean (record { 
 
 -- a message makes the recall
 abbrev pub IsMade : TransferKey → List Draft → List ℕ → Type 0
-IsMade transfer clean cxl = (made : RecallMade) × IsSaid (recalls_by transfer) clean made × (made.cxl ≡ cxl)
+IsMade transfer clean cxl = (made : RecallMade) × IsSaid (recalls_made_by transfer) clean made × (made.cxl ≡ cxl)
 
 -- that amount was returned after the recall
 abbrev pub IsReturnedAfter : TransferKey → List Draft → List ℕ → ℕ → Type 0

@@ -65,9 +65,9 @@ made_in transfer tx =
     where_of transfer (transfer_in tx)
     (record { cxl = tx.cancellation_id; amount = tx.original_amount; reason = tx.reason } ∷ [])
 
-abbrev pub recalls_by : TransferKey → Draft → List RecallMade
-recalls_by transfer (CancellationRequest d) = flat_map (made_in transfer) d.txs
-recalls_by transfer other = []
+abbrev pub recalls_made_by : TransferKey → Draft → List RecallMade
+recalls_made_by transfer (CancellationRequest d) = flat_map (made_in transfer) d.txs
+recalls_made_by transfer other = []
 
 -- the original amounts that its recalls and returns name
 abbrev pub amount_in : TransferKey → RecallTx → List OriginalAmount

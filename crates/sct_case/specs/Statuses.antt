@@ -1,5 +1,5 @@
 -- The statuses of a transfer and of its recalls, for auditors: the first of a list of sentences that holds.
-use Rattle.std.specs.Prelude.{◌&&◌, ◌==◌, ℕ, List, [], ◌∷◌, length, find, Bool, true, false, Option, Some, None, option_map}
+use Rattle.std.specs.Prelude.{◌&&◌, ◌==◌, ℕ, List, [], ◌∷◌, length, find, not, Bool, Option, Some, None, option_map, if◌then◌else◌}
 use Rattle.std.specs.List.{list_any, flat_map}
 use Rattle.sct_reason.specs.declared.reasons.Reason.{Reason}
 use Rattle.sct_element.specs.Text.{is_text}
@@ -15,8 +15,25 @@ use Rattle.sct_case.specs.declared.said.RecallAsked.{RecallAsked}
 use Rattle.sct_case.specs.declared.said.RecallNamed.{RecallNamed}
 use Rattle.sct_case.specs.declared.said.ReturnMade.{ReturnMade}
 use Rattle.sct_case.specs.declared.said.RefusalMade.{RefusalMade}
-use Rattle.sct_case.specs.Said.{is_acceptance, is_investigation, instructions_by, rejections_by, recalls_by, returns_by, refusals_by, requests_by, recalls_named_by}
+use Rattle.sct_case.specs.Said.{is_acceptance, is_investigation, instructions_by, rejections_by, recalls_made_by, returns_by, refusals_by, requests_by, recalls_named_by}
 use Rattle.sct_case.specs.Told.{findings_of, has_some, recall_of_it, return_of_it, refusal_of_it}
+
+-- ---- tables of statuses
+
+-- a row of a table: its status, if the row holds
+abbrev pub row : {X : Type 0} → Bool → X → Option X
+row holds status = if holds then Some status else None
+
+-- a row that holds if there is a finding
+abbrev pub if_found : {X : Type 0} → List Finding → X → Option X
+if_found [] status = None
+if_found (f ∷ found) status = Some status
+
+-- the status of the first row that holds, or the last status if none does
+abbrev pub first_row : {X : Type 0} → List (Option X) → X → X
+first_row [] last = last
+first_row (None ∷ rows) last = first_row rows last
+first_row (Some status ∷ rows) last = status
 
 -- ---- the transfer
 
@@ -32,56 +49,65 @@ pub data Standing : Type 0 where
   Pending : Standing
 
 -- the status with its findings as a list
-abbrev pub told : Status → Standing
-told (status.Contradicted found) = Contradicted found.items
-told status.Unknown = Unknown
-told status.Missing = Missing
-told (status.Rejected reason) = Rejected reason
-told (status.Returned amount) = Returned amount
-told status.Accepted = Accepted
-told status.Investigated = Investigated
-told status.Pending = Pending
+abbrev pub as_standing : Status → Standing
+as_standing (status.Contradicted found) = Contradicted found.items
+as_standing status.Unknown = Unknown
+as_standing status.Missing = Missing
+as_standing (status.Rejected reason) = Rejected reason
+as_standing (status.Returned amount) = Returned amount
+as_standing status.Accepted = Accepted
+as_standing status.Investigated = Investigated
+as_standing status.Pending = Pending
 
 abbrev pub first : {X : Type 0} → List X → Option X
 first [] = None
 first (x ∷ xs) = Some x
 
 -- the reason of the first rejection; if there is no finding, all rejections give the same reason
-abbrev pub rejection_told : List Draft → Option Reason
-rejection_told clean = option_map (λ r. r.reason) (first (flat_map rejections_by clean))
+abbrev pub rejection_reason : List Draft → Option Reason
+rejection_reason clean = option_map (λ r. r.reason) (first (flat_map rejections_by clean))
 
 -- the amount of the first return; if there is no finding, all returns have the same amount
-abbrev pub return_told : TransferKey → List Draft → Option ℕ
-return_told transfer clean = option_map (λ r. r.amount) (first (flat_map (returns_by transfer) clean))
+abbrev pub return_amount : TransferKey → List Draft → Option ℕ
+return_amount transfer clean = option_map (λ r. r.amount) (first (flat_map (returns_by transfer) clean))
 
--- four cases: accepted with a return; accepted; its status was asked for; nothing but the instruction
-abbrev pub confirmed : Bool → Option ℕ → Bool → Standing
-confirmed true (Some amount) investigated = Returned amount
-confirmed true None investigated = Accepted
-confirmed false amount true = Investigated
-confirmed false amount false = Pending
+-- What the clean messages on a transfer say of it: whether one instructs it, the reason of a rejection, whether one
+-- accepts it, the amount of a return, and whether one asks for its status.
+pub record TransferFacts : Type 0 where
+  pub instructed : Bool
+  pub rejected : Option Reason
+  pub accepted : Bool
+  pub returned : Option ℕ
+  pub investigated : Bool
 
--- two cases: rejected; otherwise as confirmed
-abbrev pub instructed : Option Reason → Bool → Option ℕ → Bool → Standing
-instructed (Some reason) accepted amount investigated = Rejected reason
-instructed None accepted amount investigated = confirmed accepted amount investigated
+abbrev pub facts_of : TransferKey → List Draft → TransferFacts
+facts_of transfer clean = record {
+  instructed = has_some (flat_map instructions_by clean);
+  rejected = rejection_reason clean;
+  accepted = list_any is_acceptance clean;
+  returned = return_amount transfer clean;
+  investigated = list_any is_investigation clean;
+}
 
--- two cases: no instruction; otherwise as instructed
-abbrev pub known : Bool → Option Reason → Bool → Option ℕ → Bool → Standing
-known false reason accepted amount investigated = Missing
-known true reason accepted amount investigated = instructed reason accepted amount investigated
+-- the status of a transfer that has messages and no finding: the first row that holds, or pending
+abbrev pub standing_by : TransferFacts → Standing
+standing_by facts =
+    first_row
+    (row (not facts.instructed) Missing
+    ∷ option_map (λ reason. Rejected reason) facts.rejected
+    ∷ (if facts.accepted then option_map (λ amount. Returned amount) facts.returned else None)
+    ∷ row facts.accepted Accepted
+    ∷ row facts.investigated Investigated
+    ∷ [])
+    Pending
 
--- the status of a transfer that has messages and no finding
 abbrev pub standing_of : TransferKey → List Draft → Standing
-standing_of transfer clean =
-    known (has_some (flat_map instructions_by clean)) (rejection_told clean) (list_any is_acceptance clean)
-    (return_told transfer clean) (list_any is_investigation clean)
+standing_of transfer clean = standing_by (facts_of transfer clean)
 
--- three cases: there is a finding; there is no message; otherwise the given status
+-- a transfer with findings is contradicted, and one without a message is unknown; any other has the given status
 abbrev pub first_standing : List Finding → Bool → Standing → Standing
-first_standing (f ∷ found) unknown stands = Contradicted (f ∷ found)
-first_standing [] true stands = Unknown
-first_standing [] false stands = stands
+first_standing found unknown standing =
+    first_row (if_found found (Contradicted found) ∷ row unknown Unknown ∷ []) standing
 
 -- no message is on the transfer, neither a clean one nor one of a contradicted identity
 abbrev pub is_unknown : List Draft → List Identity → Bool
@@ -105,39 +131,48 @@ amount_returned cxl returns = option_map (λ r. r.amount) (find (return_of_it cx
 abbrev pub reason_refused : List ℕ → List RefusalMade → Option Reason
 reason_refused cxl refusals = option_map (λ r. r.reason) (find (refusal_of_it cxl) refusals)
 
--- four cases: money was returned; it was refused; its status was asked for; it is not answered
-abbrev pub answered : Option ℕ → Option Reason → Bool → RecallStatus
-answered (Some amount) reason chased = recall.Returned amount
-answered None (Some reason) chased = recall.Refused reason
-answered None None true = recall.Chased
-answered None None false = recall.Open
-
--- three cases: no message names the recall; no message makes it; otherwise as answered
-abbrev pub recalled : Bool → Bool → RecallStatus → RecallStatus
-recalled false made stands = recall.Unknown
-recalled true false stands = recall.Unasked
-recalled true true stands = stands
-
 abbrev pub is_named : TransferKey → List Draft → List ℕ → Bool
 is_named transfer clean cxl = list_any (named_of_it cxl) (flat_map (recalls_named_by transfer) clean)
 
 abbrev pub is_made : TransferKey → List Draft → List ℕ → Bool
-is_made transfer clean cxl = list_any (recall_of_it cxl) (flat_map (recalls_by transfer) clean)
+is_made transfer clean cxl = list_any (recall_of_it cxl) (flat_map (recalls_made_by transfer) clean)
 
-abbrev pub answer_of : TransferKey → List Draft → List ℕ → RecallStatus
-answer_of transfer clean cxl =
-    answered (amount_returned cxl (flat_map (returns_by transfer) clean)) (reason_refused cxl (flat_map (refusals_by transfer) clean))
-    (list_any (request_of_it cxl) (flat_map (requests_by transfer) clean))
+-- What the clean messages on a transfer say of one of its recalls: whether one names it, whether one makes it, the amount
+-- of a return, the reason of a refusal, and whether one asks for its status.
+pub record RecallFacts : Type 0 where
+  pub named : Bool
+  pub made : Bool
+  pub returned : Option ℕ
+  pub refused : Option Reason
+  pub chased : Bool
 
--- the status of a recall whose transfer has no finding
+abbrev pub recall_facts_of : TransferKey → List Draft → List ℕ → RecallFacts
+recall_facts_of transfer clean cxl = record {
+  named = is_named transfer clean cxl;
+  made = is_made transfer clean cxl;
+  returned = amount_returned cxl (flat_map (returns_by transfer) clean);
+  refused = reason_refused cxl (flat_map (refusals_by transfer) clean);
+  chased = list_any (request_of_it cxl) (flat_map (requests_by transfer) clean);
+}
+
+-- the status of a recall whose transfer has no finding: the first row that holds, or open
+abbrev pub recall_standing_by : RecallFacts → RecallStatus
+recall_standing_by facts =
+    first_row
+    (row (not facts.named) recall.Unknown
+    ∷ row (not facts.made) recall.Unasked
+    ∷ option_map (λ amount. recall.Returned amount) facts.returned
+    ∷ option_map (λ reason. recall.Refused reason) facts.refused
+    ∷ row facts.chased recall.Chased
+    ∷ [])
+    recall.Open
+
 abbrev pub recall_standing_of : TransferKey → List Draft → List ℕ → RecallStatus
-recall_standing_of transfer clean cxl =
-    recalled (is_named transfer clean cxl) (is_made transfer clean cxl) (answer_of transfer clean cxl)
+recall_standing_of transfer clean cxl = recall_standing_by (recall_facts_of transfer clean cxl)
 
--- two cases: the transfer has a finding; otherwise the given status
+-- a recall of a transfer with findings is contradicted; any other has the given status
 abbrev pub first_recall : List Finding → RecallStatus → RecallStatus
-first_recall (f ∷ found) stands = recall.Contradicted
-first_recall [] stands = stands
+first_recall found standing = first_row (if_found found recall.Contradicted ∷ []) standing
 
 unfoldable pub recall_status_of : TransferKey → List Draft → List Identity → List ℕ → RecallStatus
 recall_status_of transfer clean asides cxl =

@@ -17,15 +17,15 @@ use Rattle.sct_case.specs.declared.said.RecallMade.{RecallMade}
 use Rattle.sct_case.specs.declared.said.OriginalAmount.{OriginalAmount}
 use Rattle.sct_case.specs.declared.said.ReturnMade.{ReturnMade}
 use Rattle.sct_case.specs.declared.said.RefusalMade.{RefusalMade}
-use Rattle.sct_case.specs.Said.{is_acceptance, instructions_by, rejections_by, recalls_by, amounts_by, returns_by, refusals_by}
+use Rattle.sct_case.specs.Said.{is_acceptance, instructions_by, rejections_by, recalls_made_by, amounts_by, returns_by, refusals_by}
 
 -- ---- statements, compared in all their parts
 
 abbrev pub same_reason : RejectionReason → RejectionReason → Bool
 same_reason one other = is_text (reason_text one.reason) (reason_text other.reason)
 
-abbrev pub same_recall : RecallMade → RecallMade → Bool
-same_recall one other =
+abbrev pub same_recall_made : RecallMade → RecallMade → Bool
+same_recall_made one other =
     is_text one.cxl other.cxl && nat_eq one.amount other.amount
     && is_text (reason_text one.reason) (reason_text other.reason)
 
@@ -87,21 +87,9 @@ refusal_of_it cxl made = is_text made.cxl cxl
 abbrev pub cxls : List (List ℕ) → List (List ℕ)
 cxls found = ascending text_order found
 
--- the findings on the recalls in a list: those made in different ways, answered in both ways, refused in different ways
-abbrev pub differing_recalls : List RecallMade → List (List ℕ) → List Finding
-differing_recalls made cs =
-    map (λ c. finding.RecallsDiffer c) (filter (λ c. differ_among (recall_of_it c) same_recall made) cs)
-
-abbrev pub both_answers : List ReturnMade → List (List ℕ) → List Finding
-both_answers returns cs = map (λ c. finding.BothAnswers c) (filter (λ c. list_any (return_of_it c) returns) cs)
-
-abbrev pub differing_refusals : List RefusalMade → List (List ℕ) → List Finding
-differing_refusals made cs =
-    map (λ c. finding.RefusalsDiffer c) (filter (λ c. differ_among (refusal_of_it c) same_refusal made) cs)
-
 abbrev pub recalls_that_differ : List RecallMade → List (List ℕ)
 recalls_that_differ made =
-    filter (λ cxl. differ_among (recall_of_it cxl) same_recall made) (cxls (map (λ m. m.cxl) made))
+    filter (λ cxl. differ_among (recall_of_it cxl) same_recall_made made) (cxls (map (λ m. m.cxl) made))
 
 abbrev pub answered_both_ways : List RefusalMade → List ReturnMade → List (List ℕ)
 answered_both_ways refusals returns =
@@ -133,24 +121,24 @@ findings_of_instruction transfer clean asides =
     ++ where_found (does_amount_differ transfer clean) finding.AmountDiffers
 
 -- the findings on each recall, ascending
-abbrev pub told_recalls : TransferKey → List Draft → List Finding
-told_recalls transfer clean =
-    map (λ c. finding.RecallsDiffer c) (recalls_that_differ (flat_map (recalls_by transfer) clean))
+abbrev pub recall_findings : TransferKey → List Draft → List Finding
+recall_findings transfer clean =
+    map (λ c. finding.RecallsDiffer c) (recalls_that_differ (flat_map (recalls_made_by transfer) clean))
 
-abbrev pub told_answers : TransferKey → List Draft → List Finding
-told_answers transfer clean =
+abbrev pub answer_findings : TransferKey → List Draft → List Finding
+answer_findings transfer clean =
     map (λ c. finding.BothAnswers c) (answered_both_ways (flat_map (refusals_by transfer) clean) (flat_map (returns_by transfer) clean))
 
-abbrev pub told_refusals : TransferKey → List Draft → List Finding
-told_refusals transfer clean =
+abbrev pub refusal_findings : TransferKey → List Draft → List Finding
+refusal_findings transfer clean =
     map (λ c. finding.RefusalsDiffer c) (refusals_that_differ (flat_map (refusals_by transfer) clean))
 
 -- the findings on the recalls and their answers
 unfoldable pub findings_of_recalls : TransferKey → List Draft → List Finding
 findings_of_recalls transfer clean =
-    told_recalls transfer clean
-    ++ told_answers transfer clean
-    ++ told_refusals transfer clean
+    recall_findings transfer clean
+    ++ answer_findings transfer clean
+    ++ refusal_findings transfer clean
     ++ where_found (has_two_returns transfer clean) finding.TwoReturns
     ++ where_found (has_return_of_rejected transfer clean) finding.ReturnOfRejected
 

@@ -2,7 +2,7 @@
 ghost use Rattle.std.specs.Prelude.{◌≡◌, List, IfOk};
 ghost use Rattle.sct_message.specs.Sets.{messages_in};
 ghost use Rattle.sct_case.specs.Told.{findings_of};
-ghost use Rattle.sct_case.specs.Statuses.{told, transfer_status_of, recall_status_of};
+ghost use Rattle.sct_case.specs.Statuses.{as_standing, transfer_status_of, recall_status_of};
 
 use crate::fault::CaseFault;
 use crate::finding::Finding;
@@ -39,7 +39,7 @@ pub fn transfer_status(
     asides: &[Identity],
 ) -> Result<Status, CaseFault>
     ensures { IfOk result (λ stands.
-        told stands ≡ transfer_status_of transfer.now (messages_in clean.now) asides.now) }
+        as_standing stands ≡ transfer_status_of transfer.now (messages_in clean.now) asides.now) }
 {
     let said = Said::of(alloc, transfer, clean)?;
     let standing = said.standing();

@@ -1,9 +1,8 @@
 //! The findings of a transfer: a test for each contradiction, and all findings in the order in which they are reported.
 ghost use Rattle.std.specs.Prelude.{◌≡◌, ◌++◌, ◌&&◌, ℕ, List, Bool, IfOk, OnOk, map, not, nat_eq, nat_lt, length};
 ghost use Rattle.std.specs.List.{list_any};
-ghost use Rattle.sct_case.specs.Inside.{IsByRecall, all_found, instruction_found};
-ghost use Rattle.sct_case.specs.Told.{differ, has_some, names_another, same_reason, same_return, where_found};
-ghost use Rattle.sct_case.specs.Told.{both_answers, differing_recalls, differing_refusals, return_of_it};
+ghost use Rattle.sct_case.specs.Inside.{IsByRecall, all_found, both_answers, differing_recalls, differing_refusals, instruction_found};
+ghost use Rattle.sct_case.specs.Told.{differ, has_some, names_another, return_of_it, same_reason, same_return, where_found};
 ghost use Rattle.sct_case.specs.declared.finding.Finding.TheVariants as finding;
 
 use crate::differ::{cxls, differ, differ_on, is_some_on};

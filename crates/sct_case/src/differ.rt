@@ -8,7 +8,7 @@ ghost use Rattle.sct_element.specs.Text.{is_text};
 ghost use Rattle.sct_message.specs.Order.{text_order};
 ghost use Rattle.sct_case.specs.Inside.{IsByRecall};
 ghost use Rattle.sct_case.specs.Statuses.{first};
-ghost use Rattle.sct_case.specs.Told.{same_reason, same_recall, same_return, same_refusal, differ, differ_among, cxls};
+ghost use Rattle.sct_case.specs.Told.{same_reason, same_recall_made, same_return, same_refusal, differ, differ_among, cxls};
 
 use crate::recall_order::on;
 use crate::said::{RecallAsked, RecallMade, RefusalMade, RejectionReason, ReturnMade};
@@ -41,7 +41,7 @@ impl Compared for RejectionReason {
 }
 
 impl Compared for RecallMade {
-    ghost same = { same_recall };
+    ghost same = { same_recall_made };
 
     fn is_same(&self, other: &Self) -> bool {
         self.cxl.text() == other.cxl.text()

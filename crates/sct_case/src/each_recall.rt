@@ -4,9 +4,9 @@ ghost use Rattle.std.specs.Prelude.{◌≡◌, List, IfOk, map};
 ghost use Rattle.std.specs.List.{flat_map, list_any};
 ghost use Rattle.sct_message.specs.Sets.{messages_in};
 ghost use Rattle.sct_message.specs.declared.keys.Identity.{Identity as IdentityOf};
-ghost use Rattle.sct_case.specs.Inside.{IsByRecall, SayAlike, judged};
-ghost use Rattle.sct_case.specs.Said.{recalls_by, refusals_by, requests_by, returns_by};
-ghost use Rattle.sct_case.specs.Statuses.{amount_returned, reason_refused, recall_standing_of, recall_status_of, request_of_it, told, transfer_status_of};
+ghost use Rattle.sct_case.specs.Inside.{IsByRecall, SayAlike, recall_standing_said};
+ghost use Rattle.sct_case.specs.Said.{recalls_made_by, refusals_by, requests_by, returns_by};
+ghost use Rattle.sct_case.specs.Statuses.{amount_returned, reason_refused, recall_standing_of, recall_status_of, request_of_it, as_standing, transfer_status_of};
 ghost use Rattle.sct_case.specs.Told.{recall_of_it};
 ghost use Rattle.sct_case.specs.declared.status.RecallStatus.TheVariants as recall;
 
@@ -59,7 +59,7 @@ impl SaidByRecall {
         clean: &[Arc<Message>],
     ) -> Result<SaidByRecall, AllocError>
         ensures made { IfOk result (λ said. SayAlike (λ m. m.cxl) said.made.items
-            (flat_map (recalls_by transfer.now) (messages_in clean.now))) }
+            (flat_map (recalls_made_by transfer.now) (messages_in clean.now))) }
         ensures returns { IfOk result (λ said. SayAlike (λ m. m.cxl) said.returns.items
             (flat_map (returns_by transfer.now) (messages_in clean.now))) }
         ensures refusals { IfOk result (λ said. SayAlike (λ m. m.cxl) said.refusals.items
@@ -78,9 +78,12 @@ impl SaidByRecall {
 
     /// The status of a recall, if its transfer has no finding. O(log n) in the number of statements.
     fn standing(&self, cxl: &Id35) -> RecallStatus
-        ensures { result ≡ judged (list_any (recall_of_it cxl.now) self.now.made.items)
-            (amount_returned cxl.now self.now.returns.items) (reason_refused cxl.now self.now.refusals.items)
-            (list_any (request_of_it cxl.now) self.now.requests.items) }
+        ensures { result ≡ recall_standing_said (record {
+          made = list_any (recall_of_it cxl.now) self.now.made.items;
+          returned = amount_returned cxl.now self.now.returns.items;
+          refused = reason_refused cxl.now self.now.refusals.items;
+          chased = list_any (request_of_it cxl.now) self.now.requests.items;
+        }) }
     {
         let said = RecallSaid {
             made: is_some_on(&self.made, cxl),
@@ -133,7 +136,7 @@ pub fn recall_statuses(
     cxls: &[Id35],
 ) -> Result<Vec<(Id35, RecallStatus)>, CaseFault>
     ensures { (asides : List IdentityOf)
-        → told status.now ≡ transfer_status_of transfer.now (messages_in clean.now) asides
+        → as_standing status.now ≡ transfer_status_of transfer.now (messages_in clean.now) asides
         → IfOk result (λ found. found.items
         ≡ map (λ cxl. (cxl, recall_status_of transfer.now (messages_in clean.now) asides cxl)) cxls.now) }
 {

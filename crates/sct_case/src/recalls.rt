@@ -4,9 +4,9 @@ ghost use Rattle.std.specs.List.{list_any};
 ghost use Rattle.sct_message.specs.Sets.{messages_in};
 ghost use Rattle.sct_message.specs.declared.draft.Draft.TheVariants as draft;
 ghost use Rattle.sct_message.specs.declared.keys.Identity.{Identity as IdentityOf};
-ghost use Rattle.sct_case.specs.Inside.{IsOneMoreOn, IsSaidOn, judged};
-ghost use Rattle.sct_case.specs.Said.{made_in, recalls_by, refusals_by, requests_by, returns_by};
-ghost use Rattle.sct_case.specs.Statuses.{amount_returned, answered, reason_refused, request_of_it, recall_standing_of, recall_status_of, told, transfer_status_of};
+ghost use Rattle.sct_case.specs.Inside.{IsOneMoreOn, IsSaidOn, recall_standing_said};
+ghost use Rattle.sct_case.specs.Said.{made_in, recalls_made_by, refusals_by, requests_by, returns_by};
+ghost use Rattle.sct_case.specs.Statuses.{amount_returned, reason_refused, request_of_it, recall_standing_of, recall_status_of, as_standing, transfer_status_of};
 ghost use Rattle.sct_case.specs.Told.{recall_of_it};
 
 use crate::said::{is_of, recalls};
@@ -73,7 +73,7 @@ impl RecallSaid {
 
     /// The status of the recall, if its transfer has no finding.
     pub(crate) fn status(self) -> RecallStatus
-        ensures { result ≡ judged self.made self.returned self.refused self.chased }
+        ensures { result ≡ recall_standing_said self }
     {
         let named = self.made || self.returned.is_some() || self.refused.is_some() || self.chased;
         if !named {
@@ -82,7 +82,14 @@ impl RecallSaid {
         if !self.made {
             return RecallStatus::Unasked;
         }
-        answered(self.returned, self.refused, self.chased)
+        if let Some(amount) = self.returned {
+            return RecallStatus::Returned(amount);
+        }
+        match self.refused {
+            Some(reason) => RecallStatus::Refused(reason),
+            None if self.chased => RecallStatus::Chased,
+            None => RecallStatus::Open,
+        }
     }
 }
 
@@ -103,7 +110,7 @@ fn any_makes(txs: &[RecallTx], transfer: &TransferKey, cxl: &Id35) -> bool
 /// Whether a message makes the recall.
 fn makes(request: &CancellationRequest, transfer: &TransferKey, cxl: &Id35) -> bool
     ensures { result
-        ≡ list_any (recall_of_it cxl.now) (recalls_by transfer.now (draft.CancellationRequest request.now)) }
+        ≡ list_any (recall_of_it cxl.now) (recalls_made_by transfer.now (draft.CancellationRequest request.now)) }
 {
     any_makes(&request.txs, transfer, cxl)
 }
@@ -155,20 +162,6 @@ fn reason_of(resolution: &Resolution, transfer: &TransferKey, cxl: &Id35) -> Opt
     }
 }
 
-/// The status of a recall that a message makes.
-fn answered(returned: Option<Amount>, refused: Option<Reason>, chased: bool) -> RecallStatus
-    ensures { result ≡ answered returned refused chased }
-{
-    match returned {
-        Some(amount) => RecallStatus::Returned(amount),
-        None => match refused {
-            Some(reason) => RecallStatus::Refused(reason),
-            None if chased => RecallStatus::Chased,
-            None => RecallStatus::Open,
-        },
-    }
-}
-
 /// The status of the recall `cxl` of a transfer, from the status of the transfer and its clean messages.
 /// O(t) for t transactions in the messages, without allocation. For many recalls of one transfer use
 /// [`recall_statuses`](crate::recall_statuses).
@@ -179,7 +172,7 @@ pub fn recall_status_by(
     cxl: &Id35,
 ) -> RecallStatus
     ensures { (asides : List IdentityOf)
-        → told status.now ≡ transfer_status_of transfer.now (messages_in clean.now) asides
+        → as_standing status.now ≡ transfer_status_of transfer.now (messages_in clean.now) asides
         → result ≡ recall_status_of transfer.now (messages_in clean.now) asides cxl.now }
 {
     match status {

@@ -1,6 +1,6 @@
 //! The status of a transfer, and the status of a recall.
 ghost use Rattle.std.specs.Prelude.{◌≡◌, IfOk};
-ghost use Rattle.sct_case.specs.Statuses.{told};
+ghost use Rattle.sct_case.specs.Statuses.{as_standing};
 
 use crate::finding::{Finding, copy_findings};
 use sct_element::Amount;
@@ -32,7 +32,7 @@ pub enum Status {
 impl Status {
     /// A copy. The only error is that it is out of memory. O(findings).
     pub fn copy(&self, alloc: Global) -> Result<Status, AllocError>
-        ensures { IfOk result (λ copy. told copy ≡ told self.now) }
+        ensures { IfOk result (λ copy. as_standing copy ≡ as_standing self.now) }
     {
         match self {
             Status::Contradicted(found) => Ok(Status::Contradicted(copy_findings(alloc, found)?)),

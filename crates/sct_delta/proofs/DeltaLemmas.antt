@@ -5,7 +5,7 @@ use Rattle.std.specs.Cmp.Lexicographic.{pointwise}
 use Rattle.sct_delta.specs.declared.fault.DeltaFault.{DeltaFault}
 use Rattle.sct_delta.specs.declared.fault.DeltaFault.TheVariants as fault
 use Rattle.sct_delta.specs.Entries.{Placed, IsDelta}
-use Rattle.sct_delta.specs.TextLines.{Line, lines_of}
+use Rattle.sct_delta.specs.TextLines.{Line, lines_by_end}
 use Rattle.sct_delta.specs.EntryText.{entries_head, entries_in}
 use Rattle.sct_delta.specs.GroupText.{groups_head, groups_in}
 use Rattle.sct_delta.specs.DeltaText.{IsDeltaText, entries_behind, delta_of_lines, delta_in, wrong_line, first_wrong_line, Reads}
@@ -25,7 +25,7 @@ by_form P head lines entries read one two =
       ]) refl
     ]) refl read
 
-form_of_lines : (bytes : List ℕ) (lines : List Line) (entries : List Placed) → lines_of bytes ≡ lines → delta_of_lines lines ≡ Ok entries → IsDeltaText bytes entries
+form_of_lines : (bytes : List ℕ) (lines : List Line) (entries : List Placed) → lines_by_end bytes ≡ lines → delta_of_lines lines ≡ Ok entries → IsDeltaText bytes entries
 form_of_lines bytes [] entries are read = cc
 form_of_lines bytes (None ∷ lines) entries are read = cc
 form_of_lines bytes (Some head ∷ lines) entries are read =
@@ -34,7 +34,7 @@ form_of_lines bytes (Some head ∷ lines) entries are read =
 
 pub form_from_read : (bytes : List ℕ) (entries : List Placed) → delta_in bytes ≡ Ok entries → IsDeltaText bytes entries
 unfolding delta_in
-form_from_read bytes entries read = form_of_lines bytes (lines_of bytes) entries refl read
+form_from_read bytes entries read = form_of_lines bytes (lines_by_end bytes) entries refl read
 
 pub shape_from_read : (head : List ℕ) (lines : List Line) (entries : List Placed) → entries_behind head lines ≡ Ok entries → IsDelta entries
 shape_from_read head lines entries read =

@@ -22,12 +22,12 @@ from_false true x e = absurd (false≢true e)
 from_false false x e = refl
 
 -- an entry of a run has no lower number than the first
-at_least_first : (delta : List Placed) (o f : ℕ) (ms : List Draft) (e : Placed) → entries_from o delta ≡ numbered o f ms → e.origin ≡ o → holds delta e ≡ true → f ≤ e.n
+pub at_least_first : (delta : List Placed) (o f : ℕ) (ms : List Draft) (e : Placed) → entries_from o delta ≡ numbered o f ms → e.origin ≡ o → holds delta e ≡ true → f ≤ e.n
 at_least_first delta o f ms e is from among =
     ltb-false e.n f (from_false (nat_lt e.n f) (is_same_as e.message (slice_get ms (e.n - f)))
     (sym (holds_run o f ms e from) ∙ ap (λ (l : List Placed). holds l e) (sym is) ∙ ap (λ (p : ℕ). holds (entries_from p delta) e) (sym from) ∙ sym (holds_from e delta) ∙ among))
 
-first_among : (delta : List Placed) (e : Placed) (rest : List Placed) → entries_from e.origin delta ≡ e ∷ rest → holds delta e ≡ true
+pub first_among : (delta : List Placed) (e : Placed) (rest : List Placed) → entries_from e.origin delta ≡ e ∷ rest → holds delta e ≡ true
 first_among delta e rest is = holds_from e delta ∙ ap (λ (l : List Placed). holds l e) is ∙ ap (λ (b : Bool). b || holds rest e) (entry_itself e)
 
 -- ---- from the tests to the sentences
@@ -64,29 +64,29 @@ fitting own group log delta shape p =
 
 -- ---- and back
 
-none_in_tail : (o : ℕ) (x : Placed) (es : List Placed) → held_from o (x ∷ es) ≡ 0 → held_from o es ≡ 0
+pub none_in_tail : (o : ℕ) (x : Placed) (es : List Placed) → held_from o (x ∷ es) ≡ 0 → held_from o es ≡ 0
 none_in_tail o x es none =
     elim (nat_eq x.origin o) as (λ b. length (cond b (x ∷ entries_from o es) (entries_from o es)) ≡ 0 → held_from o es ≡ 0) [
       | true ↦ λ f. absurd (omega (arith, f))
       | false ↦ λ f. f
     ] none
 
-skip : (o : ℕ) (x : Placed) (es fs : List Placed) → nat_eq x.origin o ≡ false → entries_from o es ≡ fs → entries_from o (x ∷ es) ≡ fs
+pub skip : (o : ℕ) (x : Placed) (es fs : List Placed) → nat_eq x.origin o ≡ false → entries_from o es ≡ fs → entries_from o (x ∷ es) ≡ fs
 skip o x es fs other is = (λ i. cond (other i) (x ∷ entries_from o es) (entries_from o es)) ∙ is
 
-apart : (x p o : ℕ) → nat_eq x p ≡ true → nat_eq o p ≡ false → nat_eq x o ≡ false
+pub apart : (x p o : ℕ) → nat_eq x p ≡ true → nat_eq o p ≡ false → nat_eq x o ≡ false
 apart x p o e f = grind (arith, nat_tests)
 
-not_before : (x o n k : ℕ) → (o < x → n ≡ 0) → n ≡ suc k → x ≤ o
+pub not_before : (x o n k : ℕ) → (o < x → n ≡ 0) → n ≡ suc k → x ≤ o
 not_before x o n k none count = grind arith
 
-above_last : (p x n k : ℕ) → n ≡ suc k → (x < p → n ≡ 0) → nat_eq x p ≡ false → p < x
+pub above_last : (p x n k : ℕ) → n ≡ suc k → (x < p → n ≡ 0) → nat_eq x p ≡ false → p < x
 above_last p x n k count none other = grind (arith, nat_tests)
 
-later_differs : (p x o : ℕ) → p < x → x ≤ o → nat_eq o p ≡ false
+pub later_differs : (p x o : ℕ) → p < x → x ≤ o → nat_eq o p ≡ false
 later_differs p x o up on = grind (arith, nat_tests)
 
-first_number : (o f : ℕ) (ms : List Draft) (e : Placed) (rest : List Placed) → numbered o f ms ≡ e ∷ rest → e.n ≡ f
+pub first_number : (o f : ℕ) (ms : List Draft) (e : Placed) (rest : List Placed) → numbered o f ms ≡ e ∷ rest → e.n ≡ f
 first_number o f [] e rest is = cc
 first_number o f (m ∷ ms) e rest is = ap (λ (x : Placed). x.n) (sym (is_the_first (record { origin = o; n = f; message = m }) e (numbered o (f + 1) ms) rest is))
 

@@ -12,7 +12,7 @@ use Rattle.sct_json.specs.Reading.{message_in}
 use Rattle.sct_delta.specs.Sites.{is_site, is_site_of_form_1}
 use Rattle.sct_delta.specs.Entries.{Placed, IsDelta}
 use Rattle.sct_delta.specs.Shapes.{may_be_next, first_break, are_of_sites, are_of_form_1}
-use Rattle.sct_delta.specs.TextLines.{Line, lines_of, lines_as, is_end_line, end_line, entries_ended}
+use Rattle.sct_delta.specs.TextLines.{Line, lines_by_end, lines_as, is_end_line, end_line, entries_ended}
 use Rattle.sct_delta.specs.EntryText.{IsEntryText, EntryFields, fields_in, entry_of, entry_in, entries_head, TellsEntry, TellEntries, entries_on, entries_in}
 use Rattle.sct_delta.proofs.TextLemmas.{HasFields, fields_read, fields_written, mapped_from, then_from, same_texts, texts_same}
 use Rattle.sct_delta.proofs.ShapeLemmas.{delta_from_unbroken, delta_unbroken, unbroken}
@@ -129,7 +129,7 @@ sites_of_form_1 (entry ∷ entries) h =
 whole_shape : (entries more : List Placed) → more ≡ entries → are_of_form_1 more ≡ true → first_break 1 0 0 more ≡ None → IsDelta entries
 whole_shape entries more all sites order = delta_from_unbroken entries (rw (← all) (sites_of_form_1 more sites)) (rw (← all) order)
 
-whole_form : (bytes line : List ℕ) (lines : List Line) (entries : List Placed) → lines_of bytes ≡ Some line ∷ lines → line ≡ entries_head → ReadOn 0 0 [] lines entries → IsEntryText bytes entries
+whole_form : (bytes line : List ℕ) (lines : List Line) (entries : List Placed) → lines_by_end bytes ≡ Some line ∷ lines → line ≡ entries_head → ReadOn 0 0 [] lines entries → IsEntryText bytes entries
 whole_form bytes line lines entries are head rest =
     let all : rest.more ≡ entries = sym rest.is in
     record {
@@ -140,7 +140,7 @@ whole_form bytes line lines entries are head rest =
       sites = rw (← all) rest.sites;
     }
 
-pub entry_form : (bytes head : List ℕ) (lines : List Line) (entries : List Placed) → lines_of bytes ≡ Some head ∷ lines → head ≡ entries_head → entries_in 2 0 0 [] lines ≡ Ok entries → IsEntryText bytes entries
+pub entry_form : (bytes head : List ℕ) (lines : List Line) (entries : List Placed) → lines_by_end bytes ≡ Some head ∷ lines → head ≡ entries_head → entries_in 2 0 0 [] lines ≡ Ok entries → IsEntryText bytes entries
 entry_form bytes head lines entries are is read = whole_form bytes head lines entries are is (read_on 2 0 0 [] lines entries read)
 
 pub entries_shape : (lines : List Line) (entries : List Placed) → entries_in 2 0 0 [] lines ≡ Ok entries → IsDelta entries

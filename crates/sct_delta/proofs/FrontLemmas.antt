@@ -2,7 +2,7 @@
 use Rattle.std.proofs.Common.{ℕ, zero, suc, ◌≡◌, ◌+◌, ◌≤◌, ◌∷◌, [], List, true, false, cond, Some, None, Ok, Err, take, sym, ap, ◌∙◌, arith}
 use Rattle.std.specs.Prelude.{nat_eq}
 use Rattle.std.specs.Cmp.Lexicographic.{pointwise}
-use Rattle.sct_delta.specs.TextLines.{Line, lines_of}
+use Rattle.sct_delta.specs.TextLines.{Line, lines_by_end}
 use Rattle.sct_delta.specs.EntryText.{entries_head, entries_in}
 use Rattle.sct_delta.specs.GroupText.{groups_head, groups_in}
 use Rattle.sct_delta.specs.DeltaText.{entries_behind, delta_of_lines, delta_in, wrong_line, first_wrong_line, AgreeTo}
@@ -70,4 +70,4 @@ wrong_is (Err k) line h = let same : k ≡ line = cc in ap (λ (n : ℕ). Err n)
 pub wrong_by_its_front : (bytes other : List ℕ) (line : ℕ) → first_wrong_line bytes ≡ Some line → AgreeTo line bytes other → first_wrong_line other ≡ Some line
 unfolding delta_in
 wrong_by_its_front bytes other line wrong agree =
-    ap wrong_line (lines_wrong line (lines_of bytes) (lines_of other) (wrong_is (delta_of_lines (lines_of bytes)) line wrong) agree)
+    ap wrong_line (lines_wrong line (lines_by_end bytes) (lines_by_end other) (wrong_is (delta_of_lines (lines_by_end bytes)) line wrong) agree)

@@ -11,7 +11,7 @@ use Rattle.sct_json.specs.Reading.{message_in}
 use Rattle.sct_delta.specs.Sites.{is_site}
 use Rattle.sct_delta.specs.Entries.{Placed, IsDelta, numbered}
 use Rattle.sct_delta.specs.Shapes.{first_break, are_of_sites}
-use Rattle.sct_delta.specs.TextLines.{Line, lines_of, lines_as, is_end_line, end_line, entries_ended, Field, number_in, number_before_space, after_prefix}
+use Rattle.sct_delta.specs.TextLines.{Line, lines_by_end, lines_as, is_end_line, end_line, entries_ended, Field, number_in, number_before_space, after_prefix}
 use Rattle.sct_delta.specs.GroupText.{Group, origin_line, group_lines, group_entries, TellMessages, may_begin, AreGroups, groups_head, IsGroupText, OriginFields, count_behind, numbers_behind, origin_in, origin_on, message_on, groups_in}
 use Rattle.sct_delta.proofs.TextLemmas.{IsNumbered, field_read, field_written, number_read, number_written, prefix_written, mapped_from, then_from, same_texts, site_below}
 use Rattle.sct_delta.proofs.ShapeLemmas.{delta_from_unbroken}
@@ -172,7 +172,7 @@ none_due [] (message ∷ messages) tell none = absurd tell
 none_due (text ∷ texts) [] tell none = absurd tell
 none_due (text ∷ texts) (message ∷ messages) tell none = absurd (omega (arith, none))
 
-pub group_form : (bytes head : List ℕ) (lines : List Line) (entries : List Placed) → lines_of bytes ≡ Some head ∷ lines → head ≡ groups_head → groups_in 2 0 1 0 [] lines ≡ Ok entries → IsGroupText bytes entries
+pub group_form : (bytes head : List ℕ) (lines : List Line) (entries : List Placed) → lines_by_end bytes ≡ Some head ∷ lines → head ≡ groups_head → groups_in 2 0 1 0 [] lines ≡ Ok entries → IsGroupText bytes entries
 group_form bytes head lines entries are is read =
     let rest : GroupsOn 0 1 0 [] lines entries = groups_read_on 2 0 1 0 [] lines entries read in
     let none : (rest.texts ≡ []) × (rest.messages ≡ []) = none_due rest.texts rest.messages rest.tell rest.many in

@@ -1,6 +1,6 @@
 -- The written text is the form 2 of its delta. Proof plumbing.
 use Rattle.std.proofs.Common.{ℕ, ◌≡◌, ◌+◌, ◌<◌, ◌≤◌, ◌^◌, ◌++◌, ◌∷◌, [], List, true, false, cond, None, length, refl, sym, ap, ◌∙◌, arith, append_assoc, subst, All}
-use Rattle.std.specs.Prelude.{nat_eq, nat_le, nat_lt, decimal, flat_map, codes}
+use Rattle.std.specs.Prelude.{nat_eq, nat_le, nat_lt, decimal, flat_map}
 use Rattle.std.specs.List.{list_all}
 use Rattle.std.proofs.lemmas.Bool.{and_parts, and_from, eqb-true}
 use Rattle.std.proofs.lemmas.Bool.Decides.{nat_tests}
@@ -14,7 +14,7 @@ use Rattle.sct_json.proofs.Texts.{text_is_one_line}
 use Rattle.sct_delta.specs.Sites.{is_site}
 use Rattle.sct_delta.specs.Entries.{Placed, IsDelta, numbered}
 use Rattle.sct_delta.specs.Shapes.{may_be_next, first_break, are_of_sites}
-use Rattle.sct_delta.specs.TextLines.{lines_of, lines_as, ended, end_line}
+use Rattle.sct_delta.specs.TextLines.{lines_by_end, lines_as, ended, end_line}
 use Rattle.sct_delta.specs.GroupText.{Group, origin_line, group_lines, group_entries, TellMessages, may_begin, AreGroups, groups_head, IsGroupText, run_length, lines_after, IsWritten}
 use Rattle.sct_delta.specs.DeltaText.{written_delta}
 use Rattle.sct_delta.proofs.ShapeLemmas.{Behind, behind_from, delta_unbroken, unbroken}
@@ -148,7 +148,7 @@ lines_one previous (entry ∷ entries) few sites all =
     ]
 
 written_lines : (entries : List Placed) → length entries < 2 ^ 64 → are_of_sites entries ≡ true → All IsWritten entries
-    → lines_of (written_delta entries) ≡ lines_as (groups_head ∷ lines_after 0 entries ++ end_line (length entries) ∷ [])
+    → lines_by_end (written_delta entries) ≡ lines_as (groups_head ∷ lines_after 0 entries ++ end_line (length entries) ∷ [])
 unfolding written_delta
 written_lines entries few sites all =
     lines_from_text (groups_head ∷ lines_after 0 entries ++ end_line (length entries) ∷ [])

@@ -9,7 +9,7 @@ use Rattle.std.proofs.lemmas.List.Folds.{list_any-append}
 use Rattle.std.proofs.lemmas.List.Kept.{IsStrictlySortedBy-filter}
 use Rattle.sct_message.specs.declared.draft.Draft.{Draft}
 use Rattle.sct_delta.specs.Entries.{Placed, is_from, entries_from, log_of, numbered, same_entry, holds, place_order, IsRun, IsDelta}
-use Rattle.sct_delta.specs.Refusals.{message_at, is_same_as, is_other_than, is_held, is_new, is_outside, is_ahead, is_past, is_fork, told, firsts_after, first_refusal, outside_refusal, ahead_refusal, gap_refusal, fork_refusal, vector_of, fresh_in, joined}
+use Rattle.sct_delta.specs.Refusals.{message_at, is_same_as, is_other_than, is_held, is_new, is_outside, is_ahead, is_past, is_fork, fault_of_entry, firsts_after, first_refusal, outside_refusal, ahead_refusal, gap_refusal, fork_refusal, vector_of, fresh_in, joined}
 use Rattle.sct_delta.specs.Sites.{is_site}
 use Rattle.sct_delta.specs.declared.fault.DeltaFault.{DeltaFault}
 use Rattle.sct_delta.specs.declared.fault.DeltaFault.TheVariants as fault
@@ -27,19 +27,19 @@ pub record IsPassed (own group : ℕ) (log : ℕ → List Draft) (delta : List P
   pub no_gap : list_any (is_past log) (firsts_after 0 delta) ≡ false
   pub no_fork : list_any (is_fork log) delta ≡ false
 
-told_none : (tells : Placed → DeltaFault) (p : Placed → Bool) (ds : List Placed) → told tells (find p ds) ≡ None → list_any p ds ≡ false
+pub told_none : (tells : Placed → DeltaFault) (p : Placed → Bool) (ds : List Placed) → fault_of_entry tells (find p ds) ≡ None → list_any p ds ≡ false
 told_none tells p [] none = refl
 told_none tells p (d ∷ ds) none =
-    elim (p d) as (λ b. told tells (cond b (Some d) (find p ds)) ≡ None → (b || list_any p ds) ≡ false) [
+    elim (p d) as (λ b. fault_of_entry tells (cond b (Some d) (find p ds)) ≡ None → (b || list_any p ds) ≡ false) [
       | true ↦ λ e. cc
       | false ↦ λ e. told_none tells p ds e
     ] none
 
-none_told : (tells : Placed → DeltaFault) (p : Placed → Bool) (ds : List Placed) → list_any p ds ≡ false → told tells (find p ds) ≡ None
+none_told : (tells : Placed → DeltaFault) (p : Placed → Bool) (ds : List Placed) → list_any p ds ≡ false → fault_of_entry tells (find p ds) ≡ None
 none_told tells p [] none = refl
 none_told tells p (d ∷ ds) none =
     let parts : (p d ≡ false) × (list_any p ds ≡ false) = or_parts (p d) (list_any p ds) none in
-    (λ i. told tells (cond (parts.0 i) (Some d) (find p ds))) ∙ none_told tells p ds parts.1
+    (λ i. fault_of_entry tells (cond (parts.0 i) (Some d) (find p ds))) ∙ none_told tells p ds parts.1
 
 neither : (a b : Option DeltaFault) → option_or a b ≡ None → (a ≡ None) × (b ≡ None)
 neither None b e = (refl, e)

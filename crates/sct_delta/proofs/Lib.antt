@@ -1,8 +1,11 @@
 -- The lemmas of entries, deltas and logs.
 pub mod CutLemmas
 pub mod DeltaLemmas
+pub mod DueLemmas
 pub mod EmptyLemmas
 pub mod EntryLemmas
+pub mod FirstGapLemmas
+pub mod FirstPlaceLemmas
 pub mod FittingLemmas
 pub mod FormLemmas
 pub mod FrontLemmas

@@ -4,7 +4,7 @@ use Rattle.std.specs.Prelude.{nat_eq, decimal, option_and_then, codes}
 use Rattle.std.proofs.lemmas.Bool.Decides.{nat_tests}
 use Rattle.sct_delta.specs.Entries.{Placed}
 use Rattle.sct_delta.specs.Shapes.{may_be_next}
-use Rattle.sct_delta.specs.TextLines.{Line, lines_of, ended_first, onto_first, number_in, after_prefix, is_end_line, end_line, entries_ended}
+use Rattle.sct_delta.specs.TextLines.{Line, lines_by_end, ended_first, onto_first, number_in, after_prefix, is_end_line, end_line, entries_ended}
 use Rattle.sct_delta.specs.EntryText.{entry_in, entries_in}
 use Rattle.sct_delta.specs.DeltaText.{entries_behind, delta_of_lines, delta_in}
 use Rattle.sct_delta.proofs.TextLemmas.{number_written, number_read, prefix_written, texts_same, same_texts, then_from, lines_of_none}
@@ -52,41 +52,41 @@ onto_some byte [] = (None, [], refl)
 onto_some byte (None ∷ lines) = (None, lines, refl)
 onto_some byte (Some line ∷ lines) = (Some (byte ∷ line), lines, refl)
 
-some_line : (byte : ℕ) (bytes : List ℕ) → (first : Line) × (rest : List Line) × (lines_of (byte ∷ bytes) ≡ first ∷ rest)
-unfolding lines_of
+some_line : (byte : ℕ) (bytes : List ℕ) → (first : Line) × (rest : List Line) × (lines_by_end (byte ∷ bytes) ≡ first ∷ rest)
+unfolding lines_by_end
 some_line byte bytes =
-    elim (byte == 10) as (λ feed. (first : Line) × (rest : List Line) × (cond feed (Some [] ∷ lines_of bytes) (onto_first byte (lines_of bytes)) ≡ first ∷ rest)) [
-      | true ↦ (Some [], lines_of bytes, refl)
-      | false ↦ onto_some byte (lines_of bytes)
+    elim (byte == 10) as (λ feed. (first : Line) × (rest : List Line) × (cond feed (Some [] ∷ lines_by_end bytes) (onto_first byte (lines_by_end bytes)) ≡ first ∷ rest)) [
+      | true ↦ (Some [], lines_by_end bytes, refl)
+      | false ↦ onto_some byte (lines_by_end bytes)
     ]
 
-pub ended_here : (place : ℕ) (entries : List Placed) (line after : List ℕ) → is_end_line (length entries) line ≡ true → (length after == 0) ≡ true → entries_ended place entries line (lines_of after) ≡ Ok entries
+pub ended_here : (place : ℕ) (entries : List Placed) (line after : List ℕ) → is_end_line (length entries) line ≡ true → (length after == 0) ≡ true → entries_ended place entries line (lines_by_end after) ≡ Ok entries
 ended_here place entries line [] ends empty = rw (lines_of_none, ends) refl
 ended_here place entries line (byte ∷ bytes) ends empty = absurd (omega (arith, eqb-true _ _ empty))
 
-pub ended_too_early : (place : ℕ) (entries : List Placed) (line after : List ℕ) → is_end_line (length entries) line ≡ true → (length after == 0) ≡ false → entries_ended place entries line (lines_of after) ≡ Err (place + 1)
+pub ended_too_early : (place : ℕ) (entries : List Placed) (line after : List ℕ) → is_end_line (length entries) line ≡ true → (length after == 0) ≡ false → entries_ended place entries line (lines_by_end after) ≡ Err (place + 1)
 ended_too_early place entries line [] ends some = cc
 ended_too_early place entries line (byte ∷ bytes) ends some =
-    let there : (first : Line) × (rest : List Line) × (lines_of (byte ∷ bytes) ≡ first ∷ rest) = some_line byte bytes in
+    let there : (first : Line) × (rest : List Line) × (lines_by_end (byte ∷ bytes) ≡ first ∷ rest) = some_line byte bytes in
     rw (there.2, ends) refl
 
 -- ---- one line more
 
 pub read_entry_more : (place origin n : ℕ) (entries : List Placed) (line text after : List ℕ) (entry : Placed)
-    → lines_of text ≡ Some line ∷ lines_of after → Some entry ≡ entry_in line → may_be_next origin n entry ≡ true
-    → entries_in place origin n entries (lines_of text) ≡ entries_in (place + 1) entry.origin entry.n (entries ++ entry ∷ []) (lines_of after)
+    → lines_by_end text ≡ Some line ∷ lines_by_end after → Some entry ≡ entry_in line → may_be_next origin n entry ≡ true
+    → entries_in place origin n entries (lines_by_end text) ≡ entries_in (place + 1) entry.origin entry.n (entries ++ entry ∷ []) (lines_by_end after)
 unfolding entries_in
 read_entry_more place origin n entries line text after entry first read next = rw (first, ← read, next) refl
 
 pub read_entry_wrong : (place origin n : ℕ) (entries : List Placed) (line text after : List ℕ) (entry : Placed)
-    → lines_of text ≡ Some line ∷ lines_of after → Some entry ≡ entry_in line → may_be_next origin n entry ≡ false
-    → entries_in place origin n entries (lines_of text) ≡ Err place
+    → lines_by_end text ≡ Some line ∷ lines_by_end after → Some entry ≡ entry_in line → may_be_next origin n entry ≡ false
+    → entries_in place origin n entries (lines_by_end text) ≡ Err place
 unfolding entries_in
 read_entry_wrong place origin n entries line text after entry first read other = rw (first, ← read, other) refl
 
 pub read_end : (place origin n : ℕ) (entries : List Placed) (line text after : List ℕ)
-    → lines_of text ≡ Some line ∷ lines_of after → None ≡ entry_in line
-    → entries_in place origin n entries (lines_of text) ≡ entries_ended place entries line (lines_of after)
+    → lines_by_end text ≡ Some line ∷ lines_by_end after → None ≡ entry_in line
+    → entries_in place origin n entries (lines_by_end text) ≡ entries_ended place entries line (lines_by_end after)
 unfolding entries_in
 read_end place origin n entries line text after first none = rw (first, ← none) refl
 
@@ -96,8 +96,8 @@ no_line_left place origin n entries [] none = refl
 no_line_left place origin n entries (None ∷ lines) none = refl
 no_line_left place origin n entries (Some line ∷ lines) none = cc
 
-pub read_missing : (place origin n : ℕ) (entries : List Placed) (text : List ℕ) → ended_first (lines_of text) ≡ None → entries_in place origin n entries (lines_of text) ≡ Err place
-read_missing place origin n entries text none = no_line_left place origin n entries (lines_of text) none
+pub read_missing : (place origin n : ℕ) (entries : List Placed) (text : List ℕ) → ended_first (lines_by_end text) ≡ None → entries_in place origin n entries (lines_by_end text) ≡ Err place
+read_missing place origin n entries text none = no_line_left place origin n entries (lines_by_end text) none
 
 -- ---- the head line
 
@@ -106,10 +106,10 @@ no_head [] none = refl
 no_head (None ∷ lines) none = refl
 no_head (Some line ∷ lines) none = cc
 
-pub head_missing : (text : List ℕ) → ended_first (lines_of text) ≡ None → delta_in text ≡ Err 1
+pub head_missing : (text : List ℕ) → ended_first (lines_by_end text) ≡ None → delta_in text ≡ Err 1
 unfolding delta_in
-head_missing text none = no_head (lines_of text) none
+head_missing text none = no_head (lines_by_end text) none
 
-pub behind_head : (text line after : List ℕ) → lines_of text ≡ Some line ∷ lines_of after → delta_in text ≡ entries_behind line (lines_of after)
+pub behind_head : (text line after : List ℕ) → lines_by_end text ≡ Some line ∷ lines_by_end after → delta_in text ≡ entries_behind line (lines_by_end after)
 unfolding delta_in
 behind_head text line after first = rw first refl

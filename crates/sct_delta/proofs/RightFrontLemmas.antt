@@ -9,7 +9,7 @@ use Rattle.sct_message.specs.declared.draft.Draft.{Draft}
 use Rattle.sct_json.specs.Reading.{message_in}
 use Rattle.sct_json.specs.Writing.{has_no_line_feed}
 use Rattle.sct_delta.specs.Entries.{Placed}
-use Rattle.sct_delta.specs.TextLines.{Line, lines_of, lines_as, ended, ended_first, end_line}
+use Rattle.sct_delta.specs.TextLines.{Line, lines_by_end, lines_as, ended, ended_first, end_line}
 use Rattle.sct_delta.specs.EntryText.{entries_head, entries_in}
 use Rattle.sct_delta.specs.GroupText.{groups_head, groups_in}
 use Rattle.sct_delta.specs.DeltaText.{IsDeltaText, entries_behind, delta_of_lines, delta_in, first_wrong_line, AgreeTo}
@@ -25,11 +25,11 @@ use Rattle.sct_delta.proofs.GroupMendedLemmas.{Sample, MendedGroups, groups_mend
 pub record IsMended (count : ℕ) (lines : List Line) : Type 0 where
   pub other : List ℕ
   pub entries : List Placed
-  pub agree : take count lines ≡ take count (lines_of other)
+  pub agree : take count lines ≡ take count (lines_by_end other)
   pub form : IsDeltaText other entries
 
 made : (head : List ℕ) (told : List (List ℕ)) (count : ℕ) → has_no_line_feed head ≡ true → count < 10 ^ 64 → list_all has_no_line_feed told ≡ true
-    → lines_of (flat_map ended (head ∷ told ++ end_line count ∷ [])) ≡ lines_as (head ∷ told ++ end_line count ∷ [])
+    → lines_by_end (flat_map ended (head ∷ told ++ end_line count ∷ [])) ≡ lines_as (head ∷ told ++ end_line count ∷ [])
 made head told count begins few one =
     lines_from_text (head ∷ told ++ end_line count ∷ [])
     (and_from _ _ begins (list_all-append has_no_line_feed told (end_line count ∷ []) ∙ and_from _ _ one (and_from _ _ (end_one_line count few) refl)))
@@ -84,16 +84,16 @@ lines_mended (suc j) (Some head ∷ lines) given few one h =
       ]) refl
     ]) refl h
 
-front : (bytes : List ℕ) (before : ℕ) → GivenInForm2 (lines_of bytes) → length bytes < 2 ^ 64 → first_wrong_line bytes ≡ Some (before + 1)
+front : (bytes : List ℕ) (before : ℕ) → GivenInForm2 (lines_by_end bytes) → length bytes < 2 ^ 64 → first_wrong_line bytes ≡ Some (before + 1)
     → (other : List ℕ) × (entries : List Placed) × AgreeTo before bytes other × IsDeltaText other entries
 unfolding delta_in
 front bytes before given few wrong =
     let number : before + 1 ≡ suc before = omega arith in
-    let read : delta_of_lines (lines_of bytes) ≡ Err (suc before) = wrong_is (delta_of_lines (lines_of bytes)) (before + 1) wrong ∙ ap (λ (k : ℕ). Err k) number in
-    let m : IsMended before (lines_of bytes) = lines_mended before (lines_of bytes) given (omega (arith, few, few_lines bytes)) (lines_are_one bytes) read in
+    let read : delta_of_lines (lines_by_end bytes) ≡ Err (suc before) = wrong_is (delta_of_lines (lines_by_end bytes)) (before + 1) wrong ∙ ap (λ (k : ℕ). Err k) number in
+    let m : IsMended before (lines_by_end bytes) = lines_mended before (lines_by_end bytes) given (omega (arith, few, few_lines bytes)) (lines_are_one bytes) read in
     (m.other, m.entries, m.agree, m.form)
 
-pub front_of_form_1_is_right : (bytes : List ℕ) (before : ℕ) → length bytes < 2 ^ 64 → ended_first (lines_of bytes) ≢ Some groups_head → first_wrong_line bytes ≡ Some (before + 1)
+pub front_of_form_1_is_right : (bytes : List ℕ) (before : ℕ) → length bytes < 2 ^ 64 → ended_first (lines_by_end bytes) ≢ Some groups_head → first_wrong_line bytes ≡ Some (before + 1)
     → (other : List ℕ) × (entries : List Placed) × AgreeTo before bytes other × IsDeltaText other entries
 front_of_form_1_is_right bytes before few other wrong = front bytes before (λ is. absurd (other is)) few wrong
 

@@ -251,7 +251,7 @@ unbroken_from place origin n (entry ∷ entries) after rises =
 
 -- ---- deltas
 
-none_of_0 : (entries : List Placed) → are_of_sites entries ≡ true → entries_from 0 entries ≡ []
+pub none_of_0 : (entries : List Placed) → are_of_sites entries ≡ true → entries_from 0 entries ≡ []
 none_of_0 [] sites = refl
 none_of_0 (entry ∷ entries) sites =
     let parts : (is_site entry.origin ≡ true) × (are_of_sites entries ≡ true) = and_parts (is_site entry.origin) (are_of_sites entries) sites in
@@ -275,7 +275,7 @@ delta_from_unbroken entries sites none = record {
   sites = sites;
 }
 
-refused_nowhere : (sites : Bool) (break : Option ℕ) → cond sites (option_map (λ place. fault.BadDelta place) break) (Some fault.BadSite) ≡ None → (sites ≡ true) × (break ≡ None)
+pub refused_nowhere : (sites : Bool) (break : Option ℕ) → cond sites (option_map (λ place. fault.BadDelta place) break) (Some fault.BadSite) ≡ None → (sites ≡ true) × (break ≡ None)
 refused_nowhere true None h = (refl, refl)
 refused_nowhere true (Some place) h = cc
 refused_nowhere false break h = cc

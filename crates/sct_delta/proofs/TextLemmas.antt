@@ -13,14 +13,14 @@ use Rattle.std.proofs.lemmas.Fmt.{IsAscii-from_digits, digits_decimal, digits_va
 use Rattle.std.proofs.lemmas.Bool.{eqb-true}
 use Rattle.std.proofs.lemmas.List.{take-append-drop}
 use Rattle.std.proofs.lemmas.List.Quantifiers.{position-Some}
-use Rattle.std.proofs.Math.Seq.{take-append_seam, drop-append-add, drop-append_seam}
+use Rattle.std.proofs.Math.Seq.{take-append_seam, drop-append-add}
 use Rattle.std.proofs.Math.ListN.{length-append}
 use Rattle.std.specs.Prelude.{option_map, option_and_then, position, codes, nat_eq}
 use Rattle.std.specs.Cmp.Lexicographic.{pointwise, same_text, nat_list_eq_equiv}
 use Rattle.std.specs.List.{position_or_len}
 use Rattle.std.proofs.Common.{drop-cons}
 use Rattle.sct_delta.specs.Sites.{is_site, is_site_of_form_1}
-use Rattle.sct_delta.specs.TextLines.{is_numeral, number_in, begins_right, lines_of, onto_first, ended_first, is_space, Field, number_to, number_before_space, after_prefix}
+use Rattle.sct_delta.specs.TextLines.{is_numeral, number_in, begins_right, lines_by_end, onto_first, ended_first, is_space, Field, number_to, number_before_space, after_prefix}
 use Rattle.sct_delta.specs.EntryText.{site_in, EntryFields, fields_behind, fields_after, fields_in}
 
 abbrev AreDigits : List ℕ → Type 0
@@ -101,8 +101,8 @@ number_read n small =
 
 -- ---- lines
 
-pub lines_of_none : lines_of [] ≡ []
-unfolding lines_of
+pub lines_of_none : lines_by_end [] ≡ []
+unfolding lines_by_end
 lines_of_none = refl
 
 onto_open : (byte : ℕ) (lines : List (Option (List ℕ))) → ended_first lines ≡ None → ended_first (onto_first byte lines) ≡ None
@@ -113,29 +113,29 @@ onto_open byte (Some line ∷ lines) h = cc
 abbrev pub is_feed : ℕ → Bool
 is_feed byte = byte == 10
 
-pub line_behind : (byte : ℕ) (bytes line : List ℕ) (lines : List (Option (List ℕ))) → (byte == 10) ≡ false → lines_of bytes ≡ Some line ∷ lines → lines_of (byte ∷ bytes) ≡ Some (byte ∷ line) ∷ lines
-unfolding lines_of
+pub line_behind : (byte : ℕ) (bytes line : List ℕ) (lines : List (Option (List ℕ))) → (byte == 10) ≡ false → lines_by_end bytes ≡ Some line ∷ lines → lines_by_end (byte ∷ bytes) ≡ Some (byte ∷ line) ∷ lines
+unfolding lines_by_end
 line_behind byte bytes line lines other rest = rw (other, rest) refl
 
-pub feed_first : (byte : ℕ) (bytes : List ℕ) → (byte == 10) ≡ true → lines_of (byte ∷ bytes) ≡ Some [] ∷ lines_of bytes
-unfolding lines_of
+pub feed_first : (byte : ℕ) (bytes : List ℕ) → (byte == 10) ≡ true → lines_by_end (byte ∷ bytes) ≡ Some [] ∷ lines_by_end bytes
+unfolding lines_by_end
 feed_first byte bytes feed = rw feed refl
 
-pub open_behind : (byte : ℕ) (bytes : List ℕ) → (byte == 10) ≡ false → ended_first (lines_of bytes) ≡ None → ended_first (lines_of (byte ∷ bytes)) ≡ None
-unfolding lines_of
-open_behind byte bytes other open_there = rw other (onto_open byte (lines_of bytes) open_there)
+pub open_behind : (byte : ℕ) (bytes : List ℕ) → (byte == 10) ≡ false → ended_first (lines_by_end bytes) ≡ None → ended_first (lines_by_end (byte ∷ bytes)) ≡ None
+unfolding lines_by_end
+open_behind byte bytes other open_there = rw other (onto_open byte (lines_by_end bytes) open_there)
 
 -- the first line of a text whose first line feed stands at a place, where places count from one given
 pub record EndsFirstAt (text : List ℕ) (from place : ℕ) : Type 0 where
   pub count : ℕ
   pub at : place ≡ from + count
-  pub lines : lines_of text ≡ Some (take count text) ∷ lines_of (drop (count + 1) text)
+  pub lines : lines_by_end text ≡ Some (take count text) ∷ lines_by_end (drop (count + 1) text)
 
 later : (byte : ℕ) (bytes : List ℕ) (from place : ℕ) → EndsFirstAt bytes (from + 1) place → (byte == 10) ≡ false → EndsFirstAt (byte ∷ bytes) from place
 later byte bytes from place found other = record {
   count = found.count + 1;
   at = omega (arith, found.at);
-  lines = simp add-one (simp add-one at (line_behind byte bytes (take found.count bytes) (lines_of (drop (found.count + 1) bytes)) other found.lines));
+  lines = simp add-one (simp add-one at (line_behind byte bytes (take found.count bytes) (lines_by_end (drop (found.count + 1) bytes)) other found.lines));
 }
 
 here : (byte : ℕ) (bytes : List ℕ) (from place : ℕ) → Some from ≡ Some place → (byte == 10) ≡ true → EndsFirstAt (byte ∷ bytes) from place
@@ -153,16 +153,16 @@ first_line_to_feed (byte ∷ bytes) from place found =
       | false ↦ λ other next. later byte bytes from place (first_line_to_feed bytes (from + 1) place next) other
     ]) refl found
 
-pub line_to_feed : (text : List ℕ) (place : ℕ) → position_from is_feed 0 text ≡ Some place → lines_of text ≡ Some (take place text) ∷ lines_of (drop (place + 1) text)
+pub line_to_feed : (text : List ℕ) (place : ℕ) → position_from is_feed 0 text ≡ Some place → lines_by_end text ≡ Some (take place text) ∷ lines_by_end (drop (place + 1) text)
 line_to_feed text place found =
     let first = first_line_to_feed text 0 place found in
     let same : place ≡ first.count = omega (arith, first.at) in
     rw same first.lines
 
-pub no_line_ended : (text : List ℕ) (from : ℕ) → position_from is_feed from text ≡ None → ended_first (lines_of text) ≡ None
+pub no_line_ended : (text : List ℕ) (from : ℕ) → position_from is_feed from text ≡ None → ended_first (lines_by_end text) ≡ None
 no_line_ended [] from none = rw lines_of_none refl
 no_line_ended (byte ∷ bytes) from none =
-    (elim (byte == 10) as (λ feed. (byte == 10) ≡ feed → cond feed (Some from) (position_from is_feed (from + 1) bytes) ≡ None → ended_first (lines_of (byte ∷ bytes)) ≡ None) [
+    (elim (byte == 10) as (λ feed. (byte == 10) ≡ feed → cond feed (Some from) (position_from is_feed (from + 1) bytes) ≡ None → ended_first (lines_by_end (byte ∷ bytes)) ≡ None) [
       | true ↦ λ feed first. cc
       | false ↦ λ other next. open_behind byte bytes other (no_line_ended bytes (from + 1) next)
     ]) refl none

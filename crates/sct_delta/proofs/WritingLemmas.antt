@@ -9,7 +9,7 @@ use Rattle.std.proofs.lemmas.Bool.Decides.{nat_tests}
 use Rattle.std.proofs.lemmas.Fmt.{decimal_is_IsNumeral, decimal_is_IsNumeral_wide}
 use Rattle.std.proofs.lemmas.List.Folds.{list_all-append}
 use Rattle.sct_json.specs.Writing.{has_no_line_feed}
-use Rattle.sct_delta.specs.TextLines.{Line, lines_of, lines_as, onto_first, ended, end_line}
+use Rattle.sct_delta.specs.TextLines.{Line, lines_by_end, lines_as, onto_first, ended, end_line}
 use Rattle.sct_delta.proofs.TextLemmas.{lines_of_none, feed_first, line_behind}
 
 -- ---- lines make the text
@@ -18,16 +18,16 @@ pub not_other : (b : Bool) → b ≡ false → not b ≡ true
 not_other true h = cc
 not_other false h = refl
 
-pub line_ended : (line rest : List ℕ) → has_no_line_feed line ≡ true → lines_of (line ++ 10 ∷ rest) ≡ Some line ∷ lines_of rest
+pub line_ended : (line rest : List ℕ) → has_no_line_feed line ≡ true → lines_by_end (line ++ 10 ∷ rest) ≡ Some line ∷ lines_by_end rest
 line_ended [] rest one = feed_first 10 rest refl
 line_ended (byte ∷ line) rest one =
     let parts : (not (byte == 10) ≡ true) × (has_no_line_feed line ≡ true) = and_parts (not (byte == 10)) (has_no_line_feed line) one in
-    line_behind byte (line ++ 10 ∷ rest) line (lines_of rest) (not-true (byte == 10) parts.0) (line_ended line rest parts.1)
+    line_behind byte (line ++ 10 ∷ rest) line (lines_by_end rest) (not-true (byte == 10) parts.0) (line_ended line rest parts.1)
 
-pub ended_behind : (line rest : List ℕ) → has_no_line_feed line ≡ true → lines_of (ended line ++ rest) ≡ Some line ∷ lines_of rest
-ended_behind line rest one = ap lines_of (append_assoc line (10 ∷ []) rest) ∙ line_ended line rest one
+pub ended_behind : (line rest : List ℕ) → has_no_line_feed line ≡ true → lines_by_end (ended line ++ rest) ≡ Some line ∷ lines_by_end rest
+ended_behind line rest one = ap lines_by_end (append_assoc line (10 ∷ []) rest) ∙ line_ended line rest one
 
-pub lines_from_text : (lines : List (List ℕ)) → list_all has_no_line_feed lines ≡ true → lines_of (flat_map ended lines) ≡ lines_as lines
+pub lines_from_text : (lines : List (List ℕ)) → list_all has_no_line_feed lines ≡ true → lines_by_end (flat_map ended lines) ≡ lines_as lines
 lines_from_text [] one = lines_of_none
 lines_from_text (line ∷ lines) one =
     let parts : (has_no_line_feed line ≡ true) × (list_all has_no_line_feed lines ≡ true) = and_parts (has_no_line_feed line) (list_all has_no_line_feed lines) one in
@@ -63,23 +63,23 @@ onto_as byte bytes (Some line ∷ found) lines made other h =
     let first : byte ∷ line ≡ parts.0 = cc in
     rw (parts.2, ← first) (made_of_more byte bytes line parts.1 other (made (line ∷ parts.1) (ap (λ (ls : List Line). Some line ∷ ls) parts.4)))
 
-pub text_from_lines : (bytes : List ℕ) (lines : List (List ℕ)) → lines_of bytes ≡ lines_as lines → IsMadeOf bytes lines
-unfolding lines_of
+pub text_from_lines : (bytes : List ℕ) (lines : List (List ℕ)) → lines_by_end bytes ≡ lines_as lines → IsMadeOf bytes lines
+unfolding lines_by_end
 text_from_lines [] [] h = record { text = refl; parted = refl }
 text_from_lines [] (line ∷ lines) h = cc
 text_from_lines (byte ∷ bytes) lines h =
-    (elim (byte == 10) as (λ feed. (byte == 10) ≡ feed → cond feed (Some [] ∷ lines_of bytes) (onto_first byte (lines_of bytes)) ≡ lines_as lines → IsMadeOf (byte ∷ bytes) lines) [
+    (elim (byte == 10) as (λ feed. (byte == 10) ≡ feed → cond feed (Some [] ∷ lines_by_end bytes) (onto_first byte (lines_by_end bytes)) ≡ lines_as lines → IsMadeOf (byte ∷ bytes) lines) [
       | true ↦ λ feed is.
-          let parts = first_as (Some []) (lines_of bytes) lines is in
+          let parts = first_as (Some []) (lines_by_end bytes) lines is in
           let first : [] ≡ parts.0 = cc in
           rw (parts.2, ← first) (made_of_feed byte bytes parts.1 feed (text_from_lines bytes parts.1 parts.4))
-      | false ↦ λ other is. onto_as byte bytes (lines_of bytes) lines (text_from_lines bytes) other is
+      | false ↦ λ other is. onto_as byte bytes (lines_by_end bytes) lines (text_from_lines bytes) other is
     ]) refl h
 
-pub lines_tile : (bytes : List ℕ) (lines : List (List ℕ)) → (lines_of bytes ≡ lines_as lines) ↔ ((bytes ≡ flat_map ended lines) × (list_all has_no_line_feed lines ≡ true))
+pub lines_tile : (bytes : List ℕ) (lines : List (List ℕ)) → (lines_by_end bytes ≡ lines_as lines) ↔ ((bytes ≡ flat_map ended lines) × (list_all has_no_line_feed lines ≡ true))
 lines_tile bytes lines = (
   λ h. let made = text_from_lines bytes lines h in (made.text, made.parted),
-  λ h. ap lines_of h.0 ∙ lines_from_text lines h.1,
+  λ h. ap lines_by_end h.0 ∙ lines_from_text lines h.1,
 )
 
 -- ---- lines with numbers

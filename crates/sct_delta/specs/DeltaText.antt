@@ -6,7 +6,7 @@ use Rattle.std.specs.Cmp.Lexicographic.{pointwise}
 use Rattle.sct_delta.specs.declared.fault.DeltaFault.{DeltaFault}
 use Rattle.sct_delta.specs.declared.fault.DeltaFault.TheVariants as fault
 use Rattle.sct_delta.specs.Entries.{Placed}
-use Rattle.sct_delta.specs.TextLines.{Line, lines_of, ended, end_line}
+use Rattle.sct_delta.specs.TextLines.{Line, lines_by_end, ended, end_line}
 use Rattle.sct_delta.specs.EntryText.{IsEntryText, entries_head, entries_in}
 use Rattle.sct_delta.specs.GroupText.{IsGroupText, groups_head, groups_in, lines_after}
 
@@ -35,7 +35,7 @@ delta_of_lines (Some line ∷ lines) = entries_behind line lines
 
 -- the delta that a text is a form of, or its first wrong line
 unfoldable pub delta_in : List ℕ → Result (List Placed) ℕ
-delta_in bytes = delta_of_lines (lines_of bytes)
+delta_in bytes = delta_of_lines (lines_by_end bytes)
 
 abbrev pub wrong_line : Result (List Placed) ℕ → Option ℕ
 wrong_line (Ok entries) = None
@@ -48,7 +48,7 @@ first_wrong_line bytes = wrong_line (delta_in bytes)
 
 -- the first `count` lines of both texts are equal; if one of them has fewer lines, all lines are equal
 abbrev pub AgreeTo : ℕ → List ℕ → List ℕ → Type 0
-AgreeTo count some other = take count (lines_of some) ≡ take count (lines_of other)
+AgreeTo count some other = take count (lines_by_end some) ≡ take count (lines_by_end other)
 
 -- A call returns what a text is read as, or is out of memory.
 abbrev pub Reads : Result (List Placed) DeltaFault → Result (List Placed) ℕ → Type 0

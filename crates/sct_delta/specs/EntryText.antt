@@ -5,7 +5,7 @@ use Rattle.sct_json.specs.Reading.{message_in}
 use Rattle.sct_delta.specs.Sites.{is_site_of_form_1}
 use Rattle.sct_delta.specs.Entries.{Placed, IsDelta}
 use Rattle.sct_delta.specs.Shapes.{may_be_next, are_of_form_1}
-use Rattle.sct_delta.specs.TextLines.{Line, lines_of, lines_as, end_line, entries_ended, Field, number_before_space, after_prefix}
+use Rattle.sct_delta.specs.TextLines.{Line, lines_by_end, lines_as, end_line, entries_ended, Field, number_before_space, after_prefix}
 
 -- ---- the form of a delta, as a relation
 
@@ -32,7 +32,7 @@ entries_head = codes "delta 1"
 -- the end line with the number of entries. A line feed ends each line. Form 1 has only the sites 1 to 64.
 pub record IsEntryText (bytes : List ℕ) (entries : List Placed) : Type 0 where
   pub lines : List (List ℕ)
-  pub text : lines_of bytes ≡ lines_as (entries_head ∷ lines ++ end_line (length entries) ∷ [])
+  pub text : lines_by_end bytes ≡ lines_as (entries_head ∷ lines ++ end_line (length entries) ∷ [])
   pub told : TellEntries lines entries
   pub shape : IsDelta entries
   pub sites : are_of_form_1 entries ≡ true

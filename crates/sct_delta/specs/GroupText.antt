@@ -6,7 +6,7 @@ use Rattle.sct_json.specs.Reading.{message_in}
 use Rattle.sct_json.specs.Writing.{written_text}
 use Rattle.sct_delta.specs.Sites.{is_site}
 use Rattle.sct_delta.specs.Entries.{Placed, numbered}
-use Rattle.sct_delta.specs.TextLines.{Line, lines_of, lines_as, end_line, entries_ended, Field, number_in, number_before_space, after_prefix}
+use Rattle.sct_delta.specs.TextLines.{Line, lines_by_end, lines_as, end_line, entries_ended, Field, number_in, number_before_space, after_prefix}
 
 -- ---- the form of a delta, as a relation
 
@@ -55,7 +55,7 @@ groups_head = codes "delta 2"
 -- the number of all entries. A line feed ends each line. The origins of the groups ascend.
 pub record IsGroupText (bytes : List ℕ) (entries : List Placed) : Type 0 where
   pub groups : List Group
-  pub text : lines_of bytes ≡ lines_as (groups_head ∷ flat_map group_lines groups ++ end_line (length entries) ∷ [])
+  pub text : lines_by_end bytes ≡ lines_as (groups_head ∷ flat_map group_lines groups ++ end_line (length entries) ∷ [])
   pub stand : AreGroups 0 groups
   pub all : entries ≡ flat_map group_entries groups
 

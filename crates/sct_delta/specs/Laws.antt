@@ -1,8 +1,12 @@
 -- Laws of logs and deltas, in terms of sets of entries. Read by an auditor. Each law is the contract of a function.
-use Rattle.std.specs.Prelude.{◌≡◌, ◌↔◌, ◌≤◌, ◌+◌, ◌&&◌, ◌||◌, ℕ, true, List, [], None, nat_lt}
+use Rattle.std.specs.Prelude.{◌≡◌, ◌↔◌, ◌≤◌, ◌<◌, ◌+◌, ◌&&◌, ◌||◌, ℕ, true, List, [], map, take, Some, None, nat_lt}
+use Rattle.std.specs.List.Sorted.{IsStrictlySortedBy}
+use Rattle.std.specs.Ordering.{nat_cmp}
 use Rattle.sct_message.specs.declared.draft.Draft.{Draft}
 use Rattle.sct_delta.specs.Entries.{Placed, holds, IsDelta}
-use Rattle.sct_delta.specs.Refusals.{is_held, has_site, vector_of, first_refusal, joined, IsCut}
+use Rattle.sct_delta.specs.Refusals.{is_held, has_site, vector_of, first_refusal, gap_refusal, joined, IsCut}
+use Rattle.sct_delta.specs.Shapes.{are_of_sites, are_sites, delta_refusal, vector_refusal}
+use Rattle.sct_delta.specs.declared.fault.DeltaFault.TheVariants as fault
 
 -- the logs of one site
 abbrev pub Held : Type 0
@@ -48,6 +52,54 @@ abbrev pub IsRefusedWhereItDoesNotFit : Type 0
 IsRefusedWhereItDoesNotFit =
     (own group : ℕ) (log : Held) (delta : List Placed) → IsDelta delta
     → (first_refusal own group log delta ≡ None) ↔ IsFitting own group log delta
+
+-- ---- which refusal is reported
+
+-- The least number that a delta has of an origin is past the next number of that origin.
+pub record IsGap (log : Held) (delta : List Placed) (origin least : ℕ) : Type 0 where
+  pub message : Draft
+  pub among : holds delta (record { origin = origin; n = least; message = message }) ≡ true
+  pub none_below : (entry : Placed) → holds delta entry ≡ true → entry.origin ≡ origin → least ≤ entry.n
+  pub past : vector_of log origin + 1 < least
+
+-- No lower origin has a gap.
+pub record IsFirstGap (log : Held) (delta : List Placed) (origin least : ℕ) : Type 0 where
+  pub gap : IsGap log delta origin least
+  pub first : (other number : ℕ) → IsGap log delta other number → origin ≤ other
+
+-- A delta's gap is reported with the first origin that has one, with its count, and with its least number in the delta.
+abbrev pub ReportsTheFirstGap : Type 0
+ReportsTheFirstGap =
+    (log : Held) (delta : List Placed) (origin have least : ℕ) → IsDelta delta
+    → (gap_refusal log delta ≡ Some (fault.Gap origin have least))
+    ↔ ((have ≡ vector_of log origin) × IsFirstGap log delta origin least)
+
+-- A list has a property up to a place, counted from 1: without the element at the place it has it, and with that
+-- element it does not.
+pub record EndsAt {X : Type 0} (P : List X → Type 0) (xs : List X) (place : ℕ) : Type 0 where
+  pub before : (count : ℕ) → count < place → P (take count xs)
+  pub at : ¬ (P (take place xs))
+
+-- Entries of sites are refused with the place at which they stop being a delta.
+abbrev pub ReportsTheFirstEntry : Type 0
+ReportsTheFirstEntry =
+    (entries : List Placed) (place : ℕ)
+    → (delta_refusal entries ≡ Some (fault.BadDelta place)) ↔ ((are_of_sites entries ≡ true) × EndsAt IsDelta entries place)
+
+-- pairs that make a version vector: their origins are sites and ascend strictly
+pub record MakeVector (pairs : List (ℕ × ℕ)) : Type 0 where
+  pub sites : are_sites pairs ≡ true
+  pub ascend : IsStrictlySortedBy nat_cmp (map (λ pair. pair.0) pairs)
+
+-- pairs without a refusal are those that make a version vector
+abbrev pub PairsMakeAVector : Type 0
+PairsMakeAVector = (pairs : List (ℕ × ℕ)) → (vector_refusal pairs ≡ None) ↔ MakeVector pairs
+
+-- Pairs of sites are refused with the place at which they stop making a version vector.
+abbrev pub ReportsTheFirstPair : Type 0
+ReportsTheFirstPair =
+    (pairs : List (ℕ × ℕ)) (place : ℕ)
+    → (vector_refusal pairs ≡ Some (fault.BadDelta place)) ↔ ((are_sites pairs ≡ true) × EndsAt MakeVector pairs place)
 
 -- ---- cutting and joining
 

@@ -1,5 +1,5 @@
 -- Logs as a caller sees them: the messages held of each origin, and the room for more. Read by an auditor.
-use Rattle.std.specs.Prelude.{◌≡◌, ◌≤◌, ℕ, List, [], length, Option, Some, None, is_some, if◌then◌else◌, false}
+use Rattle.std.specs.Prelude.{◌≡◌, ◌≤◌, ◌+◌, ℕ, List, [], length, Option, Some, None, is_some, if◌then◌else◌, false}
 use Rattle.std.specs.BTreeMap.{is_at}
 use Rattle.std.specs.List.{All}
 use Rattle.std.specs.Map.{lookup}
@@ -52,6 +52,12 @@ HoldSame a b = (origin : ℕ) → log_in a origin ≡ log_in b origin
 -- a log and a count are kept only for origins that hold a message
 abbrev pub KeepsNoEmpty : HeldLogs → Type 0
 KeepsNoEmpty held = All (λ kept. 1 ≤ length kept.1.messages) held.logs × All (λ kept. 1 ≤ kept.1) held.counts
+
+-- Messages are to come, so many of each origin as `due` gives. A log or a count that holds no message is kept only for
+-- an origin of which a message is to come.
+abbrev pub KeepsEmptyIfDue : (ℕ → ℕ) → HeldLogs → Type 0
+KeepsEmptyIfDue due held =
+    All (λ kept. 1 ≤ length kept.1.messages + due kept.0) held.logs × All (λ kept. 1 ≤ kept.1 + due kept.0) held.counts
 
 -- no message of an origin that the group does not have is held
 abbrev pub IsOfGroup : HeldLogs → Type 0

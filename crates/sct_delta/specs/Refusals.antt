@@ -67,33 +67,35 @@ is_past log entry = nat_lt (vector_of log entry.origin + 1) entry.n
 abbrev pub is_fork : (ℕ → List Draft) → Placed → Bool
 is_fork log entry = is_other_than entry.message (message_at (log entry.origin) entry.n)
 
--- the entries with which an origin begins, after entries of the origin `previous`
+-- The entries with which an origin begins, after entries of the origin `previous`. No site is 0, which is therefore
+-- before the first entry.
 abbrev pub firsts_after : ℕ → List Placed → List Placed
 firsts_after previous [] = []
 firsts_after previous (entry ∷ rest) =
     if nat_eq entry.origin previous then firsts_after previous rest else entry ∷ firsts_after entry.origin rest
 
--- the refusal for an entry, if there is one
-abbrev pub told : (Placed → DeltaFault) → Option Placed → Option DeltaFault
-told tells None = None
-told tells (Some entry) = Some (tells entry)
+-- the refusal of an entry, if there is one
+abbrev pub fault_of_entry : (Placed → DeltaFault) → Option Placed → Option DeltaFault
+fault_of_entry tells None = None
+fault_of_entry tells (Some entry) = Some (tells entry)
 
 -- 44: the group does not have an origin of the delta
 abbrev pub outside_refusal : ℕ → List Placed → Option DeltaFault
-outside_refusal group delta = told (λ entry. fault.BadSite) (find (is_outside group) delta)
+outside_refusal group delta = fault_of_entry (λ entry. fault.BadSite) (find (is_outside group) delta)
 
 -- 43: an own entry is above the own count; the first such entry
 abbrev pub ahead_refusal : ℕ → (ℕ → List Draft) → List Placed → Option DeltaFault
-ahead_refusal own log delta = told (λ entry. fault.OwnAhead entry.n) (find (is_ahead own log) delta)
+ahead_refusal own log delta = fault_of_entry (λ entry. fault.OwnAhead entry.n) (find (is_ahead own log) delta)
 
 -- 41: the least number of an origin is past the next one; the first such origin
+-- (law `the_gap_reported_is_the_first`)
 abbrev pub gap_refusal : (ℕ → List Draft) → List Placed → Option DeltaFault
 gap_refusal log delta =
-    told (λ entry. fault.Gap entry.origin (vector_of log entry.origin) entry.n) (find (is_past log) (firsts_after 0 delta))
+    fault_of_entry (λ entry. fault.Gap entry.origin (vector_of log entry.origin) entry.n) (find (is_past log) (firsts_after 0 delta))
 
 -- 42: a number is held with another message; the first such entry
 abbrev pub fork_refusal : (ℕ → List Draft) → List Placed → Option DeltaFault
-fork_refusal log delta = told (λ entry. fault.Fork entry.origin entry.n) (find (is_fork log) delta)
+fork_refusal log delta = fault_of_entry (λ entry. fault.Fork entry.origin entry.n) (find (is_fork log) delta)
 
 -- the first refusal of a delta at the site `own` of a group, in the order 44, 43, 41, 42
 unfoldable pub first_refusal : ℕ → ℕ → (ℕ → List Draft) → List Placed → Option DeltaFault

@@ -28,7 +28,7 @@ abbrev pub are_of_form_1 : List Placed → Bool
 are_of_form_1 entries = list_all (λ entry. is_site_of_form_1 entry.origin) entries
 
 -- why entries do not make a delta: 44 if an origin is not a site, then 45 with the place, from 1,
--- of the first entry that breaks the order
+-- of the first entry that breaks the order (law `the_entry_reported_is_the_first`)
 unfoldable pub delta_refusal : List Placed → Option DeltaFault
 delta_refusal entries =
     if are_of_sites entries then option_map (λ place. fault.BadDelta place) (first_break 1 0 0 entries)
@@ -46,7 +46,7 @@ first_fall place before [] = None
 first_fall place before (pair ∷ pairs) = if nat_lt before pair.0 then first_fall (place + 1) pair.0 pairs else Some place
 
 -- why pairs do not make a vector: 44 if an origin is not a site, then 45 with the place, from
--- 1, of the first pair that does not ascend
+-- 1, of the first pair that does not ascend (laws `pairs_make_a_vector` and `the_pair_reported_is_the_first`)
 unfoldable pub vector_refusal : List (ℕ × ℕ) → Option DeltaFault
 vector_refusal pairs =
     if are_sites pairs then option_map (λ place. fault.BadDelta place) (first_fall 1 0 pairs) else Some fault.BadSite

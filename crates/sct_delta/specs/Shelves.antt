@@ -28,6 +28,10 @@ log_on shelf origin = messages_on (get nat_cmp shelf.logs origin)
 abbrev pub HasNoEmptyLog : Shelf → Type 0
 HasNoEmptyLog shelf = All (λ kept. 1 ≤ length kept.1.items) shelf.logs.entries
 
+-- each log that is stored has a message, or a message of its origin is to come
+abbrev pub HasEmptyIfDue : (ℕ → ℕ) → Shelf → Type 0
+HasEmptyIfDue due shelf = All (λ kept. 1 ≤ length kept.1.items + due kept.0) shelf.logs.entries
+
 -- how many more messages the log of an origin can hold before it allocates
 abbrev pub places_at : Shelf → ℕ → ℕ
 places_at shelf origin = places_on (get nat_cmp shelf.logs origin)

@@ -21,9 +21,9 @@ onto_first byte (Some line ∷ lines) = Some (byte ∷ line) ∷ lines
 
 -- the lines of a text: the bytes before each line feed, and, if bytes come after the last line feed, a last
 -- line without one (law `lines_make_the_text`)
-unfoldable pub lines_of : List ℕ → List Line
-lines_of [] = []
-lines_of (byte ∷ bytes) = if byte == 10 then Some [] ∷ lines_of bytes else onto_first byte (lines_of bytes)
+unfoldable pub lines_by_end : List ℕ → List Line
+lines_by_end [] = []
+lines_by_end (byte ∷ bytes) = if byte == 10 then Some [] ∷ lines_by_end bytes else onto_first byte (lines_by_end bytes)
 
 -- the first line, if a line feed ends it
 abbrev pub ended_first : List Line → Option (List ℕ)

@@ -27,7 +27,7 @@ same_from_alike a b same =
 
 -- ---- from the test to counts
 
-same_key : (k q : ℕ) → is_eq (nat_cmp k q) ≡ true → k ≡ q
+pub same_key : (k q : ℕ) → is_eq (nat_cmp k q) ≡ true → k ≡ q
 same_key k q tied =
     (elim (nat_lt k q) as (λ below. is_eq (cond below Less (cond (k == q) Equal Greater)) ≡ true → k ≡ q) [
       | true ↦ λ h. cc

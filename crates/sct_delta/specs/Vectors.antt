@@ -1,5 +1,5 @@
 -- Version vectors, read as counts. Read by an auditor.
-use Rattle.std.specs.Prelude.{◌≡◌, ◌≤◌, ◌&&◌, ℕ, Bool, Option, Some, None, is_some, nat_eq, true}
+use Rattle.std.specs.Prelude.{◌≡◌, ◌≤◌, ◌+◌, ◌&&◌, ℕ, Bool, Option, Some, None, is_some, nat_eq, true}
 use Rattle.std.specs.List.{list_all, All}
 use Rattle.std.specs.BTreeMap.{get, keys}
 use Rattle.std.specs.Ordering.{nat_cmp}
@@ -25,6 +25,10 @@ Names vector origin = is_some (get nat_cmp vector.counts origin) ≡ true
 -- each count that is kept is at least 1
 abbrev pub HasNoZero : Vector → Type 0
 HasNoZero vector = All (λ kept. 1 ≤ kept.1) vector.counts.entries
+
+-- each count that is kept is at least 1, or an entry of its origin is to come
+abbrev pub HasZeroIfDue : (ℕ → ℕ) → Vector → Type 0
+HasZeroIfDue due vector = All (λ kept. 1 ≤ kept.1 + due kept.0) vector.counts.entries
 
 -- both count the same at each origin that the first one names
 abbrev pub counted_alike : Vector → Vector → Bool

@@ -7,6 +7,7 @@ use crate::entry::Entry;
 use crate::fault::DeltaFault;
 use crate::logs::Logs;
 use sct_message::Message;
+use std::alloc::AllocError;
 use std::sync::Arc;
 
 impl Logs {
@@ -14,16 +15,17 @@ impl Logs {
     ghost use Rattle.sct_message.specs.Sets.{messages_in};
     ghost use Rattle.sct_delta.specs.declared.fault.DeltaFault.TheVariants as fault;
     ghost use Rattle.sct_delta.specs.Entries.{held_from, log_of};
-    ghost use Rattle.sct_delta.specs.Logs.{log_in, room_at, HasRoomFor, HoldSame, KeepsNoEmpty};
+    ghost use Rattle.sct_delta.specs.Logs.{log_in, room_at, HasRoomFor, HoldSame, KeepsEmptyIfDue, KeepsNoEmpty};
     ghost use Rattle.sct_delta.specs.Refusals.{first_refusal, fresh_in, is_outside, joined};
 
     // Makes room for the entries of a delta. If out of memory, some of the room may have been made.
-    fn room_for_each(&mut self, delta: &Delta) -> Result<(), DeltaFault>
+    fn room_for_each(&mut self, delta: &Delta) -> Result<(), AllocError>
         ensures group { self.new.group ≡ self.old.group }
         ensures same { HoldSame self.new self.old }
         ensures ok { OnOk result (HasRoomFor self.new delta.now) }
-        ensures err { IfErr result (λ refusal. refusal ≡ fault.Memory) }
         ensures there { HasRoomFor self.old delta.now → IsOk result }
+        ensures due { OnOk result (KeepsNoEmpty self.old
+            → KeepsEmptyIfDue (λ origin. held_from origin delta.now) self.new) }
     {
         let mut previous = 0;
         let mut places = 0;
@@ -47,58 +49,55 @@ impl Logs {
         ensures ok { OnOk result (HasRoomFor self.new delta.now) }
         ensures err { IfErr result (λ refusal. refusal ≡ fault.Memory) }
         ensures there { HasRoomFor self.old delta.now → IsOk result }
+        ensures due { OnOk result (KeepsNoEmpty self.old
+            → KeepsEmptyIfDue (λ origin. held_from origin delta.now) self.new) }
         ensures filled { OnErr result (KeepsNoEmpty self.new) }
     {
-        if let Err(refusal) = self.room_for_each(delta) {
+        if let Err(_) = self.room_for_each(delta) {
             self.drop_empty();
-            return Err(refusal);
+            return Err(DeltaFault::Memory);
         }
         Ok(())
     }
 
     /// Appends the messages of entries, each to the log of its origin. There is room for all of them, so it does not
     /// allocate. O(entries).
-    pub fn append_all(
-        &mut self,
-        entries: &[Entry],
-        messages: Vec<Arc<Message>>,
-    ) -> Result<(), DeltaFault>
+    pub fn append_all(&mut self, entries: &[Entry], messages: Vec<Arc<Message>>)
         requires messages { messages_in messages.items ≡ map (λ entry. entry.message) entries.now }
         requires room { HasRoomFor self.old entries.now }
         requires inside { list_any (is_outside self.old.group) entries.now ≡ false }
         ensures group { self.new.group ≡ self.old.group }
-        ensures ok { IsOk result }
         ensures logs { (origin : ℕ) → log_in self.new origin
             ≡ log_in self.old origin ++ log_of origin entries.now }
+        ensures filled { KeepsEmptyIfDue (λ origin. held_from origin entries.now) self.old
+            → KeepsNoEmpty self.new }
     {
         let mut place = 0;
         for message in messages {
             let entry = &entries[place];
-            self.append(entry.origin, message)?;
+            self.push_reserved(entry.origin, message);
             place += 1;
         }
-        Ok(())
     }
 
     // Appends each entry to the log of its origin. There is room for all of them.
-    fn append_each(&mut self, entries: Vec<Entry>) -> Result<(), DeltaFault>
+    fn append_each(&mut self, entries: Vec<Entry>)
         requires room { HasRoomFor self.old entries.items }
         requires inside { list_any (is_outside self.old.group) entries.items ≡ false }
         ensures group { self.new.group ≡ self.old.group }
-        ensures ok { IsOk result }
         ensures logs { (origin : ℕ) → log_in self.new origin
             ≡ log_in self.old origin ++ log_of origin entries.items }
     {
         for entry in entries {
-            self.append(entry.origin, entry.message)?;
+            self.push_reserved(entry.origin, entry.message);
         }
-        Ok(())
     }
 
     /// Joins a delta that fits the site `own`. Returns how many of its entries were not held. It does not
     /// allocate right after `reserve` of the delta.
-    /// A delta that does not fit is refused as by `fits`, and dropped. Further error: `Memory`
-    /// (40). The entries held are then unchanged. O(entries of the delta).
+    /// A delta that does not fit is refused as by `fits`, and dropped. Further error: `Memory` (40), and the logs then
+    /// keep nothing for an origin that holds no message. After an error the entries held are unchanged.
+    /// O(entries of the delta).
     pub fn join(&mut self, own: u16, delta: Delta) -> Result<u64, DeltaFault>
         ensures group { self.new.group ≡ self.old.group }
         ensures answer { IfOk result (λ fresh. fresh ≡ length (fresh_in (log_in self.old) delta)) }
@@ -110,13 +109,14 @@ impl Logs {
             (refusal ≡ fault.Memory) (λ first. refusal ≡ first)) }
         ensures unchanged { OnErr result (HoldSame self.new self.old) }
         ensures room { HasRoomFor self.old delta → IfErr result (λ refusal. refusal ≢ fault.Memory) }
+        ensures filled { IfErr result (λ refusal. refusal ≡ fault.Memory → KeepsNoEmpty self.new) }
     {
         self.fits(own, &delta)?;
         self.reserve(&delta)?;
         let mut entries = delta.into_entries();
         entries.retain(|entry| self.is_new(entry));
         let fresh = entries.len() as u64;
-        self.append_each(entries)?;
+        self.append_each(entries);
         Ok(fresh)
     }
 }

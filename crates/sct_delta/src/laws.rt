@@ -1,6 +1,6 @@
 //! Laws of logs and deltas, whatever they hold. Each law is the contract of a function with an empty body.
 
-ghost use Rattle.sct_delta.specs.Laws.{AreEntrySet, CutsWhatIsAbove, CutsNothingForItself, JoinsBothSides, KeepsWhatWasHeld, JoinsOnce, CatchesUp, JoinsInAnyOrder, IsRefusedWhereItDoesNotFit};
+ghost use Rattle.sct_delta.specs.Laws.{AreEntrySet, CutsWhatIsAbove, CutsNothingForItself, JoinsBothSides, KeepsWhatWasHeld, JoinsOnce, CatchesUp, JoinsInAnyOrder, IsRefusedWhereItDoesNotFit, PairsMakeAVector, ReportsTheFirstEntry, ReportsTheFirstGap, ReportsTheFirstPair};
 
 /// The entries that logs hold are an entry set: the numbers of each origin are 1 to some count, each with one message.
 pub fn logs_hold_an_entry_set()
@@ -48,4 +48,27 @@ pub fn a_site_catches_up()
 /// next one; it has a number that is held with another message.
 pub fn a_delta_is_refused_where_it_does_not_fit()
     ensures { IsRefusedWhereItDoesNotFit }
+{}
+
+/// A gap (41) is reported with the first origin that has one, with the count held of it, and with its least number in
+/// the delta. An origin has a gap if that number is past the next one.
+pub fn the_gap_reported_is_the_first()
+    ensures { ReportsTheFirstGap }
+{}
+
+/// Entries of sites are refused (45) with the place of the first entry that is out of order: the entries before it are
+/// a delta, and with it they are not.
+pub fn the_entry_reported_is_the_first()
+    ensures { ReportsTheFirstEntry }
+{}
+
+/// Pairs make a version vector exactly if their origins are sites and ascend strictly.
+pub fn pairs_make_a_vector()
+    ensures { PairsMakeAVector }
+{}
+
+/// Pairs of sites are refused (45) with the place of the first pair that does not ascend: the pairs before it make a
+/// version vector, and with it they do not.
+pub fn the_pair_reported_is_the_first()
+    ensures { ReportsTheFirstPair }
 {}

@@ -16,7 +16,7 @@ use crate::shelf::Shelf;
 use crate::sites::is_site;
 use crate::vector::Vector;
 use sct_message::Message;
-use std::alloc::Global;
+use std::alloc::{AllocError, Global};
 use std::marker::Model;
 use std::sync::Arc;
 
@@ -42,13 +42,14 @@ impl Model for Logs {
 #[tactic(auto, using(crate::proofs::LogsLemmas::log_is, crate::proofs::LogsLemmas::room_is))]
 impl Logs {
     ghost use Rattle.sct_delta.specs.declared.fault.DeltaFault.TheVariants as fault;
-    ghost use Rattle.sct_delta.specs.Logs.{log_in, room_at, HasRoom, HoldSame, IsOfGroup, KeepsNoEmpty};
+    ghost use Rattle.sct_delta.specs.Logs.{log_in, room_at, HasRoom, HoldSame, IsOfGroup, KeepsEmptyIfDue, KeepsNoEmpty};
 
     /// Empty logs for a group of 1 to 1024 sites. Error: `BadSite` (44) for any other size.
     pub fn new(alloc: Global, group: u16) -> Result<Logs, DeltaFault>
         ensures empty { IfOk result (λ logs. (origin : ℕ) → log_in logs origin ≡ []) }
         ensures group { IfOk result (λ logs. logs.group ≡ group) }
         ensures ok { OnOk result (is_group group ≡ true) }
+        ensures filled { IfOk result KeepsNoEmpty }
         ensures err { IfErr result (λ refusal. (refusal ≡ fault.BadSite) × (is_group group ≡ false)) }
     {
         if !is_site(group) {
@@ -141,14 +142,15 @@ impl Logs {
     }
 
     // Makes room for `places` more messages of an origin, whether or not the group has it.
-    pub(crate) fn room_for(&mut self, origin: u16, places: usize) -> Result<(), DeltaFault>
+    pub(crate) fn room_for(&mut self, origin: u16, places: usize) -> Result<(), AllocError>
         ensures group { self.new.group ≡ self.old.group }
         ensures same { HoldSame self.new self.old }
         ensures keeps { (k : ℕ) → room_at self.old k ≤ room_at self.new k }
         ensures ok { OnOk result (places ≤ room_at self.new origin) }
         ensures few { OnOk result (places < 2 ^ 63) }
-        ensures err { IfErr result (λ refusal. refusal ≡ fault.Memory) }
         ensures there { places ≤ room_at self.old origin → 1 ≤ places → IsOk result }
+        ensures due { OnOk result ((due : ℕ → ℕ) → 1 ≤ due origin → KeepsEmptyIfDue due self.old
+            → KeepsEmptyIfDue due self.new) }
     {
         self.vector.room(origin)?;
         self.shelf.room(origin, places)?;
@@ -177,14 +179,17 @@ impl Logs {
         ensures ok { OnOk result (HasRoom self.new origin) }
         ensures site { OnOk result (has_site self.old.group origin ≡ true) }
         ensures err { IfErr result (λ refusal. refusal ≡ refusal_at self.old.group origin) }
+        ensures there { HasRoom self.old origin → IfErr result (λ refusal. refusal ≢ fault.Memory) }
+        ensures due { OnOk result ((due : ℕ → ℕ) → 1 ≤ due origin → KeepsEmptyIfDue due self.old
+            → KeepsEmptyIfDue due self.new) }
         ensures filled { IfErr result (λ refusal. refusal ≡ fault.Memory → KeepsNoEmpty self.new) }
     {
         if !self.has_site(origin) {
             return Err(DeltaFault::BadSite);
         }
-        if let Err(refusal) = self.room_for(origin, 1) {
+        if let Err(_) = self.room_for(origin, 1) {
             self.drop_empty();
-            return Err(refusal);
+            return Err(DeltaFault::Memory);
         }
         Ok(())
     }
@@ -202,36 +207,27 @@ impl Logs {
         ensures err { IfErr result (λ refusal. refusal ≡ refusal_at self.old.group origin) }
         ensures unchanged { OnErr result (HoldSame self.new self.old) }
         ensures room { HasRoom self.old origin → IfErr result (λ refusal. refusal ≢ fault.Memory) }
+        ensures kept { OnOk result (KeepsNoEmpty self.old → KeepsNoEmpty self.new) }
         ensures filled { IfErr result (λ refusal. refusal ≡ fault.Memory → KeepsNoEmpty self.new) }
     {
-        if !self.has_site(origin) {
-            return Err(DeltaFault::BadSite);
-        }
-        match self.append(origin, message) {
-            Ok(n) => Ok(n),
-            Err(refusal) => {
-                self.drop_empty();
-                Err(refusal)
-            }
-        }
+        self.room(origin)?;
+        Ok(self.push_reserved(origin, message))
     }
 
-    // Appends a message as the next entry of its origin, a site of the group.
-    pub(crate) fn append(&mut self, origin: u16, message: Arc<Message>) -> Result<u64, DeltaFault>
-        requires { has_site self.old.group origin ≡ true }
+    /// Appends a message as the next entry of its origin, a site of the group that has room for it. Returns the number
+    /// of that entry. It does not allocate. O(log origins).
+    pub fn push_reserved(&mut self, origin: u16, message: Arc<Message>) -> u64
+        requires site { has_site self.old.group origin ≡ true }
+        requires room { HasRoom self.old origin }
         ensures group { self.new.group ≡ self.old.group }
-        ensures answer { IfOk result (λ n. n ≡ vector_of (log_in self.old) origin + 1) }
-        ensures ok { OnOk result ((k : ℕ) → log_in self.new k
-            ≡ appended (log_in self.old) origin (arc_value message) k) }
-        ensures err { IfErr result (λ refusal. refusal ≡ fault.Memory) }
-        ensures unchanged { OnErr result (HoldSame self.new self.old) }
-        ensures room { HasRoom self.old origin → IsOk result }
+        ensures answer { result ≡ vector_of (log_in self.old) origin + 1 }
+        ensures logs { (k : ℕ) → log_in self.new k ≡ appended (log_in self.old) origin (arc_value message) k }
         ensures keeps { (k : ℕ) → room_at self.old k ≤ room_at self.new k + (if nat_eq origin k then 1 else 0) }
+        ensures due { (due later : ℕ → ℕ) → KeepsEmptyIfDue due self.old
+            → ((k : ℕ) → nat_eq origin k ≡ false → due k ≤ later k) → KeepsEmptyIfDue later self.new }
     {
-        self.room_for(origin, 1)?;
-        let n = self.shelf.count(origin) + 1;
-        self.vector.set(origin, n)?;
-        self.shelf.push(origin, message)?;
-        Ok(n)
+        let n = self.shelf.push_reserved(origin, message);
+        self.vector.set_reserved(origin, n);
+        n
     }
 }

@@ -1,6 +1,6 @@
 //! The storage of logs: one list of messages for each origin.
 
-ghost use Rattle.std.specs.Prelude.{◌≡◌, ◌≤◌, ◌+◌, ◌++◌, ℕ, [], map, drop, length, nat_eq, if◌then◌else◌, OnOk, OnErr, IfOk, IsOk, option_map};
+ghost use Rattle.std.specs.Prelude.{◌≡◌, ◌≤◌, ◌+◌, ◌++◌, ℕ, [], false, map, drop, length, nat_eq, if◌then◌else◌, OnOk, OnErr, IfOk, IsOk, option_map};
 ghost use Rattle.std.specs.Arc.{arc_value};
 ghost use Rattle.std.specs.Option.{option_copied};
 ghost use Rattle.std.specs.BTreeMap.{IsOrdered};
@@ -45,12 +45,13 @@ pub struct Shelf {
 }
 
 impl Shelf {
-    ghost use Rattle.sct_delta.specs.Shelves.{log_on, places_at, above_in, HasNoEmptyLog};
+    ghost use Rattle.sct_delta.specs.Shelves.{log_on, places_at, above_in, HasEmptyIfDue, HasNoEmptyLog};
     ghost use Rattle.sct_delta.specs.Vectors.{count_in};
 
     /// An empty shelf, which grows with this allocator.
     pub fn new(alloc: Global) -> Shelf
-        ensures { (origin : ℕ) → log_on result origin ≡ [] }
+        ensures empty { (origin : ℕ) → log_on result origin ≡ [] }
+        ensures filled { HasNoEmptyLog result }
     {
         Shelf {
             alloc,
@@ -90,6 +91,8 @@ impl Shelf {
         ensures keeps { (k : ℕ) → places_at self.old k ≤ places_at self.new k }
         ensures ok { OnOk result (places ≤ places_at self.new origin) }
         ensures there { places ≤ places_at self.old origin → 1 ≤ places → IsOk result }
+        ensures due { OnOk result ((due : ℕ → ℕ) → 1 ≤ due origin → HasEmptyIfDue due self.old
+            → HasEmptyIfDue due self.new) }
     {
         if let Some(log) = self.logs.get_mut(&origin) {
             return log.reserve(places);
@@ -100,23 +103,25 @@ impl Shelf {
         Ok(())
     }
 
-    /// Appends a message to the log of the origin.
-    pub fn push(&mut self, origin: u16, message: Arc<Message>) -> Result<(), AllocError>
-        ensures ok { OnOk result ((k : ℕ) → log_on self.new k
-            ≡ appended (log_on self.old) origin (arc_value message) k) }
-        ensures err { OnErr result ((k : ℕ) → log_on self.new k ≡ log_on self.old k) }
-        ensures room { 1 ≤ places_at self.old origin → IsOk result }
+    /// Appends a message to the log of the origin, which has room for it. Returns how many messages the log then has.
+    pub fn push_reserved(&mut self, origin: u16, message: Arc<Message>) -> u64
+        requires { 1 ≤ places_at self.old origin }
+        ensures count { result ≡ length (log_on self.old origin) + 1 }
+        ensures log { (k : ℕ) → log_on self.new k
+            ≡ appended (log_on self.old) origin (arc_value message) k }
         ensures keeps { (k : ℕ)
             → places_at self.old k ≤ places_at self.new k + (if nat_eq origin k then 1 else 0) }
+        ensures due { (due later : ℕ → ℕ) → HasEmptyIfDue due self.old
+            → ((k : ℕ) → nat_eq origin k ≡ false → due k ≤ later k) → HasEmptyIfDue later self.new }
     {
-        if let Some(log) = self.logs.get_mut(&origin) {
-            log.push(message)?;
-            return Ok(());
+        match self.logs.get_mut(&origin) {
+            Some(log) => {
+                log.push_reserved(message);
+                log.len() as u64
+            }
+            // A log that has room is stored.
+            None => 0,
         }
-        let mut log = Vec::new(self.alloc);
-        log.push(message)?;
-        self.logs.insert(origin, log)?;
-        Ok(())
     }
 
     /// Drops the logs without a message, with the room in them. It does not allocate.

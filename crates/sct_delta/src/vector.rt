@@ -3,10 +3,10 @@
 ghost use Rattle.std.specs.BTreeMap.{keys};
 ghost use Rattle.std.specs.Cmp.{partial_equiv_from_equiv};
 ghost use Rattle.std.specs.List.{list_all};
-ghost use Rattle.std.specs.Prelude.{◌≡◌, ◌≢◌, ◌↔◌, ℕ, Some, None, true, nat_eq, if◌then◌else◌, IfOk, IfErr, IsOk, IsTrue, OnOk, OnErr};
+ghost use Rattle.std.specs.Prelude.{◌≡◌, ◌≢◌, ◌≤◌, ◌↔◌, ℕ, Some, None, true, false, nat_eq, if◌then◌else◌, IfOk, IfErr, IsOk, IsTrue, OnOk, OnErr};
 ghost use Rattle.sct_delta.specs.declared.fault.DeltaFault.TheVariants as fault;
 ghost use Rattle.sct_delta.specs.Shapes.{are_sites, first_fall, count_among, vector_refusal};
-ghost use Rattle.sct_delta.specs.Vectors.{CountAlike, HasNoZero, Names, count_in, counted_alike, same_counts};
+ghost use Rattle.sct_delta.specs.Vectors.{CountAlike, HasNoZero, HasZeroIfDue, Names, count_in, counted_alike, same_counts};
 ghost use Rattle.sct_delta.specs.VectorLaws.{same_counts_equiv};
 
 use crate::fault::DeltaFault;
@@ -58,10 +58,9 @@ fn refusal(pairs: &[(u16, u64)]) -> Option<DeltaFault>
 }
 
 // The vector with the counts of the pairs.
-fn counted(alloc: Global, pairs: &[(u16, u64)]) -> Result<Vector, DeltaFault>
-    ensures counts { IfOk result (λ vector. (origin : ℕ)
+fn counted(alloc: Global, pairs: &[(u16, u64)]) -> Result<Vector, AllocError>
+    ensures { IfOk result (λ vector. (origin : ℕ)
         → count_in vector origin ≡ count_among pairs.now origin 0) }
-    ensures memory { IfErr result (λ refusal. refusal ≡ fault.Memory) }
 {
     let mut vector = Vector::empty(alloc);
     for pair in pairs {
@@ -95,7 +94,7 @@ impl Vector {
         if let Some(refusal) = refusal(pairs) {
             return Err(refusal);
         }
-        counted(alloc, pairs)
+        Ok(counted(alloc, pairs)?)
     }
 
     /// How many entries of the origin are held; 0 if the vector does not name it. O(log origins).
@@ -110,7 +109,8 @@ impl Vector {
 
     // A vector of zero counts.
     pub(crate) fn empty(alloc: Global) -> Vector
-        ensures { (origin : ℕ) → count_in result origin ≡ 0 }
+        ensures counts { (origin : ℕ) → count_in result origin ≡ 0 }
+        ensures counted { HasNoZero result }
     {
         Vector {
             counts: BTreeMap::new(alloc),
@@ -123,6 +123,8 @@ impl Vector {
         ensures keeps { (k : ℕ) → Names self.old k → Names self.new k }
         ensures ok { OnOk result (Names self.new origin) }
         ensures there { Names self.old origin → IsOk result }
+        ensures due { OnOk result ((due : ℕ → ℕ) → 1 ≤ due origin → HasZeroIfDue due self.old
+            → HasZeroIfDue due self.new) }
     {
         if self.counts.get(&origin).is_some() {
             return Ok(());
@@ -136,12 +138,23 @@ impl Vector {
         ensures ok { OnOk result ((k : ℕ) → count_in self.new k
             ≡ (if nat_eq origin k then count else count_in self.old k)) }
         ensures err { OnErr result ((k : ℕ) → count_in self.new k ≡ count_in self.old k) }
-        ensures keeps { (k : ℕ) → Names self.old k → Names self.new k }
-        ensures named { OnOk result (Names self.new origin) }
-        ensures room { Names self.old origin → IsOk result }
     {
         self.counts.insert(origin, count)?;
         Ok(())
+    }
+
+    // Sets the count of an origin that has room for it. It does not allocate.
+    pub(crate) fn set_reserved(&mut self, origin: u16, count: u64)
+        requires { Names self.old origin }
+        ensures set { (k : ℕ) → count_in self.new k
+            ≡ (if nat_eq origin k then count else count_in self.old k) }
+        ensures keeps { (k : ℕ) → Names self.old k → Names self.new k }
+        ensures due { (due later : ℕ → ℕ) → 1 ≤ count → HasZeroIfDue due self.old
+            → ((k : ℕ) → nat_eq origin k ≡ false → due k ≤ later k) → HasZeroIfDue later self.new }
+    {
+        if let Some(kept) = self.counts.get_mut(&origin) {
+            *kept = count;
+        }
     }
 
     // Drops the counts of 0.

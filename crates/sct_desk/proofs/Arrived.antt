@@ -1,5 +1,5 @@
 -- What the events of a site leave under a desk's lock.
-use Rattle.std.proofs.Common.{◌≡◌, ◌∙◌, refl, ap, sym, subst, ℕ, ◌≤◌, ◌+◌, ◌-◌, Bool, true, false, not, List, [], ◌∷◌, take, length, arith, length-append, nat_eq}
+use Rattle.std.proofs.Common.{◌≡◌, ◌∙◌, refl, ap, sym, subst, ℕ, ◌≤◌, ◌+◌, ◌-◌, Bool, true, false, not, List, [], ◌∷◌, take, length, arith, length-append, length-take-le, nat_eq}
 use Rattle.std.specs.Prelude.{◌≢◌, Option, Some, None, MatchOption, Result, Ok, Err, IfOk, IfErr, IfSome, OnOk, OnErr}
 use Rattle.std.specs.List.{find}
 use Rattle.std.specs.Option.{option_or}
@@ -11,7 +11,7 @@ use mathlib.Core.List.{IsPrefix}
 use Rattle.logbook.specs.Pages.{Book}
 use Rattle.sct_message.specs.declared.draft.Draft.{Draft}
 use Rattle.sct_delta.specs.Entries.{Placed}
-use Rattle.sct_delta.specs.Refusals.{ahead_refusal, first_refusal, firsts_after, gap_refusal, is_ahead, is_fork, is_held, is_outside, is_past, outside_refusal, told, vector_of}
+use Rattle.sct_delta.specs.Refusals.{ahead_refusal, first_refusal, firsts_after, gap_refusal, is_ahead, is_fork, is_held, is_outside, is_past, outside_refusal, fault_of_entry, vector_of}
 use Rattle.sct_delta.specs.declared.fault.DeltaFault.{DeltaFault}
 use Rattle.sct_delta.specs.declared.fault.DeltaFault.TheVariants as delta_fault
 use Rattle.sct_history.specs.Sights.{Sight}
@@ -22,8 +22,8 @@ use Rattle.sct_desk.specs.declared.shown.Shown.{Shown}
 use Rattle.sct_desk.specs.declared.shown.Batch.{Batch}
 use Rattle.sct_desk.specs.declared.fault.DeskFault.{DeskFault}
 use Rattle.sct_desk.specs.HeldOk.{IsHeld}
-use Rattle.sct_desk.specs.Locked.{Locked, Fails, IsDeltaRefusal, IsWant, answer_for, answer_to, arrivals_for, arrivals_handed, came_by_delta, came_by_take, unpublished}
-use Rattle.sct_desk.specs.Passes.{Told, before}
+use Rattle.sct_desk.specs.Locked.{Locked, Fails, IsDeltaRefusal, answer_for, answer_to, arrivals_for, arrivals_handed, came_by_delta, came_by_take, unpublished}
+use Rattle.sct_desk.specs.Passes.{IsOf, ReportsRange, Told, before}
 use Rattle.sct_desk.specs.Rules.{view_of}
 
 -- ---- more arrivals
@@ -136,7 +136,7 @@ either_refuses None p one other = other
 either_refuses (Some refusal) p one other = one
 
 entry_refuses : (tells : Placed → DeltaFault) (o : Option Placed) → ((entry : Placed) → IsDeltaRefusal (tells entry))
-    → IfSome (told tells o) IsDeltaRefusal
+    → IfSome (fault_of_entry tells o) IsDeltaRefusal
 entry_refuses tells None each = tt
 entry_refuses tells (Some entry) each = each entry
 
@@ -171,6 +171,21 @@ pub before_is : (r : Told) (old new : List Placed) (news : ℕ) → r.shown ≡ 
 before_is r old new news shown count len pre =
     let front : length r.shown - (r.count - r.carried) ≡ length old = omega (arith, ap length shown, count, len) in
     (λ i. take (front i) (shown i)) ∙ ap (take (length old)) (sym pre.1) ∙ take-append_seam old pre.0
+
+-- what a receipt carries came before its call
+pub carries_so : (r : Told) (news : ℕ) → ReportsRange r → r.count ≡ r.carried + news → r.from + r.carried ≡ length (before r) + 1
+carries_so r news range count =
+    let less : length r.shown - (r.count - r.carried) ≤ length r.shown = omega arith in
+    let len : length (before r) ≡ length r.shown - (r.count - r.carried) = length-take-le (length r.shown - (r.count - r.carried)) r.shown less in
+    omega (arith, len, range.0, range.1, range.2, count)
+
+-- the same of a call that may be refused
+pub before_if : {T : Type 0} (r : Result (T × Told) DeskFault) (book : Book) (number : ℕ) (old new : List Placed) (news : ℕ)
+    → IfOk r (λ t. IsOf book number t.1) → IfOk r (λ t. t.1.shown ≡ new) → IfOk r (λ t. t.1.count ≡ t.1.carried + news)
+    → length new ≡ length old + news → IsPrefix old new
+    → IfOk r (λ t. IsOf book number t.1 × (before t.1 ≡ old) × (t.1.shown ≡ new))
+before_if (Ok t) book number old new news ours shown count len pre = (ours, before_is t.1 old new news shown count len pre, shown)
+before_if (Err f) book number old new news ours shown count len pre = tt
 
 -- ---- refused calls
 
@@ -216,3 +231,12 @@ pub fails_if : {A : Type 0} (old new : Locked) (r : Result A DeskFault) → IsPr
     → IfErr r (λ refusal. refusal ≡ unpublished old) → OnErr r (new ≡ old) → IfErr r (Fails old old.core.arrivals new)
 fails_if old new (Ok x) pre why same = tt
 fails_if old new (Err f) pre why same = fails_same old new f pre why same
+
+-- the same of a call with an event
+pub fails_if_after : {A : Type 0} (old mid new : Locked) (arrivals : List Placed) (r : Result A DeskFault) → mid.core.number ≡ old.core.number
+    → mid.core.group ≡ old.core.group → mid.core.arrivals ≡ arrivals → mid.published ≡ old.published
+    → IsPrefix old.published old.core.arrivals → IsPrefix old.core.arrivals mid.core.arrivals
+    → IfErr r (λ refusal. refusal ≡ unpublished mid) → OnErr r (new ≡ mid) → IfErr r (Fails old arrivals new)
+fails_if_after old mid new arrivals (Ok x) number group are published pre more why same = tt
+fails_if_after old mid new arrivals (Err f) number group are published pre more why same =
+    fails_after old mid new arrivals f number group are published pre more why same

@@ -1,12 +1,9 @@
 -- What batches of arrivals make of the published view.
-use Rattle.std.proofs.Common.{◌≡◌, ◌∙◌, refl, ap, sym, subst, ℕ, ◌<◌, ◌+◌, List, [], ◌∷◌, ◌++◌, map, take, drop, length, arith, get_or}
+use Rattle.std.proofs.Common.{◌≡◌, ◌∙◌, refl, ap, sym, subst, ℕ, ◌<◌, ◌+◌, List, [], ◌∷◌, ◌++◌, take, drop, length, arith, get_or}
 use Rattle.std.proofs.lemmas.List.{take-append-drop, take_all, take_more}
-use Rattle.std.proofs.lemmas.List.Sums.{fold-append}
 use Rattle.std.specs.FinSet as set
 use mathlib.Core.List.{IsPrefix}
 use Rattle.logbook.specs.Pages.{Book}
-use Rattle.sct_message.specs.Sets.{messages_in}
-use Rattle.sct_set.specs.Contents.{contents_of}
 use Rattle.sct_delta.specs.Entries.{Placed, IsArrivals, messages_of}
 use Rattle.sct_history.specs.Sights.{Sight}
 use Rattle.sct_history.proofs.Arriving.{arrivals_begin}
@@ -16,7 +13,7 @@ use Rattle.sct_site.proofs.AcceptLemmas.{messages-append}
 use Rattle.sct_desk.specs.declared.shown.Shown.{Shown}
 use Rattle.sct_desk.specs.declared.shown.Batch.{Batch}
 use Rattle.sct_desk.specs.HeldOk.{IsHeld}
-use Rattle.sct_desk.specs.Rules.{GoesOn, absorbed, handed_over, view_of}
+use Rattle.sct_desk.specs.Rules.{GoesOn, handed_over, view_of}
 
 -- a beginning of a list
 pub prefix_take : {A : Type 0} (k : ℕ) (xs : List A) → IsPrefix (take k xs) xs

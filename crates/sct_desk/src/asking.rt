@@ -2,7 +2,7 @@
 
 ghost use Rattle.std.specs.Prelude.{◌≡◌, ◌⊎◌, length, IfOk, IfErr};
 ghost use mathlib.Core.List.{IsPrefix};
-ghost use Rattle.sct_case.specs.Statuses.{told};
+ghost use Rattle.sct_case.specs.Statuses.{as_standing};
 ghost use Rattle.sct_delta.specs.Entries.{IsArrivals, messages_of};
 ghost use Rattle.sct_view.specs.Answers.{status_of, found_on, recall_of};
 ghost use Rattle.sct_view.specs.Totals.{totals_of};
@@ -30,7 +30,7 @@ impl Query {
         ensures later { IsPrefix self.old.seen self.new.seen }
         ensures order { IsArrivals self.new.seen }
         ensures front { IfOk result (λ answer. answer.front ≡ length self.new.seen) }
-        ensures value { IfOk result (λ answer. told answer.value
+        ensures value { IfOk result (λ answer. as_standing answer.value
             ≡ status_of (messages_of self.new.seen) transfer.now) }
         ensures refused { IfErr result (λ refusal. (refusal ≡ fault.Closed) ⊎ (refusal ≡ fault.Memory)) }
     {

@@ -1,7 +1,7 @@
 //! A running site that threads share.
 
 ghost use Rattle.std.specs.Arc.{arc_value};
-ghost use Rattle.std.specs.Prelude.{◌≡◌, ◌+◌, IfOk, IfErr};
+ghost use Rattle.std.specs.Prelude.{◌≡◌, ◌+◌, length, IfOk, IfErr};
 ghost use Rattle.sct_delta.specs.Entries.{IsArrivals};
 ghost use Rattle.sct_delta.specs.Vectors.{count_in};
 ghost use Rattle.sct_site.specs.Cores.{took_by, arrivals_taken, entries_above};
@@ -65,6 +65,7 @@ impl<J: Site, R: Wait + Drop> Desk<J, R> {
             t.1.shown ≡ arrivals_taken (site_with J.number J.group (before t.1)) (arc_value message)) }
         ensures order { IfOk result (λ t. IsArrivals t.1.shown) }
         ensures count { IfOk result (λ t. t.1.count ≡ t.1.carried + came_by_take t.0) }
+        ensures carried { IfOk result (λ t. t.1.from + t.1.carried ≡ length (before t.1) + 1) }
         ensures refused { IfErr result IsWant }
     {
         let mut held = self.lock.lock(rt);
@@ -91,6 +92,7 @@ impl<J: Site, R: Wait + Drop> Desk<J, R> {
             t.1.shown ≡ arrivals_handed (site_with J.number J.group (before t.1)) delta.now) }
         ensures order { IfOk result (λ t. IsArrivals t.1.shown) }
         ensures count { IfOk result (λ t. t.1.count ≡ t.1.carried + came_by_delta t.0) }
+        ensures carried { IfOk result (λ t. t.1.from + t.1.carried ≡ length (before t.1) + 1) }
         ensures refused { IfErr result IsWant }
     {
         let mut held = self.lock.lock(rt);
@@ -111,6 +113,7 @@ impl<J: Site, R: Wait + Drop> Desk<J, R> {
         ensures cut { IfOk result (λ t. t.0 ≡ entries_above (count_in vector.now) t.1.shown) }
         ensures order { IfOk result (λ t. IsArrivals t.1.shown) }
         ensures count { IfOk result (λ t. t.1.count ≡ t.1.carried) }
+        ensures carried { IfOk result (λ t. t.1.from + t.1.carried ≡ length (before t.1) + 1) }
         ensures refused { IfErr result IsWant }
     {
         let mut held = self.lock.lock(rt);
@@ -124,6 +127,7 @@ impl<J: Site, R: Wait + Drop> Desk<J, R> {
         ensures range { IfOk result ReportsRange }
         ensures order { IfOk result (λ receipt. IsArrivals receipt.shown) }
         ensures count { IfOk result (λ receipt. receipt.count ≡ receipt.carried) }
+        ensures carried { IfOk result (λ receipt. receipt.from + receipt.carried ≡ length (before receipt) + 1) }
         ensures refused { IfErr result IsWant }
     {
         let mut held = self.lock.lock(rt);

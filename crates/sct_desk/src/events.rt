@@ -7,7 +7,7 @@ ghost use Rattle.sct_delta.specs.Entries.{IsArrivals};
 ghost use Rattle.sct_delta.specs.Vectors.{count_in};
 ghost use Rattle.sct_delta.specs.declared.fault.DeltaFault.TheVariants as delta_fault;
 ghost use Rattle.sct_site.specs.Cores.{took_by, arrivals_taken, entries_above};
-ghost use Rattle.sct_desk.specs.Locked.{Fails, IsDeltaRefusal, IsShown, IsWant, answer_to, arrivals_handed, came_by_delta, came_by_take};
+ghost use Rattle.sct_desk.specs.Locked.{Fails, IsDeltaRefusal, IsShown, IsWant, answer_to, arrivals_handed, came_by_delta, came_by_take, unpublished};
 ghost use Rattle.sct_desk.specs.Passes.{IsOf, ReportsRange, before, site_with};
 
 use crate::fault::DeskFault;
@@ -100,6 +100,7 @@ impl<J: Site, R: Wait + Drop> Held<J, R> {
         ensures from { IfOk result (λ t. t.1.from ≡ length self.old.published + 1) }
         ensures range { IfOk result (λ t. ReportsRange t.1) }
         ensures count { IfOk result (λ t. t.1.count ≡ t.1.carried + came_by_take t.0) }
+        ensures carried { IfOk result (λ t. t.1.from + t.1.carried ≡ length (before t.1) + 1) }
         ensures want { IfErr result IsWant }
         ensures failed { IfErr result (Fails self.old
             (arrivals_taken self.old.core (arc_value message)) self.new) }
@@ -112,10 +113,7 @@ impl<J: Site, R: Wait + Drop> Held<J, R> {
             return Err(DeskFault::Memory);
         };
         let news = came_by(&took);
-        match self.publish_after(alloc, history, news) {
-            Ok(receipt) => Ok((took, receipt)),
-            Err(refusal) => Err(refusal),
-        }
+        self.publish_with(alloc, history, news, took)
     }
 
     // Hands a delta to the core and publishes the pending arrivals. A delta that is refused changes nothing.
@@ -138,6 +136,7 @@ impl<J: Site, R: Wait + Drop> Held<J, R> {
         ensures from { IfOk result (λ t. t.1.from ≡ length self.old.published + 1) }
         ensures range { IfOk result (λ t. ReportsRange t.1) }
         ensures count { IfOk result (λ t. t.1.count ≡ t.1.carried + came_by_delta t.0) }
+        ensures carried { IfOk result (λ t. t.1.from + t.1.carried ≡ length (before t.1) + 1) }
         ensures want { IfErr result IsWant }
         ensures failed { IfErr result (Fails self.old (arrivals_handed self.old.core delta.now) self.new) }
     {
@@ -148,10 +147,7 @@ impl<J: Site, R: Wait + Drop> Held<J, R> {
         let Some((answer, news)) = handed(&mut self.core, delta) else {
             return Err(DeskFault::Memory);
         };
-        match self.publish_after(alloc, history, news) {
-            Ok(receipt) => Ok((answer, receipt)),
-            Err(refusal) => Err(refusal),
-        }
+        self.publish_with(alloc, history, news, answer)
     }
 
     // Cuts a delta from the core and publishes the pending arrivals.
@@ -170,16 +166,14 @@ impl<J: Site, R: Wait + Drop> Held<J, R> {
         ensures from { IfOk result (λ t. t.1.from ≡ length self.old.published + 1) }
         ensures range { IfOk result (λ t. ReportsRange t.1) }
         ensures count { IfOk result (λ t. t.1.count ≡ t.1.carried) }
+        ensures carried { IfOk result (λ t. t.1.from + t.1.carried ≡ length (before t.1) + 1) }
         ensures want { IfErr result IsWant }
         ensures failed { IfErr result (Fails self.old self.old.core.arrivals self.new) }
     {
         let Some(delta) = cut_from(&self.core, vector) else {
             return Err(DeskFault::Memory);
         };
-        match self.publish_after(alloc, history, 0) {
-            Ok(receipt) => Ok((delta, receipt)),
-            Err(refusal) => Err(refusal),
-        }
+        self.publish_with(alloc, history, 0, delta)
     }
 
     // Publishes the pending arrivals.
@@ -193,7 +187,9 @@ impl<J: Site, R: Wait + Drop> Held<J, R> {
         ensures from { IfOk result (λ receipt. receipt.from ≡ length self.old.published + 1) }
         ensures range { IfOk result ReportsRange }
         ensures count { IfOk result (λ receipt. receipt.count ≡ receipt.carried) }
+        ensures carried { IfOk result (λ receipt. receipt.from + receipt.carried ≡ length (before receipt) + 1) }
         ensures want { IfErr result IsWant }
+        ensures refused { IfErr result (λ refusal. refusal ≡ unpublished self.old) }
         ensures failed { IfErr result (Fails self.old self.old.core.arrivals self.new) }
     {
         // The core is read so that the facts of this type are known: the published arrivals are no more than all.

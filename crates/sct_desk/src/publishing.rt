@@ -5,7 +5,7 @@ ghost use Rattle.std.specs.Prelude.{◌≡◌, ◌+◌, ◌<◌, ◌≤◌, List
 ghost use mathlib.Core.List.{IsPrefix};
 ghost use Rattle.sct_delta.specs.Entries.{IsArrivals, messages_of};
 ghost use Rattle.sct_desk.specs.Locked.{IsShown, unpublished};
-ghost use Rattle.sct_desk.specs.Passes.{IsOf, ReportsRange};
+ghost use Rattle.sct_desk.specs.Passes.{IsOf, ReportsRange, before};
 ghost use Rattle.sct_desk.specs.Rules.{GoesOn, handed_over};
 
 use crate::fault::DeskFault;
@@ -103,6 +103,7 @@ fn show<R: Wait>(writer: &mut ShownWriter, rt: &R) -> Result<(), AllocError>
 }
 
 // The receipt of a call that published the arrivals from this position on. The last `news` of them came by the call.
+#[tactic(auto, using(crate::proofs::Arrived::carries_so))]
 fn receipt_of(site: u16, from: u64, track: &Track, news: u64) -> Receipt
     requires from { 1 ≤ from }
     requires news { news + from ≤ length track.now.log + 1 }
@@ -112,6 +113,7 @@ fn receipt_of(site: u16, from: u64, track: &Track, news: u64) -> Receipt
     ensures from { result.from ≡ from }
     ensures range { ReportsRange result }
     ensures news { result.count ≡ result.carried + news }
+    ensures carried { result.from + result.carried ≡ length (before result) + 1 }
 {
     let count = track.len() - (from - 1);
     Receipt {
@@ -155,6 +157,7 @@ impl<J: Site, R: Wait + Drop> Held<J, R> {
         ensures from { IfOk result (λ receipt. receipt.from ≡ length self.old.published + 1) }
         ensures range { IfOk result ReportsRange }
         ensures news { IfOk result (λ receipt. receipt.count ≡ receipt.carried + news) }
+        ensures carried { IfOk result (λ receipt. receipt.from + receipt.carried ≡ length (before receipt) + 1) }
         ensures refused { IfErr result (λ refusal. refusal ≡ unpublished self.old) }
         ensures unchanged { OnErr result (self.new ≡ self.old) }
     {
@@ -177,5 +180,32 @@ impl<J: Site, R: Wait + Drop> Held<J, R> {
             return Err(refusal);
         };
         Ok(receipt_of(self.core.number(), published + 1, &self.track, news))
+    }
+    // Publishes all pending arrivals. Returns the answer of this call with the receipt. The last `news` of the arrivals came by
+    // this call.
+    pub(crate) fn publish_with<T: Drop>(
+        &mut self,
+        alloc: Global,
+        history: &History,
+        news: u64,
+        answer: T,
+    ) -> Result<(T, Receipt), DeskFault>
+        requires history { history.now ≡ J.book }
+        requires news { news + length self.old.published ≤ length self.old.core.arrivals }
+        ensures core { self.new.core ≡ self.old.core }
+        ensures answer { IfOk result (λ t. t.0 ≡ answer) }
+        ensures shown { OnOk result (IsShown self.new) }
+        ensures site { IfOk result (λ t. IsOf J.book J.number t.1) }
+        ensures arrivals { IfOk result (λ t. t.1.shown ≡ self.old.core.arrivals) }
+        ensures order { IfOk result (λ t. IsArrivals t.1.shown) }
+        ensures from { IfOk result (λ t. t.1.from ≡ length self.old.published + 1) }
+        ensures range { IfOk result (λ t. ReportsRange t.1) }
+        ensures news { IfOk result (λ t. t.1.count ≡ t.1.carried + news) }
+        ensures carried { IfOk result (λ t. t.1.from + t.1.carried ≡ length (before t.1) + 1) }
+        ensures refused { IfErr result (λ refusal. refusal ≡ unpublished self.old) }
+        ensures unchanged { OnErr result (self.new ≡ self.old) }
+    {
+        let receipt = self.publish_after(alloc, history, news)?;
+        Ok((answer, receipt))
     }
 }

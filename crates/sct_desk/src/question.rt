@@ -1,7 +1,7 @@
 //! The questions of a query to the published view.
 
 ghost use Rattle.std.specs.Prelude.{◌≡◌, IfOk, OnErr};
-ghost use Rattle.sct_case.specs.Statuses.{told};
+ghost use Rattle.sct_case.specs.Statuses.{as_standing};
 ghost use Rattle.sct_view.specs.Listed.{found_in};
 
 use sct_case::{CaseFault, Finding, RecallStatus, Status, copy_findings};
@@ -35,12 +35,12 @@ pub(crate) struct StatusOf<'a> {
 }
 
 impl Question for StatusOf<'_> {
-    ghost use Rattle.sct_case.specs.Statuses.{told};
+    ghost use Rattle.sct_case.specs.Statuses.{as_standing};
     ghost use Rattle.sct_view.specs.Answers.{status_of};
 
     type Value = Status;
 
-    ghost is_answer = { λ q held status. told status ≡ status_of held q.transfer.now };
+    ghost is_answer = { λ q held status. as_standing status ≡ status_of held q.transfer.now };
 
     ghost may_want = { Unit {0} };
 
@@ -51,7 +51,7 @@ impl Question for StatusOf<'_> {
 
 // Copies of the findings that a status holds; empty for a status other than contradicted.
 fn findings_of(alloc: Global, status: &Status) -> Result<Vec<Finding>, AllocError>
-    ensures { IfOk result (λ found. found.items ≡ found_in (told status.now)) }
+    ensures { IfOk result (λ found. found.items ≡ found_in (as_standing status.now)) }
 {
     match status {
         Status::Contradicted(found) => copy_findings(alloc, found),

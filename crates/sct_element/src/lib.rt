@@ -26,5 +26,5 @@ pub use identification::{
     Code4, CodeRule, Id35, IdentificationRule, Stamp, StampRule, read_code, read_identification,
     read_stamp,
 };
-pub use money::{Amount, amounts_are_exact};
+pub use money::{Amount, amounts_are_exact, amounts_are_ordered_by_cents};
 pub use party::{FreeText, Name, Remittance, read_name, read_remittance};

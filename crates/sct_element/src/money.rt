@@ -1,7 +1,8 @@
 //! Amounts of money.
-ghost use Rattle.std.specs.Prelude.{◌≡◌, ◌↔◌, ℕ, ◌+◌, ◌-◌, ◌*◌, ◌^◌, ◌<◌, ◌≤◌, ◌++◌, ◌&&◌, ◌==◌, List, Some, None, IsTrue, IfSome, length, nat_le, ok_or, decimal, position};
+ghost use Rattle.std.specs.Prelude.{◌≡◌, ◌↔◌, ℕ, ◌+◌, ◌-◌, ◌*◌, ◌^◌, ◌<◌, ◌≤◌, ◌++◌, ◌&&◌, ◌==◌, List, Some, None, IsTrue, IfSome, length, nat_eq, nat_le, ok_or, decimal, position};
 ghost use Rattle.std.specs.Char.{is_ascii_digit};
 ghost use Rattle.std.specs.List.{list_all};
+ghost use Rattle.std.specs.Ordering.{nat_cmp};
 ghost use Rattle.std.specs.Str.Parse.{digits_value};
 ghost use Rattle.sct_element.specs.Money.{is_point, euros_of, hundredths_of, euros_before, cents_after, cents_of, amount_text, IsAmountText};
 
@@ -61,6 +62,13 @@ impl Amount {
 /// decimals.
 pub fn amounts_are_exact()
     ensures { (s : List ℕ) (cents : ℕ) → (cents_of s ≡ Some cents) ↔ IsAmountText s cents }
+{}
+
+/// A law: amounts are ordered as their cents are, and two are equal exactly if their cents are.
+pub fn amounts_are_ordered_by_cents()
+    ensures order { (a b : ℕ) → ⟦<Amount as Ord>⟧.cmp a b ≡ nat_cmp a b }
+    ensures partial_order { (a b : ℕ) → ⟦<Amount as PartialOrd>⟧.partial_cmp a b ≡ Some (nat_cmp a b) }
+    ensures equality { (a b : ℕ) → ⟦<Amount as PartialEq>⟧.eq a b ≡ nat_eq a b }
 {}
 
 /// The written form of an amount of this many cents.

@@ -5,11 +5,11 @@ ghost use Rattle.sct_delta.specs.Entries.{messages_of};
 ghost use Rattle.sct_embed.specs.Questions.{Answers, bank_answer, changes_since, messages_answer, report_answer, transfer_answer};
 ghost use Rattle.sct_embed.specs.declared.faults.EmbedFault.TheVariants as fault;
 
-use crate::arguments::{bank_of, day_of, transfer_of};
+use crate::arguments::transfer_of;
 use crate::changes::{Watch, text_of_changes};
 use crate::faults::EmbedFault;
 use crate::site::EmbeddedSite;
-use sct_reconcile::{List, reconcile_alone};
+use sct_reconcile::{List, bank_of, day_of, reconcile_alone};
 
 impl EmbeddedSite {
     /// Has the lines of one transfer as the answer, as the status text has them: its T line, an F line for each finding, an R

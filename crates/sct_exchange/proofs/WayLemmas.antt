@@ -11,7 +11,7 @@ use Rattle.sct_message.proofs.Tests.{none_kept as filter_none}
 use Rattle.sct_delta.specs.DeltaText.{delta_in, delta_of_lines}
 use Rattle.sct_delta.specs.Entries.{Placed, IsArrivals, IsDelta, holds, log_of}
 use Rattle.sct_delta.specs.Refusals.{message_at, is_other_than, is_held, is_fork, is_ahead, is_outside, is_past}
-use Rattle.sct_delta.specs.TextLines.{Line, lines_of}
+use Rattle.sct_delta.specs.TextLines.{Line, lines_by_end}
 use Rattle.sct_delta.specs.declared.fault.DeltaFault.{DeltaFault}
 use Rattle.sct_delta.proofs.DeltaLemmas.{shape_from_read}
 use Rattle.sct_delta.proofs.HeldLemmas.{passes_none}
@@ -56,7 +56,7 @@ shape_of_lines (Some line ∷ lines) entries read = shape_from_read line lines e
 
 pub delta_shape : (text : List ℕ) (entries : List Placed) → delta_in text ≡ Ok entries → IsDelta entries
 unfolding delta_in
-delta_shape text entries read = shape_of_lines (lines_of text) entries read
+delta_shape text entries read = shape_of_lines (lines_by_end text) entries read
 
 -- each delta among the files has the shape of one
 abbrev pub AreDeltas : List File → Type 0

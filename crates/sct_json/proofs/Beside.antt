@@ -8,7 +8,8 @@ use Rattle.std.specs.Cmp.Lexicographic.{slice_cmp, texts_ties, nat_list_cmp_tota
 use Rattle.sct_element.specs.Text.{is_text}
 use Rattle.sct_message.proofs.Tests.{or_false}
 use Rattle.sct_json.specs.declared.keys.Key.{Key}
-use Rattle.sct_json.specs.Keys.{key_text, keys_from, is_first, is_among}
+use Rattle.sct_json.specs.KeyLookups.{keys_from, is_first}
+use Rattle.sct_json.specs.Keys.{key_text, is_key_among}
 use Rattle.sct_json.specs.Names.{IsBefore, AscendByBytes}
 
 abbrev by_bytes : List ℕ → List ℕ → Ordering
@@ -31,15 +32,15 @@ at_key : (o : Ordering) (name key : List ℕ) → by_bytes key name ≡ o → is
 at_key o name key e = texts_ties name key ∙ ap is_eq (nat_list_cmp_total.antisymm name key) ∙ ap (λ (r : Ordering). is_eq (ordering_reverse r)) e ∙ reversed_alike o
 
 among_at : (o : Ordering) (name later : List ℕ) (key : Key) (keys : List Key) → by_bytes (key_text key) name ≡ o → (IsBefore (key_text key) name → IsBefore (key_text key) later)
-    → is_among (keys_from name keys) later ≡ is_among keys later → is_among (cond (is_lt o) (keys_from name keys) (key ∷ keys)) later ≡ is_among (key ∷ keys) later
-unfolding is_among
-among_at Less name later key keys e before rest = rest ∙ ap (λ (b : Bool). b || is_among keys later) (sym (at_key Less later (key_text key) (before e)))
+    → is_key_among (keys_from name keys) later ≡ is_key_among keys later → is_key_among (cond (is_lt o) (keys_from name keys) (key ∷ keys)) later ≡ is_key_among (key ∷ keys) later
+unfolding is_key_among
+among_at Less name later key keys e before rest = rest ∙ ap (λ (b : Bool). b || is_key_among keys later) (sym (at_key Less later (key_text key) (before e)))
 among_at Equal name later key keys e before rest = refl
 among_at Greater name later key keys e before rest = refl
 
 -- no key is passed that is a later name
-among_left : (name later : List ℕ) (keys : List Key) → ((key : List ℕ) → IsBefore key name → IsBefore key later) → is_among (keys_from name keys) later ≡ is_among keys later
-unfolding is_among
+among_left : (name later : List ℕ) (keys : List Key) → ((key : List ℕ) → IsBefore key name → IsBefore key later) → is_key_among (keys_from name keys) later ≡ is_key_among keys later
+unfolding is_key_among
 among_left name later [] before = refl
 among_left name later (key ∷ keys) before =
     among_at (by_bytes (key_text key) name) name later key keys refl (before (key_text key)) (among_left name later keys before)
@@ -54,34 +55,34 @@ unfolding IsStrictlySortedBy
 ascend_left name [] all = tt
 ascend_left name (key ∷ keys) all = ascend_at (is_lt (by_bytes (key_text key) name)) name key keys all (ascend_left name keys all.1)
 
-none_behind : (name key : List ℕ) (keys : List Key) → IsBefore name key → AllByRecursion (λ later. IsBefore key later) (map key_text keys) → is_among keys name ≡ false
-unfolding is_among
+none_behind : (name key : List ℕ) (keys : List Key) → IsBefore name key → AllByRecursion (λ later. IsBefore key later) (map key_text keys) → is_key_among keys name ≡ false
+unfolding is_key_among
 none_behind name key [] before all = refl
 none_behind name key (later ∷ keys) before all =
     let no : is_text name (key_text later) ≡ false = texts_ties name (key_text later) ∙ ap is_eq (nat_list_cmp_total.trans name key (key_text later) before all.0) in
-    ap (λ (b : Bool). b || is_among keys name) no ∙ none_behind name key keys before all.1
+    ap (λ (b : Bool). b || is_key_among keys name) no ∙ none_behind name key keys before all.1
 
 first_at : (o : Ordering) (name : List ℕ) (key : Key) (keys : List Key) → by_bytes (key_text key) name ≡ o → AscendByBytes (map key_text (key ∷ keys))
-    → is_first name (keys_from name keys) ≡ is_among (keys_from name keys) name
-    → is_first name (cond (is_lt o) (keys_from name keys) (key ∷ keys)) ≡ is_among (cond (is_lt o) (keys_from name keys) (key ∷ keys)) name
-unfolding is_among IsStrictlySortedBy
+    → is_first name (keys_from name keys) ≡ is_key_among (keys_from name keys) name
+    → is_first name (cond (is_lt o) (keys_from name keys) (key ∷ keys)) ≡ is_key_among (cond (is_lt o) (keys_from name keys) (key ∷ keys)) name
+unfolding is_key_among IsStrictlySortedBy
 first_at Less name key keys e all later = later
 first_at Equal name key keys e all later =
-    let same : is_text name (key_text key) ≡ true = at_key Equal name (key_text key) e in same ∙ ap (λ (b : Bool). b || is_among keys name) (sym same)
+    let same : is_text name (key_text key) ≡ true = at_key Equal name (key_text key) e in same ∙ ap (λ (b : Bool). b || is_key_among keys name) (sym same)
 first_at Greater name key keys e all later =
     let before : IsBefore name (key_text key) = nat_list_cmp_total.antisymm name (key_text key) ∙ ap ordering_reverse e in
     sym (ap (λ (b : Bool). is_text name (key_text key) || b) (none_behind name (key_text key) keys before all.0) ∙ or_false (is_text name (key_text key)))
 
 -- where the name is a key, that key stands first in what is left
-first_where_among : (name : List ℕ) (keys : List Key) → AscendByBytes (map key_text keys) → is_first name (keys_from name keys) ≡ is_among (keys_from name keys) name
-unfolding is_among IsStrictlySortedBy
+first_where_among : (name : List ℕ) (keys : List Key) → AscendByBytes (map key_text keys) → is_first name (keys_from name keys) ≡ is_key_among (keys_from name keys) name
+unfolding is_key_among IsStrictlySortedBy
 first_where_among name [] all = refl
 first_where_among name (key ∷ keys) all = first_at (by_bytes (key_text key) name) name key keys refl all (first_where_among name keys all.1)
 
 -- ---- the walk
 
 abbrev AreAlike : (List ℕ → Bool) → List Key → List (String Global) → Type 0
-AreAlike is_key keys names = AllByRecursion (λ name. is_among keys (string_bytes name) ≡ is_key (string_bytes name)) names
+AreAlike is_key keys names = AllByRecursion (λ name. is_key_among keys (string_bytes name) ≡ is_key (string_bytes name)) names
 
 alike_left : (is_key : List ℕ → Bool) (keys : List Key) (name : List ℕ) (names : List (String Global)) → AllByRecursion (λ (later : String Global). IsBefore name (string_bytes later)) names
     → AreAlike is_key keys names → AreAlike is_key (keys_from name keys) names
@@ -108,12 +109,12 @@ walk_finds is_key keys (name ∷ names) ascend ordered alike =
     chosen (is_first bytes rest) (is_key bytes) name (walk rest names) (find (λ later. not (is_key (string_bytes later))) names) stands
     (walk_finds is_key rest names (ascend_left bytes keys ascend) ordered.1 (alike_left is_key keys bytes names ordered.0 alike.1))
 
-alike_all : (is_key : List ℕ → Bool) (keys : List Key) → ((name : List ℕ) → is_among keys name ≡ is_key name) → (names : List (String Global)) → AreAlike is_key keys names
+alike_all : (is_key : List ℕ → Bool) (keys : List Key) → ((name : List ℕ) → is_key_among keys name ≡ is_key name) → (names : List (String Global)) → AreAlike is_key keys names
 alike_all is_key keys all [] = tt
 alike_all is_key keys all (name ∷ names) = (all (string_bytes name), alike_all is_key keys all names)
 
 pub walk_finds_first_other : (is_key : List ℕ → Bool) (keys : List Key) (names : List (String Global)) → AscendByBytes (map key_text keys)
-    → ((name : List ℕ) → is_among keys name ≡ is_key name) → IsStrictlySortedBy (λ (s t : String Global). by_bytes (string_bytes s) (string_bytes t)) names
+    → ((name : List ℕ) → is_key_among keys name ≡ is_key name) → IsStrictlySortedBy (λ (s t : String Global). by_bytes (string_bytes s) (string_bytes t)) names
     → walk keys names ≡ find (λ name. not (is_key (string_bytes name))) names
 walk_finds_first_other is_key keys names ascend all ordered = walk_finds is_key keys names ascend ordered (alike_all is_key keys all names)
 

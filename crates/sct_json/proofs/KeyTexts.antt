@@ -5,7 +5,8 @@ use Rattle.std.specs.Cmp.Lexicographic.{bytes_decides}
 use Rattle.sct_element.specs.Text.{is_text}
 use Rattle.sct_json.specs.declared.keys.Key.{Key}
 use Rattle.sct_json.specs.declared.keys.Key.TheVariants.{MsgNmId, MsgId, CreDtTm, InstgAgt, InstdAgt, IntrBkSttlmDt, SvcLvl, LclInstrm, InstrId, EndToEndId, TxId, IntrBkSttlmAmt, Ccy, ChrgBr, AccptncDtTm, Dbtr, DbtrAcct, DbtrAgt, CdtrAgt, Cdtr, CdtrAcct, Ustrd, OrgnlMsgId, OrgnlMsgNmId, OrgnlEndToEndId, OrgnlTxId, TxSts, Rsn, OrgnlCxlId, CxlId, OrgnlIntrBkSttlmAmt, OrgnlIntrBkSttlmDt, TxInf, RtrId, RtrdIntrBkSttlmAmt, CxlStsId, Conf}
-use Rattle.sct_json.specs.Keys.{key_text, keys_of_length}
+use Rattle.sct_json.specs.KeyLookups.{keys_of_length}
+use Rattle.sct_json.specs.Keys.{key_text}
 
 has_text : (b : Bool) (text : List ℕ) (key : Key) (later : Option Key) → is_text text (key_text key) ≡ b → IfSome later (λ other. key_text other ≡ text)
     → IfSome (cond b (Some key) later) (λ other. key_text other ≡ text)

@@ -9,6 +9,7 @@ pub mod KeyTexts
 pub mod NameRule
 pub mod Names
 pub mod Ordered
+pub mod Places
 pub mod PlainTexts
 pub mod RecallForms
 pub mod Refusals

@@ -10,7 +10,7 @@ use Rattle.json.specs.Lex.{tokens}
 use Rattle.json.specs.Json as grammar
 use Rattle.serde_json.specs.Data.{Data, string, object, Members, no_members, put}
 use Rattle.serde_json.specs.Read.{read, of_json, of_members, max_depth}
-use Rattle.serde_json.specs.Find.{get_member, as_str}
+use Rattle.serde_json.specs.Find.{get_member}
 use Rattle.serde_json.proofs.Views.{get_member-put, get_member-put_other}
 use Rattle.sct_element.specs.Text.{is_text}
 use Rattle.sct_message.specs.declared.draft.Draft.{Draft}
@@ -69,12 +69,9 @@ no_items (Some s) = refl
 pub no_list_at : (name : List ℕ) (ms : List (Key × List ℕ)) → None ≡ option_and_then items_in (get_member name (put_texts ms no_members))
 no_list_at name ms = no_items (last_text name ms) ∙ ap (option_and_then items_in) (sym (text_at name ms))
 
-seen_alike : (o : Option (List ℕ)) → option_map (λ s. Some s) o ≡ option_map as_str (option_map string o)
-seen_alike None = refl
-seen_alike (Some s) = refl
-
-pub text_seen : (name : List ℕ) (ms : List (Key × List ℕ)) → option_map (λ s. Some s) (last_text name ms) ≡ option_map as_str (get_member name (put_texts ms no_members))
-text_seen name ms = seen_alike (last_text name ms) ∙ ap (option_map as_str) (sym (text_at name ms))
+-- what was found as the last text at a name is what is there
+pub text_seen : (found : Option (List ℕ)) (name : List ℕ) (ms : List (Key × List ℕ)) → found ≡ last_text name ms → get_member name (put_texts ms no_members) ≡ option_map string found
+text_seen found name ms last = text_at name ms ∙ ap (option_map string) (sym last)
 
 -- ---- members in front of another
 

@@ -17,7 +17,7 @@ use Rattle.sct_json.proofs.TableForms.{bind_then, bind_from, ok_or_ok, ok_same, 
 
 -- ---- an element of a list
 
-element_holds : (d : Data) (m : RecallTx) → element_in d ≡ Ok m → IsTransaction d m
+pub element_holds : (d : Data) (m : RecallTx) → element_in d ≡ Ok m → IsTransaction d m
 unfolding element_in
 element_holds d m e0 =
     bind_then (ok_or (as_object d) fault.NotObject) _ _ e0 (λ ms r1 e1.
@@ -27,7 +27,7 @@ element_holds d m e0 =
       elements = transaction_holds d m (r2 ∙ e3);
     })))
 
-holds_element : (d : Data) (m : RecallTx) → IsTransaction d m → element_in d ≡ Ok m
+pub holds_element : (d : Data) (m : RecallTx) → IsTransaction d m → element_in d ≡ Ok m
 unfolding element_in
 holds_element d m h =
     bind_from _ _ h.keys.0 _ (ap (λ (o : Option Members). ok_or o fault.NotObject) (ap as_object h.keys.1))
@@ -67,7 +67,7 @@ all_objects place (d ∷ ds) (tx ∷ txs) each =
 
 -- ---- the list
 
-counted_at : (b : Bool) (t : ⊤) → ◌≡◌ {A = Result ⊤ JsonFault} (cond b (Ok tt) (Err (fault.BadTransactions 0))) (Ok t) → b ≡ true
+pub counted_at : (b : Bool) (t : ⊤) → ◌≡◌ {A = Result ⊤ JsonFault} (cond b (Ok tt) (Err (fault.BadTransactions 0))) (Ok t) → b ≡ true
 counted_at true t e = refl
 counted_at false t e = cc
 

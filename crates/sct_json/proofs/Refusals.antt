@@ -4,6 +4,7 @@ use Rattle.std.specs.Prelude.{ok_or, ◌⊎◌, ⊤}
 use Rattle.std.specs.Ordering.{match_ordering}
 use Rattle.std.specs.Cmp.Lexicographic.{slice_cmp}
 use Rattle.std.specs.Str.{is_utf8}
+use Rattle.std.proofs.lemmas.Bool.{false≢true}
 use Rattle.std.proofs.lemmas.Str.{IsUtf8-from_is_utf8}
 use Rattle.serde_json.specs.Data.{Data, null, boolean, number, string, array, object, Items, no_items, item, Members, no_members, member}
 use Rattle.serde_json.specs.Read.{read}
@@ -12,6 +13,7 @@ use Rattle.sct_element.specs.declared.faults.ElementFault.{ElementFault}
 use Rattle.sct_message.specs.declared.kinds.Kind.{Kind}
 use Rattle.sct_message.specs.declared.kinds.Kind.TheVariants.{Camt029, Camt056, Pacs002, Pacs004, Pacs008, Pacs028}
 use Rattle.sct_message.specs.declared.draft.Draft.{Draft}
+use Rattle.sct_message.specs.declared.draft.RecallTx.{RecallTx}
 use Rattle.sct_message.specs.declared.rules.RuleFault.{RuleFault}
 use Rattle.sct_message.specs.declared.rules.RuleFault.TheVariants as rule
 use Rattle.sct_message.specs.Drafts.{kind_of, head_of}
@@ -22,16 +24,19 @@ use Rattle.sct_json.specs.declared.keys.Key.TheVariants as key
 use Rattle.sct_json.specs.declared.keys.Shape.TheVariants.{Transaction}
 use Rattle.sct_json.specs.declared.faults.JsonFault.{JsonFault}
 use Rattle.sct_json.specs.declared.faults.JsonFault.TheVariants as fault
+use Rattle.sct_json.specs.declared.faults.KeyFault.{KeyFault}
 use Rattle.sct_json.specs.declared.faults.KeyFault.TheVariants as key_fault
 use Rattle.sct_json.specs.Faults.{placed}
 use Rattle.sct_json.specs.Keys.{key_text}
-use Rattle.sct_json.specs.Reading.{◌>>=◌, required_as, optional_as, required, optional, head_in, original_in, credit_transfer_in, status_report_in, status_request_in, transaction_in, payment_return_in, resolution_in, first_extra, passes_unless, items_list, items_in, counted, first_no_object, are_objects, element_in, at_place, elements_in, list_in, flat_recall_in, listed_recalls_in, recalls_by, cancellation_request_in, draft_in, shape_in, kind_in, follows_unless, object_in, value_in, message_in}
+use Rattle.sct_json.specs.Reading.{◌>>=◌, required_as, optional_as, required, optional, head_in, original_in, credit_transfer_in, status_report_in, status_request_in, transaction_in, payment_return_in, resolution_in, first_extra, passes_unless, items_list, items_in, counted, first_no_object, are_objects, element_in, elements_in, list_in, flat_recall_in, listed_recalls_in, recalls_by, cancellation_request_in, draft_in, shape_in, kind_in, follows_unless, object_in, value_in, message_in}
 use Rattle.sct_json.specs.Form.{StandsFor, HoldsElements}
+use Rattle.sct_json.specs.Places.{HasList, IsFirstWithout, IsNoListOfObjects, IsNoListOfTransactions, IsObject, IsRightList, IsSomeTransaction}
 use Rattle.sct_json.specs.Names.{NamesAscend, NamesAscendInItems, NamesAscendInMembers, HasLeastExtraKey, HasLeastExtraKeyAt}
 use Rattle.sct_json.proofs.Forms.{draft_holds, named_as_its_kind}
 use Rattle.sct_json.proofs.NameRule.{named_is_not_told}
 use Rattle.sct_json.proofs.Names.{names_read, first_is_least}
-use Rattle.sct_json.proofs.RecallForms.{IsListOf, its_items}
+use Rattle.sct_json.proofs.Places.{IsFirstFrom, IsRefusedAt, each_is_object, first_is_no_object, first_is_refused}
+use Rattle.sct_json.proofs.RecallForms.{IsListOf, counted_at, holds_element, its_items}
 use Rattle.sct_json.proofs.TableForms.{ok_or_ok, is_object}
 
 -- ---- what is told, one step after another
@@ -40,6 +45,9 @@ abbrev Tells : {X : Type 0} → (JsonFault → Type 0) → Result X JsonFault �
 Tells P (Ok x) = Unit {0}
 Tells P (Err e) = P e
 
+none_or_some : {X : Type 0} (x : X) → ◌≡◌ {A = Option X} None (Some x) → ⊥
+none_or_some x e = cc
+
 then_told : {X Y : Type 0} (P : JsonFault → Type 0) (r : Result X JsonFault) (f : X → Result Y JsonFault) → Tells P r → ((x : X) → r ≡ Ok x → Tells P (f x)) → Tells P (r >>= f)
 then_told P (Ok x) f first next = next x refl
 then_told P (Err e) f first next = first
@@ -47,6 +55,10 @@ then_told P (Err e) f first next = first
 or_told : {X : Type 0} (P : JsonFault → Type 0) (o : Option X) (e : JsonFault) → P e → Tells P (ok_or o e)
 or_told P None e told = told
 or_told P (Some x) e told = tt
+
+are_all : (o : Option ℕ) (u : ⊤) → are_objects o ≡ Ok u → o ≡ None
+are_all None u e = refl
+are_all (Some place) u e = cc
 
 -- ---- the key tables tell 34 to 36
 
@@ -208,85 +220,21 @@ element_tells d =
     then_told P (passes_unless (first_extra Transaction ms)) _ (extra_tells d ms (first_extra Transaction ms) refl (is_object d ms (ok_or_ok _ _ _ r1))) (λ t r3.
     tt)))
 
--- the least extra key of the element at a place, where the first element has the place that is given
-record IsExtraAt (ds : Items) (first place : ℕ) (name : List ℕ) : Type 0 where
-  before : ℕ
-  is_place : place ≡ before + first
-  members : Members
-  element : get_item before ds ≡ Some (object members)
-  is_first : first_extra Transaction members ≡ Some name
-
-abbrev IsOfElements : Items → ℕ → JsonFault → Type 0
-IsOfElements ds first fault.NotObject = Unit {0}
-IsOfElements ds first (fault.At place (key_fault.Extra name)) = IsExtraAt ds first place name
-IsOfElements ds first (fault.At place other) = Unit {0}
-IsOfElements ds first other = ⊥
-
-placed_tells : (d : Data) (ds : Items) (first : ℕ) (e : JsonFault) → IsOfElement d e → IsOfElements (item d ds) first (placed first e)
-placed_tells d ds first fault.Memory told = absurd told
-placed_tells d ds first fault.NotJson told = absurd told
-placed_tells d ds first fault.NotObject told = tt
-placed_tells d ds first fault.UnknownKind told = absurd told
-placed_tells d ds first (fault.Missing key) told = tt
-placed_tells d ds first (fault.NotText key) told = tt
-placed_tells d ds first (fault.Element key e) told = tt
-placed_tells d ds first (fault.Extra name) (ms, is, extra) = record {
-  before = 0;
-  is_place = omega arith;
-  members = ms;
-  element = ap (λ (v : Data). Some v) is;
-  is_first = extra;
-}
-placed_tells d ds first (fault.Rule broken) told = absurd told
-placed_tells d ds first (fault.BadTransactions place) told = absurd told
-placed_tells d ds first (fault.At place e) told = absurd told
-
-here_tells : {X : Type 0} (d : Data) (ds : Items) (first : ℕ) (r : Result X JsonFault) → Tells (IsOfElement d) r → Tells (IsOfElements (item d ds) first) (at_place first r)
-here_tells d ds first (Ok x) told = tt
-here_tells d ds first (Err e) told = placed_tells d ds first e told
-
-later_told : (d : Data) (ds : Items) (first : ℕ) (e : JsonFault) → IsOfElements ds (first + 1) e → IsOfElements (item d ds) first e
-later_told d ds first fault.Memory told = absurd told
-later_told d ds first fault.NotJson told = absurd told
-later_told d ds first fault.NotObject told = tt
-later_told d ds first fault.UnknownKind told = absurd told
-later_told d ds first (fault.Missing key) told = absurd told
-later_told d ds first (fault.NotText key) told = absurd told
-later_told d ds first (fault.Element key e) told = absurd told
-later_told d ds first (fault.Extra name) told = absurd told
-later_told d ds first (fault.Rule broken) told = absurd told
-later_told d ds first (fault.BadTransactions place) told = absurd told
-later_told d ds first (fault.At place (key_fault.Missing key)) told = tt
-later_told d ds first (fault.At place (key_fault.NotText key)) told = tt
-later_told d ds first (fault.At place (key_fault.Element key e)) told = tt
-later_told d ds first (fault.At place (key_fault.Extra name)) told = let at = told.is_place in record {
-  before = suc told.before;
-  is_place = omega (arith, at);
-  members = told.members;
-  element = told.element;
-  is_first = told.is_first;
-}
-
-later_tells : {X : Type 0} (d : Data) (ds : Items) (first : ℕ) (r : Result X JsonFault) → Tells (IsOfElements ds (first + 1)) r → Tells (IsOfElements (item d ds) first) r
-later_tells d ds first (Ok x) told = tt
-later_tells d ds first (Err e) told = later_told d ds first e told
-
-elements_tell : (first : ℕ) (ds : Items) → Tells (IsOfElements ds first) (elements_in first (items_list ds))
-elements_tell first no_items = tt
-elements_tell first (item d ds) =
-    let P : JsonFault → Type 0 = IsOfElements (item d ds) first in
-    then_told P (at_place first (element_in d)) _ (here_tells d ds first (element_in d) (element_tells d)) (λ tx r1.
-    then_told P (elements_in (first + 1) (items_list ds)) _ (later_tells d ds first (elements_in (first + 1) (items_list ds)) (elements_tell (first + 1) ds)) (λ txs r2.
-    tt))
-
 -- ---- the list of a camt.056
 
--- the least extra key of the element at a place of the object's list, counted from 1
-record IsExtraInList (d : Data) (place : ℕ) (name : List ℕ) : Type 0 where
+-- the object is a camt.056, and the value at its TxInf has the property
+record HasListOf (d : Data) (Has : Data → Type 0) : Type 0 where
   is_of_kind : kind_in d ≡ Some Camt056
+  list : Data
+  is_at_key : get (key_text key.TxInf) d ≡ Some list
+  has : Has list
+
+-- the value is a list of objects, and the fault is that of its first element that is no transaction
+record IsRefusedList (e : JsonFault) (list : Data) : Type 0 where
   items : Items
-  list : get (key_text key.TxInf) d ≡ Some (array items)
-  extra : IsExtraAt items 1 place name
+  is_right : IsRightList list items
+  are_objects : (n : ℕ) (element : Data) → get_item n items ≡ Some element → IsObject element
+  refused : IsRefusedAt items 1 e
 
 -- what is told of an object
 abbrev IsTold : Data → JsonFault → Type 0
@@ -299,51 +247,85 @@ IsTold d (fault.NotText key) = Unit {0}
 IsTold d (fault.Element key e) = Unit {0}
 IsTold d (fault.Extra name) = (kind : Kind) × (ms : Members) × (d ≡ object ms) × (kind_in d ≡ Some kind) × (first_extra (shape_in kind d) ms ≡ Some name)
 IsTold d (fault.Rule broken) = (m : Draft) × (first_broken_rule m ≡ Some broken) × (is_name_of (kind_of m) (head_of m).message_name ≡ true)
-IsTold d (fault.BadTransactions place) = Unit {0}
-IsTold d (fault.At place (key_fault.Extra name)) = IsExtraInList d place name
-IsTold d (fault.At place other) = Unit {0}
+IsTold d (fault.BadTransactions place) = HasListOf d (λ list. IsNoListOfObjects list place)
+IsTold d (fault.At place why) = HasListOf d (IsRefusedList (fault.At place why))
 
 told_keyed : (d : Data) → IsOfKeys (IsTold d)
 told_keyed d = record { missing = λ key. tt; not_text = λ key. tt; element = λ key e. tt }
 
-told_of_elements : (d : Data) (ds : Items) (e : JsonFault) → kind_in d ≡ Some Camt056 → get (key_text key.TxInf) d ≡ Some (array ds) → IsOfElements ds 1 e → IsTold d e
-told_of_elements d ds fault.Memory at list told = absurd told
-told_of_elements d ds fault.NotJson at list told = absurd told
-told_of_elements d ds fault.NotObject at list told = tt
-told_of_elements d ds fault.UnknownKind at list told = absurd told
-told_of_elements d ds (fault.Missing key) at list told = absurd told
-told_of_elements d ds (fault.NotText key) at list told = absurd told
-told_of_elements d ds (fault.Element key e) at list told = absurd told
-told_of_elements d ds (fault.Extra name) at list told = absurd told
-told_of_elements d ds (fault.Rule broken) at list told = absurd told
-told_of_elements d ds (fault.BadTransactions place) at list told = absurd told
-told_of_elements d ds (fault.At place (key_fault.Missing key)) at list told = tt
-told_of_elements d ds (fault.At place (key_fault.NotText key)) at list told = tt
-told_of_elements d ds (fault.At place (key_fault.Element key e)) at list told = tt
-told_of_elements d ds (fault.At place (key_fault.Extra name)) at list told = record { is_of_kind = at; items = ds; list = list; extra = told }
+module _ (d list : Data) (at : kind_in d ≡ Some Camt056) (stands : get (key_text key.TxInf) d ≡ Some list) where
+  list_told : (Has : Data → Type 0) → Has list → HasListOf d Has
+  list_told Has has = record { is_of_kind = at; list = list; is_at_key = stands; has = has }
 
-elements_told : {X : Type 0} (d : Data) (ds : Items) (r : Result X JsonFault) → kind_in d ≡ Some Camt056 → get (key_text key.TxInf) d ≡ Some (array ds) → Tells (IsOfElements ds 1) r → Tells (IsTold d) r
-elements_told d ds (Ok x) at list told = tt
-elements_told d ds (Err e) at list told = told_of_elements d ds e at list told
+  told_at : (e : JsonFault) (place : ℕ) (why : KeyFault) → e ≡ fault.At place why → IsRefusedList e list → IsTold d e
+  told_at e place why same h = subst (IsTold d) (sym same) (list_told (IsRefusedList (fault.At place why)) (subst (λ (f : JsonFault). IsRefusedList f list) same h))
 
-counted_tells : (d : Data) (b : Bool) → Tells {X = ⊤} (IsTold d) (cond b (Ok tt) (Err (fault.BadTransactions 0)))
-counted_tells d true = tt
-counted_tells d false = tt
+  told_by : (place : ℕ) (element : Data) (e why : JsonFault) → IsOfElement element why → e ≡ placed place why → IsRefusedList e list → IsTold d e
+  told_by place element e fault.Memory told same h = absurd told
+  told_by place element e fault.NotJson told same h = absurd told
+  told_by place element e fault.NotObject told same h = subst (IsTold d) (sym same) tt
+  told_by place element e fault.UnknownKind told same h = absurd told
+  told_by place element e (fault.Missing key) told same h = told_at e place (key_fault.Missing key) same h
+  told_by place element e (fault.NotText key) told same h = told_at e place (key_fault.NotText key) same h
+  told_by place element e (fault.Element key f) told same h = told_at e place (key_fault.Element key f) same h
+  told_by place element e (fault.Extra name) told same h = told_at e place (key_fault.Extra name) same h
+  told_by place element e (fault.Rule broken) told same h = absurd told
+  told_by place element e (fault.BadTransactions other) told same h = absurd told
+  told_by place element e (fault.At other f) told same h = absurd told
 
-objects_tell : (d : Data) (o : Option ℕ) → Tells (IsTold d) (are_objects o)
-objects_tell d None = tt
-objects_tell d (Some place) = tt
+  elements_tell : (items : Items) (r : Result (List RecallTx) JsonFault) → IsRightList list items → first_no_object 1 (items_list items) ≡ None → elements_in 1 (items_list items) ≡ r → Tells (IsTold d) r
+  elements_tell items (Ok txs) right objects read = tt
+  elements_tell items (Err e) right objects read =
+      let at_element : IsRefusedAt items 1 e = first_is_refused 1 items e read in
+      told_by (at_element.before + 1) at_element.element e at_element.why
+      (subst (λ (r : Result RecallTx JsonFault). Tells (IsOfElement at_element.element) r) at_element.refused (element_tells at_element.element)) at_element.is_placed
+      (record { items = items; is_right = right; are_objects = each_is_object 1 items objects; refused = at_element })
 
-list_tells : (d list : Data) → kind_in d ≡ Some Camt056 → get (key_text key.TxInf) d ≡ Some list → Tells (IsTold d) (list_in list)
-unfolding list_in
-list_tells d list at stands =
-    let P : JsonFault → Type 0 = IsTold d in
-    then_told P (ok_or (items_in list) (fault.BadTransactions 0)) _ (or_told P (items_in list) _ tt) (λ ds r1.
-    let its : IsListOf list ds = its_items list ds (ok_or_ok _ _ _ r1) in
-    then_told P (counted ds) _ (counted_tells d (is_right_count (length ds))) (λ t r2.
-    then_told P (are_objects (first_no_object 1 ds)) _ (objects_tell d (first_no_object 1 ds)) (λ u r3.
-    elements_told d its.items (elements_in 1 ds) at (stands ∙ ap (λ (v : Data). Some v) its.is_array)
-    (subst (λ (all : List Data). Tells (IsOfElements its.items 1) (elements_in 1 all)) its.same (elements_tell 1 its.items)))))
+  place_told : (items : Items) (place : ℕ) → IsRightList list items → IsFirstFrom IsObject items 1 place → IsNoListOfObjects list place
+  place_told items zero right first = let at_place = first.is_place in absurd (omega (arith, at_place))
+  place_told items (suc n) right first = (
+    items,
+    right,
+    record {
+      before = first.before;
+      is_place = first.is_place;
+      element = first.element;
+      stands = first.stands;
+      lacks = first.lacks;
+      earlier = first.earlier;
+    },
+  )
+
+  objects_tell : (items : Items) (o : Option ℕ) → IsRightList list items → first_no_object 1 (items_list items) ≡ o → Tells (IsTold d) (are_objects o)
+  objects_tell items None right first = tt
+  objects_tell items (Some place) right first = list_told (λ (v : Data). IsNoListOfObjects v place) (place_told items place right (first_is_no_object 1 items place first))
+
+  same_items : (left right : Items) → array left ≡ array right → left ≡ right
+  same_items left right e = cc
+
+  counted_tells : (items : Items) (b : Bool) → list ≡ array items → is_right_count (length (items_list items)) ≡ b → Tells {X = ⊤} (IsTold d) (cond b (Ok tt) (Err (fault.BadTransactions 0)))
+  counted_tells items true is_list e = tt
+  counted_tells items false is_list e = list_told (λ (v : Data). IsNoListOfObjects v 0) (λ others right.
+      let same : items ≡ others = same_items items others (sym is_list ∙ right.is_list) in
+      false≢true (sym e ∙ ap (λ (all : Items). is_right_count (length (items_list all))) same ∙ right.is_right))
+
+  array_tells : (o : Option (List Data)) → items_in list ≡ o → Tells (IsTold d) (ok_or o (fault.BadTransactions 0))
+  array_tells None none = list_told (λ (v : Data). IsNoListOfObjects v 0) (λ items right.
+      let some : items_in list ≡ Some (items_list items) = ap items_in right.is_list in
+      none_or_some (items_list items) (sym none ∙ some))
+  array_tells (Some ds) some = tt
+
+  list_tells : Tells (IsTold d) (list_in list)
+  unfolding list_in
+  list_tells =
+      let P : JsonFault → Type 0 = IsTold d in
+      then_told P (ok_or (items_in list) (fault.BadTransactions 0)) _ (array_tells (items_in list) refl) (λ ds r1.
+      let its : IsListOf list ds = its_items list ds (ok_or_ok _ _ _ r1) in
+      subst (λ (all : List Data). Tells P (counted all >>= λ few. are_objects (first_no_object 1 all) >>= λ objects. elements_in 1 all)) its.same
+      (then_told P (counted (items_list its.items)) _ (counted_tells its.items (is_right_count (length (items_list its.items))) its.is_array refl) (λ t r2.
+      let right : IsRightList list its.items = record { is_list = its.is_array; is_right = counted_at (is_right_count (length (items_list its.items))) t r2 } in
+      then_told P (are_objects (first_no_object 1 (items_list its.items))) _ (objects_tell its.items (first_no_object 1 (items_list its.items)) right refl) (λ u r3.
+      elements_tell its.items (elements_in 1 (items_list its.items)) right (are_all (first_no_object 1 (items_list its.items)) u r3) refl))))
 
 flat_tells : (d : Data) → Tells (IsTold d) (flat_recall_in d)
 unfolding flat_recall_in
@@ -467,26 +449,115 @@ ascend_at_place n no_items d all e = cc
 ascend_at_place zero (item v ds) d all e = let same : v ≡ d = cc in subst NamesAscend same all.0
 ascend_at_place (suc n) (item v ds) d all e = ascend_at_place n ds d all.1 e
 
+-- the fault of an element at a place is that of its why
+record IsExtraOf (element : Data) (place other : ℕ) (name : List ℕ) : Type 0 where
+  members : Members
+  is_object : element ≡ object members
+  is_first : first_extra Transaction members ≡ Some name
+  is_place : place ≡ other
+
+same_place_name : (place other : ℕ) (name found : List ℕ) → fault.At place (key_fault.Extra name) ≡ fault.At other (key_fault.Extra found) → (place ≡ other) × (found ≡ name)
+same_place_name place other name found e = (cc, cc)
+
+extra_of : (element : Data) (place other : ℕ) (name : List ℕ) (why : JsonFault) → IsOfElement element why → fault.At place (key_fault.Extra name) ≡ placed other why → IsExtraOf element place other name
+extra_of element place other name fault.Memory told e = absurd told
+extra_of element place other name fault.NotJson told e = absurd told
+extra_of element place other name fault.NotObject told e = cc
+extra_of element place other name fault.UnknownKind told e = absurd told
+extra_of element place other name (fault.Missing key) told e = cc
+extra_of element place other name (fault.NotText key) told e = cc
+extra_of element place other name (fault.Element key f) told e = cc
+extra_of element place other name (fault.Extra found) (ms, is, first) e =
+    let same : (place ≡ other) × (found ≡ name) = same_place_name place other name found e in record {
+      members = ms;
+      is_object = is;
+      is_first = first ∙ ap (λ (k : List ℕ). Some k) same.1;
+      is_place = same.0;
+    }
+extra_of element place other name (fault.Rule broken) told e = absurd told
+extra_of element place other name (fault.BadTransactions count) told e = absurd told
+extra_of element place other name (fault.At count f) told e = absurd told
+
 -- and so is that of an element
 pub element_key_is_least : (bytes : List ℕ) (place : ℕ) (name : List ℕ) → message_in bytes ≡ Err (fault.At place (key_fault.Extra name)) → HasLeastExtraKeyAt bytes place name
 element_key_is_least bytes place name h = elim (refused bytes _ h) [
   | inl other ↦ cc
   | inr (d, stands, told) ↦
-      let extra : IsExtraAt told.items 1 place name = told.extra in
-      let items_ascend : NamesAscend (array told.items) = ascend_in (key_text key.TxInf) d (array told.items) (names_read bytes d stands.value) told.list in
-      let element_ascends : NamesAscend (object extra.members) = ascend_at_place extra.before told.items (object extra.members) items_ascend extra.element in
+      let r : IsRefusedAt told.has.items 1 (fault.At place (key_fault.Extra name)) = told.has.refused in
+      let extra : IsExtraOf r.element place (r.before + 1) name =
+      extra_of r.element place (r.before + 1) name r.why (subst (λ (read : Result RecallTx JsonFault). Tells (IsOfElement r.element) read) r.refused (element_tells r.element)) r.is_placed in
+      let list : get (key_text key.TxInf) d ≡ Some (array told.has.items) = told.is_at_key ∙ ap (λ (v : Data). Some v) told.has.is_right.is_list in
+      let element : get_item r.before told.has.items ≡ Some (object extra.members) = r.stands ∙ ap (λ (v : Data). Some v) extra.is_object in
+      let items_ascend : NamesAscend (array told.has.items) = ascend_in (key_text key.TxInf) d (array told.has.items) (names_read bytes d stands.value) list in
+      let element_ascends : NamesAscend (object extra.members) = ascend_at_place r.before told.has.items (object extra.members) items_ascend element in
       record {
         whole = d;
         stands = stands;
         is_of_kind = told.is_of_kind;
-        items = told.items;
-        list = told.list;
-        before = extra.before;
+        items = told.has.items;
+        list = list;
+        before = r.before;
         is_place = extra.is_place;
         members = extra.members;
-        element = extra.element;
+        element = element;
         least = first_is_least Transaction extra.members name element_ascends.0 extra.is_first;
       }
+]
+
+-- the place of 46 is that of the first element that is no object
+pub place_is_first_no_object : (bytes : List ℕ) (place : ℕ) → message_in bytes ≡ Err (fault.BadTransactions place) → HasList (λ list. IsNoListOfObjects list place) bytes
+place_is_first_no_object bytes place h = elim (refused bytes _ h) [
+  | inl other ↦ cc
+  | inr (d, stands, told) ↦ record { whole = d; stands = stands; is_of_kind = told.is_of_kind; list = told.list; is_at_key = told.is_at_key; has = told.has }
+]
+
+placed_there : (place other : ℕ) (why : KeyFault) (f : JsonFault) → fault.At place why ≡ placed other f → ((n : ℕ) (k : KeyFault) → f ≢ fault.At n k) → place ≡ other
+placed_there place other why fault.Memory e none = cc
+placed_there place other why fault.NotJson e none = cc
+placed_there place other why fault.NotObject e none = cc
+placed_there place other why fault.UnknownKind e none = cc
+placed_there place other why (fault.Missing key) e none = cc
+placed_there place other why (fault.NotText key) e none = cc
+placed_there place other why (fault.Element key f) e none = cc
+placed_there place other why (fault.Extra name) e none = cc
+placed_there place other why (fault.Rule broken) e none = cc
+placed_there place other why (fault.BadTransactions count) e none = cc
+placed_there place other why (fault.At count f) e none = absurd (none count f refl)
+
+no_place_yet : (element : Data) (why : JsonFault) → IsOfElement element why → (n : ℕ) (k : KeyFault) → why ≢ fault.At n k
+no_place_yet element why told n k same = subst (IsOfElement element) same told
+
+no_refused_transaction : (d : Data) (e : JsonFault) → element_in d ≡ Err e → IsSomeTransaction d → ⊥
+no_refused_transaction d e refused (tx, is) = let read : element_in d ≡ Ok tx = holds_element d tx is in cc
+
+first_refused_lacks : (items : Items) (place : ℕ) (why : KeyFault) → IsRefusedAt items 1 (fault.At place why) → IsFirstWithout IsSomeTransaction items place
+first_refused_lacks items place why r =
+    let told : IsOfElement r.element r.why = subst (λ (read : Result RecallTx JsonFault). Tells (IsOfElement r.element) read) r.refused (element_tells r.element) in record {
+      before = r.before;
+      is_place = placed_there place (r.before + 1) why r.why r.is_placed (no_place_yet r.element r.why told);
+      element = r.element;
+      stands = r.stands;
+      lacks = no_refused_transaction r.element r.why r.refused;
+      earlier = r.earlier;
+    }
+
+-- the place of 56 is that of the first element that is no transaction
+pub place_is_first_no_transaction : (bytes : List ℕ) (place : ℕ) (why : KeyFault) → message_in bytes ≡ Err (fault.At place why) → HasList (λ list. IsNoListOfTransactions list place) bytes
+place_is_first_no_transaction bytes place why h = elim (refused bytes _ h) [
+  | inl other ↦ cc
+  | inr (d, stands, told) ↦ record {
+    whole = d;
+    stands = stands;
+    is_of_kind = told.is_of_kind;
+    list = told.list;
+    is_at_key = told.is_at_key;
+    has = record {
+      items = told.has.items;
+      is_right = told.has.is_right;
+      are_objects = told.has.are_objects;
+      first = first_refused_lacks told.has.items place why told.has.refused;
+    };
+  }
 ]
 
 -- no message is refused for its name

@@ -34,7 +34,7 @@ use Rattle.sct_message.specs.Rules.{first_broken_rule, broken_first, broken_in_k
 use Rattle.sct_json.specs.declared.keys.Key.{Key}
 use Rattle.sct_json.specs.declared.keys.Key.TheVariants as key
 use Rattle.sct_json.specs.declared.keys.Shape.TheVariants.{Listed, Transaction}
-use Rattle.sct_json.specs.Keys.{key_text, is_among, is_key_of, is_key_in}
+use Rattle.sct_json.specs.Keys.{key_text, is_key_among, is_key_of, is_key_in}
 use Rattle.sct_json.specs.Reading.{name_of, remittance_of, names_of, items_list, listed_or_flat, object_in}
 use Rattle.sct_json.specs.Form.{Holds, MayHold, HoldsHead, HoldsOriginal, HoldsCreditTransfer, HoldsStatusReport, HoldsStatusRequest, HoldsTransaction, IsTransaction, AreTransactions, HoldsOne, HoldsList, HoldsRecalls, HoldsPaymentReturn, HoldsResolution, HoldsElements, HasKeysIn, HasKeysOf}
 use Rattle.sct_json.specs.Writing.{Row, with_text, with_rows, with_elements, written_object, head_rows, original_rows, credit_transfer_rows, status_report_rows, status_request_rows, transaction_rows, payment_return_rows, resolution_rows, with_head, with_original, with_list, with_transactions, transaction_objects, ReadsBack, MayReadBack, HeadReadsBack, OriginalReadsBack, CreditTransferReadsBack, StatusReportReadsBack, StatusRequestReadsBack, TransactionReadsBack, PaymentReturnReadsBack, ResolutionReadsBack, ElementsReadBack}
@@ -204,7 +204,7 @@ one_written h tx head_back back = let d : Data = object (one_members h tx) in re
 }
 
 keys_of_one : (h : Head) (tx : RecallTx) → HasKeysOf Camt056 (object (one_members h tx))
-unfolding is_among
+unfolding is_key_among
 keys_of_one h tx = subst (λ (list : Option Data). HasKeysIn (listed_or_flat list) (object (one_members h tx))) (sym (in_one h tx key.TxInf)) (
   one_members h tx,
   refl,
@@ -220,7 +220,7 @@ in_element : (tx : RecallTx) (k : Key) → get (key_text k) (object (element_mem
 in_element tx k = get_with (key_text k) (transaction_rows tx) no_members
 
 element_written : (tx : RecallTx) → TransactionReadsBack tx → IsTransaction (object (element_members tx)) tx
-unfolding is_among
+unfolding is_key_among
 element_written tx back = record {
   keys = (element_members tx, refl, names_with (is_key_in Transaction) (transaction_rows tx) no_members refl refl);
   elements = transaction_written (object (element_members tx)) tx back (in_element tx key.CxlId) (in_element tx key.OrgnlMsgId) (in_element tx key.OrgnlMsgNmId) (in_element tx key.OrgnlEndToEndId) (in_element tx key.OrgnlTxId) (in_element tx key.OrgnlIntrBkSttlmAmt) (in_element tx key.Ccy) (in_element tx key.OrgnlIntrBkSttlmDt) (in_element tx key.Rsn) (in_element tx key.DbtrAgt);
@@ -256,7 +256,7 @@ list_written h txs head_back back few = let d : Data = object (list_members h tx
 }
 
 keys_of_list : (h : Head) (txs : List RecallTx) → HasKeysOf Camt056 (object (list_members h txs))
-unfolding is_among
+unfolding is_key_among
 keys_of_list h txs = subst (λ (list : Option Data). HasKeysIn (listed_or_flat list) (object (list_members h txs))) (sym (at_list h txs)) (
   list_members h txs,
   refl,
@@ -330,7 +330,7 @@ resolution_written m back = let d : Data = written_object (draft.Resolution m) i
 -- ---- every kind
 
 keys_written : (m : Draft) → HasKeysOf (kind_of m) (written_object m)
-unfolding is_among
+unfolding is_key_among
 keys_written (draft.CreditTransfer m) = (with_elements (draft.CreditTransfer m) no_members, refl, names_with (is_key_of Pacs008) (credit_transfer_rows m) (with_head m.head no_members) refl (names_with (is_key_of Pacs008) (head_rows m.head) no_members refl refl))
 keys_written (draft.StatusReport m) = (with_elements (draft.StatusReport m) no_members, refl, names_with (is_key_of Pacs002) (status_report_rows m) (with_original m.original (with_head m.head no_members)) refl (names_with (is_key_of Pacs002) (original_rows m.original) (with_head m.head no_members) refl (names_with (is_key_of Pacs002) (head_rows m.head) no_members refl refl)))
 keys_written (draft.StatusRequest m) = (with_elements (draft.StatusRequest m) no_members, refl, names_with (is_key_of Pacs028) (status_request_rows m) (with_original m.original (with_head m.head no_members)) refl (names_with (is_key_of Pacs028) (original_rows m.original) (with_head m.head no_members) refl (names_with (is_key_of Pacs028) (head_rows m.head) no_members refl refl)))

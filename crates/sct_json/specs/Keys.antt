@@ -1,8 +1,6 @@
 -- The keys of the JSON form (short names of ISO 20022), and those of each kind and each shape. Read by an auditor.
-use Rattle.std.specs.Prelude.{ℕ, List, [], ◌∷◌, ◌==◌, ◌||◌, Bool, false, codes, if◌then◌else◌}
+use Rattle.std.specs.Prelude.{ℕ, List, [], ◌∷◌, ◌||◌, Bool, codes}
 use Rattle.std.specs.List.{list_any}
-use Rattle.std.specs.Ordering.{nat_cmp, is_lt}
-use Rattle.std.specs.Cmp.Lexicographic.{slice_cmp}
 use Rattle.sct_message.specs.declared.kinds.Kind.{Kind}
 use Rattle.sct_message.specs.declared.kinds.Kind.TheVariants.{Camt029, Camt056, Pacs002, Pacs004, Pacs008, Pacs028}
 use Rattle.sct_element.specs.Text.{is_text}
@@ -85,55 +83,25 @@ abbrev pub resolution_keys : List Key
 resolution_keys = CxlStsId ∷ OrgnlCxlId ∷ Conf ∷ Rsn ∷ DbtrAgt ∷ []
 
 -- a name is the text of one of these keys
-unfoldable pub is_among : List Key → List ℕ → Bool
-is_among keys name = list_any (λ key. is_text name (key_text key)) keys
-
--- what is left of the keys from the first that does not stand before the name by its bytes
-abbrev pub keys_from : List ℕ → List Key → List Key
-keys_from name [] = []
-keys_from name (key ∷ keys) = if is_lt (slice_cmp nat_cmp (key_text key) name) then keys_from name keys else key ∷ keys
-
--- the name is the text of the first of the keys
-abbrev pub is_first : List ℕ → List Key → Bool
-is_first name [] = false
-is_first name (key ∷ keys) = is_text name (key_text key)
+unfoldable pub is_key_among : List Key → List ℕ → Bool
+is_key_among keys name = list_any (λ key. is_text name (key_text key)) keys
 
 -- the keys that a message of a kind may have
 abbrev pub is_key_of : Kind → List ℕ → Bool
 is_key_of Camt029 name =
-    is_among head_keys name || is_among original_keys name || is_among resolution_keys name
+    is_key_among head_keys name || is_key_among original_keys name || is_key_among resolution_keys name
 is_key_of Camt056 name =
-    is_among head_keys name || is_among original_keys name || is_among cancellation_request_keys name
+    is_key_among head_keys name || is_key_among original_keys name || is_key_among cancellation_request_keys name
 is_key_of Pacs002 name =
-    is_among head_keys name || is_among original_keys name || is_among status_report_keys name
+    is_key_among head_keys name || is_key_among original_keys name || is_key_among status_report_keys name
 is_key_of Pacs004 name =
-    is_among head_keys name || is_among original_keys name || is_among payment_return_keys name
-is_key_of Pacs008 name = is_among head_keys name || is_among credit_transfer_keys name
+    is_key_among head_keys name || is_key_among original_keys name || is_key_among payment_return_keys name
+is_key_of Pacs008 name = is_key_among head_keys name || is_key_among credit_transfer_keys name
 is_key_of Pacs028 name =
-    is_among head_keys name || is_among original_keys name || is_among status_request_keys name
+    is_key_among head_keys name || is_key_among original_keys name || is_key_among status_request_keys name
 
 -- the keys that an object of a shape may have
 abbrev pub is_key_in : Shape → List ℕ → Bool
 is_key_in (Flat kind) name = is_key_of kind name
-is_key_in Listed name = is_among head_keys name || is_among list_keys name
-is_key_in Transaction name = is_among original_keys name || is_among cancellation_request_keys name
-
--- the keys whose texts have a length
-unfoldable pub keys_of_length : ℕ → List Key
-keys_of_length n =
-    if n == 3 then Ccy ∷ Rsn ∷ [] else
-    if n == 4 then TxId ∷ Dbtr ∷ Cdtr ∷ Conf ∷ [] else
-    if n == 5 then MsgId ∷ TxSts ∷ Ustrd ∷ CxlId ∷ RtrId ∷ TxInf ∷ [] else
-    if n == 6 then SvcLvl ∷ ChrgBr ∷ [] else
-    if n == 7 then MsgNmId ∷ DbtrAgt ∷ CreDtTm ∷ CdtrAgt ∷ InstrId ∷ [] else
-    if n == 8 then InstgAgt ∷ InstdAgt ∷ DbtrAcct ∷ CdtrAcct ∷ CxlStsId ∷ [] else
-    if n == 9 then OrgnlTxId ∷ LclInstrm ∷ [] else
-    if n == 10 then OrgnlMsgId ∷ EndToEndId ∷ OrgnlCxlId ∷ [] else
-    if n == 11 then AccptncDtTm ∷ [] else
-    if n == 12 then OrgnlMsgNmId ∷ [] else
-    if n == 13 then IntrBkSttlmDt ∷ [] else
-    if n == 14 then IntrBkSttlmAmt ∷ [] else
-    if n == 15 then OrgnlEndToEndId ∷ [] else
-    if n == 18 then OrgnlIntrBkSttlmDt ∷ RtrdIntrBkSttlmAmt ∷ [] else
-    if n == 19 then OrgnlIntrBkSttlmAmt ∷ [] else
-    []
+is_key_in Listed name = is_key_among head_keys name || is_key_among list_keys name
+is_key_in Transaction name = is_key_among original_keys name || is_key_among cancellation_request_keys name

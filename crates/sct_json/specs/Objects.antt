@@ -2,6 +2,7 @@
 use Rattle.std.specs.Prelude.{◌≡◌, ℕ, List, [], ◌∷◌, true, Option, Some, None, Result, Ok, Err, if◌then◌else◌}
 use Rattle.json.specs.Token as json
 use Rattle.serde_json.specs.Data.{Data, string, object, Members, no_members, put}
+use Rattle.serde_json.specs.Find.{as_str}
 use Rattle.sct_element.specs.Text.{is_text}
 use Rattle.sct_json.specs.declared.keys.Key.{Key}
 use Rattle.sct_json.specs.declared.object.Found.{Found}
@@ -10,11 +11,11 @@ use Rattle.sct_json.specs.declared.faults.JsonFault.{JsonFault}
 use Rattle.sct_json.specs.Keys.{key_text}
 use Rattle.sct_json.specs.Reading.{FailsWhere}
 
--- what is at a key: nothing, a value that is not a text, or a text
-abbrev pub text_found : Found → Option (Option (List ℕ))
-text_found Nothing = None
-text_found NoText = Some None
-text_found (Text s) = Some (Some s.now)
+-- at a key is nothing, a value that is no text, or this text
+abbrev pub IsFound : Found → Option Data → Type 0
+IsFound Nothing value = value ≡ None
+IsFound NoText value = (d : Data) × (value ≡ Some d) × (as_str d ≡ None)
+IsFound (Text s) value = value ≡ Some (string s.now)
 
 -- texts at keys, put in one after another: of two at one key the later stays
 abbrev pub put_texts : List (Key × List ℕ) → Members → Members

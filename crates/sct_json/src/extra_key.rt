@@ -4,7 +4,8 @@ ghost use Rattle.std.specs.Prelude.{◌≡◌, find, not, is_some, string_bytes}
 ghost use Rattle.std.specs.Option.{option_copied};
 ghost use Rattle.std.specs.BTreeMap.{keys};
 ghost use Rattle.serde_json.specs.View.{members_view};
-ghost use Rattle.sct_json.specs.Keys.{keys_from, is_first, is_key_in};
+ghost use Rattle.sct_json.specs.KeyLookups.{keys_from, is_first};
+ghost use Rattle.sct_json.specs.Keys.{is_key_in};
 ghost use Rattle.sct_json.specs.Reading.{GivesWhere, first_extra, passes_unless};
 
 use crate::faults::{ExtraKey, JsonFault};

@@ -3,7 +3,8 @@ ghost use Rattle.std.specs.Prelude.{◌≡◌, ℕ, List, Some, IfSome, find, ma
 ghost use Rattle.std.specs.Option.{option_copied};
 ghost use Rattle.sct_element.specs.Text.{is_text};
 ghost use Rattle.sct_message.specs.declared.kinds.Kind.{Kind};
-ghost use Rattle.sct_json.specs.Keys.{key_text, is_among, is_key_of, is_key_in, keys_of_length};
+ghost use Rattle.sct_json.specs.KeyLookups.{keys_of_length};
+ghost use Rattle.sct_json.specs.Keys.{key_text, is_key_among, is_key_of, is_key_in};
 ghost use Rattle.sct_json.specs.Names.{AscendByBytes};
 
 use sct_message::Kind;
@@ -157,7 +158,7 @@ fn first_of_text<'a>(keys: &'a [Key], text: &str) -> Option<&'a Key>
 }
 
 /// The keys whose texts have a length.
-#[tactic(auto, unfolding(crate::specs::Keys::keys_of_length))]
+#[tactic(auto, unfolding(crate::specs::KeyLookups::keys_of_length))]
 fn keys_of_length(length: usize) -> &'static [Key]
     ensures { result.now ≡ keys_of_length length }
 {
@@ -353,7 +354,7 @@ static RESOLUTION_KEYS: [Key; 14] = [
 /// The keys of a message of a kind, a camt.056 with one transaction, in the order of their bytes.
 fn keys_of(kind: Kind) -> &'static [Key]
     ensures ascend { AscendByBytes (map key_text result.now) }
-    ensures all { (name : List ℕ) → is_among result.now name ≡ is_key_of kind name }
+    ensures all { (name : List ℕ) → is_key_among result.now name ≡ is_key_of kind name }
 {
     match kind {
         Kind::Pacs008 => &CREDIT_TRANSFER_KEYS,
@@ -368,7 +369,7 @@ fn keys_of(kind: Kind) -> &'static [Key]
 /// The keys of a shape, in the order of their bytes.
 pub(crate) fn keys_in(shape: Shape) -> &'static [Key]
     ensures ascend { AscendByBytes (map key_text result.now) }
-    ensures all { (name : List ℕ) → is_among result.now name ≡ is_key_in shape name }
+    ensures all { (name : List ℕ) → is_key_among result.now name ≡ is_key_in shape name }
 {
     match shape {
         Shape::Flat(kind) => keys_of(kind),

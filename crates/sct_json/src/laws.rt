@@ -1,6 +1,7 @@
 //! Laws of reading and writing. Each law is the contract of a function that does nothing.
 ghost use Rattle.std.specs.Prelude.{◌≡◌, ◌≢◌, ◌↔◌, ℕ, List, ◌∷◌, Some, Ok, Err, IsTrue};
 ghost use Rattle.sct_json.specs.declared.faults.JsonFault.TheVariants as fault;
+ghost use Rattle.sct_json.specs.declared.faults.KeyFault.{KeyFault};
 ghost use Rattle.sct_json.specs.declared.faults.KeyFault.TheVariants as key_fault;
 ghost use Rattle.serde_json.specs.Data.{Data, Members, object};
 ghost use Rattle.serde_json.specs.Read.{read};
@@ -8,6 +9,7 @@ ghost use Rattle.serde_json.specs.Written.{compact_text};
 ghost use Rattle.sct_message.specs.declared.rules.RuleFault.TheVariants.{WrongName};
 ghost use Rattle.sct_message.specs.declared.draft.Draft.{Draft as Elements};
 ghost use Rattle.sct_json.specs.Names.{NamesAscend, HasLeastExtraKey, HasLeastExtraKeyAt};
+ghost use Rattle.sct_json.specs.Places.{HasList, IsNoListOfObjects, IsNoListOfTransactions};
 ghost use Rattle.sct_json.specs.Reading.{object_in, message_in};
 ghost use Rattle.sct_json.specs.Form.{IsFormOf, StandsFor};
 ghost use Rattle.sct_json.specs.Writing.{written_text, has_no_line_feed};
@@ -35,6 +37,16 @@ pub fn the_extra_key_told_is_the_least()
         → HasLeastExtraKey bytes name }
     ensures of_element { (bytes : List ℕ) (place : ℕ) (name : List ℕ)
         → message_in bytes ≡ Err (fault.At place (key_fault.Extra name)) → HasLeastExtraKeyAt bytes place name }
+{}
+
+/// The place that a refusal of `TxInf` names is the first, from 1. If 46 names 0, `TxInf` is no list of 1 to 100 elements.
+/// If 46 names another place, the element there is no object, and each element before it is one. If 56 names a place, each
+/// element is an object, the element there is no transaction, and each element before it is one.
+pub fn the_place_reported_is_the_first()
+    ensures no_object { (bytes : List ℕ) (place : ℕ) → message_in bytes ≡ Err (fault.BadTransactions place)
+        → HasList (λ list. IsNoListOfObjects list place) bytes }
+    ensures no_transaction { (bytes : List ℕ) (place : ℕ) (why : KeyFault)
+        → message_in bytes ≡ Err (fault.At place why) → HasList (λ list. IsNoListOfTransactions list place) bytes }
 {}
 
 /// No message is refused for its name (the rule fault 10): an object whose `MsgNmId` is no name of a kind is

@@ -35,6 +35,7 @@ pub use laws::{
     bytes_are_read_where_they_stand_for_a_form, names_that_were_read_ascend,
     no_message_is_refused_for_its_name, reading_never_wants_memory,
     the_extra_key_told_is_the_least, the_keys_of_a_written_text_ascend,
+    the_place_reported_is_the_first,
 };
 pub use reading::{MessageReader, read_message};
 pub use writing::write_message;

@@ -1,11 +1,11 @@
 //! An object as its readers see it: what is at a key, however the object is held.
 ghost use Rattle.std.specs.Prelude.{◌≡◌, map, option_map, option_and_then};
 ghost use Rattle.serde_json.specs.Data.{Data};
-ghost use Rattle.serde_json.specs.Find.{get, as_str};
+ghost use Rattle.serde_json.specs.Find.{get};
 ghost use Rattle.serde_json.specs.View.{view};
 ghost use Rattle.sct_json.specs.Keys.{key_text};
 ghost use Rattle.sct_json.specs.Reading.{items_in};
-ghost use Rattle.sct_json.specs.Objects.{text_found};
+ghost use Rattle.sct_json.specs.Objects.{IsFound};
 
 use crate::keys::Key;
 use serde_json::Value;
@@ -28,7 +28,7 @@ pub(crate) trait Object {
 
     /// What is at a key. Of two equal keys the last counts.
     fn at(&self, key: Key) -> Found<'_>
-        ensures { text_found result ≡ option_map as_str (get (key_text key) (value self.now)) };
+        ensures { IsFound result (get (key_text key) (value self.now)) };
 
     /// The elements of the list at a key; none if there is no list.
     fn items(&self, key: Key) -> Option<&[Value]>

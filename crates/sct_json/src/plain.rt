@@ -4,7 +4,7 @@ ghost use Rattle.std.specs.List.{list_all};
 ghost use Rattle.json.specs.Token.{string, end_object};
 ghost use Rattle.serde_json.specs.Read.{read};
 ghost use Rattle.sct_json.specs.declared.keys.Key.{Key};
-ghost use Rattle.sct_json.specs.Keys.{key_text, is_among, is_key_in};
+ghost use Rattle.sct_json.specs.Keys.{key_text, is_key_among, is_key_in};
 ghost use Rattle.sct_json.specs.Members.{texts_of};
 ghost use Rattle.sct_json.specs.Objects.{object_of, last_text, tokens_before};
 
@@ -71,18 +71,18 @@ impl Object for PlainObject<'_> {
 }
 
 /// Whether a key is one of others.
-#[tactic(auto, unfolding(crate::specs::Keys::is_among))]
-fn is_among(key: Key, others: &[Key]) -> bool
-    ensures { result ≡ is_among others.now (key_text key) }
+#[tactic(auto, unfolding(crate::specs::Keys::is_key_among))]
+fn is_key_among(key: Key, others: &[Key]) -> bool
+    ensures { result ≡ is_key_among others.now (key_text key) }
 {
     others.iter().any(|other| other.is(key))
 }
 
 /// Whether each member is at one of some keys.
 fn are_among(members: &[Member<'_>], keys: &[Key]) -> bool
-    ensures { result ≡ list_all (λ member. is_among keys.now (key_text member.key)) members.now }
+    ensures { result ≡ list_all (λ member. is_key_among keys.now (key_text member.key)) members.now }
 {
-    members.iter().all(|member| is_among(member.key, keys))
+    members.iter().all(|member| is_key_among(member.key, keys))
 }
 
 impl PlainObject<'_> {

@@ -1,5 +1,5 @@
 //! Refused lines: the text that reports them, and how many they are.
-ghost use Rattle.std.specs.Prelude.{◌≡◌, ◌≤◌, ◌+◌, ◌++◌, [], length, OnOk, string_bytes};
+ghost use Rattle.std.specs.Prelude.{◌≡◌, ◌≤◌, ◌+◌, ◌++◌, [], length, OnErr, OnOk, string_bytes};
 ghost use Rattle.sct_lines.specs.Refused.{reporting_line};
 
 use std::alloc::{AllocError, Global};
@@ -102,6 +102,7 @@ impl Refusals {
     pub fn append(&mut self, other: Refusals) -> Result<(), AllocError>
         ensures text { OnOk result (self.new.text ≡ self.old.text ++ other.text) }
         ensures count { OnOk result (self.new.count ≡ self.old.count + other.count) }
+        ensures err { OnErr result (self.new ≡ self.old) }
     {
         let Refusals { text, count } = other;
         self.text.push_str(text.as_str())?;

@@ -1,20 +1,22 @@
 -- What `ascending` does, under any total order that tells all keys apart.
 -- It serves what is told of a set of messages: archives, cases, views and the texts of sites, whose crates cite it.
 use Rattle.std.proofs.Common.{◌≡◌, Bool, true, false, cond, ◌&&◌, ◌||◌, List, [], ◌∷◌, map, refl, sym, ap, subst, ◌∙◌, Ordering, Option, Some, None, filter}
-use Rattle.std.specs.Prelude.{is_some, T}
+use Rattle.std.specs.Prelude.{Contains, is_some, T}
 use Rattle.std.specs.declared.cmp.Ordering.TheVariants.{Less, Equal, Greater}
 use Rattle.std.specs.List.{list_any, dedup, dedup_from, AllByRecursion}
 use Rattle.std.specs.List.Sorted.{IsStrictlySortedBy, IsSorted, IsPermutation}
 use Rattle.std.specs.Ordering.{eq_by_cmp, is_eq, is_lt}
-use Rattle.std.specs.Cmp.{IsTotalOrder, Equal-is, on_total, alike_right}
+use Rattle.std.specs.Cmp.{IsTotalOrder, Equal-is, both_ways, on_total, alike_right}
 use Rattle.std.specs.FinMap as finite
 use Rattle.std.specs.FinMap.{FinMap, find, is_sorted, same_map, get-from_entries, get-from_sorted, entries-from_sorted, entries_sorted, contains_key-keys}
 use Rattle.std.specs.FinMap.Entries.{is_some-find, below_all}
 use Rattle.std.specs.FinSet.{IsAntisymmetric}
 use Rattle.std.proofs.lemmas.List.Kept.{IsStrictlySortedBy-dedup, IsStrictlySortedBy-filter}
 use Rattle.std.proofs.lemmas.List.Sorted.{list_any-IsPermutation}
-use Rattle.sct_message.specs.Ascending.{ascending, alone}
-use Rattle.sct_message.proofs.Members.{same_any, list_any-filter, list_any-map}
+use Rattle.std.proofs.lemmas.Cmp.{eq_by_cmp_equiv}
+use Rattle.std.proofs.lemmas.Map.Views.{Contains-from_any, list_any-from_Contains}
+use Rattle.sct_message.specs.Ascending.{ascending, alone, IsAscendingListOf, IsTheAscendingList}
+use Rattle.sct_message.proofs.Members.{same_any, tie_is, list_any-filter, list_any-map}
 
 marked : (x y : Option (Unit {0})) → is_some x ≡ is_some y → x ≡ y
 marked None None e = refl
@@ -144,6 +146,31 @@ module _ {K : Type 0} {R : K → K → Ordering} (o : IsTotalOrder R) (apart : I
       ap finite.keys (same_map o apart (holding ks) (finite.from_sorted (alone ks)) (λ q. get-from_entries o (alone ks) q ∙ sym (get-from_sorted R (alone ks) q rises)))
       ∙ ap (map (λ e. e.0)) (entries-from_sorted R (alone ks) rises)
       ∙ firsts-alone ks
+
+  any_from : (ks js : List K) → ((k : K) → Contains ks k → Contains js k) → (q : K)
+      → list_any (eq_by_cmp R q) ks ≡ true → list_any (eq_by_cmp R q) js ≡ true
+  any_from ks js covers q among =
+      list_any-from_Contains (eq_by_cmp_equiv o) q js (covers q (Contains-from_any (tie_is o apart) q ks among))
+
+  -- the ascending list has just the members of the list
+  pub in_ascending : (ks : List K) (q : K) → Contains (ascending R ks) q → Contains ks q
+  in_ascending ks q h =
+      Contains-from_any (tie_is o apart) q ks (sym (members_ascending ks q) ∙ list_any-from_Contains (eq_by_cmp_equiv o) q (ascending R ks) h)
+
+  pub ascending_in : (ks : List K) (q : K) → Contains ks q → Contains (ascending R ks) q
+  ascending_in ks q h =
+      Contains-from_any (tie_is o apart) q (ascending R ks) (members_ascending ks q ∙ list_any-from_Contains (eq_by_cmp_equiv o) q ks h)
+
+  computed_ascends : (ks : List K) → IsAscendingListOf R ks (ascending R ks)
+  computed_ascends ks = record { members = λ k. (in_ascending ks k, ascending_in ks k); ascends = ascending_rises ks }
+
+  -- the computed list, and no other, ascends strictly with these members
+  pub ascending_is_the_list : (ks : List K) → IsTheAscendingList R ks
+  ascending_is_the_list ks sorted = (
+    λ h. sym (ascending-sorted sorted h.ascends)
+        ∙ ascending-same sorted ks (λ q. both_ways _ _ (any_from sorted ks (λ k. (h.members k).0) q) (any_from ks sorted (λ k. (h.members k).1) q)),
+    λ e. subst (λ (js : List K). IsAscendingListOf R ks js) (sym e) (computed_ascends ks),
+  )
 
   -- to be picked by a test and to be put in order can change places
   pub ascending-filter : (p : K → Bool) (ks : List K) → ascending R (filter p ks) ≡ filter p (ascending R ks)

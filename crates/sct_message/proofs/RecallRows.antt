@@ -1,7 +1,6 @@
--- The order of recall messages by their elements in a row is that of the heads and then of the transactions in turn.
-use Rattle.std.proofs.Common.{◌≡◌, ◌∙◌, ap, sym, refl, false, ◌++◌, List, [], ◌∷◌, Ordering}
+-- The declared orders of heads and of transactions are those by their elements.
+use Rattle.std.proofs.Common.{◌≡◌, ◌∙◌, ap, refl, false, Ordering}
 use Rattle.std.specs.Prelude.{◌==◌, not}
-use Rattle.std.specs.List.{flat_map}
 use Rattle.std.specs.Ordering.{ordering_then, ordering_index}
 use Rattle.std.specs.declared.cmp.Ordering.TheVariants.{Less, Equal, Greater}
 use Rattle.std.specs.Cmp.Lexicographic.{slice_cmp}
@@ -10,23 +9,14 @@ use Rattle.sct_message.specs.declared.draft.RecallTx.{RecallTx}
 use Rattle.sct_message.specs.contracts.draft.HeadOrd.TheImpl as head
 use Rattle.sct_message.specs.contracts.draft.RecallTxOrd.TheImpl as tx
 use Rattle.sct_message.specs.Cells.{elements_order, head_elements}
-use Rattle.sct_message.specs.CellsBack.{Cells}
-use Rattle.sct_message.specs.Recalls.{Recalls, tx_elements, recalls_order}
+use Rattle.sct_message.specs.Recalls.{Recalls, tx_order, txs_order, recalls_order}
 use Rattle.sct_message.specs.OrderLaws.{then_assoc, then_equal}
 
-head_first : (h k : Head) (xs ys : Cells) → elements_order (head_elements h ++ xs) (head_elements k ++ ys) ≡ ordering_then (head.ghosts.cmp h k) (elements_order xs ys)
-head_first h k xs ys = simp then_assoc refl
+heads_by_elements : (h k : Head) → head.ghosts.cmp h k ≡ elements_order (head_elements h) (head_elements k)
+heads_by_elements h k = simp then_equal refl
 
-tx_first : (s t : RecallTx) (xs ys : Cells) → elements_order (tx_elements s ++ xs) (tx_elements t ++ ys) ≡ ordering_then (tx.ghosts.cmp s t) (elements_order xs ys)
-tx_first s t xs ys = simp then_equal (simp then_assoc refl)
-
-txs_after : (ss ts : List RecallTx) → elements_order (flat_map tx_elements ss) (flat_map tx_elements ts) ≡ slice_cmp tx.ghosts.cmp ss ts
-txs_after [] [] = refl
-txs_after [] (t ∷ ts) = refl
-txs_after (s ∷ ss) [] = refl
-txs_after (s ∷ ss) (t ∷ ts) =
-    tx_first s t (flat_map tx_elements ss) (flat_map tx_elements ts)
-    ∙ ap (λ o. ordering_then (tx.ghosts.cmp s t) o) (txs_after ss ts)
+txs_by_elements : (s t : RecallTx) → tx.ghosts.cmp s t ≡ tx_order s t
+txs_by_elements s t = simp then_equal (simp then_assoc refl)
 
 then_rest : (o r : Ordering) → false ≡ not (ordering_index o == 1) → r ≡ ordering_then o r
 then_rest Less r e = cc
@@ -37,7 +27,6 @@ then_rest Greater r e = cc
 pub after_head : (o : Ordering) (a b : Recalls) → false ≡ not (ordering_index o == 1) → o ≡ head.ghosts.cmp a.head b.head
     → slice_cmp tx.ghosts.cmp a.txs b.txs ≡ recalls_order a b
 after_head o a b tied is =
-    sym (txs_after a.txs b.txs)
-    ∙ then_rest o (elements_order (flat_map tx_elements a.txs) (flat_map tx_elements b.txs)) tied
-    ∙ ap (λ (q : Ordering). ordering_then q (elements_order (flat_map tx_elements a.txs) (flat_map tx_elements b.txs))) is
-    ∙ sym (head_first a.head b.head (flat_map tx_elements a.txs) (flat_map tx_elements b.txs))
+    (λ n. slice_cmp (λ s t. txs_by_elements s t n) a.txs b.txs)
+    ∙ then_rest o (txs_order a.txs b.txs) tied
+    ∙ ap (λ (q : Ordering). ordering_then q (txs_order a.txs b.txs)) (is ∙ heads_by_elements a.head b.head)

@@ -1,17 +1,17 @@
 -- Read by an auditor: the orders of messages, by identity and then by all elements, and of the keys.
 use Rattle.std.specs.Prelude.{ℕ, Bool, List, [], ◌∷◌, ◌++◌, Option, Some, option_map}
-use Rattle.std.specs.Ordering.{eq_by_cmp}
+use Rattle.std.specs.Ordering.{ordering_then, eq_by_cmp}
 use Rattle.std.specs.declared.cmp.Ordering.{Ordering}
 use Rattle.sct_reason.specs.Codes.{reason_text}
 use Rattle.sct_message.specs.declared.draft.Draft.{Draft}
 use Rattle.sct_message.specs.declared.draft.Draft.TheVariants.{CreditTransfer, StatusReport, StatusRequest, CancellationRequest, PaymentReturn, Resolution}
-use Rattle.sct_message.specs.Drafts.{kind_of, head_of}
-use Rattle.sct_message.specs.Kinds.{kind_text}
-use Rattle.sct_message.specs.Recalls.{recalls_elements}
+use Rattle.sct_message.specs.declared.draft.RecallTx.{RecallTx}
+use Rattle.sct_message.specs.Keys.{identity_of}
+use Rattle.sct_message.specs.Recalls.{txs_order}
 pub use Rattle.sct_message.specs.Cells.{text_order, elements_order, head_elements, original_elements}
 pub use Rattle.sct_message.specs.KeyOrders.{kind_order, identity_order, transfer_order, recall_order, same_identity, same_transfer, same_recall}
 
--- ---- the elements of each kind in the order of its key table
+-- ---- the elements of each kind in the order of its key table, but for the transactions of a recall message
 
 abbrev pub elements_of : Draft → List (Option (List ℕ))
 elements_of (CreditTransfer d) =
@@ -47,7 +47,7 @@ elements_of (StatusRequest d) =
     ++ d.cancellation_id
     ∷ Some d.debtor_agent
     ∷ []
-elements_of (CancellationRequest d) = recalls_elements d
+elements_of (CancellationRequest d) = head_elements d.head
 elements_of (PaymentReturn d) =
     head_elements d.head
     ++ Some d.return_id
@@ -70,23 +70,22 @@ elements_of (Resolution d) =
     ∷ Some d.debtor_agent
     ∷ []
 
--- the order of two messages by their elements
-abbrev pub by_elements : Draft → Draft → Ordering
-by_elements a b = elements_order (elements_of a) (elements_of b)
+-- the transactions of a recall message; the other kinds have none
+abbrev pub transactions_of : Draft → List RecallTx
+transactions_of (CancellationRequest d) = d.txs
+transactions_of other = []
 
 -- ---- the order of messages
 
--- sender, kind and message identification, followed by all elements
-abbrev pub ranks_of : Draft → List (Option (List ℕ))
-ranks_of d =
-    Some (head_of d).instructing_agent
-    ∷ Some (kind_text (kind_of d))
-    ∷ Some (head_of d).message_id
-    ∷ elements_of d
+-- messages are ordered by their elements, and then by their lists of transactions
+abbrev pub by_elements : Draft → Draft → Ordering
+by_elements a b =
+    ordering_then (elements_order (elements_of a) (elements_of b))
+    (txs_order (transactions_of a) (transactions_of b))
 
 -- messages are ordered by identity and then by the elements; two compare Equal exactly if all their elements are equal
 unfoldable pub message_order : Draft → Draft → Ordering
-message_order a b = elements_order (ranks_of a) (ranks_of b)
+message_order a b = ordering_then (identity_order (identity_of a) (identity_of b)) (by_elements a b)
 
 -- equality in every element, as a test
 abbrev pub same_message : Draft → Draft → Bool

@@ -5,7 +5,7 @@ use Rattle.std.specs.declared.cmp.Ordering.{Ordering}
 use Rattle.std.specs.declared.cmp.Ordering.TheVariants.{Less, Equal, Greater}
 use Rattle.std.specs.Option.{option_cmp}
 use Rattle.std.specs.Cmp.{IsTotalOrder, on_total, then_total}
-use Rattle.std.specs.Cmp.Lexicographic.{nat_list_cmp_total, options_total, lists_total, pointwise, texts_ties}
+use Rattle.std.specs.Cmp.Lexicographic.{nat_list_cmp_total, pointwise, texts_ties}
 use Rattle.std.specs.FinSet.{IsAntisymmetric}
 use Rattle.std.proofs.lemmas.Cmp.{tied_itself}
 use Rattle.sct_reason.specs.declared.reasons.Reason.{Reason}
@@ -16,12 +16,14 @@ use Rattle.sct_message.specs.declared.kinds.Kind.{Kind}
 use Rattle.sct_message.specs.declared.kinds.Kind.TheVariants.{Camt029, Camt056, Pacs002, Pacs004, Pacs008, Pacs028}
 use Rattle.sct_message.specs.Kinds.{kind_text, kind_named}
 use Rattle.sct_message.specs.CellsBack.{texts_same, elements_same}
-use Rattle.sct_message.specs.RecallOrders.{is_eq_Equal}
+pub use Rattle.sct_message.specs.RecallOrders.{both_tie}
+use Rattle.sct_message.specs.RecallOrders.{elements_total, txs_total, txs_same, is_eq_Equal}
 use Rattle.sct_message.specs.Ranks.{message_from, message_back}
 use Rattle.sct_message.specs.declared.keys.Identity.{Identity}
 use Rattle.sct_message.specs.declared.keys.TransferKey.{TransferKey}
 use Rattle.sct_message.specs.declared.keys.RecallKey.{RecallKey}
-use Rattle.sct_message.specs.Order.{text_order, ranks_of, message_order, kind_order, identity_order, transfer_order, recall_order, same_identity, same_transfer, same_message}
+use Rattle.sct_message.specs.Keys.{identity_of}
+use Rattle.sct_message.specs.Order.{text_order, elements_of, transactions_of, message_order, kind_order, identity_order, transfer_order, recall_order, same_identity, same_transfer, same_message}
 
 pub then_assoc : (a b c : Ordering) → ordering_then (ordering_then a b) c ≡ ordering_then a (ordering_then b c)
 then_assoc Less b c = refl
@@ -57,35 +59,7 @@ kinds_inside e = cc
 pub kinds_same : (j k : Kind) → kind_text j ≡ kind_text k → j ≡ k
 kinds_same j k e = kinds_inside (sym (named_by_text j) ∙ ap kind_named e ∙ named_by_text k)
 
-drafts_inside : {a b : Draft} → Some a ≡ Some b → a ≡ b
-drafts_inside e = cc
-
--- messages with equal elements are equal
-ranks_same : (a b : Draft) → ranks_of a ≡ ranks_of b → a ≡ b
-ranks_same a b e = drafts_inside (sym (message_back a) ∙ ap message_from e ∙ message_back b)
-
-pub message_total : IsTotalOrder message_order
-unfolding message_order
-message_total = on_total ranks_of (lists_total (options_total nat_list_cmp_total))
-
-pub message_same : (a b : Draft) → message_order a b ≡ Equal → a ≡ b
-unfolding message_order
-message_same a b e = ranks_same a b (elements_same (ranks_of a) (ranks_of b) e)
-
-pub message_itself : (a b : Draft) → a ≡ b → message_order a b ≡ Equal
-message_itself a b e = subst (λ (d : Draft). message_order a d ≡ Equal) e (tied_itself message_total a)
-
--- a function of messages has equal values for two that compare Equal
-pub same_input : {X : Type 0} (told : Draft → X) (a b : Draft) → same_message a b ≡ true → told a ≡ told b
-same_input told a b e = ap told (message_same a b (is_eq_Equal (message_order a b) e))
-
 -- ---- the orders of keys
-
--- if a comparison by two parts in turn is Equal, both parts compare Equal
-pub both_tie : (r s : Ordering) → ordering_then r s ≡ Equal → (r ≡ Equal) × (s ≡ Equal)
-both_tie Less s e = cc
-both_tie Equal s e = (refl, e)
-both_tie Greater s e = cc
 
 pub identity_total : IsTotalOrder identity_order
 identity_total = then_total (on_total (λ (i : Identity). i.sender) nat_list_cmp_total)
@@ -123,6 +97,31 @@ recalls_same q r e =
     let transfer : q.transfer ≡ r.transfer = transfers_same _ _ parts.0 in
     let cxl : q.cxl ≡ r.cxl = texts_same _ _ parts.1 in
     λ n. record { transfer = transfer n; cxl = cxl n }
+
+-- ---- the order of messages
+
+pub message_total : IsTotalOrder message_order
+unfolding message_order
+message_total = then_total (on_total identity_of identity_total)
+    (then_total (on_total elements_of elements_total) (on_total transactions_of txs_total))
+
+-- messages of one identity with equal elements and equal transactions are equal
+pub message_same : (a b : Draft) → message_order a b ≡ Equal → a ≡ b
+unfolding message_order
+message_same a b e =
+    let parts = both_tie _ _ e in
+    let rest = both_tie _ _ parts.1 in
+    let identity = identities_same (identity_of a) (identity_of b) parts.0 in
+    let elements = elements_same (elements_of a) (elements_of b) rest.0 in
+    let txs = txs_same (transactions_of a) (transactions_of b) rest.1 in
+    sym (message_back a) ∙ (λ n. message_from (identity n).kind (elements n) (txs n)) ∙ message_back b
+
+pub message_itself : (a b : Draft) → a ≡ b → message_order a b ≡ Equal
+message_itself a b e = subst (λ (d : Draft). message_order a d ≡ Equal) e (tied_itself message_total a)
+
+-- a function of messages has equal values for two that compare Equal
+pub same_input : {X : Type 0} (told : Draft → X) (a b : Draft) → same_message a b ≡ true → told a ≡ told b
+same_input told a b e = ap told (message_same a b (is_eq_Equal (message_order a b) e))
 
 -- ---- equality by parts is equality by order
 

@@ -1,5 +1,6 @@
--- Proof plumbing: a message can be recovered from its elements in a row, so equal elements mean one message.
-use Rattle.std.proofs.Common.{◌≡◌, ap, refl, drop, Option, Some, None}
+-- Proof plumbing: a message can be recovered from its kind, its elements and its transactions, so equal elements mean
+-- one message.
+use Rattle.std.proofs.Common.{◌≡◌, ap, refl, drop, List}
 use Rattle.std.specs.Prelude.{option_and_then}
 use Rattle.sct_reason.specs.Reasons.{reason_of}
 use Rattle.sct_message.specs.declared.draft.CreditTransfer.{CreditTransfer}
@@ -7,14 +8,13 @@ use Rattle.sct_message.specs.declared.draft.StatusReport.{StatusReport}
 use Rattle.sct_message.specs.declared.draft.StatusRequest.{StatusRequest}
 use Rattle.sct_message.specs.declared.draft.PaymentReturn.{PaymentReturn}
 use Rattle.sct_message.specs.declared.draft.Resolution.{Resolution}
+use Rattle.sct_message.specs.declared.draft.RecallTx.{RecallTx}
 use Rattle.sct_message.specs.declared.draft.Draft.{Draft}
 use Rattle.sct_message.specs.declared.draft.Draft.TheVariants as draft
 use Rattle.sct_message.specs.declared.kinds.Kind.{Kind}
 use Rattle.sct_message.specs.declared.kinds.Kind.TheVariants.{Camt029, Camt056, Pacs002, Pacs004, Pacs008, Pacs028}
-use Rattle.sct_message.specs.Kinds.{kind_named}
-use Rattle.sct_message.specs.Order.{elements_of, ranks_of}
-use Rattle.sct_message.specs.Recalls.{Recalls}
-use Rattle.sct_message.specs.RecallOrders.{recalls_from, recalls_back}
+use Rattle.sct_message.specs.Drafts.{kind_of}
+use Rattle.sct_message.specs.Order.{elements_of, transactions_of}
 use Rattle.sct_message.specs.CellsBack.{Cells, may_cell, cell, cents, the_reason, reason_back, may_reason_back, head_from, original_from}
 
 -- ---- the records
@@ -125,29 +125,19 @@ resolution_back d = λ i. record {
 
 -- ---- the message
 
-abbrev message_at : Option Kind → Cells → Option Draft
-message_at None es = None
-message_at (Some Camt029) es = Some (draft.Resolution (resolution_from es))
-message_at (Some Camt056) es = Some (draft.CancellationRequest (recalls_from es))
-message_at (Some Pacs002) es = Some (draft.StatusReport (status_report_from es))
-message_at (Some Pacs004) es = Some (draft.PaymentReturn (payment_return_from es))
-message_at (Some Pacs008) es = Some (draft.CreditTransfer (credit_transfer_from es))
-message_at (Some Pacs028) es = Some (draft.StatusRequest (status_request_from es))
+abbrev pub message_from : Kind → Cells → List RecallTx → Draft
+message_from Camt029 es txs = draft.Resolution (resolution_from es)
+message_from Camt056 es txs = draft.CancellationRequest (record { head = head_from es; txs = txs })
+message_from Pacs002 es txs = draft.StatusReport (status_report_from es)
+message_from Pacs004 es txs = draft.PaymentReturn (payment_return_from es)
+message_from Pacs008 es txs = draft.CreditTransfer (credit_transfer_from es)
+message_from Pacs028 es txs = draft.StatusRequest (status_request_from es)
 
-abbrev pub message_from : Cells → Option Draft
-message_from ranks = message_at (kind_named (cell 1 ranks)) (drop 3 ranks)
-
--- a message is recovered from its ranks
-pub message_back : (d : Draft) → message_from (ranks_of d) ≡ Some d
-message_back (draft.CreditTransfer d) =
-    ap (λ (m : CreditTransfer). Some (draft.CreditTransfer m)) (credit_transfer_back d)
-message_back (draft.StatusReport d) =
-    ap (λ (m : StatusReport). Some (draft.StatusReport m)) (status_report_back d)
-message_back (draft.StatusRequest d) =
-    ap (λ (m : StatusRequest). Some (draft.StatusRequest m)) (status_request_back d)
-message_back (draft.CancellationRequest d) =
-    ap (λ (m : Recalls). Some (draft.CancellationRequest m)) (recalls_back d)
-message_back (draft.PaymentReturn d) =
-    ap (λ (m : PaymentReturn). Some (draft.PaymentReturn m)) (payment_return_back d)
-message_back (draft.Resolution d) =
-    ap (λ (m : Resolution). Some (draft.Resolution m)) (resolution_back d)
+-- a message is recovered from its kind, its elements and its transactions
+pub message_back : (d : Draft) → message_from (kind_of d) (elements_of d) (transactions_of d) ≡ d
+message_back (draft.CreditTransfer d) = ap (λ (m : CreditTransfer). draft.CreditTransfer m) (credit_transfer_back d)
+message_back (draft.StatusReport d) = ap (λ (m : StatusReport). draft.StatusReport m) (status_report_back d)
+message_back (draft.StatusRequest d) = ap (λ (m : StatusRequest). draft.StatusRequest m) (status_request_back d)
+message_back (draft.CancellationRequest d) = refl
+message_back (draft.PaymentReturn d) = ap (λ (m : PaymentReturn). draft.PaymentReturn m) (payment_return_back d)
+message_back (draft.Resolution d) = ap (λ (m : Resolution). draft.Resolution m) (resolution_back d)

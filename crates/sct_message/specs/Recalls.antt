@@ -1,7 +1,8 @@
 -- Read by an auditor: a recall message as contracts see it, its head and a list of
 -- transactions, with its keys and its order.
 use Rattle.std.specs.Prelude.{ℕ, Bool, List, [], ◌∷◌, ◌++◌, Option, Some}
-use Rattle.std.specs.List.{flat_map}
+use Rattle.std.specs.Cmp.Lexicographic.{slice_cmp}
+use Rattle.std.specs.Ordering.{ordering_then}
 use Rattle.std.specs.declared.cmp.Ordering.{Ordering}
 use Rattle.sct_reason.specs.Codes.{reason_text}
 use Rattle.sct_message.specs.declared.draft.Head.{Head}
@@ -30,9 +31,9 @@ recall_in tx = recall_key (transfer_in tx) tx.cancellation_id
 abbrev pub have_same_recall : RecallTx → RecallTx → Bool
 have_same_recall s t = same_recall (recall_in s) (recall_in t)
 
--- ---- the elements, in the order of the key table
+-- ---- the order
 
--- ten cells for each transaction
+-- the elements of a transaction, in the order of the key table
 abbrev pub tx_elements : RecallTx → List (Option (List ℕ))
 tx_elements tx =
     Some tx.cancellation_id
@@ -44,11 +45,15 @@ tx_elements tx =
     ∷ Some tx.debtor_agent
     ∷ []
 
--- the head, followed by the transactions one after another
-abbrev pub recalls_elements : Recalls → List (Option (List ℕ))
-recalls_elements r = head_elements r.head ++ flat_map tx_elements r.txs
+-- transactions are ordered by their elements
+abbrev pub tx_order : RecallTx → RecallTx → Ordering
+tx_order s t = elements_order (tx_elements s) (tx_elements t)
 
--- recall messages are ordered element by element, and so transaction by transaction; a
--- list that begins another comes before it
+-- lists of transactions are ordered transaction by transaction; a list that begins another comes before it
+abbrev pub txs_order : List RecallTx → List RecallTx → Ordering
+txs_order = slice_cmp tx_order
+
+-- recall messages are ordered by their heads, and then by their lists of transactions
 abbrev pub recalls_order : Recalls → Recalls → Ordering
-recalls_order a b = elements_order (recalls_elements a) (recalls_elements b)
+recalls_order a b =
+    ordering_then (elements_order (head_elements a.head) (head_elements b.head)) (txs_order a.txs b.txs)

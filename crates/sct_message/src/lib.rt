@@ -18,6 +18,6 @@ pub use draft::{
 pub use keys::{Identity, RecallKey, TransferKey};
 pub use kinds::Kind;
 pub use messages::Message;
-pub use order::{keys_are_ordered, order_is_total};
+pub use order::{ascending_is_the_sorted_list, keys_are_ordered, order_is_total};
 pub use recall_list::is_right_count;
 pub use rules::{RuleFault, all_rules_hold_where_none_is_broken, first_broken_rule_is_told};

@@ -1,6 +1,7 @@
 //! The order of messages.
-ghost use Rattle.std.specs.Prelude.{◌≡◌, ◌↔◌};
+ghost use Rattle.std.specs.Prelude.{◌≡◌, ◌↔◌, List};
 ghost use Rattle.std.specs.Cmp.{IsTotalOrder};
+ghost use Rattle.sct_message.specs.Ascending.{IsTheAscendingList};
 ghost use Rattle.sct_message.specs.Drafts.{kind_of};
 ghost use Rattle.sct_message.specs.Kinds.{kind_text};
 ghost use Rattle.sct_message.specs.Order.{text_order, by_elements, message_order, kind_order, identity_order, transfer_order, recall_order, same_identity, same_transfer};
@@ -107,4 +108,11 @@ pub fn keys_are_ordered()
 pub fn order_is_total()
     ensures total { IsTotalOrder message_order }
     ensures same { (a b : Elements) → (message_order a b ≡ Ordering.Equal) ↔ (a ≡ b) }
+{}
+
+/// A law: of any list of keys, `ascending` is the one list that has just its members and ascends strictly. The order is
+/// total, and only equal keys compare Equal.
+pub fn ascending_is_the_sorted_list<K>()
+    ensures { (order : K → K → Ordering) → IsTotalOrder order → IsAntisymmetric order
+        → (keys : List K) → IsTheAscendingList order keys }
 {}

@@ -10,12 +10,11 @@ ghost use Rattle.sct_reconcile.specs.declared.fault.ReconcileFault.TheVariants a
 ghost use Rattle.sct_view.specs.StatusText.{status_text_of};
 ghost use Rattle.sct_view.specs.TotalsText.{totals_text_of};
 
-use crate::arguments::{bank_of, day_of};
 use crate::fault::PageFault;
 use crate::texts::Texts;
 use sct_element::{Bic, Day};
 use sct_lines::{Intake, read_lines_after};
-use sct_reconcile::{List, ReconcileFault, reconcile_alone};
+use sct_reconcile::{List, ReconcileFault, bank_of, day_of, reconcile_alone};
 use sct_set::Archive;
 use sct_view::View;
 use std::alloc::Global;

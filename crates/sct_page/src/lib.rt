@@ -5,7 +5,6 @@
 #![tactic(auto)]
 
 mod answering;
-mod arguments;
 mod calls;
 mod exchanging;
 mod fault;

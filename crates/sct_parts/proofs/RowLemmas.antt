@@ -8,7 +8,7 @@ use Rattle.sct_message.specs.Sets.{MessageSet}
 use Rattle.sct_message.specs.Transfers.{instruction_of}
 use Rattle.sct_message.specs.declared.keys.TransferKey.{TransferKey}
 use Rattle.sct_case.proofs.Membership.{filtered_in, in_filter}
-use Rattle.sct_view.specs.Answers.{transfers_of}
+use Rattle.sct_view.specs.Answers.{transfers_of_bank}
 use Rattle.sct_view.specs.Touched.{IsToldAlike}
 use Rattle.sct_reconcile.specs.Reports.{amount_in, is_of_day, keys_reported, listed_on, report_of, row_from, row_on, transfers_on_day}
 use Rattle.sct_reconcile.specs.Words.{word_of}
@@ -53,22 +53,22 @@ module _ (a b : MessageSet) (apart : ShareNothing a b) where
   module _ (bank day : List ℕ) (t : TransferKey) where
     on_day_either : Contains (transfers_on_day (set.union a b) bank day) t → Contains (transfers_on_day a bank day) t ⊎ Contains (transfers_on_day b bank day) t
     on_day_either h =
-        let k = in_filter (λ key. is_of_day day (instruction_of (set.union a b) key)) (transfers_of (set.union a b) bank) t h in
+        let k = in_filter (λ key. is_of_day day (instruction_of (set.union a b) key)) (transfers_of_bank (set.union a b) bank) t h in
         elim (of_bank_either a b apart bank t k.0) as (λ _. Contains (transfers_on_day a bank day) t ⊎ Contains (transfers_on_day b bank day) t) [
-          | inl p ↦ inl (filtered_in (λ key. is_of_day day (instruction_of a key)) (transfers_of a bank) t p
+          | inl p ↦ inl (filtered_in (λ key. is_of_day day (instruction_of a key)) (transfers_of_bank a bank) t p
               (sym (ap (is_of_day day) (instruction_first a b apart t (bank_key_of a bank t p))) ∙ k.1))
-          | inr p ↦ inr (filtered_in (λ key. is_of_day day (instruction_of b key)) (transfers_of b bank) t p
+          | inr p ↦ inr (filtered_in (λ key. is_of_day day (instruction_of b key)) (transfers_of_bank b bank) t p
               (sym (ap (is_of_day day) (instruction_second a b apart t (bank_key_of b bank t p))) ∙ k.1))
         ]
 
     on_day_from : Contains (transfers_on_day a bank day) t ⊎ Contains (transfers_on_day b bank day) t → Contains (transfers_on_day (set.union a b) bank day) t
     on_day_from (inl h) =
-        let k = in_filter (λ key. is_of_day day (instruction_of a key)) (transfers_of a bank) t h in
-        filtered_in (λ key. is_of_day day (instruction_of (set.union a b) key)) (transfers_of (set.union a b) bank) t (of_bank_from a b apart bank t (inl k.0))
+        let k = in_filter (λ key. is_of_day day (instruction_of a key)) (transfers_of_bank a bank) t h in
+        filtered_in (λ key. is_of_day day (instruction_of (set.union a b) key)) (transfers_of_bank (set.union a b) bank) t (of_bank_from a b apart bank t (inl k.0))
         (ap (is_of_day day) (instruction_first a b apart t (bank_key_of a bank t k.0)) ∙ k.1)
     on_day_from (inr h) =
-        let k = in_filter (λ key. is_of_day day (instruction_of b key)) (transfers_of b bank) t h in
-        filtered_in (λ key. is_of_day day (instruction_of (set.union a b) key)) (transfers_of (set.union a b) bank) t (of_bank_from a b apart bank t (inr k.0))
+        let k = in_filter (λ key. is_of_day day (instruction_of b key)) (transfers_of_bank b bank) t h in
+        filtered_in (λ key. is_of_day day (instruction_of (set.union a b) key)) (transfers_of_bank (set.union a b) bank) t (of_bank_from a b apart bank t (inr k.0))
         (ap (is_of_day day) (instruction_second a b apart t (bank_key_of b bank t k.0)) ∙ k.1)
 
   module _ (bank day : List ℕ) (list : List ListedRow) where

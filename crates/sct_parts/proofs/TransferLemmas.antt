@@ -19,7 +19,7 @@ use Rattle.sct_message.specs.declared.keys.TransferKey.{TransferKey}
 use Rattle.sct_message.proofs.AscendingLemmas.{ascending_rises, ascending-sorted}
 use Rattle.sct_case.proofs.Membership.{filtered_in, in_ascending, in_filter, in_flat_map}
 use Rattle.sct_set.proofs.LawLemmas.{commutative}
-use Rattle.sct_view.specs.Answers.{is_beneficiary, is_originator, transfers_of as transfers_of_bank}
+use Rattle.sct_view.specs.Answers.{is_beneficiary, is_originator, transfers_of_bank}
 use Rattle.sct_view.specs.StatusText.{finding_line, lines_on, recall_line, status_line, status_text_of}
 use Rattle.sct_view.specs.Touched.{IsToldAlike, fresh_of, is_newly_contradicted, touched_by}
 use Rattle.sct_view.proofs.EvaluationLemmas.{contradicted_in_union}

@@ -11,7 +11,7 @@ use Rattle.sct_message.specs.declared.keys.Identity.{Identity}
 use Rattle.sct_message.specs.declared.keys.TransferKey.{TransferKey}
 use Rattle.sct_set.specs.Archive.{added_of, archive_text_of, has_identity, in_text_order, line_of, line_order}
 use Rattle.sct_set.specs.Contradictions.{IsContradicted, contradicted_identities}
-use Rattle.sct_view.specs.Answers.{transfers_of}
+use Rattle.sct_view.specs.Answers.{transfers_of_bank}
 use Rattle.sct_view.specs.Kept.{case_of}
 use Rattle.sct_view.specs.StatusText.{lines_on, status_text_of}
 use Rattle.sct_view.specs.Totals.{banks_of, plus, totals_of}
@@ -66,7 +66,7 @@ pub record LinesAreThoseOfTheirPart : Type 0 where
 -- the transfers of a bank in the union are those in the parts
 abbrev pub TransfersOfBanksAreThoseOfTheParts : Type 0
 TransfersOfBanksAreThoseOfTheParts = (a b : MessageSet) (bank : List ℕ) → AreApart a b
-    → transfers_of (set.union a b) bank ≡ ascending transfer_order (transfers_of a bank ++ transfers_of b bank)
+    → transfers_of_bank (set.union a b) bank ≡ ascending transfer_order (transfers_of_bank a bank ++ transfers_of_bank b bank)
 
 -- ---- totals
 

@@ -14,7 +14,7 @@ use Rattle.sct_message.specs.Sets.{MessageSet}
 use Rattle.sct_message.specs.Transfers.{instruction_of}
 use Rattle.sct_message.specs.declared.keys.TransferKey.{TransferKey}
 use Rattle.sct_case.proofs.Membership.{nothing, here, later, in_filter, filtered_in, in_ascending, ascending_in}
-use Rattle.sct_view.specs.Answers.{transfers_of}
+use Rattle.sct_view.specs.Answers.{transfers_of_bank}
 use Rattle.sct_reconcile.specs.Laws.{EqualSetsHaveEqualReports, ListedTransfersAreTold, ListsChangeNoOthers, OthersAreOfTheBank, ReportsReadBack, RowsAscend, keys_listed, keys_told}
 use Rattle.sct_reconcile.specs.Reports.{fields_of_row, is_of_day, keys_reported, listed_on, report_of, report_text_of, row_beside, row_on, transfers_on_day}
 use Rattle.sct_reconcile.specs.declared.rows.ListedRow.{ListedRow}
@@ -40,12 +40,12 @@ module _ (held : MessageSet) (bank day : List ℕ) (list : List ListedRow) where
   from_reported key h = Contains-append_cases (keys_listed list) (transfers_on_day held bank day) key (in_ascending transfer_total transfers_same _ key h)
 
   of_day : (key : TransferKey) → Contains (transfers_on_day held bank day) key
-      → Contains (transfers_of held bank) key × (is_of_day day (instruction_of held key) ≡ true)
-  of_day key h = in_filter (λ k. is_of_day day (instruction_of held k)) (transfers_of held bank) key h
+      → Contains (transfers_of_bank held bank) key × (is_of_day day (instruction_of held key) ≡ true)
+  of_day key h = in_filter (λ k. is_of_day day (instruction_of held k)) (transfers_of_bank held bank) key h
 
-  on_day : (key : TransferKey) → Contains (transfers_of held bank) key → is_of_day day (instruction_of held key) ≡ true
+  on_day : (key : TransferKey) → Contains (transfers_of_bank held bank) key → is_of_day day (instruction_of held key) ≡ true
       → Contains (transfers_on_day held bank day) key
-  on_day key h e = filtered_in (λ k. is_of_day day (instruction_of held k)) (transfers_of held bank) key h e
+  on_day key h e = filtered_in (λ k. is_of_day day (instruction_of held k)) (transfers_of_bank held bank) key h e
 
 pub listed_told : ListedTransfersAreTold
 listed_told held bank day list key h =
@@ -58,12 +58,12 @@ ascend held bank day list =
 
 split : (held : MessageSet) (bank day : List ℕ) (list : List ListedRow) (key : TransferKey)
     → Contains (keys_listed list) key ⊎ Contains (transfers_on_day held bank day) key
-    → Contains (keys_listed list) key ⊎ (Contains (transfers_of held bank) key × (is_of_day day (instruction_of held key) ≡ true))
+    → Contains (keys_listed list) key ⊎ (Contains (transfers_of_bank held bank) key × (is_of_day day (instruction_of held key) ≡ true))
 split held bank day list key (inl h) = inl h
 split held bank day list key (inr h) = inr (of_day held bank day list key h)
 
 joined : (held : MessageSet) (bank day : List ℕ) (list : List ListedRow) (key : TransferKey)
-    → Contains (keys_listed list) key ⊎ (Contains (transfers_of held bank) key × (is_of_day day (instruction_of held key) ≡ true))
+    → Contains (keys_listed list) key ⊎ (Contains (transfers_of_bank held bank) key × (is_of_day day (instruction_of held key) ≡ true))
     → Contains (keys_listed list) key ⊎ Contains (transfers_on_day held bank day) key
 joined held bank day list key (inl h) = inl h
 joined held bank day list key (inr h) = inr (on_day held bank day list key h.0 h.1)

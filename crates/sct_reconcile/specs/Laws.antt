@@ -6,7 +6,7 @@ use Rattle.sct_message.specs.Sets.{MessageSet}
 use Rattle.sct_message.specs.Transfers.{instruction_of}
 use Rattle.sct_message.specs.declared.keys.TransferKey.{TransferKey}
 use Rattle.sct_set.specs.Contents.{HaveSameMessages}
-use Rattle.sct_view.specs.Answers.{transfers_of}
+use Rattle.sct_view.specs.Answers.{transfers_of_bank}
 use Rattle.sct_reconcile.specs.Lists.{is_header, list_in, records_of, row_of}
 use Rattle.sct_reconcile.specs.Reports.{fields_of_row, is_of_day, keys_reported, report_header, report_of, report_text_of, row_on, verdict_of}
 use Rattle.sct_reconcile.specs.Words.{list_status_text, word_text}
@@ -76,7 +76,7 @@ RowsAscend = (held : MessageSet) (bank day : List ℕ) (list : List ListedRow)
 abbrev pub OthersAreOfTheBank : Type 0
 OthersAreOfTheBank = (held : MessageSet) (bank day : List ℕ) (list : List ListedRow) (key : TransferKey)
     → Contains (keys_told (report_of held bank day list)) key
-    ↔ (Contains (keys_listed list) key ⊎ (Contains (transfers_of held bank) key × (is_of_day day (instruction_of held key) ≡ true)))
+    ↔ (Contains (keys_listed list) key ⊎ (Contains (transfers_of_bank held bank) key × (is_of_day day (instruction_of held key) ≡ true)))
 
 -- One row is on the transfer, its messages do not contradict each other, one of them instructs it,
 -- and the amounts and the words are equal.

@@ -12,7 +12,7 @@ use Rattle.sct_message.specs.Transfers.{instruction_of, sole}
 use Rattle.sct_message.specs.declared.draft.Draft.{Draft}
 use Rattle.sct_message.specs.declared.draft.Draft.TheVariants.{CreditTransfer}
 use Rattle.sct_message.specs.declared.keys.TransferKey.{TransferKey}
-use Rattle.sct_view.specs.Answers.{status_of, transfers_of}
+use Rattle.sct_view.specs.Answers.{status_of, transfers_of_bank}
 use Rattle.sct_reconcile.specs.Words.{agrees, list_status_text, verdict_text, word_of, word_text}
 use Rattle.sct_reconcile.specs.declared.rows.Listed.{Listed}
 use Rattle.sct_reconcile.specs.declared.rows.ListedRow.{ListedRow}
@@ -109,7 +109,7 @@ is_of_day day other = true
 
 -- the transfers of the bank, except those whose instruction has another settlement day
 abbrev pub transfers_on_day : MessageSet → List ℕ → List ℕ → List TransferKey
-transfers_on_day held bank day = filter (λ key. is_of_day day (instruction_of held key)) (transfers_of held bank)
+transfers_on_day held bank day = filter (λ key. is_of_day day (instruction_of held key)) (transfers_of_bank held bank)
 
 -- the transfers of a report, ascending: those of the list, and those of the bank on the day
 abbrev pub keys_reported : MessageSet → List ℕ → List ℕ → List ListedRow → List TransferKey

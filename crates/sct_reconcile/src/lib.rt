@@ -2,6 +2,7 @@
 #![tactic(auto)]
 
 mod fault;
+mod fields;
 mod filed;
 mod judged;
 mod keys;
@@ -14,9 +15,9 @@ mod words;
 mod writing;
 
 pub use fault::ReconcileFault;
+pub use fields::{bank_of, day_of, identification_of};
 pub use judged::row_on;
 pub use lists::List;
-pub use records::text_of;
 pub use reports::{Report, reconcile, reconcile_alone};
 pub use rows::{Listed, ListedRow, ReportRow};
 pub use words::{ListStatus, StatusWord, Verdict};

@@ -1,8 +1,6 @@
 //! A participant's list.
 ghost use Rattle.std.specs.Prelude.{◌≡◌, ◌+◌, ◌<◌, ◌^◌, map, drop};
 ghost use Rattle.csv.specs.Records.{fields_of};
-ghost use Rattle.sct_element.specs.Bank.{written_bic};
-ghost use Rattle.sct_element.specs.Identification.{written_identification};
 ghost use Rattle.sct_element.specs.Money.{cents_of};
 ghost use Rattle.sct_reconcile.specs.Lists.{Gives, are_names, is_header, list_in, list_of, read_by};
 ghost use Rattle.sct_reconcile.specs.Lists.{row_in, row_of, rows_below};
@@ -11,11 +9,12 @@ ghost use Rattle.sct_reconcile.specs.declared.fault.ReconcileFault.TheVariants a
 ghost use Rattle.sct_reconcile.specs.Words.{list_status_of};
 
 use crate::fault::ReconcileFault;
+use crate::fields::{bank_of, identification_of};
 use crate::records::{all_records, field, text_of};
 use crate::rows::{Listed, ListedRow};
 use crate::words::ListStatus;
 use csv::ByteRecord;
-use sct_element::{Amount, Bic, Id35, read_bic, read_identification};
+use sct_element::Amount;
 use sct_message::TransferKey;
 use std::alloc::Global;
 use std::marker::Model;
@@ -60,18 +59,6 @@ impl List {
     }
 }
 
-fn read_bank(field: &[u8]) -> Option<Bic>
-    ensures { result ≡ read_by written_bic field.now }
-{
-    read_bic(text_of(field)?).ok()
-}
-
-fn read_tx(field: &[u8]) -> Option<Id35>
-    ensures { result ≡ read_by written_identification field.now }
-{
-    read_identification(text_of(field)?).ok()
-}
-
 fn read_amount(field: &[u8]) -> Option<Amount>
     ensures { result ≡ read_by cents_of field.now }
 {
@@ -88,8 +75,8 @@ fn read_status(field: &[u8]) -> Option<ListStatus>
 fn read_fields(bank: &[u8], tx: &[u8], amount: &[u8], status: &[u8]) -> Option<ListedRow>
     ensures { result ≡ row_in bank.now tx.now amount.now status.now }
 {
-    let debtor_agent = read_bank(bank)?;
-    let tx = read_tx(tx)?;
+    let debtor_agent = bank_of(bank)?;
+    let tx = identification_of(tx)?;
     let amount = read_amount(amount)?;
     let status = read_status(status)?;
     Some(ListedRow {

@@ -26,7 +26,7 @@ pub(crate) fn all_records(alloc: Global, text: &[u8]) -> Result<Vec<ByteRecord>,
 }
 
 /// A field as text, or none if it is not UTF-8. O(bytes of the field).
-pub fn text_of(field: &[u8]) -> Option<&str>
+pub(crate) fn text_of(field: &[u8]) -> Option<&str>
     ensures { option_map (λ s. s.now) result ≡ text_of field.now }
 {
     match str::from_utf8(field) {

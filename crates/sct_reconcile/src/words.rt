@@ -1,6 +1,6 @@
 //! The words of lists and reports.
 ghost use Rattle.std.specs.Prelude.{◌≡◌};
-ghost use Rattle.sct_case.specs.Statuses.{told};
+ghost use Rattle.sct_case.specs.Statuses.{as_standing};
 ghost use Rattle.sct_reconcile.specs.Words.{agrees, list_status_of, list_status_text, verdict_text};
 ghost use Rattle.sct_reconcile.specs.Words.{word_of, word_text};
 
@@ -68,7 +68,7 @@ pub enum StatusWord {
 impl StatusWord {
     /// The word of a status.
     pub fn of(status: &Status) -> StatusWord
-        ensures { result ≡ word_of (told status.now) }
+        ensures { result ≡ word_of (as_standing status.now) }
     {
         match status {
             Status::Contradicted(_) => StatusWord::Contradicted,

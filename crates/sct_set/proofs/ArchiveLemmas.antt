@@ -1,5 +1,5 @@
 -- What an archive's arrivals and its lines have to do with the set of its messages. Proof plumbing.
-use Rattle.std.proofs.Common.{◌≡◌, ℕ, suc, nat_eq, ◌+◌, Bool, true, false, cond, not, ◌||◌, List, [], ◌∷◌, ◌++◌, map, length, refl, sym, ap, ◌∙◌, filter, take, get_or, ◌<◌, Some, None}
+use Rattle.std.proofs.Common.{◌≡◌, ℕ, suc, nat_eq, nat_lt, ◌+◌, Bool, true, false, cond, not, ◌||◌, List, [], ◌∷◌, ◌++◌, map, length, refl, sym, ap, ◌∙◌, filter, take, get_or, ◌<◌, Some, None}
 use Rattle.std.specs.FinSet as set
 use Rattle.std.specs.Arc.{arc_value}
 use Rattle.std.specs.Global.{Global}
@@ -20,15 +20,16 @@ use Rattle.sct_message.specs.Ascending.{ascending}
 use Rattle.sct_message.proofs.AscendingLemmas.{ascending-same}
 use Rattle.sct_message.proofs.Members.{list_any-filter, list_any-map}
 use Rattle.sct_message.proofs.SameValues.{identity_itself, message_is}
-use Rattle.sct_message.proofs.Tests.{or_false}
+use Rattle.sct_message.proofs.Tests.{none_kept, or_false}
 use Rattle.sct_set.specs.Archive.{added_of, added_where, has_identity}
 use Rattle.sct_set.specs.Contents.{Contents, contents_of}
-use Rattle.sct_set.specs.Contradictions.{contradicted_identities, is_disputed, is_rival}
+use Rattle.sct_set.specs.Contradictions.{contradicted_identities, is_disputed}
 use Rattle.sct_set.specs.Digest.{digest_of}
 use Rattle.sct_set.specs.Drafts.{against_in, drafts_in, drafts_of, drafts_alike, finds}
+use Rattle.sct_set.specs.Filing.{is_first_in}
 use Rattle.sct_set.proofs.AgainstLemmas.{first_or_against}
 use Rattle.sct_set.specs.declared.added.Added.TheVariants as added
-use Rattle.sct_set.proofs.ContentsLemmas.{any_items, contains-contents_of}
+use Rattle.sct_set.proofs.ContentsLemmas.{any_items, contains-contents_of, is_rival}
 
 -- ---- a message among those of its digest, and of its identity
 
@@ -68,6 +69,29 @@ against-is later ds m e =
     ∙ ap (list_any (λ d. same_message d m)) e
     ∙ any-filter_same (λ d. same_message d m) (λ d. nat_eq (digest_of d) (digest_of m)) true (λ d. same_have_one_digest d m) ds
 
+-- a message that is not held is not among those that came against another
+pub held-behind : (ds : List Draft) (m : Draft) (b : Bool) → is_first_in m (drafts_of (identity_of m) ds) ≡ false → list_any (λ d. same_message d m) (against_in ds) ≡ b
+    → set.contains (contents_of ds) m ≡ b
+held-behind ds m b other among =
+    contains-contents_of ds m
+    ∙ sym (first_or_against m ds)
+    ∙ ap (λ (c : Bool). c || list_any (λ d. same_message d m) (against_in ds)) other
+    ∙ among
+
+-- a message that is the first of its identity is held
+pub held-first : (ds : List Draft) (m : Draft) → is_first_in m (drafts_of (identity_of m) ds) ≡ true → set.contains (contents_of ds) m ≡ true
+held-first ds m first =
+    contains-contents_of ds m
+    ∙ sym (first_or_against m ds)
+    ∙ ap (λ (c : Bool). c || list_any (λ d. same_message d m) (against_in ds)) first
+
+-- a message of an identity that no message has is not held
+pub held-none : (ds : List Draft) (m : Draft) → finds (identity_of m) ds ≡ false → set.contains (contents_of ds) m ≡ false
+held-none ds m none =
+    contains-contents_of ds m
+    ∙ sym (any-filter_same (λ d. same_message d m) (λ d. same_identity (identity_of d) (identity_of m)) true (λ d. same_have_one_identity d m) ds)
+    ∙ ap (list_any (λ d. same_message d m)) (none_kept (λ d. same_identity (identity_of d) (identity_of m)) ds none)
+
 one_kept : (p : Draft → Bool) (ds : List Draft) → not (nat_eq (length (filter p ds)) 0) ≡ list_any p ds
 one_kept p [] = refl
 one_kept p (d ∷ ds) = elim (p d) as (λ b. not (nat_eq (length (cond b (d ∷ filter p ds) (filter p ds))) 0) ≡ (b || list_any p ds)) [ true ↦ ap not (ne_eqb (suc (length (filter p ds))) 0 (suc-ne-zero (length (filter p ds)))) | false ↦ one_kept p ds ]
@@ -78,6 +102,11 @@ found-is ms ds i e =
     ap (λ (n : ℕ). not (nat_eq n 0)) (sym (length-map ms arc_value))
     ∙ ap (λ (xs : List Draft). not (nat_eq (length xs) 0)) e
     ∙ one_kept (λ d. same_identity (identity_of d) i) ds
+
+-- a list that is not empty has one of the identity
+pub found-some : (ms : List (Arc Draft Global)) (ds : List Draft) (i : Identity) → drafts_in ms ≡ drafts_of i ds → nat_lt 0 (length ms) ≡ true → finds i ds ≡ true
+found-some [] ds i e some = cc
+found-some (m ∷ ms) ds i e some = sym (found-is (m ∷ ms) ds i e) ∙ ap not (ne_eqb (suc (length ms)) 0 (suc-ne-zero (length ms)))
 
 -- ---- how a message comes
 

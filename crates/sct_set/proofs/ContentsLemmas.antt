@@ -1,18 +1,25 @@
 -- Lists of messages and the set of them. Proof plumbing; it serves cases, the archive and the view alike.
-use Rattle.std.proofs.Common.{◌≡◌, ℕ, ◌+◌, Bool, true, false, cond, ◌||◌, List, [], ◌∷◌, ◌++◌, sym, ap, ◌∙◌, length-append}
+use Rattle.std.proofs.Common.{◌≡◌, ℕ, ◌+◌, Bool, true, false, cond, not, ◌&&◌, ◌||◌, List, [], ◌∷◌, ◌++◌, ◌≤◌, length, take, refl, arith, sym, ap, ◌∙◌, length-append}
 use Rattle.std.specs.FinSet as set
+use Rattle.std.proofs.lemmas.List.{take-append-le}
 use Rattle.std.specs.FinSet.{contains-from_list, contains-items, contains-insert, contains-union, from_list_push, len-insert, len-empty, contains-empty, same_set}
 use Rattle.std.specs.Cmp.{eq_by_cmp_equiv}
 use Rattle.std.specs.List.{list_any}
 use Rattle.std.specs.Ordering.{eq_by_cmp}
 use Rattle.sct_message.specs.declared.draft.Draft.{Draft}
 use Rattle.sct_message.specs.OrderLaws.{message_total, message_same}
-use Rattle.sct_message.specs.Order.{message_order, same_message}
+use Rattle.sct_message.specs.Keys.{identity_of}
+use Rattle.sct_message.specs.Order.{message_order, same_identity, same_message}
 use Rattle.sct_message.proofs.Members.{same_any}
 use Rattle.sct_message.proofs.SameValues.{message_is}
 pub use Rattle.sct_message.proofs.SameValues.{message_is as same_is, message_itself as same_itself}
 use Rattle.sct_message.proofs.Tests.{or_false, or_implied, or_later}
 use Rattle.sct_set.specs.Contents.{Contents, HasNoRepeat, HaveSameMessages, contents_of}
+use Rattle.sct_set.specs.Filing.{with_new}
+
+-- the other message differs from the first and has its identity
+abbrev pub is_rival : Draft → Draft → Bool
+is_rival draft other = same_identity (identity_of other) (identity_of draft) && not (same_message other draft)
 
 -- ---- messages that are the same
 
@@ -57,6 +64,35 @@ HasNoRepeat-push ds m none absent =
     ∙ ap (λ (b : Bool). cond b (set.len (contents_of ds)) (set.len (contents_of ds) + 1)) absent
     ∙ ap (λ (n : ℕ). n + 1) none
     ∙ sym (length-append ds (m ∷ []))
+
+-- ---- a message more, unless the list has it
+
+module _ (ds : List Draft) (m : Draft) where
+  by_new : (P : List Draft → Type 0) → (set.contains (contents_of ds) m ≡ true → P ds) → (set.contains (contents_of ds) m ≡ false → P (ds ++ m ∷ [])) → P (with_new ds m)
+  by_new P held new =
+      elim (set.contains (contents_of ds) m) as (λ b. set.contains (contents_of ds) m ≡ b → P (cond b ds (ds ++ m ∷ []))) [ true ↦ held | false ↦ new ] refl
+
+  pub contents-with_new : contents_of (with_new ds m) ≡ set.insert (contents_of ds) m
+  contents-with_new =
+      by_new (λ es. contents_of es ≡ set.insert (contents_of ds) m)
+      (λ held. sym (insert-held (contents_of ds) m held))
+      (λ _. contents-push ds m)
+
+  pub HasNoRepeat-with_new : HasNoRepeat ds → HasNoRepeat (with_new ds m)
+  HasNoRepeat-with_new none = by_new HasNoRepeat (λ _. none) (λ absent. HasNoRepeat-push ds m none absent)
+
+  -- the messages that were there stay in their places
+  pub front-with_new : (n : ℕ) → n ≤ length ds → take n (with_new ds m) ≡ take n ds
+  front-with_new n few = by_new (λ es. take n es ≡ take n ds) (λ _. refl) (λ _. take-append-le n ds (m ∷ []) few)
+
+  pub length-with_new : length ds ≤ length (with_new ds m)
+  length-with_new = by_new (λ es. length ds ≤ length es) (λ _. omega arith) (λ _. let e = length-append ds (m ∷ []) in omega arith)
+
+  pub with_new-held : set.contains (contents_of ds) m ≡ true → ds ≡ with_new ds m
+  with_new-held held = ap (λ (b : Bool). cond b ds (ds ++ m ∷ [])) (sym held)
+
+  pub with_new-absent : set.contains (contents_of ds) m ≡ false → ds ++ m ∷ [] ≡ with_new ds m
+  with_new-absent absent = ap (λ (b : Bool). cond b ds (ds ++ m ∷ [])) (sym absent)
 
 -- ---- many messages more
 

@@ -1,12 +1,12 @@
 -- What filing a message and taking it out do to an index. Proof plumbing.
-use Rattle.std.proofs.Common.{◌≡◌, ℕ, ◌+◌, ◌-◌, Bool, true, false, cond, List, [], ◌∷◌, ◌++◌, map, length, take, refl, sym, ap, subst, ◌∙◌, filter, arith, length-append, Result, Ok, Err, OnErr}
+use Rattle.std.proofs.Common.{◌≡◌, ℕ, ◌+◌, ◌-◌, Bool, true, false, cond, List, [], ◌∷◌, ◌++◌, map, length, take, refl, sym, ap, subst, ◌∙◌, filter, arith, length-append, Result, Ok, Err, OnErr, is_some, nat_lt}
 use Rattle.std.proofs.lemmas.List.{append-nil, length-map, map-append, take-map}
 use Rattle.std.proofs.lemmas.List.Elements.{filter-append}
 use Rattle.std.proofs.Math.Seq.{take-append_seam}
 use Rattle.std.specs.Arc.{arc_value}
 use Rattle.std.specs.Global.{Vec, Global}
 use Rattle.std.specs.declared.sync.Arc.{Arc}
-use Rattle.indexmap.specs.IndexMap.{IndexMap}
+use Rattle.indexmap.specs.IndexMap.{IndexMap, get}
 use Rattle.sct_message.specs.declared.draft.Draft.{Draft}
 use Rattle.sct_set.specs.Buckets.{bucket, HasNoEmptyList}
 use Rattle.sct_set.specs.Drafts.{drafts_in, IsIndexBy}
@@ -45,10 +45,6 @@ module _ {A D : Type 0} (value : A → D) (is_of : D → Bool) where
         | false ↦ λ e. e ∙ append-nil (filter is_of ds)
       ] parts
 
-no_values : (ms : List (Arc Draft Global)) → drafts_in ms ≡ [] → ms ≡ []
-no_values [] e = refl
-no_values (m ∷ ms) e = cc
-
 -- a map compares its keys by a test that answers as the one of the index does
 module _ {K S : Type 0} (key_of : Draft → K) (T E : K → K → Bool) (ties : (j k : K) → E j k ≡ T j k) (old new : IndexMap K (Vec (Arc Draft Global)) S) where
   is_same : E ≡ T
@@ -73,19 +69,23 @@ module _ {K S : Type 0} (key_of : Draft → K) (T E : K → K → Bool) (ties : 
   }
 
   -- an index in which the first message of its key was filed
-  pub IsIndexBy-first : (key : K) (message : Arc Draft Global) (d : Draft) (ds : List Draft) → arc_value message ≡ d → key ≡ key_of d → IsIndexBy key_of T old ds
+  pub IsIndexBy-first : (key : K) (d : Draft) (ds : List Draft) → key ≡ key_of d → IsIndexBy key_of T old ds
       → ((k : K) → T key k ≡ true → filter (λ m. T (key_of m) k) ds ≡ [])
-      → ((k : K) → bucket E new k ≡ cond (E key k) (message ∷ []) (bucket E old k)) → (HasNoEmptyList E old → HasNoEmptyList E new)
+      → ((k : K) → drafts_in (bucket E new k) ≡ cond (E key k) (d ∷ []) (drafts_in (bucket E old k))) → (HasNoEmptyList E old → HasNoEmptyList E new)
       → IsIndexBy key_of T new (ds ++ d ∷ [])
-  IsIndexBy-first key message d ds value is was none became keeps =
-      IsIndexBy-filed key message d ds value is was
-      (λ k. became k
-      ∙ elim (E key k) as (λ b. E key k ≡ b → cond b (message ∷ []) (bucket E old k) ≡ cond b (bucket E old k ++ message ∷ []) (bucket E old k)) [
-        | true ↦ λ e. ap (λ (ms : List (Arc Draft Global)). ms ++ message ∷ [])
-            (sym (no_values _ (ap (λ (F : K → K → Bool). drafts_in (bucket F old k)) is_same ∙ was.messages k ∙ none k (sym (ties key k) ∙ e))))
-        | false ↦ λ _. refl
-      ] refl)
-      keeps
+  IsIndexBy-first key d ds is was none became keeps = record {
+    messages = λ k.
+        let told : drafts_in (bucket T new k) ≡ cond (T key k) (d ∷ []) (drafts_in (bucket T old k))
+        = subst (λ (F : K → K → Bool). drafts_in (bucket F new k) ≡ cond (F key k) (d ∷ []) (drafts_in (bucket F old k))) is_same (became k) in
+        told
+        ∙ elim (T key k) as (λ b. T key k ≡ b → cond b (d ∷ []) (drafts_in (bucket T old k)) ≡ filter (λ m. T (key_of m) k) ds ++ cond b (d ∷ []) []) [
+          | true ↦ λ e. ap (λ (xs : List Draft). xs ++ d ∷ []) (sym (none k e))
+          | false ↦ λ _. was.messages k ∙ sym (append-nil (filter (λ m. T (key_of m) k) ds))
+        ] refl
+        ∙ ap (λ (j : K). filter (λ m. T (key_of m) k) ds ++ cond (T j k) (d ∷ []) []) is
+        ∙ sym (filter-append (λ m. T (key_of m) k) ds (d ∷ []));
+    no_empty = HasNoEmptyList-kept keeps was.no_empty;
+  }
 
   -- an index out of which the last message was taken
   pub IsIndexBy-unfiled : (key : K) (d : Draft) (ds : List Draft) → key ≡ key_of d → IsIndexBy key_of T old (ds ++ d ∷ [])
@@ -110,3 +110,15 @@ module _ {K S : Type 0} (key_of : Draft → K) (T E : K → K → Bool) (ties : 
   -- the list at a key has the messages of it
   pub IsIndexBy-at : (ds : List Draft) (k : K) → IsIndexBy key_of T old ds → drafts_in (bucket E old k) ≡ filter (λ d. T (key_of d) k) ds
   IsIndexBy-at ds k was = ap (λ (F : K → K → Bool). drafts_in (bucket F old k)) is_same ∙ was.messages k
+
+  -- the map has a key if the list at it is not empty
+  pub IsIndexBy-some : (ds : List Draft) (k : K) → IsIndexBy key_of T old ds → is_some (get E old k) ≡ nat_lt 0 (length (bucket E old k))
+  IsIndexBy-some ds k was = ap (λ (F : K → K → Bool). is_some (get F old k)) is_same ∙ was.no_empty k ∙ ap (λ (F : K → K → Bool). nat_lt 0 (length (bucket F old k))) (sym is_same)
+
+-- an index with the entries of another has the same messages
+pub IsIndexBy-entries : {K S : Type 0} (key_of : Draft → K) (same : K → K → Bool) (old new : IndexMap K (Vec (Arc Draft Global)) S) (ds : List Draft)
+    → new.entries ≡ old.entries → IsIndexBy key_of same old ds → IsIndexBy key_of same new ds
+IsIndexBy-entries key_of same old new ds e was = record {
+  messages = λ k. rw e (was.messages k);
+  no_empty = λ k. rw e (was.no_empty k);
+}

@@ -14,11 +14,11 @@ use Rattle.sct_message.specs.Keys.{identity_of}
 use Rattle.sct_message.specs.Order.{identity_order, message_order, same_message, same_identity}
 use Rattle.sct_set.specs.declared.added.Added.TheVariants as added
 use Rattle.sct_set.specs.Archive.{added_where, archive_text_of, has_identity}
-use Rattle.sct_set.specs.Contradictions.{IsContradicted, contradicted_identities, is_disputed, is_rival}
+use Rattle.sct_set.specs.Contradictions.{IsContradicted, contradicted_identities, is_disputed}
 use Rattle.sct_set.specs.Contents.{Contents}
 use Rattle.sct_set.specs.Laws.{IsAssociative, IsCommutative, IsIdempotent, HoldsBothSides, EqualSetsAnswerAlike, TellsContradictions, TellsInOrder, AnswersAgainst}
 use Rattle.sct_message.proofs.AscendingLemmas.{members_ascending, ascending_rises}
-use Rattle.sct_set.proofs.ContentsLemmas.{same_contents}
+use Rattle.sct_set.proofs.ContentsLemmas.{same_contents, is_rival}
 use Rattle.sct_set.proofs.ArchiveLemmas.{added-absent}
 use Rattle.sct_message.proofs.SameValues.{identity_is, identity_itself, message_is, message_itself}
 use Rattle.sct_message.proofs.Tests.{or_assoc, or_comm, or_itself}

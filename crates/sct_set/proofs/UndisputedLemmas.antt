@@ -21,9 +21,9 @@ use Rattle.sct_message.proofs.Members.{list_any-found}
 use Rattle.sct_message.proofs.SameValues.{identity_is, message_is, message_itself}
 use Rattle.sct_message.proofs.Tests.{or_false}
 use Rattle.sct_set.specs.Contents.{Contents, contents_of}
-use Rattle.sct_set.specs.Contradictions.{is_disputed, is_rival, undisputed_of}
+use Rattle.sct_set.specs.Contradictions.{is_disputed, undisputed_of}
 use Rattle.sct_set.specs.Drafts.{drafts_in, drafts_of}
-use Rattle.sct_set.proofs.ContentsLemmas.{any_items}
+use Rattle.sct_set.proofs.ContentsLemmas.{any_items, is_rival}
 
 -- a message is among those of the set that pass a test where it passes it and is held
 picked : (s : Contents) (p : Draft → Bool) (q : Draft) → list_any (same_message q) (filter p (set.items s)) ≡ (p q && set.contains s q)

@@ -1,18 +1,14 @@
 -- The contradicted identities of a set of messages. Read by an auditor. Cases, the archive and the view use them.
 use Rattle.std.specs.FinSet as set
-use Rattle.std.specs.Prelude.{Bool, not, ◌&&◌, List, map, filter}
+use Rattle.std.specs.Prelude.{not, ◌&&◌, List, map, filter}
 use Rattle.sct_message.specs.declared.draft.Draft.{Draft}
 use Rattle.sct_message.specs.declared.keys.Identity.{Identity}
 use Rattle.sct_message.specs.Keys.{identity_of}
-use Rattle.sct_message.specs.Order.{identity_order, same_message, same_identity}
+use Rattle.sct_message.specs.Order.{identity_order, same_identity}
 use Rattle.sct_message.specs.Ascending.{ascending}
 use Rattle.sct_set.specs.Contents.{Contents}
 use Rattle.sct_message.specs.Sets.{in_order}
 pub use Rattle.sct_message.specs.Sets.{IsContradicted, is_contradicted as is_disputed}
-
--- the other message differs from the first and has its identity
-abbrev pub is_rival : Draft → Draft → Bool
-is_rival draft other = same_identity (identity_of other) (identity_of draft) && not (same_message other draft)
 
 -- the identities of disputed messages of the set, each once, in ascending order
 unfoldable pub contradicted_identities : Contents → List Identity

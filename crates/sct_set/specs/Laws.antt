@@ -14,6 +14,9 @@ use Rattle.sct_set.specs.Contradictions.{IsContradicted, contradicted_identities
 
 -- ---- a merge is the union of the contents
 
+-- The first three laws are facts of finite sets, which hold whatever the code does. They say something of archives only
+-- beside the clause of `Archive::merge`, that the contents after it are the union of the contents of both sides.
+
 abbrev pub IsAssociative : Type 0
 IsAssociative = (a b c : Contents) → set.union (set.union a b) c ≡ set.union a (set.union b c)
 

@@ -5,6 +5,7 @@ pub mod Contents
 pub mod Contradictions
 pub mod Digest
 pub mod Drafts
+pub mod Filing
 pub mod Groups
 pub mod Laws
 pub mod LineOrder

@@ -10,10 +10,7 @@ ghost use Rattle.sct_set.specs.Drafts.{drafts_in};
 
 use crate::added::Added;
 use crate::arrivals::Arrivals;
-use crate::contradictions::{contradictions, is_disputed_in};
 use crate::fault::SetFault;
-use crate::held::holds;
-use crate::push::push_all;
 use crate::text::archive_text;
 use sct_message::{Identity, Message};
 use std::alloc::Global;
@@ -65,10 +62,10 @@ impl Archive {
     pub fn holds(&self, message: &Message) -> bool
         ensures { result ≡ set.contains self.now message.now }
     {
-        holds(&self.arrivals, message)
+        self.arrivals.holds(message)
     }
 
-    /// The messages held, each once, in the order in which they were added.
+    /// The messages held, each once. Their order is not specified.
     pub fn messages(&self) -> &[Arc<Message>]
         ensures held { contents_of (drafts_in result.now) ≡ self.now }
         ensures once { HasNoRepeat (drafts_in result.now) }
@@ -81,7 +78,7 @@ impl Archive {
     pub fn disputes(&self, message: &Message) -> bool
         ensures { result ≡ is_disputed self.now message.now }
     {
-        is_disputed_in(&self.arrivals, message)
+        self.arrivals.disputes(message)
     }
 
     /// The message of an identity, or none if there is no such message or the identity is contradicted.
@@ -106,11 +103,7 @@ impl Archive {
         ensures ok { OnOk result (self.new ≡ set.insert self.old (arc_value message)) }
         ensures err { OnErr result (self.new ≡ self.old) }
     {
-        if self.holds(&message) {
-            return Ok(Added::Repeat);
-        }
-        let against = self.arrivals.push(message)?;
-        Ok(Added::of_new(against))
+        Ok(self.arrivals.add(&message)?)
     }
 
     /// Adds each message of a list. Returns by how many messages the archive has grown.
@@ -120,7 +113,7 @@ impl Archive {
         ensures count { IfOk result (λ fresh. set.len self.new ≡ set.len self.old + fresh) }
         ensures err { OnErr result (self.new ≡ self.old) }
     {
-        Ok(push_all(&mut self.arrivals, messages)?)
+        Ok(self.arrivals.add_all(messages)?)
     }
 
     /// Adds each message of another archive. Returns by how many messages this archive has grown.
@@ -130,7 +123,7 @@ impl Archive {
         ensures count { IfOk result (λ fresh. set.len self.new ≡ set.len self.old + fresh) }
         ensures err { OnErr result (self.new ≡ self.old) }
     {
-        Ok(push_all(&mut self.arrivals, other.arrivals.messages())?)
+        Ok(self.arrivals.add_all(other.messages())?)
     }
 
     /// The contradicted identities, ascending, each once: those that two different messages held have.
@@ -138,7 +131,7 @@ impl Archive {
     pub fn contradictions(&self) -> Result<Vec<Identity>, SetFault>
         ensures { IfOk result (λ identities. identities.items ≡ contradicted_identities self.now) }
     {
-        Ok(contradictions(&self.arrivals)?)
+        Ok(self.arrivals.contradictions()?)
     }
 
     /// The archive text in bytes: the written text of each message held, sorted by identity and
@@ -148,6 +141,6 @@ impl Archive {
         ensures text { IfOk result (λ text. text.items ≡ archive_text_of self.now) }
         ensures again { IfOk result (λ text. AreReadAgain self.now) }
     {
-        archive_text(&self.arrivals)
+        Ok(archive_text(&self.arrivals)?)
     }
 }

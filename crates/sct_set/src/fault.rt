@@ -2,7 +2,7 @@
 
 ghost use Rattle.std.specs.Prelude.{◌≡◌};
 
-use std::alloc::{AllocError, AllocFailed};
+use std::alloc::AllocError;
 use thiserror::Error;
 
 /// 39: out of memory. The failed call has changed nothing.
@@ -25,12 +25,6 @@ impl SetFault {
 
 impl From<AllocError> for SetFault {
     fn from(_: AllocError) -> Self {
-        SetFault::Memory
-    }
-}
-
-impl<T: Drop> From<AllocFailed<T>> for SetFault {
-    fn from(_: AllocFailed<T>) -> Self {
         SetFault::Memory
     }
 }

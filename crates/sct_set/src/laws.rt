@@ -1,4 +1,5 @@
 //! Laws of archives, whatever they hold. Each law is the contract of a function with an empty body.
+//! The laws of merging are facts of the union of sets, and the clause of `Archive::merge` says that a merge is that union.
 
 ghost use Rattle.sct_set.specs.Laws.{IsAssociative, IsCommutative, IsIdempotent, HoldsBothSides, EqualSetsAnswerAlike, TellsContradictions, TellsInOrder, AnswersAgainst, WritesEachOnce};
 

@@ -5,15 +5,8 @@ mod added;
 mod archive;
 mod arrivals;
 pub mod buckets;
-mod contradictions;
-mod digest;
 mod fault;
-mod filing;
-mod held;
 pub mod laws;
-mod line;
-mod pieces;
-mod push;
 mod sorted_archive;
 mod text;
 

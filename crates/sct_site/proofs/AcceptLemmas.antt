@@ -10,7 +10,7 @@ use Rattle.sct_message.specs.OrderLaws.{message_total, message_same}
 use Rattle.sct_message.specs.Order.{message_order}
 use Rattle.sct_set.specs.Contents.{Contents, contents_of}
 use Rattle.sct_delta.specs.Entries.{Placed, entries_from, log_of, messages_of, numbered}
-use Rattle.sct_delta.specs.Logs.{HeldLogs, log_in}
+use Rattle.sct_delta.specs.Logs.{HeldLogs, log_in, KeepsNoEmpty}
 use Rattle.sct_delta.specs.Refusals.{first_refusal}
 use Rattle.sct_delta.proofs.EntryLemmas.{log-append}
 use Rattle.sct_site.specs.Cores.{Core, logs_of, refusal_by}
@@ -39,10 +39,11 @@ pub IsCore-joined : (number group : ℕ) (old new : HeldLogs) (es fs fresh : Lis
     → new.group ≡ old.group
     → ((o : ℕ) → entries_from o fresh ≡ numbered o (length (log_in old o) + 1) (log_of o fresh))
     → ((o : ℕ) → log_in new o ≡ log_in old o ++ log_of o fresh)
+    → KeepsNoEmpty new
     → t ≡ set.union s (messages_of fresh)
     → fs ≡ es ++ fresh
     → IsCore number group new fs t
-IsCore-joined number group old new es fs fresh s t was same follow logged held came =
+IsCore-joined number group old new es fs fresh s t was same follow logged filled held came =
     rw came
     (record {
       opened = was.opened;
@@ -50,6 +51,7 @@ IsCore-joined number group old new es fs fresh s t was same follow logged held c
       order = arrivals-append es fresh was.order (λ o.
           follow o ∙ ap (λ (n : ℕ). numbered o (n + 1) (log_of o fresh)) (ap length (was.by_origin o) ∙ length-log o es));
       by_origin = λ o. logged o ∙ ap (λ (l : List Draft). l ++ log_of o fresh) (was.by_origin o) ∙ sym (log-append o es fresh);
+      filled = filled;
       messages = held ∙ ap (λ (c : Contents). set.union c (messages_of fresh)) was.messages ∙ sym (messages-append es fresh);
     })
 

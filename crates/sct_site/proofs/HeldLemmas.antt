@@ -13,7 +13,7 @@ use Rattle.sct_message.specs.Ascending.{ascending}
 use Rattle.sct_message.proofs.AscendingLemmas.{any_ascending, ascending-filter, ascending-sorted}
 use Rattle.sct_message.proofs.SameValues.{message_itself}
 use Rattle.sct_delta.specs.Entries.{Placed, is_from, log_of, same_entry, holds, IsArrivals, IsRun}
-use Rattle.sct_delta.specs.Refusals.{message_at, is_same_as, is_held, firsts_after, told}
+use Rattle.sct_delta.specs.Refusals.{message_at, is_same_as, is_held, firsts_after, fault_of_entry}
 use Rattle.sct_delta.specs.declared.fault.DeltaFault.{DeltaFault}
 use Rattle.sct_delta.proofs.EntryLemmas.{rises-numbered, run_is}
 use Rattle.sct_delta.proofs.HeldLemmas.{entry_itself, one_entry, held_in_logs, some_there}
@@ -44,13 +44,13 @@ found_in p (d ∷ ds) e is =
     ] refl is
 
 module _ (P : DeltaFault → Type 0) (tells : Placed → DeltaFault) (p : Placed → Bool) (ds : List Placed) where
-  pub told_all : ((e : Placed) → P (tells e)) → (o : Option Placed) → IfSome (told tells o) P
+  pub told_all : ((e : Placed) → P (tells e)) → (o : Option Placed) → IfSome (fault_of_entry tells o) P
   told_all all None = tt
   told_all all (Some e) = all e
 
-  pub told_never : ((e : Placed) → holds ds e ≡ true → p e ≡ false) → IfSome (told tells (find p ds)) P
+  pub told_never : ((e : Placed) → holds ds e ≡ true → p e ≡ false) → IfSome (fault_of_entry tells (find p ds)) P
   told_never never =
-      elim (find p ds) as (λ o. find p ds ≡ o → IfSome (told tells o) P) [
+      elim (find p ds) as (λ o. find p ds ≡ o → IfSome (fault_of_entry tells o) P) [
         | None ↦ λ is. tt
         | Some e ↦ λ is.
             let found : (holds ds e ≡ true) × (p e ≡ true) = found_in p ds e is in

@@ -6,7 +6,7 @@ use Rattle.sct_message.specs.declared.draft.Draft.{Draft}
 use Rattle.sct_set.specs.Contents.{Contents}
 use Rattle.sct_set.proofs.ContentsLemmas.{contents-push}
 use Rattle.sct_delta.specs.Entries.{Placed, log_of, held_from, messages_of}
-use Rattle.sct_delta.specs.Logs.{HeldLogs, log_in}
+use Rattle.sct_delta.specs.Logs.{HeldLogs, log_in, KeepsNoEmpty}
 use Rattle.sct_delta.proofs.EntryLemmas.{log-append}
 use Rattle.sct_site.specs.Cores.{Core, is_repeat, next_own, own_entry, took_by, arrivals_taken}
 use Rattle.sct_site.specs.Inside.{IsCore}
@@ -64,10 +64,11 @@ pub IsCore-taken : (number group : ℕ) (old new : HeldLogs) (es fs : List Place
     → IsCore number group old es s
     → new.group ≡ old.group
     → ((o : ℕ) → log_in new o ≡ cond (nat_eq number o) (log_in old o ++ m ∷ []) (log_in old o))
+    → KeepsNoEmpty new
     → t ≡ set.insert s m
     → fs ≡ es ++ own_entry (record { number = number; group = group; arrivals = es }) m ∷ []
     → IsCore number group new fs t
-IsCore-taken number group old new es fs s t m was same logged held came =
+IsCore-taken number group old new es fs s t m was same logged filled held came =
     let entry : Placed = own_entry (record { number = number; group = group; arrivals = es }) m in
     rw came
     (record {
@@ -75,5 +76,6 @@ IsCore-taken number group old new es fs s t m was same logged held came =
       one_group = same ∙ was.one_group;
       order = arrivals-push es entry was.order refl;
       by_origin = λ o. logged o ∙ ap (λ (l : List Draft). cond (nat_eq number o) (l ++ m ∷ []) l) (was.by_origin o) ∙ log-push o es entry;
+      filled = filled;
       messages = held ∙ ap (λ (c : Contents). set.insert c m) was.messages ∙ messages-push es entry;
     })

@@ -118,7 +118,7 @@ impl SiteCore {
             self.logs.drop_empty();
             return Err(DeltaFault::Memory);
         }
-        let n = self.logs.push(self.number, logged)?;
+        let n = self.logs.push_reserved(self.number, logged);
         self.arrivals.push_reserved(Entry {
             origin: self.number,
             n,
@@ -174,7 +174,7 @@ impl SiteCore {
         }
         let mut entries = fresh.into_entries();
         let count = entries.len() as u64;
-        self.logs.append_all(&entries, messages)?;
+        self.logs.append_all(&entries, messages);
         self.arrivals.append(&mut entries)?;
         Ok(Accepted { fresh: count })
     }

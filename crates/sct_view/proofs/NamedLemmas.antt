@@ -1,11 +1,12 @@
 -- The recalls that a message names are of transfers that it is on. Proof plumbing.
-use Rattle.std.proofs.Common.{◌≡◌, ◌∙◌, refl, sym, ◌≤◌, Bool, true, false, List, [], ◌∷◌, map, length, arith}
+use Rattle.std.proofs.Common.{◌≡◌, ◌∙◌, refl, sym, ◌≤◌, ℕ, Bool, true, false, List, [], ◌∷◌, map, length, arith}
 use Rattle.std.specs.List.{flat_map, list_any}
 use Rattle.std.proofs.lemmas.Bool.{false_from_ne_true, false≢true}
 use Rattle.std.proofs.lemmas.List.{length-map, map-append}
 use Rattle.sct_message.specs.Keys.{recalls_of, transfers_of}
 use Rattle.sct_message.specs.Order.{same_transfer}
 use Rattle.sct_message.specs.Recalls.{recall_in, transfer_in}
+use Rattle.sct_message.specs.Sets.{MessageSet}
 use Rattle.sct_message.specs.Transfers.{is_on}
 use Rattle.sct_message.specs.declared.draft.Draft.TheVariants as draft
 use Rattle.sct_message.specs.declared.draft.Draft.{Draft}
@@ -13,8 +14,14 @@ use Rattle.sct_message.specs.declared.keys.RecallKey.{RecallKey}
 use Rattle.sct_message.specs.declared.keys.TransferKey.{TransferKey}
 use Rattle.sct_message.proofs.Members.{list_any-map}
 use Rattle.sct_case.specs.Said.{named_in}
-use Rattle.sct_view.specs.Answers.{cxls_named_by}
+use Rattle.sct_view.specs.Answers.{cxls_named_by, recall_of}
 use Rattle.sct_view.specs.Listed.{cxls_in}
+use Rattle.sct_view.specs.StatusText.{recall_line}
+
+-- the R line of each of the recalls of a transfer of the set
+abbrev pub lines_of_recalls : MessageSet → TransferKey → List (List ℕ) → List ℕ
+lines_of_recalls held transfer cxls =
+    flat_map (λ cxl. recall_line transfer cxl (recall_of held (record { transfer = transfer; cxl = cxl }))) cxls
 
 -- there are no more of them than transfers of the message
 pub few_recalls : (m : Draft) → length (recalls_of m) ≤ length (transfers_of m)

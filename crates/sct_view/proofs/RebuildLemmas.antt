@@ -23,11 +23,11 @@ use Rattle.sct_set.proofs.ContentsLemmas.{any_items}
 use Rattle.sct_set.specs.Contents.{contents_of}
 use Rattle.sct_view.specs.Answers.{recall_of, status_of}
 use Rattle.sct_view.specs.Filed.{HasThose}
-use Rattle.sct_view.specs.Listed.{lines_of_recalls}
 use Rattle.sct_view.specs.StatusText.{recall_line}
 use Rattle.sct_view.specs.Kept.{Kept, case_of, no_messages, same_key}
 use Rattle.sct_view.proofs.ChangeLemmas.{nothing_kept}
 use Rattle.sct_view.proofs.GatheredLemmas.{gathered_those}
+use Rattle.sct_view.proofs.NamedLemmas.{lines_of_recalls}
 use Rattle.sct_message.proofs.Tests.{any_flat_map}
 
 -- ---- the messages of a set, filed

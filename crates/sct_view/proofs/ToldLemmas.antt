@@ -1,24 +1,23 @@
 -- What is told of a transfer by what is kept of it is what is told of it in the set. Proof plumbing.
-use Rattle.std.proofs.Common.{◌≡◌, ◌∙◌, refl, sym, ap, ℕ, Bool, false, not, Option, List, [], ◌∷◌, ◌++◌, filter, append-nil, append_assoc, arith}
+use Rattle.std.proofs.Common.{◌≡◌, ◌∙◌, refl, sym, ap, ℕ, Bool, false, not, List, [], ◌∷◌, ◌++◌, filter, append-nil, append_assoc, arith}
 use Rattle.std.specs.List.{list_any, flat_map}
 use Rattle.std.specs.List.Sorted.{IsStrictlySortedBy}
 use Rattle.std.specs.Ordering.{eq_by_cmp}
 use Rattle.std.specs.Cmp.Lexicographic.{nat_list_cmp_total}
 use Rattle.std.proofs.lemmas.Grind.{flat_map-append}
 use Rattle.std.proofs.lemmas.List.Folds.{list_any-append}
-use Rattle.sct_reason.specs.declared.reasons.Reason.{Reason}
 use Rattle.sct_message.specs.Order.{text_order}
 use Rattle.sct_message.specs.Sets.{MessageSet, clean_messages, contradicted_messages, in_order, is_contradicted}
 use Rattle.sct_message.specs.Transfers.{is_on, messages_on, instruction_of}
 use Rattle.sct_message.specs.declared.keys.TransferKey.{TransferKey}
 use Rattle.sct_message.proofs.AscendingLemmas.{ascending-same, ascending-sorted}
 use Rattle.sct_case.specs.declared.finding.Finding.{Finding}
-use Rattle.sct_case.specs.Statuses.{Unknown, first_standing, known, transfer_status_of}
-use Rattle.sct_view.specs.Answers.{status_of, found_on, cxls_named_by, recalls_of}
+use Rattle.sct_case.specs.Statuses.{Unknown, TransferFacts, facts_of, first_standing, standing_by, transfer_status_of}
+use Rattle.sct_view.specs.Answers.{status_of, found_on, cxls_named_by, recalls_on}
 use Rattle.sct_view.specs.Kept.{Kept, no_messages, case_of, contradicted_on, instruction_in}
-use Rattle.sct_view.specs.Listed.{found_in, recalls_in, lines_of_recalls}
+use Rattle.sct_view.specs.Listed.{found_in, recalls_in_case}
 use Rattle.sct_view.specs.StatusText.{status_line, finding_line, lines_on}
-use Rattle.sct_view.proofs.NamedLemmas.{none_named}
+use Rattle.sct_view.proofs.NamedLemmas.{lines_of_recalls, none_named}
 use Rattle.sct_message.proofs.Tests.{any_flat_map}
 use Rattle.sct_message.specs.CellsBack.{texts_same}
 use Rattle.sct_view.proofs.StandingLemmas.{split}
@@ -26,14 +25,14 @@ use Rattle.sct_view.proofs.StandingLemmas.{split}
 -- ---- findings stand in the status
 
 -- nothing that is told by sentence is a contradiction
-first_found : (found : List Finding) (unknown has : Bool) (reason : Option Reason) (accepted : Bool) (amount : Option ℕ) (investigated : Bool)
-    → found_in (first_standing found unknown (known has reason accepted amount investigated)) ≡ found
-first_found found unknown has reason accepted amount investigated = grind arith
+first_found : (found : List Finding) (unknown : Bool) (facts : TransferFacts)
+    → found_in (first_standing found unknown (standing_by facts)) ≡ found
+first_found found unknown facts = grind arith
 
 -- the findings of a transfer stand in its status
 pub found_on_status : (s : MessageSet) (t : TransferKey) → found_in (status_of s t) ≡ found_on s t
 unfolding status_of found_on transfer_status_of
-found_on_status s t = first_found _ _ _ _ _ _ _
+found_on_status s t = first_found _ _ (facts_of t (messages_on s t))
 
 -- ---- the messages that are kept
 
@@ -61,10 +60,10 @@ both_name : {X Y : Type 0} (f : X → List Y) (c : X → Bool) (q : Y → Bool) 
 both_name f c q xs = grind (arith, list_any-append q, any_flat_map q f, split (λ x. list_any q (f x)) c xs)
 
 -- the recalls that the messages kept of a transfer name are those that the messages of the set name
-pub recalls_kept : (s : MessageSet) (t : TransferKey) (case : Kept) → case ≡ case_of s t → recalls_in t case ≡ recalls_of s t
-unfolding case_of recalls_of
+pub recalls_kept : (s : MessageSet) (t : TransferKey) (case : Kept) → case ≡ case_of s t → recalls_in_case t case ≡ recalls_on s t
+unfolding case_of recalls_on
 recalls_kept s t case is =
-    ap (recalls_in t) is
+    ap (recalls_in_case t) is
     ∙ ascending-same nat_list_cmp_total texts_same _ _ (λ q.
     ap (list_any (eq_by_cmp text_order q))
     (flat_map-append (cxls_named_by t) (messages_on s t) (contradicted_on s t)
@@ -75,7 +74,7 @@ recalls_kept s t case is =
 
 -- the lines of a transfer, put one after another
 pub case_told : (s : MessageSet) (t : TransferKey) (case : Kept) (old one two three : List ℕ) (found : List Finding) (cxls : List (List ℕ)) → case ≡ case_of s t
-    → found ≡ found_in case.stands → cxls ≡ recalls_in t case
+    → found ≡ found_in case.stands → cxls ≡ recalls_in_case t case
     → one ≡ old ++ status_line t case.stands → two ≡ one ++ flat_map (finding_line t) found → three ≡ two ++ lines_of_recalls s t cxls
     → three ≡ old ++ lines_on s t
 unfolding lines_on
@@ -92,7 +91,7 @@ case_told s t case old one two three found cxls is f r first second third =
 
 -- ---- a transfer of which nothing is kept
 
-pub no_recalls : (s : MessageSet) (t : TransferKey) → no_messages ≡ case_of s t → [] ≡ recalls_of s t
+pub no_recalls : (s : MessageSet) (t : TransferKey) → no_messages ≡ case_of s t → [] ≡ recalls_on s t
 unfolding IsStrictlySortedBy
 no_recalls s t is = sym (ascending-sorted nat_list_cmp_total texts_same [] tt) ∙ recalls_kept s t no_messages is
 

@@ -5,7 +5,7 @@ use Rattle.std.specs.List.{list_any, sum_by}
 use Rattle.sct_message.specs.declared.keys.TransferKey.{TransferKey}
 use Rattle.sct_case.specs.Statuses.{Standing, Returned}
 use Rattle.sct_view.specs.Kept.{Kept, IsInRange, IsSmall, IsUpTo, cents_back, share_in}
-use Rattle.sct_view.specs.Totals.{as_beneficiary, as_originator, nothing, plus, share, share_of_beneficiary, share_of_originator, totals_over}
+use Rattle.sct_view.specs.Totals.{nothing, plus, share, share_of_beneficiary, share_of_originator, totals_over}
 use Rattle.sct_view.specs.declared.totals.Totals.{Totals}
 use Rattle.sct_view.proofs.SumLemmas.{AreApart, part_of_sum, sum_bounded, sum_changed}
 
@@ -70,7 +70,18 @@ module _ (E : TransferKey → TransferKey → Bool) (same : (x y : TransferKey) 
 
 -- the most that a share has of each number: it counts a transfer once, and its cents are numbers of 64 bits
 abbrev most : Totals
-most = plus (as_originator 1 18446744073709551615 18446744073709551615 1 1 1 1) (as_beneficiary 1 18446744073709551615 18446744073709551615)
+most = record {
+  sent = 1;
+  sent_cents = 18446744073709551615;
+  returned_in = 18446744073709551615;
+  rejected = 1;
+  waiting = 1;
+  missing = 1;
+  contradicted = 1;
+  received = 1;
+  received_cents = 18446744073709551615;
+  returned_out = 18446744073709551615;
+}
 
 both_small : (stands : Standing) (cents : ℕ) (sends receives : Bool) → cents < 2 ^ 64 → cents_back stands < 2 ^ 64
     → IsUpTo (plus (if sends then share_of_originator stands cents else nothing) (if receives then share_of_beneficiary stands cents else nothing)) most

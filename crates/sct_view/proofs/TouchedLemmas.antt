@@ -21,7 +21,7 @@ use Rattle.sct_case.specs.Told.{findings_of}
 use Rattle.sct_set.proofs.ContentsLemmas.{same_contents}
 use Rattle.sct_view.specs.Answers.{found_on, recall_of, status_of}
 use Rattle.sct_view.specs.Kept.{case_of, contradicted_on}
-use Rattle.sct_view.specs.Listed.{recalls_in}
+use Rattle.sct_view.specs.Listed.{recalls_in_case}
 use Rattle.sct_view.specs.Totals.{share}
 use Rattle.sct_view.specs.Touched.{IsToldAlike, UntouchedTransfersStay, fresh_of, is_newly_contradicted, touched_by}
 use Rattle.sct_view.proofs.EvaluationLemmas.{among_picked, contradicted_in_union}
@@ -112,7 +112,7 @@ module _ (s f : MessageSet) (t : TransferKey) (untouched : IsUntouched s f t) wh
     instruction = same_instruction;
     status = same_status;
     findings = λ i. findings_of t (same_messages i) (same_asides i);
-    recalls = sym (recalls_kept (set.union s f) t _ refl) ∙ ap (recalls_in t) same_case ∙ recalls_kept s t _ refl;
+    recalls = sym (recalls_kept (set.union s f) t _ refl) ∙ ap (recalls_in_case t) same_case ∙ recalls_kept s t _ refl;
     recall = λ cxl i. recall_status_of t (same_messages i) (same_asides i) cxl;
     shares = λ bank i. share bank t (same_status i) (same_instruction i);
   }

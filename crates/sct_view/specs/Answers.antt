@@ -40,8 +40,8 @@ abbrev pub cxls_named_by : TransferKey → Draft → List (List ℕ)
 cxls_named_by transfer m = map (λ named. named.cxl) (recalls_named_by transfer m)
 
 -- the recalls of a transfer that messages of the set name, contradicted messages included, each once, ascending
-unfoldable pub recalls_of : MessageSet → TransferKey → List (List ℕ)
-recalls_of held transfer = ascending text_order (flat_map (cxls_named_by transfer) (in_order held))
+unfoldable pub recalls_on : MessageSet → TransferKey → List (List ℕ)
+recalls_on held transfer = ascending text_order (flat_map (cxls_named_by transfer) (in_order held))
 
 -- every finding with its transfer, sorted by transfer and then in the order in which findings are reported
 unfoldable pub all_findings_of : MessageSet → List (TransferKey × Finding)
@@ -60,6 +60,6 @@ is_beneficiary bank other = false
 
 -- the transfers of a bank, ascending: those that have it as the originator bank, or as
 -- the beneficiary bank of the instruction
-unfoldable pub transfers_of : MessageSet → List ℕ → List TransferKey
-transfers_of held bank =
+unfoldable pub transfers_of_bank : MessageSet → List ℕ → List TransferKey
+transfers_of_bank held bank =
     filter (λ transfer. is_originator bank transfer || is_beneficiary bank (instruction_of held transfer)) (keys_of held)

@@ -11,7 +11,7 @@ use Rattle.sct_element.specs.Text.{is_text}
 use Rattle.sct_message.specs.Transfers.{is_on, is_instruction, messages_on, sole}
 use Rattle.sct_message.specs.declared.draft.Draft.{Draft}
 use Rattle.sct_message.specs.declared.keys.TransferKey.{TransferKey}
-use Rattle.sct_case.specs.Statuses.{Standing, Returned, Unknown, told}
+use Rattle.sct_case.specs.Statuses.{Standing, Returned, Unknown, as_standing}
 use Rattle.sct_view.specs.Answers.{status_of}
 use Rattle.sct_view.specs.Totals.{nothing, share, totals_over, cents_in, beneficiary_in}
 use Rattle.sct_view.specs.declared.case.Case.{Case}
@@ -43,7 +43,7 @@ abbrev pub kept_in : Case → Kept
 kept_in case = record {
   clean = messages_in case.clean.items;
   contradicted = messages_in case.contradicted.items;
-  stands = told case.status;
+  stands = as_standing case.status;
 }
 
 abbrev pub kept_or_none : Option Case → Kept
@@ -129,12 +129,18 @@ pub record IsSmall (case : Kept) : Type 0 where
 
 -- ---- the tables
 
--- The totals of each bank are the sums of its shares. For any list of transfers outside of which no transfer has
--- messages, they are the sums over that list, each transfer counted once.
+-- no transfer outside of the list has messages
+abbrev pub ListsAll : List TransferKey → (TransferKey → Kept) → Type 0
+ListsAll transfers cases = (t : TransferKey) → list_any (same_key t) transfers ≡ false → cases t ≡ no_messages
+
+-- the shares of a bank, summed over the transfers of the list, each transfer counted once
+abbrev pub sums_of : (TransferKey → Kept) → List TransferKey → List ℕ → Totals
+sums_of cases transfers bank = totals_over (λ t. share_in bank t (cases t)) (ascending transfer_order transfers)
+
+-- The totals of each bank are the sums of its shares, over any list that has all transfers with messages.
 abbrev pub AreSums : (TransferKey → Kept) → (List ℕ → Totals) → Type 0
-AreSums cases totals = (transfers : List TransferKey)
-    → ((t : TransferKey) → list_any (same_key t) transfers ≡ false → cases t ≡ no_messages)
-    → (bank : List ℕ) → totals bank ≡ totals_over (λ t. share_in bank t (cases t)) (ascending transfer_order transfers)
+AreSums cases totals = (transfers : List TransferKey) → ListsAll transfers cases → (bank : List ℕ)
+    → totals bank ≡ sums_of cases transfers bank
 
 -- The table has the case of each transfer of a set of messages.
 abbrev pub AreCasesOf : {S : Type 0} → MessageSet → IndexMap TransferKey Case S → Type 0

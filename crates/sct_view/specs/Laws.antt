@@ -48,7 +48,8 @@ abbrev pub BanksHaveTotals : Type 0
 BanksHaveTotals = (held : MessageSet) (bank : List ℕ)
     → Contains (banks_of held) bank ↔ (totals_of held bank ≢ nothing)
 
--- batches may be applied in any order
+-- Batches may be applied in any order. This is a fact of finite sets, which holds whatever the code does. It says something
+-- of views only beside the clause of `View::apply`, that the messages after it are the union of those held and the batch.
 abbrev pub OrderOfBatchesDoesNotMatter : Type 0
 OrderOfBatchesDoesNotMatter = (held one other : MessageSet)
     → set.union (set.union held one) other ≡ set.union (set.union held other) one

@@ -3,13 +3,11 @@ use Rattle.std.specs.Prelude.{ℕ, ◌==◌, ◌&&◌, ◌++◌, Bool, not, List
 use Rattle.std.specs.List.{flat_map}
 use Rattle.sct_message.specs.Ascending.{ascending}
 use Rattle.sct_message.specs.Order.{same_transfer, text_order}
-use Rattle.sct_message.specs.Sets.{MessageSet}
 use Rattle.sct_message.specs.declared.keys.RecallKey.{RecallKey}
 use Rattle.sct_message.specs.declared.keys.TransferKey.{TransferKey}
 use Rattle.sct_case.specs.declared.finding.Finding.{Finding}
 use Rattle.sct_case.specs.Statuses.{Standing, Contradicted}
-use Rattle.sct_view.specs.Answers.{cxls_named_by, recall_of}
-use Rattle.sct_view.specs.StatusText.{recall_line}
+use Rattle.sct_view.specs.Answers.{cxls_named_by}
 use Rattle.sct_view.specs.Kept.{Kept}
 use Rattle.sct_view.specs.Totals.{is_nothing}
 use Rattle.sct_view.specs.declared.totals.Totals.{Totals}
@@ -37,8 +35,8 @@ found_in (Contradicted found) = found
 found_in other = []
 
 -- the recalls of a transfer that the messages of its case name, contradicted messages included, each once, ascending
-abbrev pub recalls_in : TransferKey → Kept → List (List ℕ)
-recalls_in transfer case = ascending text_order (flat_map (cxls_named_by transfer) (case.clean ++ case.contradicted))
+abbrev pub recalls_in_case : TransferKey → Kept → List (List ℕ)
+recalls_in_case transfer case = ascending text_order (flat_map (cxls_named_by transfer) (case.clean ++ case.contradicted))
 
 -- the identification of a recall, if it is a recall of the transfer
 abbrev pub cxls_in : TransferKey → RecallKey → List (List ℕ)
@@ -47,8 +45,3 @@ cxls_in transfer recall = if same_transfer recall.transfer transfer then recall.
 -- each finding of a transfer with the transfer's key
 abbrev pub beside : TransferKey → List Finding → List (TransferKey × Finding)
 beside transfer found = map (λ f. (transfer, f)) found
-
--- the R line of each of the recalls of a transfer of the set
-abbrev pub lines_of_recalls : MessageSet → TransferKey → List (List ℕ) → List ℕ
-lines_of_recalls held transfer cxls =
-    flat_map (λ cxl. recall_line transfer cxl (recall_of held (record { transfer = transfer; cxl = cxl }))) cxls

@@ -16,7 +16,7 @@ use Rattle.sct_case.specs.declared.finding.Finding.TheVariants as finding
 use Rattle.sct_case.specs.declared.status.RecallStatus.{RecallStatus}
 use Rattle.sct_case.specs.declared.status.RecallStatus.TheVariants as recall
 use Rattle.sct_case.specs.Statuses.{Standing, Contradicted, Unknown, Missing, Rejected, Returned, Accepted, Investigated, Pending}
-use Rattle.sct_view.specs.Answers.{status_of, found_on, recall_of, recalls_of}
+use Rattle.sct_view.specs.Answers.{status_of, found_on, recall_of, recalls_on}
 
 -- ---- words
 
@@ -90,7 +90,7 @@ recall_line transfer cxl stands = line_on (codes "R") transfer (cxl ++ codes "|"
 abbrev pub recall_lines : MessageSet → TransferKey → List ℕ
 recall_lines held transfer =
     flat_map (λ cxl. recall_line transfer cxl (recall_of held (record { transfer = transfer; cxl = cxl })))
-    (recalls_of held transfer)
+    (recalls_on held transfer)
 
 -- the lines of a transfer of the set: its T line, the F line of each finding, the R line of each recall
 unfoldable pub lines_on : MessageSet → TransferKey → List ℕ

@@ -28,37 +28,6 @@ nothing = record {
   returned_out = 0;
 }
 
--- the totals of an originator bank: transfers sent, their cents, the cents returned; transfers rejected, waiting for a
--- confirmation, without an instruction, contradicted
-abbrev pub as_originator : ℕ → ℕ → ℕ → ℕ → ℕ → ℕ → ℕ → Totals
-as_originator sent sent_cents returned_in rejected waiting missing contradicted = record {
-  sent = sent;
-  sent_cents = sent_cents;
-  returned_in = returned_in;
-  rejected = rejected;
-  waiting = waiting;
-  missing = missing;
-  contradicted = contradicted;
-  received = 0;
-  received_cents = 0;
-  returned_out = 0;
-}
-
--- the totals of a beneficiary bank: transfers received, their cents, the cents returned
-abbrev pub as_beneficiary : ℕ → ℕ → ℕ → Totals
-as_beneficiary received received_cents returned_out = record {
-  sent = 0;
-  sent_cents = 0;
-  returned_in = 0;
-  rejected = 0;
-  waiting = 0;
-  missing = 0;
-  contradicted = 0;
-  received = received;
-  received_cents = received_cents;
-  returned_out = returned_out;
-}
-
 -- the sum of two totals, number by number
 abbrev pub plus : Totals → Totals → Totals
 plus a b = record {
@@ -82,21 +51,21 @@ is_nothing t =
 
 -- ---- the share of one transfer
 
--- the share of the originator bank, by the transfer's status and the cents of its instruction
+-- the share of the originator bank, by the transfer's status and the cents of its instruction: the numbers that are not 0
 abbrev pub share_of_originator : Standing → ℕ → Totals
-share_of_originator (Contradicted found) cents = as_originator 0 0 0 0 0 0 1
+share_of_originator (Contradicted found) cents = record nothing { contradicted = 1 }
 share_of_originator Unknown cents = nothing
-share_of_originator Missing cents = as_originator 0 0 0 0 0 1 0
-share_of_originator (Rejected reason) cents = as_originator 0 0 0 1 0 0 0
-share_of_originator (Returned amount) cents = as_originator 1 cents amount 0 0 0 0
-share_of_originator Accepted cents = as_originator 1 cents 0 0 0 0 0
-share_of_originator Investigated cents = as_originator 0 0 0 0 1 0 0
-share_of_originator Pending cents = as_originator 0 0 0 0 1 0 0
+share_of_originator Missing cents = record nothing { missing = 1 }
+share_of_originator (Rejected reason) cents = record nothing { rejected = 1 }
+share_of_originator (Returned amount) cents = record nothing { sent = 1; sent_cents = cents; returned_in = amount }
+share_of_originator Accepted cents = record nothing { sent = 1; sent_cents = cents }
+share_of_originator Investigated cents = record nothing { waiting = 1 }
+share_of_originator Pending cents = record nothing { waiting = 1 }
 
--- the share of the beneficiary bank of the instruction
+-- the share of the beneficiary bank of the instruction, in the same way
 abbrev pub share_of_beneficiary : Standing → ℕ → Totals
-share_of_beneficiary (Returned amount) cents = as_beneficiary 1 cents amount
-share_of_beneficiary Accepted cents = as_beneficiary 1 cents 0
+share_of_beneficiary (Returned amount) cents = record nothing { received = 1; received_cents = cents; returned_out = amount }
+share_of_beneficiary Accepted cents = record nothing { received = 1; received_cents = cents }
 share_of_beneficiary other cents = nothing
 
 -- the cents that an instruction names

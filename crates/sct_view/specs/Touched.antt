@@ -9,7 +9,7 @@ use Rattle.sct_message.specs.Sets.{MessageSet, is_contradicted}
 use Rattle.sct_message.specs.Transfers.{asides_of, instruction_of, messages_on}
 use Rattle.sct_message.specs.declared.draft.Draft.{Draft}
 use Rattle.sct_message.specs.declared.keys.TransferKey.{TransferKey}
-use Rattle.sct_view.specs.Answers.{found_on, recall_of, recalls_of, status_of}
+use Rattle.sct_view.specs.Answers.{found_on, recall_of, recalls_on, status_of}
 use Rattle.sct_view.specs.Totals.{share_of}
 
 -- the identity of the message is contradicted with the fresh messages, and was not before
@@ -38,7 +38,7 @@ pub record IsToldAlike (held later : MessageSet) (transfer : TransferKey) : Type
   pub instruction : instruction_of later transfer ≡ instruction_of held transfer
   pub status : status_of later transfer ≡ status_of held transfer
   pub findings : found_on later transfer ≡ found_on held transfer
-  pub recalls : recalls_of later transfer ≡ recalls_of held transfer
+  pub recalls : recalls_on later transfer ≡ recalls_on held transfer
   pub recall : (cxl : List ℕ) → recall_of later (record { transfer = transfer; cxl = cxl })
       ≡ recall_of held (record { transfer = transfer; cxl = cxl })
   pub shares : (bank : List ℕ) → share_of later bank transfer ≡ share_of held bank transfer

@@ -1,7 +1,7 @@
 //! The change that a batch makes: its fresh messages, the transfers that these touch, and their new cases. It is found
 //! while the view stays unchanged.
 
-ghost use Rattle.std.specs.Prelude.{◌*◌, ◌+◌, ◌++◌, ◌≡◌, ◌≤◌, IfOk, OnOk, false, filter, if◌then◌else◌, length, map, true};
+ghost use Rattle.std.specs.Prelude.{◌*◌, ◌+◌, ◌++◌, ◌<◌, ◌^◌, ◌≡◌, ◌≤◌, IfOk, OnOk, false, filter, if◌then◌else◌, length, map, true};
 ghost use Rattle.std.specs.Arc.{arc_value};
 ghost use Rattle.std.specs.FinSet as set;
 ghost use Rattle.std.specs.List.{flat_map};
@@ -161,30 +161,33 @@ impl View {
         Ok(gathered)
     }
 
-    /// The new case of a touched transfer. `messages` are the fresh messages on it.
+    /// The new case of a touched transfer, with the evaluation counted. `messages` are the fresh messages on it.
     fn evaluate_anew(
         &self,
         fresh: &Archive,
         transfer: &TransferKey,
         messages: &[Arc<Message>],
+        evaluations: &mut u64,
     ) -> Result<Planned, CaseFault>
-        requires { ascending message_order
+        requires room { evaluations.old < 2 ^ 63 }
+        requires case { ascending message_order
             ((case_of self.now transfer.now).clean
             ++ (case_of self.now transfer.now).contradicted ++ messages_in messages.now)
             ≡ filter (is_on transfer.now) (in_order (set.union self.now fresh.now)) }
-        ensures { IfOk result (λ planned. change_in planned
+        ensures case { IfOk result (λ planned. change_in planned
             ≡ (transfer.now, case_of (set.union self.now fresh.now) transfer.now)) }
+        ensures counted { OnOk result (evaluations.new ≡ evaluations.old + 1) }
     {
         let gathered = self.gather(transfer, messages)?;
         let case = evaluate(self.alloc, &self.archive, Some(fresh), transfer, &gathered)?;
+        *evaluations += 1;
         Ok(Planned {
             transfer: transfer.copy(),
             case,
         })
     }
 
-    /// The new case of each touched transfer, with the fresh messages held too. Each transfer is
-    /// evaluated once, and each evaluation is counted.
+    /// The new case of each touched transfer, with the fresh messages held too. The evaluations are counted.
     fn evaluate_each(
         &self,
         fresh: &Archive,
@@ -200,13 +203,12 @@ impl View {
         let mut planned = Vec::new(self.alloc);
         for transfer in touched {
             let messages = on_transfer(&index, transfer);
-            planned.push(self.evaluate_anew(fresh, transfer, messages)?)?;
-            *evaluations += 1;
+            planned.push(self.evaluate_anew(fresh, transfer, messages, evaluations)?)?;
         }
         Ok(planned)
     }
 
-    /// Finds the fresh messages of a batch and the transfers that they touch, and evaluates each of these transfers once.
+    /// Finds the fresh messages of a batch and the transfers that they touch, and evaluates these transfers.
     pub(crate) fn replan(&self, batch: &[Arc<Message>]) -> Result<Replanned, CaseFault>
         ensures fresh { IfOk result (λ plan. plan.fresh ≡ fresh_of self.now (contents_of (messages_in batch.now))) }
         ensures planned { IfOk result (λ plan. map change_in plan.planned.items

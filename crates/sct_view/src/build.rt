@@ -218,7 +218,7 @@ fn evaluate_all<R: Threads + Sync>(
     )
 }
 
-/// The tables of an archive, built in one thread. Each transfer is evaluated once.
+/// The tables of an archive, built in one thread.
 pub(crate) fn tables_of(alloc: Global, archive: &Archive) -> Result<Tables, CaseFault>
     ensures { IfOk result (λ tables. AreCasesOf archive.now tables.cases) }
 {

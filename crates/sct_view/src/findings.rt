@@ -1,6 +1,6 @@
 //! The findings of a transfer, which its status holds.
 ghost use Rattle.std.specs.Prelude.{◌≡◌, ◌++◌, OnOk};
-ghost use Rattle.sct_case.specs.Statuses.{told};
+ghost use Rattle.sct_case.specs.Statuses.{as_standing};
 ghost use Rattle.sct_view.specs.Listed.{found_in, beside};
 
 use sct_case::{Finding, Status};
@@ -9,7 +9,7 @@ use std::alloc::AllocError;
 
 /// The findings that a status holds; empty for a status other than contradicted.
 pub(crate) fn findings_in(status: &Status) -> &[Finding]
-    ensures { result.now ≡ found_in (told status.now) }
+    ensures { result.now ≡ found_in (as_standing status.now) }
 {
     match status {
         Status::Contradicted(found) => found,

@@ -4,9 +4,9 @@ ghost use Rattle.std.specs.Prelude.{◌≡◌, ◌++◌, IfOk, OnOk};
 ghost use Rattle.std.specs.List.{flat_map};
 ghost use Rattle.sct_message.specs.Sets.{messages_in};
 ghost use Rattle.sct_message.specs.Transfers.{keys_of, instruction_of};
-ghost use Rattle.sct_view.specs.Answers.{cxls_named_by, recalls_of, all_findings_of, transfers_of, is_originator, is_beneficiary, found_on};
+ghost use Rattle.sct_view.specs.Answers.{cxls_named_by, recalls_on, all_findings_of, transfers_of_bank, is_originator, is_beneficiary, found_on};
 ghost use Rattle.sct_view.specs.Kept.{kept_in, instruction_in};
-ghost use Rattle.sct_view.specs.Listed.{cxls_in, recalls_in};
+ghost use Rattle.sct_view.specs.Listed.{cxls_in, recalls_in_case};
 
 use crate::case::Case;
 use crate::findings::{findings_in, push_beside};
@@ -84,7 +84,7 @@ pub(crate) fn recalls_in(
     transfer: &TransferKey,
     case: &Case,
 ) -> Result<Vec<Id35>, AllocError>
-    ensures { IfOk result (λ found. found.items ≡ recalls_in transfer.now (kept_in case.now)) }
+    ensures { IfOk result (λ found. found.items ≡ recalls_in_case transfer.now (kept_in case.now)) }
 {
     let mut found = all_named(alloc, transfer, case)?;
     found.sort()?;
@@ -143,7 +143,7 @@ impl View {
     /// The recalls of a transfer that messages held name, contradicted messages included,
     /// ascending. Error: `Memory` (39).
     pub fn recalls_of(&self, transfer: &TransferKey) -> Result<Vec<Id35>, CaseFault>
-        ensures { IfOk result (λ recalls. recalls.items ≡ recalls_of self.now transfer.now) }
+        ensures { IfOk result (λ recalls. recalls.items ≡ recalls_on self.now transfer.now) }
     {
         match self.case_on(transfer) {
             Some(case) => Ok(recalls_in(self.alloc, transfer, case)?),
@@ -154,9 +154,9 @@ impl View {
     /// The transfers that have a bank as the originator bank, or as the beneficiary bank
     /// of their instruction, ascending.
     /// Error: `Memory` (39). It looks at every transfer held.
-    #[tactic(auto, unfolding(crate::specs::Answers::transfers_of))]
+    #[tactic(auto, unfolding(crate::specs::Answers::transfers_of_bank))]
     pub fn transfers_of(&self, bank: &Bic) -> Result<Vec<TransferKey>, CaseFault>
-        ensures { IfOk result (λ transfers. transfers.items ≡ transfers_of self.now bank.now) }
+        ensures { IfOk result (λ transfers. transfers.items ≡ transfers_of_bank self.now bank.now) }
     {
         let keys = self.keys()?;
         let mut transfers = Vec::new(self.alloc);

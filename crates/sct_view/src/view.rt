@@ -4,7 +4,7 @@ ghost use Rattle.std.specs.Prelude.{◌≡◌, ◌≤◌, ◌+◌, ◌*◌, leng
 ghost use Rattle.std.specs.Arc.{arc_value};
 ghost use Rattle.std.specs.FinSet as set;
 ghost use Rattle.std.specs.Option.{option_copied};
-ghost use Rattle.sct_case.specs.Statuses.{told};
+ghost use Rattle.sct_case.specs.Statuses.{as_standing};
 ghost use Rattle.sct_message.specs.Sets.{messages_in};
 ghost use Rattle.sct_message.specs.Transfers.{instruction_of};
 ghost use Rattle.sct_set.specs.Contents.{contents_of};
@@ -60,7 +60,7 @@ pub struct View {
 impl Model for View {
     ghost use Rattle.std.specs.Prelude.{◌≡◌};
     ghost use Rattle.std.specs.FinSet as set;
-    ghost use Rattle.sct_case.specs.Statuses.{told, Unknown};
+    ghost use Rattle.sct_case.specs.Statuses.{as_standing, Unknown};
     ghost use Rattle.sct_message.specs.contracts.messages.Message as message;
     ghost use Rattle.sct_message.specs.Order.{message_order};
     ghost use Rattle.sct_view.specs.Kept.{AreCasesOf};
@@ -71,7 +71,7 @@ impl Model for View {
 
     ghost view = { λ v. v.archive };
 
-    ghost invariant = { λ v. AreCasesOf v.archive v.tables.cases × (told v.unknown ≡ Unknown) };
+    ghost invariant = { λ v. AreCasesOf v.archive v.tables.cases × (as_standing v.unknown ≡ Unknown) };
 }
 
 impl View {
@@ -87,7 +87,7 @@ impl View {
         }
     }
 
-    /// Builds the view of an archive in one thread; each transfer is evaluated once. Error: `Memory` (39).
+    /// Builds the view of an archive in one thread. Error: `Memory` (39).
     /// With a runtime use [`View::of_messages`].
     pub fn of(alloc: Global, archive: Archive) -> Result<Self, CaseFault>
         ensures { IfOk result (λ view. view ≡ archive) }
@@ -120,7 +120,7 @@ impl View {
         })
     }
 
-    /// Adds a batch of messages, and evaluates each touched transfer once. Touched are the transfers of fresh messages,
+    /// Adds a batch of messages, and evaluates the touched transfers again. Touched are the transfers of fresh messages,
     /// and those of held messages that fresh ones contradict. Error: `Memory` (39), with the view unchanged.
     /// O(messages of the batch and of the touched transfers), however many messages the view holds.
     pub fn apply(&mut self, messages: &[Arc<Message>]) -> Result<Applied, CaseFault>
@@ -166,7 +166,7 @@ impl View {
 
     /// The status of a transfer; `Unknown` if no message is on it. Expected O(1).
     pub fn status(&self, transfer: &TransferKey) -> &Status
-        ensures { told result.now ≡ status_of self.now transfer.now }
+        ensures { as_standing result.now ≡ status_of self.now transfer.now }
     {
         match self.case_on(transfer) {
             Some(case) => &case.status,

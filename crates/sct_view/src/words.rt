@@ -1,6 +1,6 @@
 //! The lines of the status text.
 ghost use Rattle.std.specs.Prelude.{◌≡◌, ◌++◌, OnOk, string_bytes};
-ghost use Rattle.sct_case.specs.Statuses.{told};
+ghost use Rattle.sct_case.specs.Statuses.{as_standing};
 ghost use Rattle.sct_element.specs.Money.{amount_text};
 ghost use Rattle.sct_view.specs.StatusText.{
   shown,
@@ -36,7 +36,7 @@ fn push_amount(text: &mut String, amount: Amount) -> Result<(), AllocError>
 }
 
 fn push_status(text: &mut String, status: &Status) -> Result<(), AllocError>
-    ensures { OnOk result (string_bytes text.new ≡ string_bytes text.old ++ status_words (told status.now)) }
+    ensures { OnOk result (string_bytes text.new ≡ string_bytes text.old ++ status_words (as_standing status.now)) }
 {
     match status {
         Status::Contradicted(_) => text.push_str("CONTRADICTED"),
@@ -134,7 +134,7 @@ pub fn push_status_line(
     status: &Status,
 ) -> Result<(), AllocError>
     ensures { OnOk result (string_bytes text.new
-        ≡ string_bytes text.old ++ status_line transfer.now (told status.now)) }
+        ≡ string_bytes text.old ++ status_line transfer.now (as_standing status.now)) }
 {
     push_key(text, "T", transfer)?;
     push_status(text, status)?;

@@ -7,7 +7,7 @@ use Rattle.std.proofs.lemmas.Bool.{false≢true}
 use Rattle.std.proofs.lemmas.Bool.Decides.{nat_tests}
 use Rattle.sct_message.specs.declared.draft.Draft.{Draft}
 use Rattle.sct_delta.specs.Entries.{Placed, held_from}
-use Rattle.sct_delta.specs.Refusals.{ahead_refusal, first_refusal, firsts_after, fork_refusal, gap_refusal, is_ahead, is_fork, is_outside, is_past, outside_refusal, told, vector_of}
+use Rattle.sct_delta.specs.Refusals.{ahead_refusal, first_refusal, firsts_after, fork_refusal, gap_refusal, is_ahead, is_fork, is_outside, is_past, outside_refusal, fault_of_entry, vector_of}
 use Rattle.sct_delta.specs.Shapes.{are_of_sites, delta_refusal, may_be_next}
 use Rattle.sct_delta.specs.Sites.{is_site}
 use Rattle.sct_delta.specs.declared.fault.DeltaFault.{DeltaFault}
@@ -33,7 +33,7 @@ Answers (Some (delta.OwnAhead n)) = Unit {0}
 Answers (Some delta.BadSite) = Unit {0}
 Answers (Some (delta.BadDelta line)) = ⊥
 
-answers_told : (tells : Placed → DeltaFault) → ((e : Placed) → Answers (Some (tells e))) → (o : Option Placed) → Answers (told tells o)
+answers_told : (tells : Placed → DeltaFault) → ((e : Placed) → Answers (Some (tells e))) → (o : Option Placed) → Answers (fault_of_entry tells o)
 answers_told tells each None = tt
 answers_told tells each (Some e) = each e
 

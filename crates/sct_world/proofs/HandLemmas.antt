@@ -14,7 +14,7 @@ use Rattle.sct_message.proofs.Members.{list_any-filter}
 use Rattle.sct_set.proofs.ContentsLemmas.{same_itself}
 use Rattle.sct_delta.specs.Entries.{Placed, is_from, entries_from, log_of, held_from, same_entry, holds, IsArrivals, IsDelta}
 use Rattle.sct_delta.specs.Laws.{IsFitting, IsReached}
-use Rattle.sct_delta.specs.Refusals.{message_at, is_other_than, is_held, is_fork, is_ahead, is_past, is_outside, has_site, firsts_after, told, first_refusal, outside_refusal, ahead_refusal, gap_refusal, vector_of}
+use Rattle.sct_delta.specs.Refusals.{message_at, is_other_than, is_held, is_fork, is_ahead, is_past, is_outside, has_site, firsts_after, fault_of_entry, first_refusal, outside_refusal, ahead_refusal, gap_refusal, vector_of}
 use Rattle.sct_delta.specs.declared.fault.DeltaFault.{DeltaFault}
 use Rattle.sct_delta.specs.declared.fault.DeltaFault.TheVariants as fault
 use Rattle.sct_delta.proofs.EntryLemmas.{from-append}
@@ -69,17 +69,17 @@ module _ (count : ℕ → ℕ) (empty : (o : ℕ) → count o ≡ 0) (es : List 
 -- ---- what is found is refused for what it is
 
 module _ (P : DeltaFault → Type 0) (tells : Placed → DeltaFault) (p : Placed → Bool) (ds : List Placed) where
-  told_found : ((e : Placed) → holds ds e ≡ true → p e ≡ true → P (tells e)) → IfSome (told tells (find p ds)) P
+  told_found : ((e : Placed) → holds ds e ≡ true → p e ≡ true → P (tells e)) → IfSome (fault_of_entry tells (find p ds)) P
   told_found each =
-      elim (find p ds) as (λ o. find p ds ≡ o → IfSome (told tells o) P) [
+      elim (find p ds) as (λ o. find p ds ≡ o → IfSome (fault_of_entry tells o) P) [
         | None ↦ λ is. tt
         | Some e ↦ λ is. let found : (holds ds e ≡ true) × (p e ≡ true) = found_in p ds e is in each e found.0 found.1
       ] refl
 
-none_told : (P : DeltaFault → Type 0) (tells : Placed → DeltaFault) (p : Placed → Bool) (ds : List Placed) → list_any p ds ≡ false → IfSome (told tells (find p ds)) P
+none_told : (P : DeltaFault → Type 0) (tells : Placed → DeltaFault) (p : Placed → Bool) (ds : List Placed) → list_any p ds ≡ false → IfSome (fault_of_entry tells (find p ds)) P
 none_told P tells p [] none = tt
 none_told P tells p (d ∷ ds) none =
-    elim (p d) as (λ b. (b || list_any p ds) ≡ false → IfSome (told tells (cond b (Some d) (find p ds))) P) [
+    elim (p d) as (λ b. (b || list_any p ds) ≡ false → IfSome (fault_of_entry tells (cond b (Some d) (find p ds))) P) [
       | true ↦ λ e. absurd (false≢true (sym e))
       | false ↦ λ e. none_told P tells p ds e
     ] none

@@ -1,9 +1,8 @@
 //! Form 1 of the delta text: reads entry lines as entries.
 ghost use Rattle.std.specs.Prelude.{◌≡◌, ◌+◌, ◌<◌, ◌^◌, [], Ok, Err, IfOk, IfErr, length};
-ghost use Rattle.sct_delta.specs.declared.fault.DeltaFault.TheVariants as fault;
 ghost use Rattle.sct_delta.specs.DeltaText.{Reads};
 ghost use Rattle.sct_delta.specs.EntryText.{entries_in, entry_in};
-ghost use Rattle.sct_delta.specs.TextLines.{lines_of};
+ghost use Rattle.sct_delta.specs.TextLines.{lines_by_end};
 
 use crate::delta::may_be_next;
 use crate::entry::Entry;
@@ -11,14 +10,13 @@ use crate::fault::DeltaFault;
 use crate::text::fields::fields_of;
 use crate::text::lines::first_line;
 use crate::text::parts::{ended, message_of};
-use std::alloc::Global;
+use std::alloc::{AllocError, Global};
 use std::sync::Arc;
 
 // The entry of a line, or none if it is not an entry line.
 #[tactic(auto, unfolding(crate::specs::EntryText::entry_in))]
-fn read_entry(alloc: Global, line: &[u8]) -> Result<Option<Entry>, DeltaFault>
-    ensures read { IfOk result (λ entry. entry ≡ entry_in line.now) }
-    ensures memory { IfErr result (λ refusal. refusal ≡ fault.Memory) }
+fn read_entry(alloc: Global, line: &[u8]) -> Result<Option<Entry>, AllocError>
+    ensures { IfOk result (λ entry. entry ≡ entry_in line.now) }
 {
     let Some((origin, n, json)) = fields_of(line) else {
         return Ok(None);
@@ -36,8 +34,8 @@ fn read_entry(alloc: Global, line: &[u8]) -> Result<Option<Entry>, DeltaFault>
 #[tactic(auto, using(crate::proofs::ReadingLemmas::read_missing))]
 pub fn read_entries(alloc: Global, text: &[u8]) -> Result<Vec<Entry>, DeltaFault>
     requires { length text.now + 4 < 2 ^ 64 }
-    ensures read { IfOk result (λ entries. entries_in 2 0 0 [] (lines_of text.now) ≡ Ok entries.items) }
-    ensures wrong { IfErr result (λ refusal. Reads (Err refusal) (entries_in 2 0 0 [] (lines_of text.now))) }
+    ensures read { IfOk result (λ entries. entries_in 2 0 0 [] (lines_by_end text.now) ≡ Ok entries.items) }
+    ensures wrong { IfErr result (λ refusal. Reads (Err refusal) (entries_in 2 0 0 [] (lines_by_end text.now))) }
 {
     let mut entries = Vec::new(alloc);
     let mut rest = text;

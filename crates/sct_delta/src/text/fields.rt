@@ -1,5 +1,5 @@
 //! The fields of an entry line, separated by one space.
-ghost use Rattle.std.specs.Prelude.{◌≡◌, ◌<◌, ◌==◌, length, option_map, IfSome, position, codes};
+ghost use Rattle.std.specs.Prelude.{◌≡◌, ◌<◌, ◌==◌, length, option_map, IfSome, position};
 ghost use Rattle.sct_delta.specs.TextLines.{is_space, number_before_space, after_prefix};
 ghost use Rattle.sct_delta.specs.EntryText.{fields_in, site_in};
 
@@ -36,11 +36,11 @@ fn site_of(number: u64) -> Option<u16>
     }
 }
 
-// The line without the word `entry ` at its front, or none if it begins otherwise.
-fn behind_word(line: &[u8]) -> Option<&[u8]>
-    ensures { option_map (λ rest. rest.now) result ≡ after_prefix (codes "entry ") line.now }
+/// The bytes after the word that a line begins with, or none if it begins otherwise.
+pub fn after_prefix<'a>(line: &'a [u8], word: &[u8]) -> Option<&'a [u8]>
+    ensures { option_map (λ rest. rest.now) result ≡ after_prefix word.now line.now }
 {
-    line.strip_prefix(b"entry ")
+    line.strip_prefix(word)
 }
 
 /// The origin, the number and the JSON text of an entry line, or none if the line does not have this shape.
@@ -48,7 +48,7 @@ fn behind_word(line: &[u8]) -> Option<&[u8]>
 pub fn fields_of(line: &[u8]) -> Option<(u16, u64, &[u8])>
     ensures { option_map (λ fields. (fields.0, fields.1, fields.2.now)) result ≡ fields_in line.now }
 {
-    let rest = behind_word(line)?;
+    let rest = after_prefix(line, b"entry ")?;
     let (number, rest) = number_before_space(rest)?;
     let origin = site_of(number)?;
     let (n, json) = number_before_space(rest)?;

@@ -1,32 +1,25 @@
 //! Form 2 of the delta text: reads origin lines and message lines as entries.
-ghost use Rattle.std.specs.Prelude.{◌≡◌, ◌+◌, ◌<◌, ◌^◌, [], Some, None, Ok, Err, IfOk, IfErr, codes, length, if◌then◌else◌, option_map};
+ghost use Rattle.std.specs.Prelude.{◌≡◌, ◌+◌, ◌<◌, ◌^◌, [], Some, None, Ok, Err, IfOk, IfErr, length, if◌then◌else◌};
 ghost use Rattle.sct_delta.specs.DeltaText.{Reads};
 ghost use Rattle.sct_delta.specs.GroupText.{groups_in, may_begin, origin_in};
-ghost use Rattle.sct_delta.specs.TextLines.{after_prefix, lines_of};
+ghost use Rattle.sct_delta.specs.TextLines.{lines_by_end};
 
 use crate::entry::Entry;
 use crate::fault::DeltaFault;
 use crate::sites::is_site;
-use crate::text::fields::number_before_space;
+use crate::text::fields::{after_prefix, number_before_space};
 use crate::text::lines::first_line;
 use crate::text::numbers::number_of;
 use crate::text::parts::{ended, message_of};
 use std::alloc::Global;
 use std::sync::Arc;
 
-// The line without the word `origin ` at its front, or none if it begins otherwise.
-fn behind_origin(line: &[u8]) -> Option<&[u8]>
-    ensures { option_map (λ rest. rest.now) result ≡ after_prefix (codes "origin ") line.now }
-{
-    line.strip_prefix(b"origin ")
-}
-
 // The origin, the first number and the count of an origin line, or none if the line does not have this shape.
 #[tactic(auto, unfolding(crate::specs::GroupText::origin_in))]
 fn origin_of(line: &[u8]) -> Option<(u64, u64, u64)>
     ensures { result ≡ origin_in line.now }
 {
-    let rest = behind_origin(line)?;
+    let rest = after_prefix(line, b"origin ")?;
     let (origin, rest) = number_before_space(rest)?;
     let (first, rest) = number_before_space(rest)?;
     let count = number_of(rest)?;
@@ -55,8 +48,8 @@ fn site_of_group(before: u16, origin: u64, first: u64, count: u64) -> Option<u16
 #[tactic(auto, using(crate::proofs::GroupReadingLemmas::groups_missing))]
 pub fn read_groups(alloc: Global, text: &[u8]) -> Result<Vec<Entry>, DeltaFault>
     requires { length text.now + 4 < 2 ^ 64 }
-    ensures read { IfOk result (λ entries. groups_in 2 0 1 0 [] (lines_of text.now) ≡ Ok entries.items) }
-    ensures wrong { IfErr result (λ refusal. Reads (Err refusal) (groups_in 2 0 1 0 [] (lines_of text.now))) }
+    ensures read { IfOk result (λ entries. groups_in 2 0 1 0 [] (lines_by_end text.now) ≡ Ok entries.items) }
+    ensures wrong { IfErr result (λ refusal. Reads (Err refusal) (groups_in 2 0 1 0 [] (lines_by_end text.now))) }
 {
     let mut entries = Vec::new(alloc);
     let mut rest = text;

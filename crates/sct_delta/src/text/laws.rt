@@ -5,14 +5,14 @@ ghost use Rattle.sct_message.specs.declared.draft.Draft.{Draft};
 ghost use Rattle.sct_json.specs.Reading.{message_in};
 ghost use Rattle.sct_json.specs.Writing.{has_no_line_feed};
 ghost use Rattle.sct_delta.specs.Entries.{Placed};
-ghost use Rattle.sct_delta.specs.TextLines.{ended, ended_first, lines_of, lines_as};
+ghost use Rattle.sct_delta.specs.TextLines.{ended, ended_first, lines_by_end, lines_as};
 ghost use Rattle.sct_delta.specs.GroupText.{groups_head};
 ghost use Rattle.sct_delta.specs.DeltaText.{AgreeTo, IsDeltaText, delta_in, first_wrong_line};
 
 /// The lines of a text are the given ones, each ended by a line feed, in exactly this case: one after another they make
 /// the text, and no line has a line feed inside.
 pub fn lines_make_the_text()
-    ensures { (bytes : List ℕ) (lines : List (List ℕ)) → (lines_of bytes ≡ lines_as lines)
+    ensures { (bytes : List ℕ) (lines : List (List ℕ)) → (lines_by_end bytes ≡ lines_as lines)
         ↔ ((bytes ≡ flat_map ended lines) × IsTrue (list_all has_no_line_feed lines)) }
 {}
 
@@ -54,7 +54,7 @@ pub fn a_wrong_line_goes_by_its_front()
 /// message, and uses that line for each message due.
 pub fn the_lines_before_a_wrong_one_are_right()
     ensures entries { (bytes : List ℕ) (before : ℕ) → length bytes < 2 ^ 64
-        → ended_first (lines_of bytes) ≢ Some groups_head → first_wrong_line bytes ≡ Some (before + 1)
+        → ended_first (lines_by_end bytes) ≢ Some groups_head → first_wrong_line bytes ≡ Some (before + 1)
         → (other : List ℕ) × (entries : List Placed) × AgreeTo before bytes other × IsDeltaText other entries }
     ensures groups { (bytes json : List ℕ) (message : Draft) (before : ℕ) → length bytes < 2 ^ 64
         → IsTrue (has_no_line_feed json) → message_in json ≡ Ok message → first_wrong_line bytes ≡ Some (before + 1)

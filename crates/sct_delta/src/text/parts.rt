@@ -2,25 +2,23 @@
 ghost use Rattle.std.specs.Prelude.{◌≡◌, ◌-◌, ◌<◌, ◌^◌, Ok, Err, IfOk, IfErr, codes, option_and_then};
 ghost use Rattle.std.specs.Result.{result_ok};
 ghost use Rattle.sct_json.specs.Reading.{message_in};
-ghost use Rattle.sct_delta.specs.declared.fault.DeltaFault.TheVariants as fault;
 ghost use Rattle.sct_delta.specs.DeltaText.{Reads};
-ghost use Rattle.sct_delta.specs.TextLines.{after_prefix, entries_ended, is_end_line, lines_of, number_in};
+ghost use Rattle.sct_delta.specs.TextLines.{after_prefix, entries_ended, is_end_line, lines_by_end, number_in};
 
 use crate::entry::Entry;
 use crate::fault::DeltaFault;
 use crate::text::numbers::number_of;
 use sct_json::{JsonFault, read_message};
 use sct_message::Message;
-use std::alloc::Global;
+use std::alloc::{AllocError, Global};
 
-/// The message of a JSON text, or none if the text is refused. Error: `Memory` (40), which says nothing about the text.
-pub fn message_of(alloc: Global, json: &[u8]) -> Result<Option<Message>, DeltaFault>
-    ensures read { IfOk result (λ message. message ≡ result_ok (message_in json.now)) }
-    ensures memory { IfErr result (λ refusal. refusal ≡ fault.Memory) }
+/// The message of a JSON text, or none if the text is refused. The error is that it is out of memory.
+pub fn message_of(alloc: Global, json: &[u8]) -> Result<Option<Message>, AllocError>
+    ensures { IfOk result (λ message. message ≡ result_ok (message_in json.now)) }
 {
     match read_message(alloc, json) {
         Ok(message) => Ok(Some(message)),
-        Err(JsonFault::Memory) => Err(DeltaFault::Memory),
+        Err(JsonFault::Memory) => Err(AllocError),
         Err(_) => Ok(None),
     }
 }
@@ -53,10 +51,10 @@ pub fn ended(
     after: &[u8],
 ) -> Result<Vec<Entry>, DeltaFault>
     requires { place < 2 ^ 64 - 1 }
-    ensures read { IfOk result (λ read. entries_ended place entries.items line.now (lines_of after.now)
+    ensures read { IfOk result (λ read. entries_ended place entries.items line.now (lines_by_end after.now)
         ≡ Ok read.items) }
     ensures wrong { IfErr result (λ refusal.
-        Reads (Err refusal) (entries_ended place entries.items line.now (lines_of after.now))) }
+        Reads (Err refusal) (entries_ended place entries.items line.now (lines_by_end after.now))) }
 {
     if !is_end_line(line, entries.len() as u64) {
         return Err(DeltaFault::BadDelta(place));

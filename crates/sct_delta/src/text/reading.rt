@@ -6,7 +6,7 @@ ghost use Rattle.sct_delta.specs.Entries.{Placed};
 ghost use Rattle.sct_delta.specs.DeltaText.{IsDeltaText, Reads, delta_in, entries_behind};
 ghost use Rattle.sct_delta.specs.EntryText.{entries_head};
 ghost use Rattle.sct_delta.specs.GroupText.{groups_head};
-ghost use Rattle.sct_delta.specs.TextLines.{lines_of};
+ghost use Rattle.sct_delta.specs.TextLines.{lines_by_end};
 
 use crate::delta::Delta;
 use crate::entry::Entry;
@@ -33,8 +33,8 @@ fn heads_groups(line: &[u8]) -> bool
 // Reads the lines after a head line, by the form that it names.
 fn read_behind(alloc: Global, head: &[u8], text: &[u8]) -> Result<Vec<Entry>, DeltaFault>
     requires { length text.now + 4 < 2 ^ 64 }
-    ensures read { IfOk result (λ entries. entries_behind head.now (lines_of text.now) ≡ Ok entries.items) }
-    ensures wrong { IfErr result (λ refusal. Reads (Err refusal) (entries_behind head.now (lines_of text.now))) }
+    ensures read { IfOk result (λ entries. entries_behind head.now (lines_by_end text.now) ≡ Ok entries.items) }
+    ensures wrong { IfErr result (λ refusal. Reads (Err refusal) (entries_behind head.now (lines_by_end text.now))) }
 {
     if heads_entries(head) {
         return read_entries(alloc, text);

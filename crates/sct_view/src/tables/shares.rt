@@ -1,7 +1,7 @@
 //! The running totals of the banks: the shares of each transfer are added and subtracted again.
 
 ghost use Rattle.std.specs.Prelude.{◌≡◌, ◌<◌, ◌^◌, ℕ, List, true, if◌then◌else◌};
-ghost use Rattle.sct_case.specs.Statuses.{told};
+ghost use Rattle.sct_case.specs.Statuses.{as_standing};
 ghost use Rattle.sct_element.specs.Text.{is_text};
 ghost use Rattle.std.specs.List.{list_all};
 ghost use Rattle.sct_view.specs.Kept.{cents_back, has_totals, kept_in, instruction_in, share_in, totals_at, IsInRange, IsSmall, IsUpTo};
@@ -16,8 +16,8 @@ use sct_message::TransferKey;
 
 /// The share of a transfer for its originator bank, by its status and the cents of its instruction.
 fn share_of_originator(status: &Status, cents: u64) -> Totals
-    ensures share { result ≡ share_of_originator (told status.now) cents }
-    ensures back { cents_back (told status.now) < 2 ^ 64 }
+    ensures share { result ≡ share_of_originator (as_standing status.now) cents }
+    ensures back { cents_back (as_standing status.now) < 2 ^ 64 }
 {
     let nothing = Totals::nothing();
     match status {
@@ -55,7 +55,7 @@ fn share_of_originator(status: &Status, cents: u64) -> Totals
 /// The share of a transfer for the beneficiary bank of its instruction, by its status and
 /// the cents of that instruction.
 fn share_of_beneficiary(status: &Status, cents: u64) -> Totals
-    ensures { result ≡ share_of_beneficiary (told status.now) cents }
+    ensures { result ≡ share_of_beneficiary (as_standing status.now) cents }
 {
     let nothing = Totals::nothing();
     match status {

@@ -1,6 +1,6 @@
 -- What is left of the rest is what is left of all.
 use Rattle.std.proofs.Common.{◌≡◌, length}
-use Rattle.sct_json.specs.Keys.{keys_from}
+use Rattle.sct_json.specs.KeyLookups.{keys_from}
 use Rattle.sct_json.proofs.extra_key.keys_from.Given as goal
 
 abbrev pub decreases-loop-rest : goal.decreases-loop-rest

@@ -1,4 +1,4 @@
--- The heads and then the transactions in turn are the elements in a row.
+-- The declared orders of heads and of transactions are those by their elements.
 use Rattle.std.proofs.Common.{◌∙◌}
 use Rattle.sct_message.proofs.RecallRows.{after_head}
 use Rattle.sct_message.proofs.order.cancellation_request_order.Goals as goal

@@ -6,11 +6,11 @@ use Rattle.sct_set.specs.Drafts.{drafts_in}
 use Rattle.sct_set.proofs.ContentsLemmas.{HasNoRepeat-none, union-of_none}
 use Rattle.sct_set.proofs.sorted_archive.arrivals_of.Goals as goal
 
-pub push_all-requires : goal.push_all-requires
-push_all-requires c = rw c.new-arrivals.ensures HasNoRepeat-none
+pub add_all-requires : goal.add_all-requires
+add_all-requires c = rw c.new-arrivals.ensures HasNoRepeat-none
 
 pub returns : goal.returns
 returns c =
-    c.in_ok-push_all.ensures.ok
+    c.in_ok-add_all.ensures.ok
     ∙ ap (λ ds. set.union (contents_of ds) (contents_of (drafts_in c.args.messages.now))) c.new-arrivals.ensures
     ∙ union-of_none (contents_of (drafts_in c.args.messages.now))

@@ -32,6 +32,8 @@ loop-entry-preserved c =
           (subst (λ (o : ℕ). c.if-entry-previous.places + 1 ≤ room_at c.room_for.new.self o) (sym view) c.in_ok-room_for.ensures.ok);
       places = places_more i es e _ _ inside is k;
       few = c.in_ok-room_for.ensures.few;
+      due = λ was. c.in_ok-room_for.ensures.due (λ o. held_from o es)
+          (subst (λ (o : ℕ). 1 ≤ held_from o es) view (omega (arith, places_fit i es e _ c.if-entry-previous.places inside is k))) (kept.due was);
       later = later_more i es e _ c.if-entry-previous.places c.loop-entry.previous inside is k kept.later up;
       earlier = λ o before. none_before o i es e inside is c.entries-entry-items.ensures.shape.rises (let last : c.if-entry-previous.previous ≡ e.origin = k.last in omega (arith, before, last));
     }

@@ -2,13 +2,13 @@
 use Rattle.std.proofs.Common.{sym, ◌∙◌, arith, ◌≡◌, ◌≤◌, ◌+◌, ◌-◌, ◌^◌, [], true}
 use Rattle.std.specs.Arc.{arc_value}
 use Rattle.sct_delta.specs.GroupText.{groups_in, may_begin}
-use Rattle.sct_delta.specs.TextLines.{lines_of, entries_ended}
+use Rattle.sct_delta.specs.TextLines.{lines_by_end, entries_ended}
 use Rattle.sct_delta.proofs.GroupReadingLemmas.{read_message_more, read_message_wrong, begun, not_begun, read_origin_more, read_origin_wrong, read_groups_end}
 use Rattle.sct_delta.proofs.GroupLemmas.{first_above_0, last_below}
 use Rattle.sct_delta.proofs.text.groups.read_groups.Goals as goal
 use Rattle.sct_delta.proofs.text.groups.read_groups.Goals.{then-due-eq0+in-Some-origin_of+in-Some-site_of_group, else-due-eq0+in_ok-message+in-Some-2+in_ok-message-2+in_ok-push}
 
-at_end : (c : goal.After-ended) → groups_in 2 0 1 0 [] (lines_of c.args.text.now) ≡ entries_ended c.loop-line.place c.loop-line.entries.items c.in-Some.line.now (lines_of c.in-Some.after.now)
+at_end : (c : goal.After-ended) → groups_in 2 0 1 0 [] (lines_by_end c.args.text.now) ≡ entries_ended c.loop-line.place c.loop-line.entries.items c.in-Some.line.now (lines_by_end c.in-Some.after.now)
 at_end c = c.loop-line.invariant.left ∙ read_groups_end _ _ _ _ _ _ _ _ c.in-Some.ensures.lines c.if-due-eq0.true c.in_default-origin_of.ensures
 
 pub returns-in_default-origin_of-clause-read : goal.returns-in_default-origin_of-clause-read
@@ -26,7 +26,7 @@ returns-in_default-site_of_group-clause-wrong c =
 pub returns-in_default-2-clause-wrong : goal.returns-in_default-2-clause-wrong
 returns-in_default-2-clause-wrong c =
     c.loop-line.invariant.left
-    ∙ read_message_wrong _ _ _ _ _ _ _ _ c.in-Some.ensures.lines c.if-due-eq0.false (sym c.in_default-2.is ∙ c.in_ok-message.ensures.read)
+    ∙ read_message_wrong _ _ _ _ _ _ _ _ c.in-Some.ensures.lines c.if-due-eq0.false (sym c.in_default-2.is ∙ c.in_ok-message.ensures)
 
 pub loop-line-preserved : goal.loop-line-preserved
 loop-line-preserved c =
@@ -54,7 +54,7 @@ loop-line-preserved c =
             fits = let some : c.loop-line.due ≡ 0 → ⊥ = w.if-due-eq0.false in grind (arith, some, before_is, due_is, c.loop-line.invariant.fits);
             left =
                 let more = c.loop-line.invariant.left
-                ∙ read_message_more _ _ _ _ _ _ _ _ w.in-Some-2.message c.in-Some.ensures.lines w.if-due-eq0.false (sym w.in-Some-2.is ∙ w.in_ok-message.ensures.read) in
+                ∙ read_message_more _ _ _ _ _ _ _ _ w.in-Some-2.message c.in-Some.ensures.lines w.if-due-eq0.false (sym w.in-Some-2.is ∙ w.in_ok-message.ensures) in
                 let shared : arc_value w.in_ok-message-2.message ≡ w.in-Some-2.message = w.in_ok-message-2.ensures.ok in
                 rw (before_is, due_is, w.origin-is, w.entries-is, w.in_ok-push.ensures.items, shared) more;
           }

@@ -1,7 +1,7 @@
 -- The head line, and what is read behind it.
 use Rattle.std.proofs.Common.{sym, ◌∙◌, ◌≡◌, ap, List, Ok, Err}
 use Rattle.sct_delta.specs.Entries.{Placed}
-use Rattle.sct_delta.specs.TextLines.{lines_of}
+use Rattle.sct_delta.specs.TextLines.{lines_by_end}
 use Rattle.sct_delta.specs.DeltaText.{Reads, delta_in, entries_behind}
 use Rattle.sct_delta.proofs.ReadingLemmas.{head_missing, behind_head}
 use Rattle.sct_delta.proofs.DeltaLemmas.{form_from_read, read_refused, refused_at, shape_from_read}
@@ -14,7 +14,7 @@ pub returns-in_default-clause-refused : goal.returns-in_default-clause-refused
 returns-in_default-clause-refused c = λ other. refused_at c.args.bytes.now 1 (head_missing c.args.bytes.now c.in_default.ensures.lines)
 
 pub of_shape-requires : goal.of_shape-requires
-of_shape-requires c = shape_from_read c.in-Some.line.now (lines_of c.in-Some.rest.now) c.in-Ok.entries.items c.in-Ok.ensures.read
+of_shape-requires c = shape_from_read c.in-Some.line.now (lines_by_end c.in-Some.rest.now) c.in-Ok.entries.items c.in-Ok.ensures.read
 
 right : (c : goal.After-of_shape) → delta_in c.args.bytes.now ≡ Ok c.of_shape.result
 right c =
@@ -30,7 +30,7 @@ returns-in-Ok-clause-form c = form_from_read c.args.bytes.now _ (right c)
 
 wrong : (c : goal.In-Err) → Reads (Err c.in-Err.refusal) (delta_in c.args.bytes.now)
 wrong c =
-    let behind : delta_in c.args.bytes.now ≡ entries_behind c.in-Some.line.now (lines_of c.in-Some.rest.now) =
+    let behind : delta_in c.args.bytes.now ≡ entries_behind c.in-Some.line.now (lines_by_end c.in-Some.rest.now) =
     behind_head c.args.bytes.now c.in-Some.line.now c.in-Some.rest.now c.in-Some.ensures.lines in
     rw behind c.in-Err.ensures.wrong
 

@@ -1,11 +1,13 @@
 -- What is held after a delta begins with what was held, and its receipt tells what came.
-use Rattle.std.proofs.Common.{◌∙◌, refl, ap, sym, subst, List, length, arith}
+use Rattle.std.proofs.Common.{◌≡◌, refl, ap, sym, subst, List, length, arith}
+use Rattle.std.specs.Prelude.{IfErr, IfOk}
 use mathlib.Core.List.{IsPrefix}
 use Rattle.sct_delta.specs.Entries.{Placed}
 use Rattle.sct_history.proofs.Prefixes.{prefix_length}
 use Rattle.sct_site.specs.Cores.{Core}
 use Rattle.sct_desk.specs.Locked.{Fails, Locked, arrivals_handed, came_by_delta}
-use Rattle.sct_desk.proofs.Arrived.{before_is, fails_after, handed_length, handed_longer, handed_most, held_more}
+use Rattle.sct_desk.specs.Passes.{IsOf, before}
+use Rattle.sct_desk.proofs.Arrived.{before_if, fails_if_after, handed_length, handed_longer, handed_most, held_more}
 use Rattle.sct_desk.proofs.held.Held.accept.Goals as goal
 
 pub invariant_of-self-2 : goal.invariant_of-self-2
@@ -22,8 +24,8 @@ invariant_of-self-2 g c =
       c.in-Ok.ensures.ok,
     ))
 
-pub publish_after-requires-clause-news : goal.publish_after-requires-clause-news
-publish_after-requires-clause-news g c =
+pub publish_with-requires-clause-news : goal.publish_with-requires-clause-news
+publish_with-requires-clause-news g c =
     let core = c.self.inside.core in
     omega (
       arith,
@@ -34,26 +36,24 @@ publish_after-requires-clause-news g c =
       prefix_length _ _ c.self.invariant.published,
     )
 
-pub returns-in-Ok-publish_after-clause-receipt : goal.returns-in-Ok-publish_after-clause-receipt
-returns-in-Ok-publish_after-clause-receipt g c =
-    let core = c.self.inside.core in (
-      c.in-Ok-publish_after.ensures.site,
-      before_is c.in-Ok-publish_after.receipt core.arrivals c.handed.new.core.arrivals c.in-Some.news
-          c.in-Ok-publish_after.ensures.arrivals c.in-Ok-publish_after.ensures.news
-          (omega (arith, c.in-Some.ensures.news, ap came_by_delta c.in-Some.ensures.answer, ap length c.in-Some.ensures.arrivals, handed_length core c.args.delta.now))
-          (subst (λ (l : List Placed). IsPrefix core.arrivals l) (sym c.in-Some.ensures.arrivals) (handed_longer core c.args.delta.now))
-          ∙ ap (λ (l : Locked). l.core.arrivals) c.self.view_is,
-      c.in-Ok-publish_after.ensures.arrivals ∙ sym (ap (λ (x : Core). x.arrivals) c.in-Ok-publish_after.ensures.core),
-    )
-
-pub returns-in-Err-clause-failed : goal.returns-in-Err-clause-failed
-returns-in-Err-clause-failed g c =
+pub returns-clause-receipt : goal.returns-clause-receipt
+returns-clause-receipt g c =
     let core = c.self.inside.core in
-    subst (λ (l : Locked). Fails l (arrivals_handed l.core c.args.delta.now) c.publish_after.new.self c.in-Err.refusal) c.self.view_is (
-    fails_after (record { core = core; published = c.self.inside.writer.desk.shown.value.track.log })
+    subst (λ (l : Locked). IfOk c.publish_with.result (λ t. IsOf g.J.Site.book g.J.Site.number t.1 × (before t.1 ≡ l.core.arrivals) × (t.1.shown ≡ c.publish_with.new.self.core.arrivals))) c.self.view_is (
+    subst (λ (l : List Placed). IfOk c.publish_with.result (λ t. IsOf g.J.Site.book g.J.Site.number t.1 × (before t.1 ≡ core.arrivals) × (t.1.shown ≡ l))) (sym (ap (λ (x : Core). x.arrivals) c.publish_with.ensures.core))
+    (before_if c.publish_with.result g.J.Site.book g.J.Site.number core.arrivals c.handed.new.core.arrivals c.in-Some.news
+    c.publish_with.ensures.site c.publish_with.ensures.arrivals c.publish_with.ensures.news
+    (omega (arith, c.in-Some.ensures.news, ap came_by_delta c.in-Some.ensures.answer, ap length c.in-Some.ensures.arrivals, handed_length core c.args.delta.now))
+    (subst (λ (l : List Placed). IsPrefix core.arrivals l) (sym c.in-Some.ensures.arrivals) (handed_longer core c.args.delta.now))))
+
+pub returns-clause-failed : goal.returns-clause-failed
+returns-clause-failed g c =
+    let core = c.self.inside.core in
+    subst (λ (l : Locked). IfErr c.publish_with.result (Fails l (arrivals_handed l.core c.args.delta.now) c.publish_with.new.self)) c.self.view_is (
+    fails_if_after (record { core = core; published = c.self.inside.writer.desk.shown.value.track.log })
     (record { core = c.handed.new.core; published = c.self.inside.writer.desk.shown.value.track.log })
-    c.publish_after.new.self (arrivals_handed core c.args.delta.now) c.in-Err.refusal
+    c.publish_with.new.self (arrivals_handed core c.args.delta.now) c.publish_with.result
     c.handed.ensures.number c.handed.ensures.group c.in-Some.ensures.arrivals refl c.self.invariant.published
     (subst (λ (l : List Placed). IsPrefix core.arrivals l) (sym c.in-Some.ensures.arrivals) (handed_longer core c.args.delta.now))
-    c.in-Err.ensures.refused c.in-Err.ensures.unchanged
+    c.publish_with.ensures.refused c.publish_with.ensures.unchanged
     )

@@ -1,12 +1,14 @@
 -- What is held after a take begins with what was held, and its receipt tells what came.
-use Rattle.std.proofs.Common.{◌≡◌, ◌∙◌, refl, ap, sym, subst, List, length, arith}
+use Rattle.std.proofs.Common.{◌≡◌, refl, ap, sym, subst, List, length, arith}
 use Rattle.std.specs.Arc.{arc_value}
+use Rattle.std.specs.Prelude.{IfErr, IfOk}
 use mathlib.Core.List.{IsPrefix}
 use Rattle.sct_delta.specs.Entries.{Placed}
 use Rattle.sct_history.proofs.Prefixes.{prefix_length}
 use Rattle.sct_site.specs.Cores.{Core, arrivals_taken}
 use Rattle.sct_desk.specs.Locked.{Fails, Locked, came_by_take}
-use Rattle.sct_desk.proofs.Arrived.{before_is, fails_after, held_more, taken_length, taken_longer, taken_most}
+use Rattle.sct_desk.specs.Passes.{IsOf, before}
+use Rattle.sct_desk.proofs.Arrived.{before_if, fails_if_after, held_more, taken_length, taken_longer, taken_most}
 use Rattle.sct_desk.proofs.held.Held.take.Goals as goal
 
 pub invariant_of-self-2 : goal.invariant_of-self-2
@@ -17,8 +19,8 @@ invariant_of-self-2 g c =
     (subst (λ (l : List Placed). IsPrefix core.arrivals l) (sym ok) (taken_longer core (arc_value c.args.message)))
     (omega (arith, ap length ok, taken_most core (arc_value c.args.message), ap length c.arrivals.ensures.arrivals, c.in-Ok.ensures.ok))
 
-pub publish_after-requires-clause-news : goal.publish_after-requires-clause-news
-publish_after-requires-clause-news g c =
+pub publish_with-requires-clause-news : goal.publish_with-requires-clause-news
+publish_with-requires-clause-news g c =
     let core = c.self.inside.core in
     let ok : c.take.new.self.arrivals ≡ arrivals_taken core (arc_value c.args.message) = c.in-Ok-take.ensures.ok in
     omega (
@@ -30,28 +32,26 @@ publish_after-requires-clause-news g c =
       prefix_length _ _ c.self.invariant.published,
     )
 
-pub returns-in-Ok-publish_after-clause-receipt : goal.returns-in-Ok-publish_after-clause-receipt
-returns-in-Ok-publish_after-clause-receipt g c =
-    let core = c.self.inside.core in
-    let ok : c.take.new.self.arrivals ≡ arrivals_taken core (arc_value c.args.message) = c.in-Ok-take.ensures.ok in (
-      c.in-Ok-publish_after.ensures.site,
-      before_is c.in-Ok-publish_after.receipt core.arrivals c.take.new.self.arrivals c.came_by-news.result
-          c.in-Ok-publish_after.ensures.arrivals c.in-Ok-publish_after.ensures.news
-          (omega (arith, c.came_by-news.ensures, ap came_by_take c.in-Ok-take.ensures.answer, ap length ok, taken_length core (arc_value c.args.message)))
-          (subst (λ (l : List Placed). IsPrefix core.arrivals l) (sym ok) (taken_longer core (arc_value c.args.message)))
-          ∙ ap (λ (l : Locked). l.core.arrivals) c.self.view_is,
-      c.in-Ok-publish_after.ensures.arrivals ∙ sym (ap (λ (x : Core). x.arrivals) c.in-Ok-publish_after.ensures.core),
-    )
-
-pub returns-in-Err-clause-failed : goal.returns-in-Err-clause-failed
-returns-in-Err-clause-failed g c =
+pub returns-clause-receipt : goal.returns-clause-receipt
+returns-clause-receipt g c =
     let core = c.self.inside.core in
     let ok : c.take.new.self.arrivals ≡ arrivals_taken core (arc_value c.args.message) = c.in-Ok-take.ensures.ok in
-    subst (λ (l : Locked). Fails l (arrivals_taken l.core (arc_value c.args.message)) c.publish_after.new.self c.in-Err.refusal) c.self.view_is (
-    fails_after (record { core = core; published = c.self.inside.writer.desk.shown.value.track.log })
+    subst (λ (l : Locked). IfOk c.publish_with.result (λ t. IsOf g.J.Site.book g.J.Site.number t.1 × (before t.1 ≡ l.core.arrivals) × (t.1.shown ≡ c.publish_with.new.self.core.arrivals))) c.self.view_is (
+    subst (λ (l : List Placed). IfOk c.publish_with.result (λ t. IsOf g.J.Site.book g.J.Site.number t.1 × (before t.1 ≡ core.arrivals) × (t.1.shown ≡ l))) (sym (ap (λ (x : Core). x.arrivals) c.publish_with.ensures.core))
+    (before_if c.publish_with.result g.J.Site.book g.J.Site.number core.arrivals c.take.new.self.arrivals c.came_by-news.result
+    c.publish_with.ensures.site c.publish_with.ensures.arrivals c.publish_with.ensures.news
+    (omega (arith, c.came_by-news.ensures, ap came_by_take c.in-Ok-take.ensures.answer, ap length ok, taken_length core (arc_value c.args.message)))
+    (subst (λ (l : List Placed). IsPrefix core.arrivals l) (sym ok) (taken_longer core (arc_value c.args.message)))))
+
+pub returns-clause-failed : goal.returns-clause-failed
+returns-clause-failed g c =
+    let core = c.self.inside.core in
+    let ok : c.take.new.self.arrivals ≡ arrivals_taken core (arc_value c.args.message) = c.in-Ok-take.ensures.ok in
+    subst (λ (l : Locked). IfErr c.publish_with.result (Fails l (arrivals_taken l.core (arc_value c.args.message)) c.publish_with.new.self)) c.self.view_is (
+    fails_if_after (record { core = core; published = c.self.inside.writer.desk.shown.value.track.log })
     (record { core = c.take.new.self; published = c.self.inside.writer.desk.shown.value.track.log })
-    c.publish_after.new.self (arrivals_taken core (arc_value c.args.message)) c.in-Err.refusal
+    c.publish_with.new.self (arrivals_taken core (arc_value c.args.message)) c.publish_with.result
     c.in-Ok-take.ensures.number c.in-Ok-take.ensures.group ok refl c.self.invariant.published
     (subst (λ (l : List Placed). IsPrefix core.arrivals l) (sym ok) (taken_longer core (arc_value c.args.message)))
-    c.in-Err.ensures.refused c.in-Err.ensures.unchanged
+    c.publish_with.ensures.refused c.publish_with.ensures.unchanged
     )

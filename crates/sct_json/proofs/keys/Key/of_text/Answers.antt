@@ -3,7 +3,8 @@ use Rattle.std.proofs.Common.{◌≡◌, ◌∙◌, ap, sym, subst, ℕ, List, l
 use Rattle.std.specs.Prelude.{find}
 use Rattle.sct_element.specs.Text.{is_text}
 use Rattle.sct_json.specs.declared.keys.Key.{Key}
-use Rattle.sct_json.specs.Keys.{key_text, keys_of_length}
+use Rattle.sct_json.specs.KeyLookups.{keys_of_length}
+use Rattle.sct_json.specs.Keys.{key_text}
 use Rattle.sct_json.proofs.KeyTexts.{found_has_text, found_by_text}
 use Rattle.sct_json.proofs.keys.Key.of_text.Goals as goal
 

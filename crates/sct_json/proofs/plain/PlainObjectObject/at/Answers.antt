@@ -1,5 +1,5 @@
 -- The last text at a key is what the object has there.
-use Rattle.std.proofs.Common.{◌∙◌, ap, List, Some, option_map}
+use Rattle.std.proofs.Common.{◌∙◌, ap, List}
 use Rattle.sct_json.specs.declared.plain.Member.{Member}
 use Rattle.sct_json.specs.Keys.{key_text}
 use Rattle.sct_json.specs.Members.{texts_of}
@@ -8,7 +8,7 @@ use Rattle.sct_json.proofs.PlainTexts.{text_seen}
 use Rattle.sct_json.proofs.plain.PlainObjectObject.at.Goals as goal
 
 pub returns-in-None : goal.returns-in-None
-returns-in-None c = ap (option_map (λ s. Some s)) c.in-None.ensures ∙ ap (λ (ms : List Member). option_map (λ s. Some s) (last_text (key_text c.args.key) (texts_of ms))) c.deref.ensures.value ∙ ap (λ ms. option_map (λ s. Some s) (last_text (key_text c.args.key) ms)) c.self.view_is ∙ text_seen (key_text c.args.key) c.args.self.now
+returns-in-None c = text_seen _ (key_text c.args.key) c.args.self.now (c.in-None.ensures ∙ ap (λ (ms : List Member). last_text (key_text c.args.key) (texts_of ms)) c.deref.ensures.value ∙ ap (last_text (key_text c.args.key)) c.self.view_is)
 
 pub returns-in-Some : goal.returns-in-Some
-returns-in-Some c = ap (option_map (λ s. Some s)) c.in-Some.ensures ∙ ap (λ (ms : List Member). option_map (λ s. Some s) (last_text (key_text c.args.key) (texts_of ms))) c.deref.ensures.value ∙ ap (λ ms. option_map (λ s. Some s) (last_text (key_text c.args.key) ms)) c.self.view_is ∙ text_seen (key_text c.args.key) c.args.self.now
+returns-in-Some c = text_seen _ (key_text c.args.key) c.args.self.now (c.in-Some.ensures ∙ ap (λ (ms : List Member). last_text (key_text c.args.key) (texts_of ms)) c.deref.ensures.value ∙ ap (last_text (key_text c.args.key)) c.self.view_is)

@@ -1,12 +1,12 @@
 -- The logs refuse what the site refuses, and what is fresh comes to logs, arrivals and archive alike.
-use Rattle.std.proofs.Common.{◌≡◌, ◌∙◌, ◌++◌, ap, sym, not, map, rules, List}
+use Rattle.std.proofs.Common.{◌≡◌, ◌∙◌, ◌++◌, ap, sym, subst, not, map, rules, List}
 use Rattle.std.specs.FinSet as set
 use Rattle.std.specs.List.{list_any}
 use Rattle.sct_message.specs.declared.draft.Draft.{Draft}
 use Rattle.sct_message.specs.Sets.{messages_in}
 use Rattle.sct_set.specs.Contents.{contents_of}
-use Rattle.sct_delta.specs.Entries.{Placed, log_of}
-use Rattle.sct_delta.specs.Logs.{log_in}
+use Rattle.sct_delta.specs.Entries.{Placed, held_from, log_of}
+use Rattle.sct_delta.specs.Logs.{log_in, KeepsEmptyIfDue}
 use Rattle.sct_delta.specs.Refusals.{is_held, is_outside}
 use Rattle.sct_delta.proofs.JoinLemmas.{passed}
 use Rattle.sct_delta.proofs.TestLemmas.{none_kept}
@@ -41,9 +41,11 @@ invariant_of-self-2 c =
     let entries : c.into_entries-entries.result.items ≡ c.in_ok-fresh.fresh = c.into_entries-entries.ensures.entries in
     IsCore-joined c.self.inside.number c.self.inside.group c.self.inside.logs c.append_all.new.self c.self.inside.arrivals.items _ c.in_ok-fresh.fresh c.self.inside.archive _
     c.self.invariant
-    (c.in_ok-append_all.ensures.group ∙ c.in_ok-reserve-2.ensures.group)
+    (c.append_all.ensures.group ∙ c.in_ok-reserve-2.ensures.group)
     c.in_ok-fresh.ensures.goes_on
-    (λ o. c.in_ok-append_all.ensures.logs o ∙ (λ i. c.in_ok-reserve-2.ensures.same o i ++ log_of o ((c.deref-2.ensures.value ∙ entries) i)))
+    (λ o. c.append_all.ensures.logs o ∙ (λ i. c.in_ok-reserve-2.ensures.same o i ++ log_of o ((c.deref-2.ensures.value ∙ entries) i)))
+    (c.append_all.ensures.filled
+    (subst (λ (ds : List Placed). KeepsEmptyIfDue (λ o. held_from o ds) c.reserve-2.new.self) (sym (c.deref-2.ensures.value ∙ entries)) (c.in_ok-reserve-2.ensures.due c.self.invariant.filled)))
     (c.in_default.ensures.ok
     ∙ ap (λ (ds : List Draft). set.union c.self.inside.archive (contents_of ds)) (ap messages_in c.deref.ensures.value ∙ c.in_ok-messages.ensures ∙ ap (map (λ (e : Placed). e.message)) c.entries.ensures.entries))
     (c.in_ok-append.ensures.items ∙ (λ i. c.in_ok-reserve.ensures.items i ++ entries i))

@@ -5,6 +5,7 @@ use Rattle.std.specs.FinSet as set
 use Rattle.sct_message.specs.declared.draft.Draft.{Draft}
 use Rattle.sct_delta.specs.Entries.{Placed, held_from}
 use Rattle.sct_delta.specs.Logs.{log_in}
+use Rattle.sct_delta.proofs.LogsLemmas.{filled_by_one}
 use Rattle.sct_site.specs.Cores.{Core, own_entry}
 use Rattle.sct_site.proofs.TakeLemmas.{repeat_is, took-held, took-new, arrivals-held, arrivals-new, next_is, IsCore-taken}
 use Rattle.sct_site.proofs.site.SiteCore.take.Goals as goal
@@ -18,9 +19,9 @@ returns-then-holds-clause-ok c =
     arrivals-held _ _ (repeat_is _ _ _ _ _ _ true c.self.view_is c.self.invariant.messages c.deref.ensures c.holds.ensures c.if-holds.true)
 
 -- the number of the new entry is the next own one
-own_number : (c : goal.After-push_reserved) → c.in_ok-n.n ≡ held_from c.self.inside.number c.self.inside.arrivals.items + 1
+own_number : (c : goal.After-push_reserved) → c.push_reserved-n.result ≡ held_from c.self.inside.number c.self.inside.arrivals.items + 1
 own_number c =
-    c.in_ok-n.ensures.answer
+    c.push_reserved-n.ensures.answer
     ∙ next_is c.self.inside.number _ c.self.inside.arrivals.items (c.in_ok-room.ensures.same c.self.inside.number ∙ c.self.invariant.by_origin c.self.inside.number)
 
 -- and the arrivals end with it
@@ -28,17 +29,18 @@ came : (c : goal.After-push_reserved) → c.push_reserved.new.self.items
     ≡ c.self.inside.arrivals.items ++ own_entry (record { number = c.self.inside.number; group = c.self.inside.group; arrivals = c.self.inside.arrivals.items }) (arc_value c.args.message) ∷ []
 came c =
     c.push_reserved.ensures.items
-    ∙ ap (λ (xs : List Placed). xs ++ record { origin = c.self.inside.number; n = c.in_ok-n.n; message = arc_value c.args.message } ∷ []) c.in_ok-reserve.ensures.items
+    ∙ ap (λ (xs : List Placed). xs ++ record { origin = c.self.inside.number; n = c.push_reserved-n.result; message = arc_value c.args.message } ∷ []) c.in_ok-reserve.ensures.items
     ∙ ap (λ (n : ℕ). c.self.inside.arrivals.items ++ record { origin = c.self.inside.number; n = n; message = arc_value c.args.message } ∷ []) (own_number c)
 
 pub invariant_of-self-2 : goal.invariant_of-self-2
 invariant_of-self-2 c =
     IsCore-taken _ _ c.self.inside.logs _ c.self.inside.arrivals.items _ c.self.inside.archive _ (arc_value c.args.message)
     c.self.invariant
-    (c.in_ok-n.ensures.group ∙ c.in_ok-room.ensures.group)
-    (λ o. c.in_ok-n.ensures.ok o
+    (c.push_reserved-n.ensures.group ∙ c.in_ok-room.ensures.group)
+    (λ o. c.push_reserved-n.ensures.logs o
     ∙ ap (λ (l : List Draft). cond (nat_eq c.self.inside.number o) (l ++ arc_value c.in_ok-logged.logged ∷ []) l) (c.in_ok-room.ensures.same o)
     ∙ ap (λ (m : Draft). cond (nat_eq c.self.inside.number o) (log_in c.self.inside.logs o ++ m ∷ []) (log_in c.self.inside.logs o)) c.in_ok-logged.ensures.cases)
+    (filled_by_one c.self.inside.number c.self.inside.logs c.room.new.self c.push_reserved-n.new.self c.self.invariant.filled c.in_ok-room.ensures.due c.push_reserved-n.ensures.due)
     (c.in_default.ensures.ok ∙ ap (set.insert c.self.inside.archive) c.in_ok-held.ensures.cases)
     (came c)
 
