@@ -21,7 +21,8 @@ CHECKS = {
     "documents": {
         "names": "compares the names in documents with the code",
         "page_examples": "runs the program on the examples of model.md and formats.md, and looks up the code of sites.md",
-        "codes": "compares the numbers of codes.md with the code and its lines with the examples, and makes the man page",
+        "codes": "compares the numbers of codes.md with the code and its lines with the examples, and makes the manual page",
+        "words": "looks for words that plain pages do not use",
         "interface": "compares VERSION, the C header, the Python package and the exports of the library",
     },
     "golden": {

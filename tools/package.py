@@ -16,6 +16,7 @@ another static library.
 """
 import gzip, hashlib, io, os, pathlib, subprocess, sys, tarfile, tempfile
 sys.path.insert(0, str(pathlib.Path(__file__).resolve().parents[1]))
+from tests.documents import man_page
 from tools import library
 from tools.library import TOP, VERSION, Missing
 
@@ -80,7 +81,7 @@ def files(folder):
     library.make(folder)
     doc, python = "share/doc/niluppang/", "share/niluppang/python/"
     found = {"bin/sct_sites": program().read_bytes(), "include/niluppang.h": read("include/niluppang.h"),
-             "lib/pkgconfig/niluppang.pc": PKG_CONFIG.encode(), "share/man/man1/sct_sites.1": read("docs/sct_sites.1"),
+             "lib/pkgconfig/niluppang.pc": PKG_CONFIG.encode(), "share/man/man1/sct_sites.1": man_page.made().encode(),
              doc + "BUILD": built_of().encode(), doc + "VERSION": read("VERSION")}
     for name in ("libniluppang.a", library.SONAME):
         found["lib/" + name] = pathlib.Path(folder, name).read_bytes()

@@ -8,7 +8,7 @@
 # gets
 #   day.status, day.archive, day.totals   what the three commands write
 #   day.refused                           the refused lines, by the line of all files together
-#   day.mend                              each refused line with its file, its line there and its text: FILE:LINE: FAULT: TEXT;
+#   day.explained                         each refused line with its file, its line there and its text: FILE:LINE: FAULT: TEXT;
 #                                         and below it the name of the fault and what to do about it (explain.py)
 #   day.counts                            how many T, F and R lines have which status or finding
 #
@@ -89,10 +89,10 @@ fi
 awk '
     FNR == NR && FILENAME == refused { number = $2 + 0; fault[number] = substr($0, index($0, ": ") + 2); many = NR; next }
     NR - many in fault { print FILENAME ":" FNR ": " fault[NR - many] ": " $0 }
-' refused="$work/new/day.refused" "$work/new/day.refused" "$@" > "$work/mend" || exit 2
-python3 "$here/explain.py" "$work/mend" > "$work/new/day.mend" || {
-    warn "day.mend does not say what to do"
-    cp "$work/mend" "$work/new/day.mend" || exit 2
+' refused="$work/new/day.refused" "$work/new/day.refused" "$@" > "$work/lines" || exit 2
+python3 "$here/explain.py" "$work/lines" > "$work/new/day.explained" || {
+    warn "day.explained does not say what to do"
+    cp "$work/lines" "$work/new/day.explained" || exit 2
 }
 
 awk -F'|' '

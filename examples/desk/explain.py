@@ -1,7 +1,7 @@
 """explain.py: prints lines of sct_sites again, and below each that has a code what the code is and what to do about it.
 
-It knows refused lines and deltas (`line 8: 31`), also as day.mend has them, faults (`fault 62`), lines of a status text, outcomes
-of a replay that are refused, and rows of a report. Other lines are printed as they are. Names and remedies are those of the
+It knows refused lines and deltas (`line 8: 31`), also as day.explained has them, faults (`fault 62`), lines of a status text,
+outcomes of a replay that are refused, and rows of a report. Other lines are printed as they are. Names and remedies are those of the
 tables of codes.md, which is looked for beside this script, and then in the folder docs of its repository.
 
 Usage: explain.py [FILE..]   (without FILE it reads standard input)

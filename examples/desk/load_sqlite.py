@@ -46,9 +46,9 @@ def rows_of(status, letter, many):
             yield fields + [None] * (many + 1 - len(fields))
 
 
-def refusals(refused, mend):
-    """The rows of refused. Both files have the refused lines in one order. In day.mend lines of explain.py are between them."""
-    texts = iter(mend)
+def refusals(refused, explained):
+    """The rows of refused. Both files have the refused lines in one order. In day.explained lines of explain.py are between them."""
+    texts = iter(explained)
     for line in refused:
         fault = line.partition(": ")[2]
         found = next((text for text in texts if f": {fault}: " in text), "")
@@ -61,7 +61,7 @@ def load(folder, database):
     status = lines("day.status")
     tables = {
         "message": messages(lines("day.archive")), "transfer": rows_of(status, "T", 3), "finding": rows_of(status, "F", 3),
-        "recall": rows_of(status, "R", 4), "refused": refusals(lines("day.refused"), lines("day.mend"))}
+        "recall": rows_of(status, "R", 4), "refused": refusals(lines("day.refused"), lines("day.explained"))}
     connection = sqlite3.connect(str(database))
     connection.executescript(TABLES)
     for table, rows in tables.items():

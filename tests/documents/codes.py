@@ -1,16 +1,20 @@
-"""codes.py: docs/users/codes.md has the numbers and names of the code and lines of the examples, and makes the man page.
+"""codes.py: docs/users/codes.md has the numbers and names of the code and lines of the examples, and a manual page can be made of it.
 
 The numbers and names in the tables are those of the functions `number` of the code, and so are the numbers that the page says are not
 assigned. Each line that a table shows in its column Line or Example is a line of some file of examples/, or is `fault N` and N ends a
-run by the code. docs/sct_sites.1 is what man_page.py makes of the page.
+run by the code. The manual page that man_page.py makes has each section of the page, and is well-formed: troff reads each of its
+lines and signs as it is meant.
 """
 import re
 from tests import harness
 from tests.documents import man_page, pages
-from tests.harness import CRATES, EXAMPLES, TOP, reported
+from tests.harness import CRATES, EXAMPLES, reported
 
 SHOWN = ["Line", "Example"]
 MOST = 73  # the greatest number
+# the requests and the signs of the manual page
+REQUESTS = {".\\\"", ".TH", ".SH", ".SS", ".PP", ".TP", ".IP", ".br", ".nf", ".fi", ".RS", ".RE", ".B"}
+SIGNS = re.compile(r"\\(?:[-e&]|f[BIR]|\((?:aq|ga|ti|ha|bu))")
 
 
 def numbers_of_code():
@@ -64,16 +68,27 @@ def lines_shown(table, ends):
                 yield reported(f"codes.md shows {line}", right)
 
 
-def is_man_page_made(text):
-    """Whether the man page is what the script makes of the page."""
-    made = (TOP / "docs" / "sct_sites.1").read_text(encoding="utf-8")
-    return reported("sct_sites.1 is made of codes.md", man_page.made(text) == made)
+def manual(text):
+    """Whether the manual page has each section of the page, and is well-formed."""
+    lines = man_page.made().splitlines()
+    requests = [line.split(" ")[0] for line in lines if line.startswith(".")]
+    titles = {line for line in lines if line.startswith((".SH ", ".SS "))}
+    for marks, title in re.findall(r"^(##+) (.*)$", text, re.M):
+        request = ".SH " + man_page.plain(title.upper()) if marks == "##" else ".SS " + man_page.plain(title)
+        yield reported(f"the manual page has {request}", request in titles)
+    yield reported("its requests are known", REQUESTS.issuperset(requests), f"{sorted(set(requests) - REQUESTS)}")
+    blocks = "".join(request for request in requests if request in (".nf", ".fi", ".RS", ".RE"))
+    yield reported("each of its blocks ends", re.fullmatch(r"(?:\.nf(?:\.RS\.RE)?\.fi)*", blocks) is not None)
+    empty = [number for number, line in enumerate(lines, 1) if not line or line == ".TP" and lines[number][:1] in ("", ".")]
+    yield reported("its entries have names, and no line is empty", not empty, f"{empty}")
+    unknown = [line for line in lines[1:] if "\\" in SIGNS.sub("", line) or line.startswith("'")]
+    yield reported("its signs are known", not unknown, "\n".join(unknown))
 
 
 def main():
     text, (pairs, ends) = man_page.PAGE.read_text(encoding="utf-8"), numbers_of_code()
     table = [dict(zip(columns, row.cells)) for columns, row in pages.tables(text.splitlines())]
-    harness.end_of([*numbers(text, table, pairs), *lines_shown(table, ends), is_man_page_made(text)])
+    harness.end_of([*numbers(text, table, pairs), *lines_shown(table, ends), *manual(text)])
 
 
 if __name__ == "__main__":

@@ -2,10 +2,10 @@
 
 Section 2 has messages that are all read. A row of section 5 names one of them, what is changed in it, and how that line is refused.
 Section 3 has names of kinds, each given to the message of its kind, and reasons, each shown for a rejection and for the refusal of a
-recall, with `?` or without. No answer shows which codes are usual for a recall. Sections 6 and 8 have written forms and an archive
-text. Section 11 has refused lines of scripts, and a script. Sections 12 and 13 have lines of examples/hub-morning.refused and
-examples/hub-morning.run-refused. Section 14 has bad lists and a report. Section 10 has a delta in both forms, and section 15 what a site
-refuses of files of examples/exchange/cases/. A row in other words than those of the tables stops the check.
+recall, with `?` or without. No answer shows which codes are usual for a recall. Section 6 has a written form. Section 11 has refused
+lines of scripts, and a script. Sections 12 and 13 have lines of examples/hub-morning.refused and examples/hub-morning.run-refused.
+Section 14 has bad lists and a report. Section 10 has a delta, and section 15 what a site refuses of files of examples/exchange/cases/.
+A row in other words than those of the tables stops the check.
 """
 import json, os, pathlib, re, tempfile
 from bench.generate import samples
@@ -81,7 +81,7 @@ def refusals(program, page, messages):
             yield row.line, ("", f"line 1: {refusal}\n", 1), answered(program, ["status"], line)
 
 
-# ---- sections 2, 6 and 8: messages and their written forms
+# ---- sections 2 and 6: messages and their written forms
 
 def messages_of(page):
     """The lines of section 2 by their names."""
@@ -90,15 +90,11 @@ def messages_of(page):
 
 
 def written_forms(program, page, messages):
-    """The written forms of section 6, and the archive text of section 8."""
+    """The written forms of section 6."""
     pattern = r"(?:^The|^and the) (instruction|resolution|batch)(?: is written)?\n\n```\n(.*?)^```"
     for match in page.found(pattern, "6. Written form"):
         line = messages["the " + match.group(1)] + "\n"
         yield page.line_at(match.start()), (match.group(2), "", 0), answered(program, ["archive"], line)
-    for block in page.blocks("8. Archive text"):
-        ids = [json.loads(line)["MsgId"] for line in block.text.splitlines()]
-        lines = [line for line in messages.values() if json.loads(line)["MsgId"] in ids]
-        yield block.line, (block.text, "", 0), answered(program, ["archive"], "\n".join(lines))
 
 
 # ---- section 3: names of kinds, reasons
@@ -202,7 +198,7 @@ def report(program, page, _):
 # ---- sections 10 and 15: deltas, and a site of several machines
 
 def deltas(program, page, _):
-    """The two texts of one delta, which begins with entry 2 of site 1: each is a delta text, and is early for a site without entries."""
+    """A text of a delta, which begins with entry 2 of site 1: it is a delta text, and is early for a site without entries."""
     for block in [block for block in page.blocks("10. Delta text") if "<" not in block.text]:
         with tempfile.NamedTemporaryFile("w") as file:
             file.write(block.text)

@@ -1,9 +1,11 @@
-"""man_page.py: makes the manual page docs/sct_sites.1 of docs/users/codes.md, whose sections and tables it takes over in their order.
+"""man_page.py: makes the manual page sct_sites(1) of docs/users/codes.md, whose sections and tables it takes over in their order.
 
 A heading of two marks begins a section, one of three a part of it. A row of a table is an entry: its first cell or cells are
 what is printed, and the others follow with the names of their columns. Links are their words.
 
-Usage, at the top of the repository: python3 -m tests.documents.man_page > docs/sct_sites.1
+Usage, at the top of the repository: python3 -m tests.documents.man_page > sct_sites.1
+
+tools/package.py puts it into the release.
 """
 import re, sys
 from tests.documents.pages import cells
@@ -14,7 +16,7 @@ PAGE = TOP / "docs" / "users" / "codes.md"
 NAMES = ["Number", "Name"]
 # signs that troff would read as something else, the first of them before the others
 SIGNS = {"\\": "\\e", "-": "\\-", "'": "\\(aq", "`": "\\(ga", "~": "\\(ti", "^": "\\(ha"}
-HEAD = """.\\" Made by tests/documents/man_page.py of docs/users/codes.md. Change that page, and make this one again.
+HEAD = """.\\" Made by tests/documents/man_page.py of docs/users/codes.md.
 .TH SCT_SITES 1 "" "Niluppang" "User commands"
 .SH NAME
 sct_sites \\- answers on the SEPA Instant messages of a clearing hub
@@ -104,10 +106,10 @@ def parts(text):
         before = kind
 
 
-def made(text):
-    """The manual page of a page of codes. The words under the title of that page are not of it."""
+def made():
+    """The manual page. The words under the title of the page of codes are not of it."""
     lines, is_title = [], False
-    for kind, part in parts(text):
+    for kind, part in parts(PAGE.read_text(encoding="utf-8")):
         if kind == "heading":
             marks, _, title = part[0].partition(" ")
             is_title = marks == "#"
@@ -125,4 +127,4 @@ def made(text):
 
 
 if __name__ == "__main__":
-    sys.stdout.buffer.write(made(PAGE.read_text(encoding="utf-8")).encode())
+    sys.stdout.buffer.write(made().encode())

@@ -207,7 +207,7 @@ def settling(_, words, gives):
 #   the archive text. The second one comes from the definition of touched (views.py), since no command prints it.
 # - `settled` and `gives`: sites with their entries, and how settling ends by the definitions (groups.py), since no command settles
 #   sites that are named so.
-# - `part 1`, `part 2`, `gives 1`, `gives 2` and `whole`: the status text of each part, and of both together. With `totals 1` and
+# - `part 1`, `part 2`, `gives 1`, `gives 2` and `both`: the status text of each part, and of both together. With `totals 1` and
 #   `totals 2` it is the totals text.
 # - `events` and perhaps `site N`: a script with the outcome of each line, and the status text of a site at the end (replayed).
 FORMS = {
@@ -216,8 +216,8 @@ FORMS = {
     ("added", "held"): answers_to,
     ("batch",): batches,
     ("settled", "gives"): settling,
-    ("part 1", "part 2", "gives 1", "gives 2", "whole"): in_parts("status"),
-    ("part 1", "part 2", "totals 1", "totals 2", "whole"): in_parts("totals"),
+    ("part 1", "part 2", "gives 1", "gives 2", "both"): in_parts("status"),
+    ("part 1", "part 2", "totals 1", "totals 2", "both"): in_parts("totals"),
 }
 
 

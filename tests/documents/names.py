@@ -2,10 +2,10 @@
 
 Names in backquotes are declared in a crate, or are words of crates.txt, of the tests, benches or examples, or of OUTSIDE. Those of a
 crate, as "`settle` of sct_world", and those that follow a file, are declared there. Files in backquotes exist, and links lead to a file
-and a heading. README.md links to every page. Rows of promises have functions of their files, clauses of these functions and edits of
-their crates: *only* needs a single clause, and *law* an empty body. Every edit of the crates of a table of edits has a row. Sections
-of the architecture name every source of their crates. The page for auditors has functions with their clauses, definitions, code at
-its line, and every crate of the kit that is used. Edits that were taken away are gone.
+and a heading. README.md links to every page. Rows of promises have functions of the crate of their section, and clauses of these
+functions: without a clause a function has a single one, and a law has an empty body. The first line of each edit says what it does.
+So does that of each source and each file of definitions, and the files of the table of places declare what it names. The page for
+auditors has functions with their clauses, definitions and their number, code at its line, and every crate of the kit that is used.
 """
 import functools, os, pathlib, re
 from tests import harness
@@ -17,14 +17,13 @@ PAGES = [*sorted(TOP.glob("*.md")), *sorted((TOP / "docs").rglob("*.md")), TOP /
 
 # names of std, of the language and of the kit, commands of the shell, and names that a page has because they are wrong here
 OUTSIDE = set("""
-    Brand Copy Debug Display IfErr OnErr OnOk Option String Vec Wait Writer dac8208d650f15bf ptr_eq replace_with try_send
+    Brand Debug Display IfErr OnErr OnOk Vec Wait dac8208d650f15bf try_send
     comm diff grep
     Ctgy HANSDEHH370 PDCR txid
 """.split())
 
 NAME = re.compile(r"[A-Za-z_]\w*(?:::\w+)*(?:\(\))?")
 FILE = re.compile(r"[\w.*/-]+\.(?:rt|antt|py|md|edit|txt|jsonl|list|c|script)")
-TAKEN_AWAY = "## Edits that were taken away"
 
 
 class Report:
@@ -68,13 +67,10 @@ def sections(text):
 # ---- names, files and links
 
 def check_names(report, page, text):
-    """Every name in backquotes. The edits that were taken away are judged by themselves."""
-    gone = text.find(TAKEN_AWAY)
-    end = text.find("\n## ", gone + 1) if gone >= 0 else gone
-    skipped = range(text.count("\n", 0, gone) + 1, text.count("\n", 0, end if end > 0 else len(text)) + 2) if gone >= 0 else ()
+    """Every name in backquotes."""
     for number, line in prose(text):
         for name in codes(line):
-            if NAME.fullmatch(name) and number not in skipped:
+            if NAME.fullmatch(name):
                 known = all(word in sources.everywhere() or word in OUTSIDE for word in words_of(name))
                 report.check(page, number, known, f"there is no {name}")
         for name, crate in re.findall(r"`(\w+(?:::\w+)*)` (?:\(|of |in )(sct_\w+)", line):
@@ -166,36 +162,46 @@ def found(name, functions):
     return [one for one in functions if one.name == name] or members
 
 
-def check_promise(report, page, number, cells):
-    """A row: Promise, Function, Clause, Edit, File."""
-    _, named, clauses, edits, in_files = cells
-    in_files = codes(in_files)
-    in_crates = {file.split("/")[0] for file in in_files}
-    functions = [one for crate in in_crates if crate in sources.names() for one in sources.functions(crate) if one.file in in_files]
-    meant = {name: found(name, functions) for name in codes(named)}
-    for name, ones in meant.items():
-        report.check(page, number, bool(ones), f"no file of the row has {name}")
-    for file in in_files:
-        used = any(one.file == file for ones in meant.values() for one in ones)
-        report.check(page, number, used, f"{file} has no function of the row")
-    ones = [one for many in meant.values() for one in many]
-    wanted = codes(re.sub(r"\(.*?\)", "", clauses))
-    for clause in wanted:
-        report.check(page, number, any(clause in one.clauses for one in ones), f"no function of the row has the clause {clause}")
-    plain = re.sub(r"`.*?`|\(.*?\)", "", clauses)
-    for one in ones:
-        is_carried = set(wanted) & set(one.clauses) or ("only" in plain and len(one.clauses) == 1) or ("law" in plain and one.is_law)
-        is_carried = is_carried or one.name is None and (plain.strip() == "invariant" or not one.clauses)
-        report.check(page, number, is_carried, f"{one.file} carries no clause of the row by {one.name or one.trait}")
-    for edit in codes(edits):
-        crate = re.search(rf"`{edit}` \((sct_\w+)\)", edits)
-        among = [crate.group(1)] if crate else in_crates
-        report.check(page, number, any(edit in sources.edits(one) for one in among), f"there is no edit {edit} of {', '.join(among)}")
+def carriers(cell):
+    """The items of a cell: what they are (a law, an invariant or nothing), functions, clauses, and crates that are named. A function
+    without a type may be of the type before it."""
+    for item in cell.split("; "):
+        kind = re.match(r"law |invariant of |", item).group().split(" ")[0]
+        named, _, clauses = item.partition(": ")
+        yield kind, codes(named), codes(clauses), re.findall(r"\((sct_\w+)\)", item)
+
+
+def is_carried(one, kind, clauses):
+    """Whether a function, or a type, carries one of some clauses. Without a clause a function has a single one."""
+    if kind == "law":
+        return one.is_law
+    if kind == "invariant":
+        return one.name is None and set(clauses) <= set(one.clauses)
+    return bool(set(clauses) & set(one.clauses)) if clauses else len(one.clauses) == 1
+
+
+def check_promise(report, page, number, cell, its):
+    """The second cell of a row, in the section of these crates."""
+    for kind, names, clauses, crates in carriers(cell):
+        functions = [one for crate in crates or its for one in sources.functions(crate)]
+        report.check(page, number, bool(names), f"no function is named in {cell}")
+        carrying, owner = [], ""
+        for name in names:
+            ones = found(f"{owner}::{name}", functions) or found(name, functions)
+            owner = name.rpartition("::")[0] or owner
+            carrying += [one for one in ones if is_carried(one, kind, clauses)]
+            report.check(page, number, bool(ones), f"{', '.join(crates or its)} has no {name}")
+            report.check(page, number, any(one in carrying for one in ones), f"{name} carries no clause of the row")
+        for clause in clauses:
+            report.check(page, number, any(clause in one.clauses for one in carrying), f"no function of the row has the clause {clause}")
 
 
 def check_promises(report, page, text):
-    for number, cells in rows(text.splitlines(), 1, ["Promise", "Function", "Clause", "Edit that shows it", "File"]):
-        check_promise(report, page, number, cells)
+    """Every row of promises, by the crates of the heading above it."""
+    for heading, first, lines in sections(text):
+        if not heading.startswith("Promises"):
+            for number, cells in rows(lines, first, ["Promise", "Function: clauses"]):
+                check_promise(report, page, number, cells[1], crates_of(heading))
 
 
 def crates_of(heading):
@@ -203,48 +209,28 @@ def crates_of(heading):
 
 
 def check_edits(report, page, text):
-    """The tables of edits, by the crates of their sections, and whether each edit of these has a row."""
-    for heading, first, lines in sections(text):
-        its = crates_of(heading)
-        table = list(rows(lines, first, ["Edit", "What it shows", "Refused at"])) if its else []
-        listed = {name for _, cells in table for name in codes(cells[0])}
-        there = {edit for crate in its for edit in sources.edits(crate)}
-        for number, cells in table:
-            for name in codes(cells[0]):
-                report.check(page, number, name in there, f"there is no edit {name} of {heading}")
-        for name in sorted(there) if table else []:
-            report.check(page, first, name in listed, f"{heading} has no row for the edit {name}")
+    """Whether the first line of each edit says what it does, which the page points to."""
+    for path in sorted(CRATES.glob("*/must-fail/*.edit")):
+        line = path.read_text(encoding="utf-8").split("\n")[0]
+        report.check(path, 1, re.fullmatch(r"# [^a-z].*\.", line) is not None, "the first line does not say what the edit does")
 
 
-def check_taken_away(report, page, text):
-    """The edits that were taken away, by the crates of their sections."""
-    _, _, after = text.partition(TAKEN_AWAY + "\n")
-    first = text.count("\n", 0, len(text) - len(after))
-    for heading, line, lines in sections(re.split(r"^## ", after, flags=re.MULTILINE)[0]):
-        its = {edit for crate in crates_of(heading) for edit in sources.edits(crate)}
-        for number, words in enumerate(lines, first + line):
-            for name in re.findall(r"^- `(\w+)`:", words):
-                report.check(page, number, name not in its, f"{name} is an edit of {heading}")
-
-
-def is_source(name, crate):
-    """Whether a crate has a source with this path or one that ends so."""
-    return any(f"/{crate}/src/{file}".endswith(f"/{name}") for file in sources.files(crate))
+def check_places(report, page, text):
+    """The rows that say where things are: files of the crate, or of the one before them, each with what it declares."""
+    for number, cells in rows(text.splitlines(), 1, ["What", "Crate", "Function", "Definition"]):
+        for other, file, named in re.findall(r"(?:(sct_\w+)'s )?`([\w/]+\.(?:rt|antt))`((?:,? `\w+`)*)", " ".join(cells[2:])):
+            path = CRATES / (other or cells[1]) / ("src" if file.endswith(".rt") else "specs") / file
+            report.check(page, number, path.is_file(), f"{other or cells[1]} has no {file}")
+            for name in codes(named) if path.is_file() else []:
+                report.check(page, number, name in sources.declared(path), f"{file} of {other or cells[1]} declares no {name}")
 
 
 def check_sources(report, page, text):
-    """Whether a section on crates that names sources names each of them, and no others but as those of another crate."""
-    for heading, first, lines in sections(text):
-        named = {name for line in lines for name in codes(line) if name.endswith(".rt")}
-        its = crates_of(heading)
-        if its and named:
-            for crate, file in ((crate, file) for crate in its for file in sources.files(crate)):
-                is_listed = file == "lib.rt" or any(f"/{crate}/src/{file}".endswith(f"/{name}") for name in named)
-                report.check(page, first, is_listed, f"{heading} lacks {file} of {crate}")
-            others = re.findall(r"`([\w/]+\.rt)` (?:\(|of |in )(sct_\w+)", "\n".join(lines))
-            for name in named:
-                is_there = any(is_source(name, crate) for crate in its) or any(is_source(*other) for other in others if other[0] == name)
-                report.check(page, first, is_there, f"{heading} has no {name}")
+    """Whether each source and each file of definitions says in its first line what it does, which the page points to."""
+    for crate in sources.names():
+        for path in [*sources.files(crate).values(), *sorted((CRATES / crate / "specs").glob("*.antt"))]:
+            mark = "//! " if path.suffix == ".rt" else "-- "
+            report.check(path, 1, path.read_text(encoding="utf-8").startswith(mark), "the first line does not say what the file does")
 
 
 # ---- the page for auditors
@@ -263,6 +249,15 @@ def check_carried(report, page, text):
         there = set().union(*(sources.declared(path_of(file)) for file in codes(files) if path_of(file).is_file()))
         for name in codes(names):
             report.check(page, number, name in there, f"no file of the row declares {name}")
+
+
+def check_counts(report, page, text):
+    """On how many files of definitions the headline rests, and its first definition alone."""
+    table = next(list(rows(lines, 1, ["Definition", "Says", "File"])) for heading, _, lines in sections(text) if "headline" in heading)
+    files = [path_of(file) for _, (_, _, named) in table for file in codes(named)]
+    counts = [len(sources.rests_on(files)), len(sources.rests_on(files[:1]))]
+    stated = re.search(r"these are (\d+) files of definitions\. `\w+` alone rests on (\d+) files", text.replace("\n", " "))
+    report.check(page, 1, stated is not None and [*map(int, stated.groups())] == counts, f"the files of definitions are {counts}")
 
 
 def check_quotes(report, page, text):
@@ -287,9 +282,9 @@ def check_kit(report, page, text):
 BY_PAGE = {
     "README.md": [check_pages],
     "docs/auditors/promises.md": [check_promises],
-    "docs/auditors/review.md": [check_edits, check_taken_away],
-    "docs/developers/architecture.md": [check_sources],
-    "docs/auditors/proved.md": [check_carried, check_quotes, check_kit],
+    "docs/auditors/review.md": [check_edits],
+    "docs/developers/architecture.md": [check_places, check_sources],
+    "docs/auditors/proved.md": [check_carried, check_counts, check_quotes, check_kit],
 }
 
 

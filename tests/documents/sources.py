@@ -124,6 +124,18 @@ def defined(crate):
     return found
 
 
+def rests_on(paths):
+    """Some files of definitions with all files of definitions that they use."""
+    found, left = set(), list(paths)
+    while left:
+        path = left.pop()
+        if path not in found and path.is_file():
+            found.add(path)
+            used = re.findall(r"^(?:pub )?use Rattle\.(sct_\w+)\.specs\.(\w+)", path.read_text(), re.M)
+            left += [CRATES / crate / "specs" / f"{name}.antt" for crate, name in used]
+    return found
+
+
 @functools.lru_cache(maxsize=None)
 def everywhere():
     """What has a name in any crate, and the words of crates.txt, of the tests but for this check, of the benches, of the examples, and

@@ -91,8 +91,8 @@ def warnings(folder, commands):
         yield answers(f"desk.sh takes no {words}", f"sh desk/desk.sh {words}", right, folder, commands)
     (folder / "desk" / "explain.py").unlink()
     shell("sh desk/desk.sh plain bank-day.archive desk/iso20022.jsonl", folder, commands)
-    right = (folder / "desk" / "day" / "day.mend").read_bytes().splitlines(True)[0]
-    yield reported("desk.sh needs no explanation", (folder / "plain" / "day.mend").read_bytes() == right)
+    right = (folder / "desk" / "day" / "day.explained").read_bytes().splitlines(True)[0]
+    yield reported("desk.sh needs no explanation", (folder / "plain" / "day.explained").read_bytes() == right)
 
 
 # the words of a report on bank-day.list, and for each row that is named what is said of it

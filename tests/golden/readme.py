@@ -1,7 +1,8 @@
 """readme.py: the commands of README.md print what the page shows, at the top of the repository.
 
 `rt try -- WORDS` and `rt run -- WORDS` build the program and run it. Here the program runs with these words in their place. It must
-end with status 0 and print what the example has for its input. The page has each of the two, and the command of `.ci/run`.
+end with status 0 and print what the example has for its input. A file that `--data` names has its path in place of that name. The page
+has each of the two, and the command of `.ci/run`.
 """
 import re, tempfile
 from tests import harness
@@ -16,19 +17,17 @@ def prints(command, lines, commands):
 
 
 def built(page, verb):
-    """The command of the page that builds and runs the program by `rt VERB`, with the program in its place, and the text that it must
-    print."""
-    found = re.search(rf"(\(cd .*)rt {verb} -- ((\w+) < \S*/([\w-]+)\.jsonl\))", page)
-    if found is None:
-        return "false", ""
-    before, words, job, name = found.groups()
-    return f"{before}sct_sites {words}", (EXAMPLES / f"{name}.{job}").read_text()
+    """Each command of the page that builds and runs the program by `rt VERB`, with the program and the paths of its files in place, and
+    the text that it must print."""
+    for found in re.finditer(rf"(\(cd .*)rt {verb} (?:--data (\w+)=(\S+) )?-- ((\w+)[^<\n]* < \S*/([\w-]+)\.jsonl\))", page):
+        before, name, path, words, job, example = found.groups()
+        yield f"{before}sct_sites {words.replace(f' {name} ', f' {path} ')}", (EXAMPLES / f"{example}.{job}").read_text()
 
 
 def is_built_as_shown(page, verb, commands):
-    """Whether the program that `rt VERB` runs answers the example that the page gives it."""
-    command, text = built(page, verb)
-    return shell(command, TOP, commands) == (text, 0)
+    """Whether the program that `rt VERB` runs answers the examples that the page gives it."""
+    ones = list(built(page, verb))
+    return bool(ones) and all(shell(command, TOP, commands) == (text, 0) for command, text in ones)
 
 
 def has_gate(page):
