@@ -9,7 +9,7 @@ const decoded = (bytes) => new TextDecoder().decode(bytes);
 const MEMORY = 65, NO_ROOM = 74;
 let core; // the compiled module
 let input; // the file of messages
-const texts = {}; // the bytes that can be saved
+const texts = {}; // the bytes of each text that can be saved
 const tables = {}; // the lines of each table
 
 // ---- calls of the module
@@ -178,7 +178,7 @@ const ASKED = {
   },
   rows: rows_of,
   messages,
-  async text({ name }) { return { bytes: name === "archive" ? await archive() : texts[name] }; },
+  async text({ name }) { return { blob: new Blob([name === "archive" ? await archive() : texts[name]]) }; },
 };
 
 onmessage = async ({ data }) => {
