@@ -273,6 +273,31 @@ def by_memory(browser, checks, folder):
     checks.fits("the progress of a file", (len(parts) > 4, parts == sorted(parts), parts[-1:]), (True, True, [1]))
 
 
+# ---- rows
+
+def by_rows(browser, checks, folder):
+    """The rows of long tables: their number, those at the end, those that are searched for, and those of a word."""
+    many, path = 1_000_000, pathlib.Path(folder, "wrong")
+    path.write_bytes(b"x\n" * many + b"{}\n" + (EXAMPLES / "bank-day.jsonl").read_bytes())
+    answered(browser, path)
+    rows = lambda table, start, **more: browser.value("ask('rows', " + json.dumps({"table": table, "search": "", "bank": "", "words": [], "from": start, "count": 2, **more}) + ")")
+    wrong = lambda *numbers: [[str(number), "31", ""] for number in numbers]
+    checks.fits("the last of many rows", rows("refused", many - 2), {"rows": wrong(many - 1, many), "matched": many + 1})
+    checks.fits("rows of a code", rows("refused", 0, words=["33"]), {"rows": [[str(many + 1), "33", ""]], "matched": 1})
+    checks.fits("rows of a search", rows("refused", 0, search="Line 1000000:"), {"rows": wrong(many), "matched": 1})
+    status = (EXAMPLES / "bank-day.status").read_text().splitlines()
+    of = lambda begin: [line for line in status if line.startswith(begin)]
+    checks.fits("rows of a bank", rows("transfers", 0, bank="HANSDEHH")["matched"], len(of("T|HANSDEHH")))
+    accepted = [line for line in of("T|") if line.split("|")[3] == "ACCEPTED"]
+    checks.fits("rows of a status", rows("transfers", 0, words=["ACCEPTED"])["matched"], len(accepted))
+    last = rows("transfers", len(of("T|")) - 1)
+    checks.fits("the last transfer", last, {"rows": [of("T|")[-1].split("|")[1:]], "matched": len(of("T|"))})
+    checks.fits("all recalls", rows("recalls", 0, count=500)["rows"], [line.split("|")[1:] for line in of("R|")])
+    text = browser.value("at('tables').textContent")
+    counts = f"Transfers ({len(of('T|'))})Findings ({len(of('F|'))})Recalls ({len(of('R|'))})"
+    checks.fits("the numbers of rows", counts in text and f"Refused lines ({many + 1:,})" in text, True)
+
+
 # ---- words, roles and looks
 
 def by_words(browser, checks):
@@ -391,7 +416,7 @@ def main():
             pictures(browser, asked.pictures)
             opened(browser)
         in_folder = lambda step: lambda *both: step(*both, folder)
-        for step in (by_files, in_folder(by_wrong_files), by_made_up, by_sites, by_refusals, in_folder(by_memory), by_words, by_roles, by_looks,
+        for step in (by_files, in_folder(by_wrong_files), by_made_up, by_sites, by_refusals, in_folder(by_memory), in_folder(by_rows), by_words, by_roles, by_looks,
                      by_dropping, by_keys, by_connections):
             step(browser, checks)
             opened(browser)
