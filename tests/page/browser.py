@@ -394,6 +394,15 @@ def by_connections(browser, checks):
     checks.fits("connections on which a server was sent something", Seen.count, 0)
 
 
+def by_storage(browser, checks):
+    """After a report the browser holds nothing of the page, and the page opened anew shows nothing."""
+    with_report(browser)
+    held = "(async () => [localStorage.length, sessionStorage.length, document.cookie, (await indexedDB.databases()).length, (await caches.keys()).length])()"
+    checks.fits("what is stored", browser.value(held), [0, 0, "", 0, 0])
+    opened(browser)
+    checks.fits("the page opened anew", browser.value("at('answers').hidden && at('bank').value === '' && at('messages').files.length === 0"), True)
+
+
 def pictures(browser, folder):
     """Pictures of the page with a report, in two sizes, light and dark."""
     pathlib.Path(folder).mkdir(parents=True, exist_ok=True)
@@ -417,7 +426,7 @@ def main():
             opened(browser)
         in_folder = lambda step: lambda *both: step(*both, folder)
         for step in (by_files, in_folder(by_wrong_files), by_made_up, by_sites, by_refusals, in_folder(by_memory), in_folder(by_rows), by_words, by_roles, by_looks,
-                     by_dropping, by_keys, by_connections):
+                     by_dropping, by_keys, by_connections, by_storage):
             step(browser, checks)
             opened(browser)
     print(f"{checks.passed} passed, {checks.failed} failed")
