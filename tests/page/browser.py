@@ -1,4 +1,4 @@
-"""browser.py: the page answers in Chromium as the program does, is used by keys alone, and opens no connection.
+"""browser.py: the page answers in Chromium as the program does, is used by keys alone, opens no connection and stores nothing.
 
 The page is web/out/niluppang.html, which web/build makes. It is given each example by its choosers, and what it saves must be the bytes
 of the files of examples/. Its module is called over made-up inputs, and must write what the program writes. A call that is refused
