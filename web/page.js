@@ -12,6 +12,7 @@ const LACKS = ["ONLY_IN_ARCHIVE", "MISSING"];
 let words = WORDS.en;
 let found = {}; // the tables, with their counts
 let shown = { table: "transfers", from: 0, words: [] };
+let read = null; // the file of messages that is answered
 let summary = null; // the line on what was answered, in the words that are chosen
 let fault = () => ""; // the line on what went wrong
 
@@ -58,11 +59,11 @@ function speak(language) {
   spoken();
 }
 
-function fault_text({ code, place, text }) {
+function fault_text({ code, place, text, changed }) {
   if (code === 65) return words.no_memory;
   if (code === 48) return said(words.wrong_list, place);
   if (code === 73) return place === 1 ? words.wrong_bank : words.wrong_day;
-  if (text === "changed") return words.changed;
+  if (changed) return words.changed;
   return said(words.stopped, code ? `${code} ${CODES[code]?.[0] ?? ""}` : text);
 }
 
@@ -79,23 +80,37 @@ async function answer(event) {
   complain(() => "");
   if (!file) { complain(() => words.no_messages); return; }
   document.body.dataset.done = "";
-  at("compare").disabled = true; at("progress").hidden = false; at("progress").value = 0; at("answers").hidden = true; summary = null;
-  at("state").textContent = said(words.reading, file.name);
+  at("compare").disabled = true; at("progress").hidden = false; at("progress").value = 0; at("answers").hidden = true;
   try {
-    const answered = await ask("answers", { file });
-    found = answered.found;
-    const seconds = () => (answered.milliseconds / 1000).toLocaleString(document.documentElement.lang, { maximumFractionDigits: 1 });
-    summary = () => said(words.done, file.name, counted(file.size), seconds(), counted(found.transfers.rows), counted(found.refused.rows));
+    if (file !== read) await read_messages(file);
+    delete found.report;
     shown = { table: "transfers", from: 0, words: [] };
     if (list && bank && day) await compare(bank, day, list);
     else if (list || bank || day) complain(() => words.need_both);
   } catch (reason) {
     complain(() => fault_text(reason));
+    forget(reason.changed);
   }
   at("progress").hidden = true; at("compare").disabled = false;
   at("state").textContent = summary ? summary() : "";
   if (summary) { at("answers").hidden = false; await show(); }
   document.body.dataset.done = "1";
+}
+
+// Forgets a file that changed, so that it can be chosen again.
+function forget(changed) {
+  if (changed) at(changed).value = "";
+  if (changed === "messages") read = summary = null;
+}
+
+async function read_messages(file) {
+  read = summary = null;
+  at("state").textContent = said(words.reading, file.name);
+  const answered = await ask("answers", { file });
+  found = answered.found;
+  const seconds = () => (answered.milliseconds / 1000).toLocaleString(document.documentElement.lang, { maximumFractionDigits: 1 });
+  summary = () => said(words.done, file.name, counted(file.size), seconds(), counted(found.transfers.rows), counted(found.refused.rows));
+  read = file;
 }
 
 async function compare(bank, day, list) {

@@ -5,6 +5,11 @@ class Fault extends Error {
   constructor(code, place) { super(`fault ${code} ${place}`); this.code = code; this.place = place; }
 }
 
+// A file that cannot be read to its end, or has another length than when it was chosen.
+class Changed extends Error {
+  constructor(file) { super("changed"); this.which = file === input ? "messages" : "list"; }
+}
+
 const decoded = (bytes) => new TextDecoder().decode(bytes);
 const MEMORY = 65, NO_ROOM = 74, PIECE = 1 << 24;
 let core; // the compiled module
@@ -35,14 +40,14 @@ async function streamed(calls, file) {
   const at = taken(calls, file.size), reader = file.stream().getReader();
   let count = 0, shown = 0;
   for (;;) {
-    const { done, value } = await reader.read();
+    const { done, value } = await reader.read().catch(() => { throw new Changed(file); });
     if (done) break;
-    if (count + value.length > file.size) throw new Error("changed");
+    if (count + value.length > file.size) throw new Changed(file);
     new Uint8Array(calls.memory.buffer, Number(at) + count, value.length).set(value);
     count += value.length;
     if (count - shown > file.size / 50) { shown = count; postMessage({ read: count / file.size }); }
   }
-  if (count !== file.size) throw new Error("changed");
+  if (count !== file.size) throw new Changed(file);
   postMessage({ read: 1 });
   return [at, BigInt(count)];
 }
@@ -194,10 +199,17 @@ const ASKED = {
   async text({ name }) { return { blob: new Blob([name === "archive" ? await archive() : texts[name]]) }; },
 };
 
+// A fault as the page reads it.
+function fault_of(error) {
+  if (error instanceof Fault) return { code: error.code, place: error.place };
+  if (error instanceof RangeError) return { code: MEMORY, place: 0 };
+  return { code: 0, place: 0, text: String(error.message), changed: error.which };
+}
+
 onmessage = async ({ data }) => {
   try {
     postMessage({ id: data.id, answer: await ASKED[data.ask](data) });
   } catch (error) {
-    postMessage({ id: data.id, fault: { code: error.code ?? (error instanceof RangeError ? MEMORY : 0), place: error.place ?? 0, text: String(error.message) } });
+    postMessage({ id: data.id, fault: fault_of(error) });
   }
 };

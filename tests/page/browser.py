@@ -115,6 +115,14 @@ def by_wrong_files(browser, checks, folder):
     good = EXAMPLES / "bank-day.list"
     checks.fits("a bank in small letters", "BIC" in str(reported(browser, "lutefrpp", "2025-03-10", good)), True)
     checks.fits("a day in another form", "2025-03-10" in str(reported(browser, "LUTEFRPP", "10.03.2025", good)), True)
+    changing = pathlib.Path(folder, "changing.jsonl")
+    changing.write_bytes((EXAMPLES / "bank-day.jsonl").read_bytes())
+    answered(browser, changing)
+    changing.write_bytes(b"{}\n")
+    checks.fits("a file that changed", reported(browser, "LUTEFRPP", "2025-03-10", good), browser.value("WORDS.en.changed"))
+    answered(browser, changing)
+    checks.fits("the file as it is then", saved(browser, "refused"), b"line 1: 33\n")
+    answered(browser, EXAMPLES / "bank-day.jsonl")
     checks.fits("no list file", "record 1 is wrong" in str(reported(browser, "LUTEFRPP", "2025-03-10", EXAMPLES / "bank-day.jsonl")), True)
 
 
@@ -264,10 +272,11 @@ def by_memory(browser, checks, folder):
         after = browser.value("at('fault').textContent"), saved(browser, "status")
         checks.fits(f"a smaller file after {name}", after, ("", small.with_suffix(".status").read_bytes()))
     browser.value("limit_memory()")
-    browser.value("watch_progress()")
     answered(browser, some)
     right = harness.run([harness.program(), "status"], some.read_bytes()).text
     checks.fits("the same file with the memory of the page", (browser.value("at('fault').textContent"), saved(browser, "status")), ("", right))
+    browser.value("watch_progress()")
+    answered(browser, long)
     seen = browser.value("progress_seen")
     parts = seen[:seen.index(None)] if None in seen else []
     checks.fits("the progress of a file", (len(parts) > 4, parts == sorted(parts), parts[-1:]), (True, True, [1]))
