@@ -359,6 +359,12 @@ def by_looks(browser, checks):
             name = f"{table} at {width} points, {'dark' if is_dark else 'light'}"
             checks.fits(f"{name}: what is wider than the page", browser.value("document.documentElement.scrollWidth - document.documentElement.clientWidth"), 0)
             checks.fits(f"{name}: what is hard to read", browser.value("hard_to_read()"), [])
+    for language in LANGUAGES:
+        browser.value(f"speak('{language}')")
+        for width, height, is_dark in LOOKS[::2]:
+            browser.look(width, height, is_dark)
+            name = f"the page in {language} at {width} points: what is wider than the page"
+            checks.fits(name, browser.value("document.documentElement.scrollWidth - document.documentElement.clientWidth"), 0)
     browser.look()
 
 
