@@ -6,7 +6,7 @@ const TABLES = ["report", "transfers", "findings", "recalls", "totals", "refused
 const COLORS = { ACCEPTED: "good", MATCHED: "good", REJECTED: "good", RETURNED: "good", REFUSED: "good", CONTRADICTED: "bad", AMOUNT_DIFFERS: "bad",
   STATUS_DIFFERS: "bad", LISTED_TWICE: "bad" };
 const NUMBERS = { totals: [1, 2, 3, 4, 5, 6, 7, 8, 9, 10], report: [3, 5], refused: [0, 1] };
-const ENGLISH = { refused: [2, 3, 4] }; // the columns with sentences of docs/CODES.md
+const ENGLISH = { refused: [2, 3, 4] }; // the columns with sentences of docs/users/codes.md
 const FILES = { status: "status.txt", totals: "totals.txt", refused: "refused.txt", report: "report.csv", archive: "archive.jsonl" };
 const LACKS = ["ONLY_IN_ARCHIVE", "MISSING"];
 let words = WORDS.en;
