@@ -16,6 +16,7 @@ if sys.version_info < (3, 8):
 sys.path.insert(0, str(pathlib.Path(__file__).resolve().parents[1]))
 from tests import harness
 from tests.property import cases
+from tools import page
 
 CHECKS = {
     "documents": {
@@ -76,6 +77,7 @@ CHECKS = {
     },
     "page": {
         "browser": "compares the page in Chromium with the program, by its files and by its keys, and looks for connections",
+        "shipped": "looks for the page and its sum in the release",
     },
 }
 # the Debian packages that a check needs beside Python and the toolchain
@@ -85,9 +87,9 @@ PACKAGES["kills"] = PACKAGES["troubles"] = ["python3-aiohttp"]
 PACKAGES["java"] = ["libjna-java", "openjdk-17-jdk-headless"]
 PACKAGES["postgres"], PACKAGES["page"] = ["python3-aiohttp", "python3-psycopg2", "postgresql"], ["python3-aiohttp", "chromium"]
 PACKAGES["parts"] = ["python3-dask", "python3-distributed"]
-PACKAGES["browser"] = ["chromium"]
-# the file that a check needs, and what makes it
-MADE = {"browser": ("web/out/niluppang.html", "web/build")}
+PACKAGES["browser"], PACKAGES["shipped"] = ["chromium"], ["gcc"]
+# what makes what a check needs, if it can in some minutes: it returns why it cannot
+MAKES = {"browser": page.make, "shipped": page.make}
 # the Debian packages without which a part of a check is skipped, which the check says by itself
 HELPFUL = {"c_calls": ["valgrind"], "c_threads": ["valgrind"], "python_package": ["python3-pytest"], "release": ["pkg-config"]}
 SEEDED = ["c_calls"]  # checks that make up cases as the property checks do
@@ -150,11 +152,11 @@ def checked(name, kind, does, made_up):
     if missing:
         print(f"skipped: the machine lacks packages: apt-get install {' '.join(missing)}", flush=True)
         return 0, 0
-    path, maker = MADE.get(name, ("", ""))
-    if not (harness.TOP / path).exists():
-        print(f"skipped: there is no {path}; {maker} makes it", flush=True)
-        return 0, 0
     began = time.monotonic()
+    why = MAKES[name]() if name in MAKES else None
+    if why:
+        print(f"skipped: the page is not made: {why}", flush=True)
+        return 0, 0
     passed, failed, lines = ran(f"tests.{kind}.{name}", words)
     print(f"{passed} passed, {failed} failed, {time.monotonic() - began:.0f} seconds", flush=True)
     for line in lines if failed else [line for line in lines if line.startswith("skipped: ")]:

@@ -3,7 +3,7 @@
 `rt ci` checks a static library and builds none, and `rt lib` takes no library of `rt ci` by itself: it would prove all crates below again,
 which takes most of an hour. So the libraries that the gate proved and kept are put where `rt lib` looks for them, each under the key
 by which `rt ci` itself finds it again: the sum of its sources, of its line in crates.txt and of the libraries below it. What was not kept,
-`rt lib` proves. It proves the static library in each case.
+`rt lib` proves. It proves the static library in each case. The page is made in the same way, of another static library (web/build).
 """
 import contextlib, hashlib, importlib.machinery, importlib.util, io, os, pathlib, shutil, subprocess, sys
 
@@ -12,11 +12,25 @@ CRATE = TOP / "crates" / "sct_c"
 BUILT = CRATE / "out" / "libsct_c.a"
 
 
-def sources():
-    """A sum of all that the library is made of: crates.txt, and the files of each crate."""
-    sums = hashlib.sha256((TOP / "crates.txt").read_bytes())
-    for path in sorted(path for part in ("src", "specs", "proofs") for path in TOP.glob(f"crates/*/{part}/**/*") if path.is_file()):
-        sums.update(f"{path.relative_to(TOP)} ".encode() + path.read_bytes())
+def lines_of(name):
+    """The line of crates.txt of a crate, and of each crate below it, by name."""
+    lines = {line.split()[0].rstrip(":"): line for line in (TOP / "crates.txt").read_text(encoding="utf-8").splitlines() if ":" in line}
+    found, left = {}, [name]
+    while left:
+        crate = left.pop()
+        if crate in lines and crate not in found:
+            found[crate] = lines[crate]
+            left += lines[crate].split(":")[1].split()
+    return found
+
+
+def sources(name):
+    """A sum of all that the static library of a crate is made of: the lines of crates.txt and the files of that crate and those below."""
+    lines = lines_of(name)
+    sums = hashlib.sha256(repr(sorted(lines.items())).encode())
+    for crate in sorted(lines):
+        for path in sorted(path for part in ("src", "specs", "proofs") for path in TOP.glob(f"crates/{crate}/{part}/**/*") if path.is_file()):
+            sums.update(f"{path.relative_to(TOP)} ".encode() + path.read_bytes())
     return sums.hexdigest()
 
 
@@ -44,7 +58,7 @@ def take(module, kept, crate):
 
 
 def take_all(name, rt):
-    """Puts each library below a crate that was kept where `rt lib` looks for it."""
+    """Puts each library below a crate that was kept where `rt lib` looks for it. Returns whether each is there then."""
     module = module_of(rt)
     module.Crate.allowed = module.handles_of(str(TOP))
     crates = module.crates_of(str(TOP))
@@ -52,23 +66,25 @@ def take_all(name, rt):
     below = next(crate for crate in crates if crate.name == name).below()
     for crate in crates:
         if crate in below and not take(module, kept, crate):
-            return
+            break
+    return all(crate.is_built() for crate in below)
 
 
 def prepare(name, rt):
-    """Puts what was kept where `rt lib` looks for it, as far as that can be done: `rt lib` makes the rest."""
+    """Puts what was kept where `rt lib` looks for it, as far as that can be done: `rt lib` makes the rest. Returns whether there is none."""
     with contextlib.suppress(Exception, SystemExit), contextlib.redirect_stdout(io.StringIO()):
         here = os.getcwd()
         os.chdir(TOP)
         try:
-            take_all(name, rt)
+            return take_all(name, rt)
         finally:
             os.chdir(here)
+    return False
 
 
 def make():
     """Has `rt lib` make the library of sct_c, unless it is there and of these sources. Returns why it could not, or None."""
-    mark, now = BUILT.with_suffix(".sum"), sources()
+    mark, now = BUILT.with_suffix(".sum"), sources("sct_c")
     if BUILT.is_file() and mark.is_file() and mark.read_text(encoding="utf-8") == now:
         return None
     rt = shutil.which("rt")

@@ -2,25 +2,28 @@
 
 Usage: tools/package.py [FOLDER]   (out)
 
-It makes FOLDER/niluppang-VERSION-x86_64-linux.tar.gz, with one folder of the same name:
+It makes FOLDER/niluppang-VERSION-x86_64-linux.tar.gz; FOLDER/niluppang.html, the page; and FOLDER/SHA256SUMS, the sums of both, which is
+the list of the release. The archive has one folder of its name:
 
     bin/sct_sites                    the program
     lib/, include/                   the libraries, the C header, and niluppang.pc for pkg-config
     share/man/, share/doc/           the manual page; all pages and examples, as they are in the repository; and BUILD
     share/niluppang/python/          the Python package
+    share/niluppang/niluppang.html   the page
     SHA256SUMS                       the sums of all other files: `sha256sum -c SHA256SUMS`
 
 BUILD says which version it is, of which commit, and the toolchain that proved it. The same commit and the same built files make the same
-bytes: times are those of the commit, and all is sorted. Run the gate before. The variables SCT_SITES and SCT_C name another program and
-another static library.
+bytes: times are those of the commit, and all is sorted. Run the gate before: the libraries and the page are made of what it proved, if
+they are not there. The variables SCT_SITES and SCT_C name another program and another static library.
 """
 import gzip, hashlib, io, os, pathlib, subprocess, sys, tarfile, tempfile
 sys.path.insert(0, str(pathlib.Path(__file__).resolve().parents[1]))
 from tests.documents import man_page
-from tools import library
+from tools import library, page
 from tools.library import TOP, VERSION, Missing
 
 NAME = f"niluppang-{VERSION}-x86_64-linux"
+SUMS = "SHA256SUMS"
 PAGES = ["README.md", "CHANGELOG.md", "CONTRIBUTING.md", "SECURITY.md"]
 PYTHON = ["pyproject.toml", "README.md"]
 LEFT_OUT = ("target", "__pycache__", ".gitignore", "Cargo.lock")
@@ -56,6 +59,14 @@ def commit():
     return (said("git", "rev-parse", "HEAD") or "unknown") + (", with changes" if changed else "")
 
 
+def page_made():
+    """The page, which is made first if it is not there or not of these sources."""
+    why = page.make()
+    if why:
+        raise Missing(f"the page is not made: {why}")
+    return page.PAGE.read_bytes()
+
+
 def built_of():
     """The text of BUILD."""
     toolchain = (library.toolchain() / "KIT-ID").read_text(encoding="utf-8").strip()
@@ -76,25 +87,29 @@ def read(path):
     return (TOP / path).read_bytes()
 
 
-def files(folder):
-    """The path of each file in the release, with its bytes. The libraries are made in a folder."""
+def sums_of(found):
+    """The sums of files, as sha256sum reads them."""
+    return "".join(f"{hashlib.sha256(found[path]).hexdigest()}  {path}\n" for path in sorted(found)).encode()
+
+
+def files(folder, html):
+    """The path of each file in the archive, with its bytes. The libraries are made in a folder."""
     library.make(folder)
     doc, python = "share/doc/niluppang/", "share/niluppang/python/"
     found = {"bin/sct_sites": program().read_bytes(), "include/niluppang.h": read("include/niluppang.h"),
              "lib/pkgconfig/niluppang.pc": PKG_CONFIG.encode(), "share/man/man1/sct_sites.1": man_page.made().encode(),
-             doc + "BUILD": built_of().encode(), doc + "VERSION": read("VERSION")}
+             doc + "BUILD": built_of().encode(), doc + "VERSION": read("VERSION"), "share/niluppang/" + page.PAGE.name: html}
     for name in ("libniluppang.a", library.SONAME):
         found["lib/" + name] = pathlib.Path(folder, name).read_bytes()
-    for page in [*PAGES, *below("docs")]:
-        found[doc + page] = read(page)
+    for path in [*PAGES, *below("docs")]:
+        found[doc + path] = read(path)
     for name in PYTHON:
         found[python + name] = read("bindings/python/" + name)
     for path in below("bindings/python/niluppang"):
         found[path.replace("bindings/python/", python)] = read(path)
     for path in below("examples"):
         found[doc + path] = read(path)
-    sums = "".join(f"{hashlib.sha256(found[path]).hexdigest()}  {path}\n" for path in sorted(found))
-    return {**found, "SHA256SUMS": sums.encode()}
+    return {**found, SUMS: sums_of(found)}
 
 
 # ---- the archive
@@ -125,15 +140,19 @@ def put(tar, found, time):
 
 
 def make(folder):
-    """Makes the release in a folder, and returns its path."""
+    """Makes the release in a folder, and returns the path of its archive."""
+    html = page_made()
     with tempfile.TemporaryDirectory() as place:
-        found = files(place)
+        found = files(place, html)
     time = int(os.environ.get("SOURCE_DATE_EPOCH") or said("git", "log", "-1", "--format=%ct") or 0)
     path = pathlib.Path(folder, NAME + ".tar.gz")
     path.parent.mkdir(parents=True, exist_ok=True)
     with open(path, "wb") as file, gzip.GzipFile("", "wb", 9, file, mtime=time) as packed:
         with tarfile.open(fileobj=packed, mode="w", format=tarfile.GNU_FORMAT) as tar:
             put(tar, found, time)
+    shipped = {page.PAGE.name: html, path.name: path.read_bytes()}
+    path.with_name(page.PAGE.name).write_bytes(html)
+    path.with_name(SUMS).write_bytes(sums_of(shipped))
     return path
 
 
@@ -145,7 +164,7 @@ def main():
         path = make(words[0] if words else TOP / "out")
     except Missing as missing:
         sys.exit(f"package: {missing}")
-    print(f"{path}\n{hashlib.sha256(path.read_bytes()).hexdigest()}")
+    print(f"{path}\n{path.with_name(SUMS).read_text()}", end="")
 
 
 if __name__ == "__main__":

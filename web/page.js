@@ -6,12 +6,15 @@ const TABLES = ["report", "transfers", "findings", "recalls", "totals", "refused
 const COLORS = { ACCEPTED: "good", MATCHED: "good", REJECTED: "good", RETURNED: "good", REFUSED: "good", CONTRADICTED: "bad", AMOUNT_DIFFERS: "bad",
   STATUS_DIFFERS: "bad", LISTED_TWICE: "bad" };
 const NUMBERS = { totals: [1, 2, 3, 4, 5, 6, 7, 8, 9, 10], report: [3, 5], refused: [0, 1] };
+const ENGLISH = { refused: [2, 3, 4] }; // the columns with sentences of docs/users/codes.md
 const FILES = { status: "status.txt", totals: "totals.txt", refused: "refused.txt", report: "report.csv", archive: "archive.jsonl" };
 const LACKS = ["ONLY_IN_ARCHIVE", "MISSING"];
 let words = WORDS.en;
 let found = {}; // the tables, with their counts
 let shown = { table: "transfers", from: 0, words: [] };
-let summary = null;
+let read = null; // the file of messages that is answered
+let summary = null; // the line on what was answered, in the words that are chosen
+let fault = () => ""; // the line on what went wrong
 
 const said = (text, ...parts) => text.replace(/\{(\d)\}/g, (_, place) => parts[place]);
 const counted = (number) => number.toLocaleString(document.documentElement.lang);
@@ -45,6 +48,7 @@ function ask(name, parts = {}) {
 function spoken() {
   for (const part of document.querySelectorAll("[data-word]")) part.textContent = words[part.dataset.word];
   for (const part of document.querySelectorAll("[data-label]")) part.setAttribute("aria-label", words[part.dataset.label]);
+  at("fault").textContent = fault();
   if (summary) { at("state").textContent = summary(); show(); }
 }
 
@@ -55,12 +59,17 @@ function speak(language) {
   spoken();
 }
 
-function fault_text({ code, place, text }) {
+function fault_text({ code, place, text, changed }) {
   if (code === 65) return words.no_memory;
   if (code === 48) return said(words.wrong_list, place);
   if (code === 73) return place === 1 ? words.wrong_bank : words.wrong_day;
-  if (text === "changed") return words.changed;
+  if (changed) return words.changed;
   return said(words.stopped, code ? `${code} ${CODES[code]?.[0] ?? ""}` : text);
+}
+
+function complain(line) {
+  fault = line;
+  at("fault").textContent = fault();
 }
 
 // ---- answers
@@ -68,26 +77,40 @@ function fault_text({ code, place, text }) {
 async function answer(event) {
   event?.preventDefault();
   const [file] = at("messages").files, [list] = at("list").files, bank = at("bank").value.trim(), day = at("day").value.trim();
-  at("fault").textContent = "";
-  if (!file) { at("fault").textContent = words.no_messages; return; }
+  complain(() => "");
+  if (!file) { complain(() => words.no_messages); return; }
   document.body.dataset.done = "";
-  at("compare").disabled = true; at("progress").hidden = false; at("progress").value = 0; at("answers").hidden = true; summary = null;
-  at("state").textContent = said(words.reading, file.name);
+  at("compare").disabled = true; at("progress").hidden = false; at("progress").value = 0; at("answers").hidden = true;
   try {
-    const answered = await ask("answers", { file });
-    found = answered.found;
-    const seconds = () => (answered.milliseconds / 1000).toLocaleString(document.documentElement.lang, { maximumFractionDigits: 1 });
-    summary = () => said(words.done, file.name, counted(file.size), seconds(), counted(found.transfers.rows), counted(found.refused.rows));
+    if (file !== read) await read_messages(file);
+    delete found.report;
     shown = { table: "transfers", from: 0, words: [] };
     if (list && bank && day) await compare(bank, day, list);
-    else if (list || bank || day) at("fault").textContent = words.need_both;
-  } catch (fault) {
-    at("fault").textContent = fault_text(fault);
+    else if (list || bank || day) complain(() => words.need_both);
+  } catch (reason) {
+    complain(() => fault_text(reason));
+    forget(reason.changed);
   }
   at("progress").hidden = true; at("compare").disabled = false;
   at("state").textContent = summary ? summary() : "";
   if (summary) { at("answers").hidden = false; await show(); }
   document.body.dataset.done = "1";
+}
+
+// Forgets a file that changed, so that it can be chosen again.
+function forget(changed) {
+  if (changed) at(changed).value = "";
+  if (changed === "messages") read = summary = null;
+}
+
+async function read_messages(file) {
+  read = summary = null;
+  at("state").textContent = said(words.reading, file.name);
+  const answered = await ask("answers", { file });
+  found = answered.found;
+  const seconds = () => (answered.milliseconds / 1000).toLocaleString(document.documentElement.lang, { maximumFractionDigits: 1 });
+  summary = () => said(words.done, file.name, counted(file.size), seconds(), counted(found.transfers.rows), counted(found.refused.rows));
+  read = file;
 }
 
 async function compare(bank, day, list) {
@@ -99,22 +122,30 @@ async function compare(bank, day, list) {
 
 async function save(name) {
   try {
-    const { bytes } = await ask("text", { name });
-    const link = made("a", "", { href: URL.createObjectURL(new Blob([bytes])), download: FILES[name] });
+    const { blob } = await ask("text", { name });
+    const link = made("a", "", { href: URL.createObjectURL(blob), download: FILES[name] });
     link.click();
     URL.revokeObjectURL(link.href);
-  } catch (fault) { at("fault").textContent = fault_text(fault); }
+  } catch (reason) { complain(() => fault_text(reason)); }
 }
 
 // ---- what is shown
 
+// Replaces the parts of a box. The part that has the focus is followed by the one in its place.
+function replace(box, parts) {
+  const place = [...box.children].indexOf(document.activeElement);
+  box.replaceChildren(...parts);
+  if (place >= 0) box.children[Math.min(place, parts.length - 1)]?.focus();
+}
+
 function show_bars() {
   const { counts } = found[shown.table], most = Math.max(1, ...Object.values(counts));
-  at("bars").replaceChildren(...(shown.table === "refused" ? [] : Object.entries(counts).sort(([, a], [, b]) => b - a)).map(([word, count]) => {
-    const bar = made("button", "", { type: "button", onclick: () => choose([word]) });
+  replace(at("bars"), (shown.table === "refused" ? [] : Object.entries(counts).sort(([, a], [, b]) => b - a)).map(([word, count]) => {
+    const is_chosen = shown.words.length === 1 && shown.words[0] === word;
+    const bar = made("button", "", { type: "button", onclick: () => choose(is_chosen ? [] : [word]) });
     const line = made("i", "", { className: COLORS[word] ?? "wait" });
     line.style.width = `${100 * count / most}%`;
-    bar.setAttribute("aria-pressed", "false");
+    bar.setAttribute("aria-pressed", String(is_chosen));
     bar.append(made("span", word), line, made("b", counted(count)));
     return bar;
   }));
@@ -126,8 +157,8 @@ function show_choices() {
     made_button.setAttribute("aria-pressed", String(shown.table === name));
     return made_button;
   };
-  at("tables").replaceChildren(...TABLES.filter((name) => found[name]).map(button));
-  at("saves").replaceChildren(...Object.keys(FILES).filter((name) => name !== "report" || found.report)
+  replace(at("tables"), TABLES.filter((name) => found[name]).map(button));
+  replace(at("saves"), Object.keys(FILES).filter((name) => name !== "report" || found.report)
     .map((name) => made("button", said(words.save, FILES[name]), { type: "button", onclick: () => save(name) })));
   const { counts } = found[shown.table], kinds = Object.keys(counts).sort();
   at("filter-word").replaceChildren(made("option", words.all, { value: "" }), ...kinds.map((word) => made("option", `${word} (${counted(counts[word])})`, { value: word })));
@@ -146,6 +177,7 @@ function row_of(table, fields) {
     const word = cells[place] ?? "", cell = made("td", word);
     if ((NUMBERS[table] ?? []).includes(place)) cell.className = "number";
     else if (word in COLORS) cell.className = COLORS[word];
+    if (ENGLISH[table]?.includes(place)) cell.lang = "en";
     if (table === "transfers" && place === 4) cell.append(made("button", words.show, { type: "button", onclick: () => show_messages(fields[0], fields[1]) }));
     row.append(cell);
   });
@@ -182,7 +214,7 @@ async function show_messages(bank, transfer) {
       item.append(more);
       return item;
     }));
-  } catch (fault) { at("transfer-messages").replaceChildren(made("li", fault_text(fault))); }
+  } catch (reason) { at("transfer-messages").replaceChildren(made("li", fault_text(reason))); }
 }
 
 // ---- files that are dropped
@@ -217,6 +249,6 @@ async function begin() {
     const core = atob(at("core").textContent.trim());
     await ask("core", { bytes: Uint8Array.from(core, (letter) => letter.charCodeAt(0)) });
     document.body.dataset.ready = "1";
-  } catch (fault) { at("fault").textContent = words.no_browser; at("compare").disabled = true; }
+  } catch { complain(() => words.no_browser); at("compare").disabled = true; }
 }
 begin();

@@ -27,7 +27,7 @@ class Browser:
         self.number, self.rest, self.events, self.session = 0, b"", [], None
         page = next(target for target in self.ask("Target.getTargets")["targetInfos"] if target["type"] == "page")
         self.session = self.ask("Target.attachToTarget", targetId=page["targetId"], flatten=True)["sessionId"]
-        for name in ("Page", "DOM", "Runtime", "Log"):
+        for name in ("Page", "DOM", "Runtime", "Log", "Accessibility"):
             self.ask(f"{name}.enable")
 
     def __enter__(self):
@@ -116,9 +116,14 @@ class Browser:
         self.ask("Input.dispatchKeyEvent", type="keyDown", **key, **({"text": text} if text else {}))
         self.ask("Input.dispatchKeyEvent", type="keyUp", **key)
 
-    def picture(self, path, width, height, dark=False):
-        """A picture of the page in this size."""
-        self.ask("Emulation.setEmulatedMedia", features=[{"name": "prefers-color-scheme", "value": "dark" if dark else "light"}])
-        self.ask("Emulation.setDeviceMetricsOverride", width=width, height=height, deviceScaleFactor=1, mobile=width < 600)
+    def look(self, width=None, height=None, is_dark=False):
+        """Shows the page in a size, light or dark. Without a size it is that of the window."""
+        self.ask("Emulation.setEmulatedMedia", features=[{"name": "prefers-color-scheme", "value": "dark" if is_dark else "light"}])
+        if width is None:
+            self.ask("Emulation.clearDeviceMetricsOverride")
+        else:
+            self.ask("Emulation.setDeviceMetricsOverride", width=width, height=height, deviceScaleFactor=1, mobile=width < 600)
+
+    def picture(self, path):
+        """A picture of the page as it is shown."""
         pathlib.Path(path).write_bytes(base64.b64decode(self.ask("Page.captureScreenshot", format="png")["data"]))
-        self.ask("Emulation.clearDeviceMetricsOverride")

@@ -11,14 +11,19 @@ use Rattle.std.proofs.lemmas.Bool.{cases_lt, false≢true, or_cases, or_right}
 use Rattle.std.proofs.lemmas.List.Folds.{list_any-append}
 use Rattle.std.proofs.lemmas.Map.Keys.{any_passes_from_place}
 use Rattle.std.proofs.lemmas.Option.{slice_get_within}
+use mathlib.Core.List.{IsPrefix}
 use Rattle.logbook.specs.Pages.{Book}
+use Rattle.sct_delta.specs.Entries.{Placed}
+use Rattle.sct_history.proofs.Prefixes.{prefix_trans}
+use Rattle.sct_message.specs.Keys.{transfers_of}
 use Rattle.sct_message.specs.declared.draft.Draft.{Draft}
+use Rattle.sct_message.specs.declared.keys.TransferKey.{TransferKey}
 use Rattle.sct_message.specs.Order.{message_order, same_message}
 use Rattle.sct_message.specs.Sets.{MessageSet, messages_in}
 use Rattle.sct_set.specs.Contents.{contents_of}
 use Rattle.sct_set.proofs.ContentsLemmas.{contains-contents_of, same_is, same_itself}
 use Rattle.sct_desk.specs.Passes.{Told}
-use Rattle.sct_workers.specs.Kept.{AllShown, Keeps, is_shown, shows}
+use Rattle.sct_workers.specs.Kept.{AllShown, IsFirstOfOne, Keeps, is_shown, shows}
 use Rattle.sct_workers.proofs.KeepLemmas.{keeps_more}
 use Rattle.sct_workers.specs.Shown.{ShownTo, ShowsMore}
 
@@ -49,6 +54,15 @@ shows_more rs more m shown = list_any-append (shows m) rs more ∙ ap (λ (b : B
 
 pub shown_last : (rs : List Told) (r : Told) (m : Draft) → shows m r ≡ true → is_shown (rs ++ r ∷ []) m ≡ true
 shown_last rs r m here = list_any-append (shows m) rs (r ∷ []) ∙ ap (λ (b : Bool). is_shown rs m || (b || false)) here ∙ or_right (is_shown rs m) true refl
+
+-- what a query has seen after an answer begins with what it had seen before, and with what its receipts show
+pub shown_to_query : (shown learned seen : List Placed) → IsPrefix shown learned → IsPrefix learned seen → IsPrefix shown seen
+shown_to_query shown learned seen one other = prefix_trans shown learned seen one other
+
+-- the first transfer of a message that the site takes
+pub first_of_one : (held : MessageSet) (m : Draft) (transfer : TransferKey) → set.contains held m ≡ true → Some transfer ≡ slice_get (transfers_of m) 0
+    → ∥ IsFirstOfOne held transfer ∥₁
+first_of_one held m transfer taken is = ∣ record { message = m; taken = taken; first = sym is } ∣₁
 
 -- ---- one message after the other
 

@@ -1,13 +1,13 @@
 -- A desk that was closed with all receipts that were kept stands with the messages that were taken. Proof plumbing.
-use Rattle.std.proofs.Common.{◌≡◌, ◌∙◌, refl, ap, sym, inl, inr, ℕ, zero, suc, ◌+◌, ◌<◌, ◌≤◌, Bool, true, false, cond, not, List, [], ◌∷◌, ◌++◌, filter, length, arith, nat_eq, nat_lt}
+use Rattle.std.proofs.Common.{◌≡◌, ◌∙◌, refl, ap, sym, subst, inl, inr, ℕ, zero, suc, ◌+◌, ◌<◌, ◌≤◌, Bool, true, false, cond, not, List, [], ◌∷◌, ◌++◌, filter, length, arith, nat_eq, nat_lt}
 use Rattle.std.specs.FinSet as set
 use Rattle.std.specs.FinSet.{contains-union}
-use Rattle.std.specs.Prelude.{◌≢◌, Some}
+use Rattle.std.specs.Prelude.{◌≢◌, Some, Result, Ok, Err, IfErr, IfOk}
 use Rattle.std.specs.List.{slice_get}
 use Rattle.std.proofs.lemmas.Bool.{false≢true, or_cases, or_left}
 use Rattle.std.proofs.lemmas.Bool.Decides.{nat_tests}
 use Rattle.std.proofs.lemmas.Option.{slice_get_within}
-use Rattle.std.proofs.lemmas.List.Elements.{All-head, All-tail, All-weaker}
+use Rattle.std.proofs.lemmas.List.Elements.{All-head, All-tail}
 use mathlib.Core.List.{IsPrefix}
 use Rattle.logbook.specs.Pages.{Book}
 use Rattle.sct_message.specs.declared.draft.Draft.{Draft}
@@ -20,7 +20,7 @@ use Rattle.sct_delta.proofs.HeldLemmas.{and_first, one_entry}
 use Rattle.sct_site.specs.Cores.{Core, is_open}
 use Rattle.sct_site.proofs.AcceptLemmas.{messages-append}
 use Rattle.sct_desk.specs.Passes.{Told, site_with}
-use Rattle.sct_desk.specs.Tilings.{AllBegin, AreOurs, FailsToClose, Tiles, tellings, tells}
+use Rattle.sct_desk.specs.Tilings.{AllBegin, FailsToClose, Tiles, tellings, tells}
 use Rattle.sct_desk.specs.declared.fault.DeskFault.{DeskFault}
 use Rattle.sct_desk.specs.declared.fault.DeskFault.TheVariants as desk
 use Rattle.sct_workers.specs.declared.fault.WorkFault.{WorkFault}
@@ -153,3 +153,21 @@ not_closed own rs desk.Closed w why is = absurd why
 pub refused_to_close : (own : ℕ) (rs : List Told) (f : DeskFault) (w : WorkFault) → FailsToClose own rs f → w ≡ fault_of_desk f
     → IsRefusalToClose own rs w
 refused_to_close own rs f w why is = record { refusal = f; fails = why; told_by = is }
+
+-- the core of a desk that was to be closed, if a worker has one
+pub closed_stands : {N : Type 0} (why : N → DeskFault) (book : Book) (own size : ℕ) (held : MessageSet) (rs : List Told) (closed : Result Core N)
+    (result : Result Core WorkFault) → IfOk closed (λ core. result ≡ Ok core) → IfErr closed (λ n. result ≡ Err (fault_of_desk (why n)))
+    → IfOk result (λ core. is_open core.number core.group ≡ true) → IfOk closed (λ core. core ≡ site_with own size core.arrivals)
+    → IfOk closed (λ core. Tiles own core.arrivals rs) → AllKeep book own size held rs → AllShown held rs → IfOk result (Stands own size held)
+closed_stands why book own size held rs (Ok core) result same refused opened is tiles kept shown =
+    subst (λ (r : Result Core WorkFault). IfOk r (Stands own size held)) (sym same)
+    (stands book own size held core rs is (subst (λ (r : Result Core WorkFault). IfOk r (λ c. is_open c.number c.group ≡ true)) same opened) tiles kept shown)
+closed_stands why book own size held rs (Err n) result same refused opened is tiles kept shown =
+    subst (λ (r : Result Core WorkFault). IfOk r (Stands own size held)) (sym refused) tt
+
+-- the fault of a worker, if the desk was refused to be closed
+pub closed_fails : {N : Type 0} (why : N → DeskFault) (own : ℕ) (rs : List Told) (Q : WorkFault → Type 0) (closed : Result Core N) (result : Result Core WorkFault)
+    → IfOk closed (λ core. result ≡ Ok core) → IfErr closed (λ n. result ≡ Err (fault_of_desk (why n))) → IfErr closed (λ n. FailsToClose own rs (why n))
+    → ((f : DeskFault) → FailsToClose own rs f → Q (fault_of_desk f)) → IfErr result Q
+closed_fails why own rs Q (Ok core) result same refused fails so = subst (λ (r : Result Core WorkFault). IfErr r Q) (sym same) tt
+closed_fails why own rs Q (Err n) result same refused fails so = subst (λ (r : Result Core WorkFault). IfErr r Q) (sym refused) (so (why n) fails)

@@ -15,6 +15,11 @@ EndsWhere may fault.Held = (point : Point) × may point
 EndsWhere may (fault.Refused number) = IsRefusalNumber number
 EndsWhere may other = Unit {0}
 
+-- the same for a worker whose thread was started: it never ends with 67
+abbrev pub WorkerEndsWhere : (Point → Type 0) → WorkFault → Type 0
+WorkerEndsWhere may fault.NoWorker = ⊥
+WorkerEndsWhere may reason = EndsWhere may reason
+
 -- the same for a site; a desk is refused to be closed only with 53 or 54
 abbrev pub SiteEndsWhere : (Point → Type 0) → SiteFault → Type 0
 SiteEndsWhere may (site.Working reason) = EndsWhere may reason

@@ -4,7 +4,9 @@ use Rattle.std.specs.FinSet as set
 use Rattle.std.specs.Prelude.{◌≡◌, ◌≢◌, ◌+◌, ◌≤◌, ℕ, Bool, true, List, Some, length}
 use Rattle.std.specs.List.{All, list_any, slice_get}
 use Rattle.logbook.specs.Pages.{Book}
+use Rattle.sct_message.specs.Keys.{transfers_of}
 use Rattle.sct_message.specs.declared.draft.Draft.{Draft}
+use Rattle.sct_message.specs.declared.keys.TransferKey.{TransferKey}
 use Rattle.sct_message.specs.Sets.{MessageSet}
 use Rattle.sct_delta.specs.Entries.{Placed, messages_of}
 use Rattle.sct_delta.specs.Refusals.{has_site}
@@ -24,6 +26,12 @@ OtherOf own size entry = entry.origin ≢ own → has_site size entry.origin ≡
 pub record MayCome (own size : ℕ) (held : MessageSet) (entry : Placed) : Type 0 where
   pub own_of : OwnOf own held entry
   pub other_of : OtherOf own size entry
+
+-- the transfer is the first one of a message that the site takes
+pub record IsFirstOfOne (held : MessageSet) (transfer : TransferKey) : Type 0 where
+  pub message : Draft
+  pub taken : set.contains held message ≡ true
+  pub first : slice_get (transfers_of message) 0 ≡ Some transfer
 
 -- ---- receipts
 

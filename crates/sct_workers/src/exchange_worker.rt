@@ -1,8 +1,8 @@
 //! The worker that accepts the entries of other sites.
 
-ghost use Rattle.std.specs.Prelude.{◌≡◌, [], ◌∷◌, IfErr, IfOk};
+ghost use Rattle.std.specs.Prelude.{◌≡◌, [], ◌∷◌, Err, IfErr, IfOk, OnOk};
 ghost use Rattle.sct_workers.specs.Exchanging.{accepted_by, IsHandedOver};
-ghost use Rattle.sct_workers.specs.Holds.{EndsWhere};
+ghost use Rattle.sct_workers.specs.Holds.{WorkerEndsWhere};
 
 use crate::fault::WorkFault;
 use crate::gate::{Gate, Point, pass};
@@ -20,7 +20,7 @@ use std::sync::Wait;
 // The delta of one entry.
 fn delta_of(alloc: Global, entry: NewEntry) -> Result<Delta, WorkFault>
     ensures entries { IfOk result (λ delta. delta ≡ entry.entry ∷ []) }
-    ensures ends { IfErr result (EndsWhere (λ point. ⊥)) }
+    ensures ends { IfErr result (WorkerEndsWhere (λ point. ⊥)) }
 {
     let mut entries = Vec::new(alloc);
     entries.push(entry.into_entry())?;
@@ -41,8 +41,19 @@ fn is_accepted(answer: Result<Accepted, DeltaFault>) -> Result<bool, WorkFault>
     }
 }
 
+// Whether an entry was accepted, by the answer to its delta, if the receipt of the call was kept.
+fn accepted_if_kept(
+    answer: Result<Accepted, DeltaFault>,
+    kept: Result<(), WorkFault>,
+) -> Result<bool, WorkFault>
+    ensures kept { OnOk kept (result ≡ accepted_by answer) }
+    ensures lost { IfErr kept (λ lost. result ≡ Err lost) }
+{
+    kept?;
+    is_accepted(answer)
+}
+
 // Hands an entry to the desk and keeps the receipt. Returns whether the entry was accepted.
-#[tactic(auto, using(crate::proofs::Refusing::answer_ends))]
 fn accept_entry<J: Site + Takes, H: Wait + Drop, R: Wait>(
     rt: &R,
     alloc: Global,
@@ -52,16 +63,15 @@ fn accept_entry<J: Site + Takes, H: Wait + Drop, R: Wait>(
 ) -> Result<bool, WorkFault>
     ensures handed { IfOk result (IsHandedOver J.number J.group entry.entry
         kept.old.receipts.items kept.new.receipts.items) }
-    ensures ends { IfErr result (EndsWhere (λ point. ⊥)) }
+    ensures ends { IfErr result (WorkerEndsWhere (λ point. ⊥)) }
 {
     let delta = delta_of(alloc, entry)?;
     let (answer, receipt) = accept_for_receipt(rt, alloc, desk, &delta)?;
-    kept.push(receipt)?;
-    is_accepted(answer)
+    accepted_if_kept(answer, kept.push(receipt))
 }
 
 /// Accepts the entries that arrive, until the intake workers of all other sites have ended. Returns the receipts.
-#[tactic(auto, using(crate::proofs::Holding::no_gate))]
+#[tactic(auto, using(crate::proofs::Holding::worker_no_gate))]
 pub(crate) fn accept_entries<J: Site + Takes, H: Wait + Drop, G: Gate, R: Wait>(
     rt: &R,
     alloc: Global,
@@ -70,7 +80,7 @@ pub(crate) fn accept_entries<J: Site + Takes, H: Wait + Drop, G: Gate, R: Wait>(
     site: u16,
     inbox: Receiver<NewEntry>,
 ) -> Result<Kept<J>, WorkFault>
-    ensures { IfErr result (EndsWhere (G.may_hold gate.now)) }
+    ensures { IfErr result (WorkerEndsWhere (G.may_hold gate.now)) }
 {
     let mut kept = Kept::none(alloc);
     for entry in inbox.iter(rt) {

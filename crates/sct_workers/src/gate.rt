@@ -1,7 +1,7 @@
 //! Gates: they may hold workers at certain points.
 
 ghost use Rattle.std.specs.Prelude.{IfErr};
-ghost use Rattle.sct_workers.specs.Holds.{EndsWhere};
+ghost use Rattle.sct_workers.specs.Holds.{WorkerEndsWhere};
 
 use crate::fault::WorkFault;
 use std::sync::Wait;
@@ -47,7 +47,7 @@ impl Gate for FreeGate {
 
 // Passes a point of a gate. Error: `Held` (61) if the gate holds the worker.
 pub(crate) fn pass<G: Gate, R: Wait>(rt: &R, gate: &G, point: Point) -> Result<(), WorkFault>
-    ensures { IfErr result (EndsWhere (G.may_hold gate.now)) }
+    ensures { IfErr result (WorkerEndsWhere (G.may_hold gate.now)) }
 {
     match gate.pass(rt, point) {
         Ok(()) => Ok(()),

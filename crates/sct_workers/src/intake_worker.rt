@@ -3,6 +3,8 @@
 ghost use Rattle.std.specs.Arc.{arc_value};
 ghost use Rattle.std.specs.FinSet as set;
 ghost use Rattle.std.specs.Prelude.{◌≡◌, [], true, IfErr, IfOk, IfSome, OnOk};
+ghost use Rattle.std.specs.List.{slice_get};
+ghost use Rattle.sct_message.specs.Keys.{transfers_of};
 ghost use Rattle.sct_message.specs.Sets.{messages_in};
 ghost use Rattle.sct_workers.specs.Kept.{AllShown, is_shown, Keeps};
 ghost use Rattle.sct_workers.specs.declared.fault.WorkFault.TheVariants as fault;
@@ -18,7 +20,7 @@ use crate::receipts::{publish_for_receipt, take_for_receipt};
 use crate::senders::Senders;
 use crate::takes::Takes;
 use sct_desk::{Desk, Receipt, Site};
-use sct_message::Message;
+use sct_message::{Message, TransferKey};
 use sct_site::Took;
 use std::alloc::Global;
 use std::sync::{Arc, Wait};
@@ -43,17 +45,26 @@ fn take_message<J: Site + Takes, H: Wait + Drop, R: Wait>(
     Ok(took)
 }
 
+// The first transfer of a message.
+fn first_transfer(message: &Message) -> Option<TransferKey>
+    ensures { result ≡ slice_get (transfers_of message.now) 0 }
+{
+    message.transfer(0)
+}
+
 // Sends the query worker a receipt and the message's first transfer. Returns the receipt if it cannot be sent.
-fn send_first_transfer<J: Site, R: Wait>(
+#[tactic(auto, using(crate::proofs::MoreKept::first_of_one))]
+fn send_first_transfer<J: Site + Takes, R: Wait>(
     rt: &R,
     senders: &Senders<J>,
     receipt: Receipt,
     message: &Message,
 ) -> Option<Receipt>
-    requires { Keeps J.book J.number J.group (contents_of []) receipt }
+    requires keeps { Keeps J.book J.number J.group (contents_of []) receipt }
+    requires taken { set.contains J.messages message.now ≡ true }
     ensures { IfSome result (Keeps J.book J.number J.group (contents_of [])) }
 {
-    match message.transfer(0) {
+    match first_transfer(message) {
         Some(transfer) => senders.send_note(rt, receipt, transfer),
         None => Some(receipt),
     }
@@ -70,6 +81,7 @@ fn publish_message<J: Site + Takes, H: Wait + Drop, R: Wait>(
     senders: &Senders<J>,
     kept: &mut Kept<J>,
 ) -> Result<(), WorkFault>
+    requires { set.contains J.messages message.now ≡ true }
     ensures more { OnOk result (ShowsMore kept.old.receipts.items kept.new.receipts.items) }
     ensures memory { IfErr result (λ e. e ≡ fault.Memory) }
 {
@@ -102,7 +114,7 @@ fn take_and_send<J: Site + Takes, H: Wait + Drop, R: Wait>(
 }
 
 /// Takes the messages of a site in their order. Returns the receipts, which show all of them.
-#[tactic(auto, using(crate::proofs::MoreKept::all_shown))]
+#[tactic(auto, using(crate::proofs::Holding::worker_ends, crate::proofs::MoreKept::all_shown))]
 pub(crate) fn take_messages<J: Site + Takes, H: Wait + Drop, G: Gate, R: Wait>(
     rt: &R,
     alloc: Global,

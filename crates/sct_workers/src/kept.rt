@@ -1,18 +1,37 @@
 //! The receipts that workers keep until the desk is closed with them.
 
-ghost use Rattle.std.specs.Prelude.{◌≡◌, ◌++◌, ◌∷◌, [], IfErr, IfOk, OnOk};
-ghost use Rattle.sct_workers.specs.Faults.{IsNotClosed, IsRefusalToClose};
+ghost use Rattle.std.specs.Prelude.{◌≡◌, ◌++◌, ◌∷◌, [], true, Err, IfErr, IfOk, Ok, OnOk};
+ghost use Rattle.sct_site.specs.Cores.{is_open};
+ghost use Rattle.sct_workers.specs.Faults.{IsNotClosed, IsRefusalToClose, fault_of_desk};
 ghost use Rattle.sct_workers.specs.Kept.{AllKeep, AllShown, Keeps};
 ghost use Rattle.sct_workers.specs.Stands.{Stands};
 ghost use Rattle.sct_workers.specs.declared.fault.WorkFault.TheVariants as fault;
 
 use crate::fault::WorkFault;
 use crate::takes::Takes;
-use sct_desk::{Desk, Receipt, Site};
+use sct_desk::{Desk, NotClosed, Receipt, Site};
 use sct_site::SiteCore;
 use std::alloc::Global;
 use std::marker::PhantomData;
 use std::sync::Wait;
+
+// The result of a worker that closed a desk: the core, or the desk's own refusal.
+fn closed_by<J: Site, H: Wait + Drop>(
+    closed: Result<SiteCore, NotClosed<J, H>>,
+) -> Result<SiteCore, WorkFault>
+    ensures core { IfOk closed (λ core. result ≡ Ok core) }
+    ensures refused { IfErr closed (λ refusal. result ≡ Err (fault_of_desk refusal.fault)) }
+    ensures site { IfOk result (λ core. is_open core.number core.group ≡ true) }
+{
+    match closed {
+        Ok(core) => {
+            // The call is made for its contract: the site of a core is one of its group.
+            core.arrivals();
+            Ok(core)
+        }
+        Err(refusal) => Err(WorkFault::from(refusal.fault)),
+    }
+}
 
 /// Receipts of the desk of a site, which takes the messages of `J`. An own entry that one of them reports as published
 /// has one of these messages, and every other entry is of another site of the group.
@@ -65,7 +84,6 @@ impl<J: Site + Takes> Kept<J> {
     /// The caller guarantees that the receipts show each message.
     /// Error: `Refused` (66) with the number of the desk's refusal: 53 (`Pending`) if an arrival is pending, else 54
     /// (`Untold`) if a position is not covered by exactly one of the receipts.
-    #[tactic(auto, using(crate::proofs::StandLemmas::refused_to_close))]
     pub fn close<H: Wait + Drop>(self, desk: Desk<J, H>) -> Result<SiteCore, WorkFault>
         requires { AllShown J.messages self.receipts.items }
         ensures core { IfOk result (Stands J.number J.group J.messages) }
@@ -73,13 +91,6 @@ impl<J: Site + Takes> Kept<J> {
         ensures reason { IfErr result (IsRefusalToClose J.number self.receipts.items) }
     {
         let Kept { receipts, .. } = self;
-        match desk.close(receipts) {
-            Ok(core) => {
-                // The call is made for its contract: the site of a core is one of its group.
-                core.arrivals();
-                Ok(core)
-            }
-            Err(refusal) => Err(WorkFault::from(refusal.fault)),
-        }
+        closed_by(desk.close(receipts))
     }
 }

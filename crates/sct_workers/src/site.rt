@@ -38,7 +38,7 @@ fn pop_query<J: Site>(mut queries: Vec<Query>) -> Option<Query>
 }
 
 // Opens the desk of a site with its one query.
-#[tactic(auto, using(crate::proofs::Holding::desk_ends))]
+#[tactic(auto, using(crate::proofs::Holding::opening_ends))]
 fn open_desk<'a, J: Site, R: Wait>(
     rt: &'a R,
     alloc: Global,

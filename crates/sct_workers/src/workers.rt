@@ -5,7 +5,7 @@ ghost use Rattle.sct_message.specs.Sets.{messages_in};
 ghost use Rattle.sct_workers.specs.Kept.{AllShown};
 ghost use Rattle.sct_workers.specs.declared.fault.WorkFault.TheVariants as fault;
 ghost use Rattle.sct_set.specs.Contents.{contents_of};
-ghost use Rattle.sct_workers.specs.Holds.{ComesFirst, EndsWhere};
+ghost use Rattle.sct_workers.specs.Holds.{ComesFirst, EndsWhere, WorkerEndsWhere};
 
 use crate::exchange_worker::accept_entries;
 use crate::fault::{WorkFault, worse_of_workers};
@@ -33,7 +33,7 @@ pub(crate) struct Channels {
 }
 
 /// The promise of a worker's thread. The worker is held only at a point at which the gate may hold it. A call is refused
-/// only with the number of a refusal.
+/// only with the number of a refusal. The worker does not end with `NoWorker` (67).
 #[derive(Drop)]
 struct EndsAtGate<'a, J: Site + Takes, G: Gate> {
     gate: &'a G,
@@ -41,10 +41,11 @@ struct EndsAtGate<'a, J: Site + Takes, G: Gate> {
 }
 
 impl<'a, J: Site + Takes, G: Gate> Promise<Result<Kept<J>, WorkFault>> for EndsAtGate<'a, J, G> {
-    ghost kept_by = { λ p r. IfErr r (EndsWhere (G.may_hold p.gate.now)) };
+    ghost kept_by = { λ p r. IfErr r (WorkerEndsWhere (G.may_hold p.gate.now)) };
 }
 
-// Waits for a worker and returns its receipts. Error: `NoWorker` (67) if no thread was started for it.
+// Waits for a worker and returns its receipts. Error: `NoWorker` (67) only if no thread was started for it.
+#[tactic(auto, using(crate::proofs::Holding::worker_ends))]
 fn join_worker<'a, J: Site + Takes, G: Gate, F: Drop, R: Threads>(
     rt: &R,
     started: Result<
@@ -55,6 +56,7 @@ fn join_worker<'a, J: Site + Takes, G: Gate, F: Drop, R: Threads>(
 ) -> Result<Kept<J>, WorkFault>
     requires { IfOk started (λ child. child.promise.gate.now ≡ gate.now) }
     ensures ends { IfErr result (EndsWhere (G.may_hold gate.now)) }
+    ensures started { OnOk started.entry (IfErr result (WorkerEndsWhere (G.may_hold gate.now))) }
     ensures none { IfErr started.entry (λ none. result ≡ Err fault.NoWorker) }
 {
     match started {
@@ -142,7 +144,7 @@ pub(crate) fn run_workers<
                     of: PhantomData::<J>,
                 },
                 move || -> Result<Kept<J>, WorkFault>
-                    ensures { IfErr result (EndsWhere (G.may_hold gate.entry.now)) }
+                    ensures { IfErr result (WorkerEndsWhere (G.may_hold gate.entry.now)) }
                 { accept_entries(rt, alloc, gate, desk, site, inbox) },
             );
             let asked = scope.spawn_with(
@@ -152,7 +154,7 @@ pub(crate) fn run_workers<
                 },
                 move || -> Result<Kept<J>, WorkFault>
                     requires { query.book ≡ J.book }
-                    ensures { IfErr result (EndsWhere (G.may_hold gate.entry.now)) }
+                    ensures { IfErr result (WorkerEndsWhere (G.may_hold gate.entry.now)) }
                 { answer_notes::<J, G, R>(rt, alloc, gate, query, site, notes) },
             );
             let taken = if accepts.is_ok() && asked.is_ok() {
