@@ -9,7 +9,6 @@ from tests.documents.pages import Page, answered
 from tests.harness import stop
 from tests.oracle.status import read_message
 from tests.property.groups import Site, settled
-from tests.property.views import touched
 
 ORIGINATOR, BENEFICIARY, AMOUNT, REASON = "HANSDEHHXXX", "SCALBEBBXXX", "12.50", "DUPL"
 
@@ -145,22 +144,6 @@ def in_parts(command):
     return compared
 
 
-def numbered(many, what):
-    """A number of things in words."""
-    return f"{many or 'no'} {what}{'' if many < 2 else 's'}"
-
-
-def batches(program, batch):
-    """How many messages of each batch are new, and how many transfers it touches."""
-    lines, before = [], set()
-    for words, answer in columns(batch):
-        lines += lines_of(words)
-        after, _ = archived(program, lines)
-        held, fresh = ({read_message(line.encode()) for line in some} for some in (before, after - before))
-        yield answer, f"{numbered(len(fresh), 'new message')}, {numbered(len(touched(held, fresh)), 'transfer')} touched"
-        before = after
-
-
 def event_line(words):
     """The line of a script. A take has its message in words."""
     take = re.fullmatch(r"(take \S+ )(.*)", words)
@@ -203,8 +186,6 @@ def settling(_, words, gives):
 #   each of them twice.
 # - `added` and `held`: each message with what the archive answers to it. An archive text that does not change is a Repeat. If it had a
 #   message of the same identity before, the answer is Against, else Fresh.
-# - `batch`: each batch with how many messages are new and how many transfers it touches. The first number is that of the new lines of
-#   the archive text. The second one comes from the definition of touched (views.py), since no command prints it.
 # - `settled` and `gives`: sites with their entries, and how settling ends by the definitions (groups.py), since no command settles
 #   sites that are named so.
 # - `part 1`, `part 2`, `gives 1`, `gives 2` and `both`: the status text of each part, and of both together. With `totals 1` and
@@ -214,7 +195,6 @@ FORMS = {
     ("held", "gives"): text_of("status"),
     ("held", "totals"): text_of("totals"),
     ("added", "held"): answers_to,
-    ("batch",): batches,
     ("settled", "gives"): settling,
     ("part 1", "part 2", "gives 1", "gives 2", "both"): in_parts("status"),
     ("part 1", "part 2", "totals 1", "totals 2", "both"): in_parts("totals"),
