@@ -279,6 +279,12 @@ def by_memory(browser, checks, folder):
     answered(browser, long)
     seen = browser.value("progress_seen")
     parts = seen[:seen.index(None)] if None in seen else []
+    browser.value("document.body.dataset.done = ''; at('messages').value = ''")
+    for path in long, small:
+        browser.give("#messages", path)
+    browser.until("document.body.dataset.done === '1'")
+    shown = browser.value("at('state').textContent.split(':')[0]"), saved(browser, "status")
+    checks.fits("a file that is chosen while another is read", shown, (small.name, small.with_suffix(".status").read_bytes()))
     checks.fits("the progress of a file", (len(parts) > 4, parts == sorted(parts), parts[-1:]), (True, True, [1]))
 
 
