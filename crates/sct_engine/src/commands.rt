@@ -26,7 +26,7 @@ Exit status:
   2  A fault ended the run
   3  The program was out of memory
 
-The page docs/CODES.md and the man page sct_sites(1) explain the numbers on standard error.";
+The page docs/users/codes.md and the man page sct_sites(1) explain the numbers on standard error.";
 
 /// The line that `--version` prints. Error: out of memory.
 pub fn version_line(alloc: Global) -> Result<String, AllocError>
