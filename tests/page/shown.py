@@ -63,8 +63,9 @@ def by_reading(browser, checks, folder):
 # ---- rows
 
 def by_rows(browser, checks, folder):
-    """The rows of long tables: their number, those at the end, those that are searched for, and those of a word."""
-    many, path = 1_000_000, pathlib.Path(folder, "wrong")
+    """The rows of long tables: their number, those at the end, those that are searched for, and those of a word. The text of the refused
+    lines is longer than what the worker reads at once."""
+    many, path = 1_500_000, pathlib.Path(folder, "wrong")
     path.write_bytes(b"x\n" * many + b"{}\n" + (EXAMPLES / "bank-day.jsonl").read_bytes())
     answered(browser, path)
     whole = {"search": "", "bank": "", "words": [], "count": 2}
@@ -72,7 +73,7 @@ def by_rows(browser, checks, folder):
     wrong = lambda *numbers: [[str(number), "31", ""] for number in numbers]
     checks.fits("the last of many rows", rows("refused", many - 2), {"rows": wrong(many - 1, many), "matched": many + 1})
     checks.fits("rows of a code", rows("refused", 0, words=["33"]), {"rows": [[str(many + 1), "33", ""]], "matched": 1})
-    checks.fits("rows of a search", rows("refused", 0, search="Line 1000000:"), {"rows": wrong(many), "matched": 1})
+    checks.fits("rows of a search", rows("refused", 0, search=f"Line {many}:"), {"rows": wrong(many), "matched": 1})
     status = (EXAMPLES / "bank-day.status").read_text().splitlines()
     of = lambda begin: [line for line in status if line.startswith(begin)]
     checks.fits("rows of a bank", rows("transfers", 0, bank="HANSDEHH")["matched"], len(of("T|HANSDEHH")))
