@@ -7,8 +7,8 @@ is 'N passed, M failed' of all checks. The exit status is 0 if none has failed. 
 than those of the gate.
 
 --seed, --cases and --long are handed to the property checks (tests/property/cases.py) and to c_calls. A check is skipped, and has not
-passed, if the machine lacks a Debian package that it needs. Some skip a part, or all if the library is not built: a line that begins
-with 'skipped' says so. --install installs all such packages first.
+passed, if the machine lacks a Debian package that it needs. Some skip a part, or all if the library or the page is not made: a line that
+begins with 'skipped' says so. --install installs all such packages first.
 """
 import argparse, os, pathlib, re, shutil, subprocess, sys, time
 if sys.version_info < (3, 8):

@@ -12,6 +12,7 @@ const LACKS = ["ONLY_IN_ARCHIVE", "MISSING"];
 let words = WORDS.en;
 let found = {}; // the tables, with their counts
 let shown = { table: "transfers", from: 0, words: [] };
+let busy = false, again = false; // whether files are read, and whether others were chosen meanwhile
 let read = null; // the file of messages that is answered
 let summary = null; // the line on what was answered, in the words that are chosen
 let fault = () => ""; // the line on what went wrong
@@ -74,12 +75,22 @@ function complain(line) {
 
 // ---- answers
 
+// Answers the files that are chosen. Those that are chosen meanwhile are answered after them.
 async function answer(event) {
   event?.preventDefault();
+  again = true;
+  if (busy) return;
+  busy = true;
+  document.body.dataset.done = "";
+  while (again) { again = false; await answer_once(); }
+  busy = false;
+  document.body.dataset.done = "1";
+}
+
+async function answer_once() {
   const [file] = at("messages").files, [list] = at("list").files, bank = at("bank").value.trim(), day = at("day").value.trim();
   complain(() => "");
   if (!file) { complain(() => words.no_messages); return; }
-  document.body.dataset.done = "";
   at("compare").disabled = true; at("progress").hidden = false; at("progress").value = 0; at("answers").hidden = true;
   try {
     if (file !== read) await read_messages(file);
@@ -94,12 +105,11 @@ async function answer(event) {
   at("progress").hidden = true; at("compare").disabled = false;
   at("state").textContent = summary ? summary() : "";
   if (summary) { at("answers").hidden = false; await show(); }
-  document.body.dataset.done = "1";
 }
 
-// Forgets a file that changed, so that it can be chosen again.
+// Forgets a file that changed, so that it can be chosen again, unless another was chosen meanwhile.
 function forget(changed) {
-  if (changed) at(changed).value = "";
+  if (changed && !again) at(changed).value = "";
   if (changed === "messages") read = summary = null;
 }
 

@@ -2,7 +2,7 @@
 
 ghost use Rattle.std.specs.Prelude.{◌≡◌, [], length, IfErr, IfOk, OnOk};
 ghost use mathlib.Core.List.{IsPrefix};
-ghost use Rattle.sct_case.specs.Statuses.{told};
+ghost use Rattle.sct_case.specs.Statuses.{as_standing};
 ghost use Rattle.sct_delta.specs.Entries.{messages_of};
 ghost use Rattle.sct_view.specs.Answers.{status_of};
 ghost use Rattle.sct_workers.specs.Kept.{Keeps};
@@ -32,7 +32,7 @@ fn query_note<J: Site + Takes>(
     ensures learned { OnOk result (note.now.receipt.site ≡ query.old.site
         → IsPrefix note.now.receipt.shown query.new.seen) }
     ensures front { IfOk result (λ answer. answer.front ≡ length query.new.seen) }
-    ensures value { IfOk result (λ answer. told answer.value
+    ensures value { IfOk result (λ answer. as_standing answer.value
         ≡ status_of (messages_of query.new.seen) note.now.transfer) }
     ensures ends { IfErr result (WorkerEndsWhere (λ point. ⊥)) }
 {
@@ -54,7 +54,7 @@ fn answer_note<J: Site + Takes, G: Gate, R: Wait>(
     ensures same { (query.new.site ≡ query.old.site) × (query.new.book ≡ query.old.book) }
     ensures learned { IfOk result (λ t. t.1.site ≡ query.old.site → IsPrefix t.1.shown query.new.seen) }
     ensures front { IfOk result (λ t. t.0.front ≡ length query.new.seen) }
-    ensures value { IfOk result (λ t. told t.0.value ≡ status_of (messages_of query.new.seen) note.transfer) }
+    ensures value { IfOk result (λ t. as_standing t.0.value ≡ status_of (messages_of query.new.seen) note.transfer) }
     ensures receipt { IfOk result (λ t. t.1 ≡ note.receipt) }
     ensures keeps { IfOk result (λ t. Keeps J.book J.number J.group (contents_of []) t.1) }
     ensures ends { IfErr result (WorkerEndsWhere (G.may_hold gate.now)) }

@@ -205,6 +205,7 @@ module _ (cores : List Core) (from to : ℕ) (there : to < length cores) (giver 
           ∙ from-append own held (fresh_of held d)
           ∙ ap (λ (l : List Placed). entries_from own held ++ l) (filter_none (is_from own) (fresh_of held d) (passes_none (is_from own) (fresh_of held d) not_own))
           ∙ append-nil (entries_from own held);
+      grows = (fresh_of held d, sym came);
     }
 
     put : core_in (slice_set cores to new) to ≡ new

@@ -1,9 +1,10 @@
 -- What several sites hold, and what they still hold after one thing and another. Proof plumbing.
-use Rattle.std.proofs.Common.{◌≡◌, ◌∙◌, refl, ap, sym, subst, inl, inr, ℕ, zero, suc, ◌+◌, ◌<◌, Bool, true, false, not, ◌&&◌, ◌||◌, List, [], ◌∷◌, length, arith, nat_eq}
+use Rattle.std.proofs.Common.{◌≡◌, ◌∙◌, refl, ap, sym, subst, inl, inr, ℕ, zero, suc, ◌+◌, ◌<◌, Bool, true, false, not, ◌&&◌, ◌||◌, List, [], ◌∷◌, ◌++◌, length, append_assoc, arith, nat_eq}
 use Rattle.std.proofs.lemmas.Bool.Decides.{nat_tests}
 use Rattle.std.specs.Cmp.{both_ways}
 use Rattle.std.specs.Prelude.{Result, Ok, Err, OnOk, IfErr}
 use Rattle.std.proofs.lemmas.Bool.{false≢true, eqb-true, and_parts, or_cases}
+use Rattle.std.proofs.lemmas.List.{append-nil}
 use Rattle.std.proofs.Math.Bool.{or-true}
 use Rattle.sct_delta.specs.Entries.{Placed, entries_from, held_from, holds}
 use Rattle.sct_delta.specs.declared.fault.DeltaFault.{DeltaFault}
@@ -38,7 +39,7 @@ some_place (c ∷ cores) e held =
 -- ---- sites that are kept
 
 pub same_kept : (cores : List Core) (k : ℕ) → IsKept cores (core_in cores k) (core_in cores k)
-same_kept cores k = record { number = refl; group = refl; keeps = λ e held. held; no_other = λ e held. place_some cores k e held; own = refl }
+same_kept cores k = record { number = refl; group = refl; keeps = λ e held. held; no_other = λ e held. place_some cores k e held; own = refl; grows = ([], append-nil (core_in cores k).arrivals) }
 
 pub kept_itself : (cores : List Core) → AreKept cores cores
 kept_itself cores = record { size = refl; each = same_kept cores }
@@ -64,6 +65,10 @@ kept_on a b c first next = record {
             ∙ y.own
             ∙ ap (λ (o : ℕ). entries_from o (core_in b k).arrivals) x.number
             ∙ x.own;
+        grows = (
+          x.grows.0 ++ y.grows.0,
+          sym (append_assoc (core_in a k).arrivals x.grows.0 y.grows.0) ∙ (ap (λ (l : List Placed). l ++ y.grows.0) x.grows.1 ∙ y.grows.1),
+        );
       };
 }
 
@@ -158,6 +163,13 @@ beside_group c (x ∷ others) (suc k) is there =
     let parts : ((nat_eq x.group c.group && not (nat_eq x.number c.number)) ≡ true) × (is_beside c others ≡ true)
     = and_parts (nat_eq x.group c.group && not (nat_eq x.number c.number)) (is_beside c others) is in
     beside_group c others k parts.1 (omega (arith, there))
+
+pub one_group : (cores : List Core) → are_one_group cores ≡ true → OfOneGroup cores
+one_group [] one place there = absurd (omega (arith, there))
+one_group (c ∷ others) one zero there = refl
+one_group (c ∷ others) one (suc k) there =
+    let parts : (is_beside c others ≡ true) × (are_one_group others ≡ true) = and_parts (is_beside c others) (are_one_group others) one in
+    beside_group c others k parts.0 (omega (arith, there))
 
 pub group_kept : (a b : List Core) → AreKept a b → OfOneGroup a → OfOneGroup b
 group_kept a b kept one place there =

@@ -1,6 +1,7 @@
 -- Settling several sites of one group: its effect, and why it is refused. Read by an auditor.
 use Rattle.std.specs.Prelude.{◌≡◌, ◌≢◌, ◌<◌, ◌&&◌, not, ℕ, Bool, true, List, [], ◌∷◌, length, nat_eq, slice_index_or, ⊤}
 use Rattle.std.specs.List.{list_any, list_all}
+use mathlib.Core.List.{IsPrefix}
 use Rattle.sct_message.specs.declared.draft.Draft.{Draft}
 use Rattle.sct_delta.specs.Entries.{Placed, entries_from, held_from, holds, IsDelta}
 use Rattle.sct_delta.specs.declared.fault.DeltaFault.{DeltaFault}
@@ -34,13 +35,15 @@ are_one_group (core ∷ others) = is_beside core others && are_one_group others
 -- ---- the effect
 
 -- A site before and after. Its number and group are the same. It holds all that it held, and beyond that only entries
--- that some site held. Of its own number it has the entries that it had.
+-- that some site held. Of its own number it has the entries that it had. Its arrivals begin with those that it had, in
+-- their order.
 pub record IsKept (before : List Core) (old new : Core) : Type 0 where
   pub number : new.number ≡ old.number
   pub group : new.group ≡ old.group
   pub keeps : (entry : Placed) → holds old.arrivals entry ≡ true → holds new.arrivals entry ≡ true
   pub no_other : (entry : Placed) → holds new.arrivals entry ≡ true → held_by_some before entry ≡ true
   pub own : entries_from old.number new.arrivals ≡ entries_from old.number old.arrivals
+  pub grows : IsPrefix old.arrivals new.arrivals
 
 -- each site is kept
 pub record AreKept (before after : List Core) : Type 0 where

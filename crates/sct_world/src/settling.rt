@@ -111,7 +111,8 @@ fn spread(cores: &mut [SiteCore], empty: &Vector) -> Result<(), DeltaFault>
 }
 
 /// Settles sites of one group: all entries of each are handed to the first, and then all entries of the first to each.
-/// Afterwards each site holds what any of them held, and has gained no entry of its own number.
+/// Afterwards each site holds what any of them held, and has gained no entry of its own number. Its arrivals begin with
+/// those that it had.
 ///
 /// Errors:
 /// - `BadSite` (44) if the groups differ or two sites have the same number; nothing has then changed;

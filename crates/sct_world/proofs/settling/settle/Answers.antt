@@ -1,8 +1,13 @@
 -- All comes to the first site, and from it to each.
-use Rattle.std.proofs.Common.{◌≡◌, ◌<◌, ℕ, true, length}
+use Rattle.std.proofs.Common.{◌≡◌, ◌<◌, sym, ℕ, true, length}
 use Rattle.sct_world.specs.Settling.{core_in, are_one_group, AreSettled, IsWhy, HasAll}
-use Rattle.sct_world.proofs.KeptLemmas.{kept_on, why_before, settled, on_ok, on_why}
+use Rattle.sct_world.proofs.KeptLemmas.{group_kept, kept_on, one_group, why_before, settled, on_ok, on_why}
 use Rattle.sct_world.proofs.settling.settle.Goals as goal
+
+pub spread-requires-clause-group : goal.spread-requires-clause-group
+spread-requires-clause-group c =
+    group_kept c.args.cores.now c.gather.new.cores c.in_ok-gather.ensures.kept
+    (one_group c.args.cores.now (sym c.if-not-are_one_group.ensures))
 
 pub returns-clause-ok : goal.returns-clause-ok
 returns-clause-ok c =

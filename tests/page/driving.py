@@ -1,0 +1,63 @@
+"""driving.py: opens the page in the browser, gives it files, and compares what it answers."""
+import base64, json, pathlib
+from tests import harness
+from tests.harness import EXAMPLES
+
+PAGE = harness.TOP / "web/out/niluppang.html"
+HELPERS = pathlib.Path(__file__).with_name("helpers.js").read_text()
+
+
+def text_of(data):
+    """Bytes as a literal of a script."""
+    return json.dumps(base64.b64encode(data).decode())
+
+
+class Checks:
+    """What passed and what failed."""
+
+    def __init__(self):
+        self.passed = self.failed = 0
+
+    def fits(self, name, got, right):
+        """Compares an answer with the right one."""
+        if got == right:
+            self.passed += 1
+        else:
+            self.failed += 1
+            print(f"{name}: {got!r:.300} and not {right!r:.300}")
+
+
+def opened(browser):
+    """Opens the page anew."""
+    browser.open(PAGE)
+    browser.value(HELPERS + "\n1")
+
+
+def saved(browser, name):
+    """The bytes of a text that the page saves."""
+    return base64.b64decode(browser.value(f"kept_text({json.dumps(name)})"))
+
+
+def answered(browser, *paths):
+    """Gives the page a file of messages, and waits for the answer."""
+    browser.value("document.body.dataset.done = ''")
+    browser.give("#messages", *paths)
+    browser.until("document.body.dataset.done === '1'")
+
+
+def reported(browser, bank, day, path):
+    """The report that the page saves, or its line about the fault."""
+    browser.value(f"at('bank').value = {json.dumps(bank)}; at('day').value = {json.dumps(day)}; document.body.dataset.done = ''")
+    browser.give("#list", path)
+    browser.value("at('compare').click()")
+    browser.until("document.body.dataset.done === '1'")
+    fault = browser.value("at('fault').textContent")
+    report = fault or saved(browser, "report")
+    browser.value("at('list').value = at('bank').value = at('day').value = ''")
+    return report
+
+
+def with_report(browser):
+    """Has the page show a report."""
+    answered(browser, EXAMPLES / "bank-day.jsonl")
+    reported(browser, "LUTEFRPP", "2025-03-10", EXAMPLES / "bank-day.list")
