@@ -110,21 +110,22 @@ def refuser(folder):
     return str(path)
 
 
-def run_refusing(number, library, words, data):
-    """A run in which the allocation with this number is refused. With 0 none is."""
+def run_refusing(number, library, words, data, also=0):
+    """A run in which the allocation with this number is refused, and one more. With 0 none is."""
     with tempfile.NamedTemporaryFile() as counts:
         os.truncate(counts.name, COUNTS.size)
-        variables = {"LD_PRELOAD": library, "REFUSE_NUMBER": str(number), "REFUSE_COUNTS": counts.name}
+        variables = {"LD_PRELOAD": library, "REFUSE_NUMBER": str(number), "REFUSE_ALSO": str(also), "REFUSE_COUNTS": counts.name}
         answer = run(words, data, seconds=SECONDS, env={**os.environ, **variables})
         return Refusing(number, answer, *COUNTS.unpack(counts.read()))
 
 
-def each_refused(library, words, data):
-    """A run with no allocation refused, and one with each number up to the greatest count of allocations."""
+def each_refused(library, words, data, also=0):
+    """A run with no allocation refused, and one with each number up to the greatest count of allocations. In each run one more is
+    refused, if it is named."""
     runs, most = [], 0
     with ThreadPoolExecutor(len(os.sched_getaffinity(0))) as pool:
         while len(runs) <= most:
-            runs += pool.map(lambda number: run_refusing(number, library, words, data), range(len(runs), most + 1))
+            runs += pool.map(lambda number: run_refusing(number, library, words, data, also), range(len(runs), most + 1))
             most = max(run.allocations for run in runs)
     return runs
 

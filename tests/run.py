@@ -46,6 +46,7 @@ CHECKS = {
         "archive_growths": "refuses each growth of an archive",
         "view_growths": "refuses each growth of a view",
         "desk_growths": "refuses each growth of a take at a desk",
+        "desk_pending": "refuses each growth of a desk's call while an arrival is pending, and while none is",
         "forms": "refuses each growth of a message of each form that is read and written",
         "memory": "runs the program in too little memory",
         "allocations": "refuses each allocation of the program",
@@ -81,7 +82,8 @@ CHECKS = {
     },
 }
 # the Debian packages that a check needs beside Python and the toolchain
-PACKAGES = {name: ["gcc"] for name in ["archive_growths", "view_growths", "desk_growths", "forms", "allocations", "group_memory"]}
+PACKAGES = {name: ["gcc"] for name in ["archive_growths", "view_growths", "desk_growths", "desk_pending", "forms", "allocations",
+                                       "group_memory"]}
 PACKAGES.update({name: ["gcc"] for name in CHECKS["embed"]})
 PACKAGES["kills"] = PACKAGES["troubles"] = ["python3-aiohttp"]
 PACKAGES["java"] = ["libjna-java", "openjdk-17-jdk-headless"]

@@ -10,8 +10,9 @@ from bench.generate import samples
 from tests import harness
 
 # what the driver is asked, and what it prints with ample memory; what it prints if a growth of a call is refused, by the call and then
-# by the number of the fault; and how many refused allocations between the growths of a call do no harm
-Trial = collections.namedtuple("Trial", "name words lines ample refused harmless", defaults=[0])
+# by the number of the fault; how many refused allocations between the growths of a call do no harm; and the number of an allocation
+# that is refused in each run, before the one in question
+Trial = collections.namedtuple("Trial", "name words lines ample refused harmless also", defaults=[0, 0])
 
 # the call whose growth was refused, and the number of the fault
 Mark = collections.namedtuple("Mark", "call fault")
@@ -58,9 +59,14 @@ def print_failures(trial, runs, marks):
         print(f"{trial.name}, {len(them)} runs, the first with {them[0]}: {tuple(answer)}")
 
 
+def all_runs(driver, library, trial):
+    """A run with each allocation refused, and one with none."""
+    return harness.each_refused(library, [driver, *trial.words], "".join(f"{line}\n" for line in trial.lines).encode(), trial.also)
+
+
 def tried(driver, library, trial):
     """How many refused growths were answered as they must be, and how many runs failed or calls were not met."""
-    runs = harness.each_refused(library, [driver, *trial.words], "".join(f"{line}\n" for line in trial.lines).encode())
+    runs = [run for run in all_runs(driver, library, trial) if run.number == 0 or run.number > trial.also]
     marks = {run.number: mark_of(trial, run) for run in runs}
     print_failures(trial, runs, marks)
     counts = collections.Counter(mark for mark in marks.values() if mark and mark.call)

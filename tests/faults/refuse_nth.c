@@ -1,10 +1,10 @@
 /* refuse_nth.c: refuses one allocation of a program, and counts all of them. tests/harness.py preloads it.
  *
  * It comes before malloc, calloc and realloc of the GNU C library, in all threads. REFUSE_NUMBER is the number of the allocation that
- * is answered NULL, from 1 in the order in which they come. If it is 0, none is. The file REFUSE_COUNTS has room for three unsigned
- * longs: how many allocations came, from how many threads, and how many bytes they asked for together. It is mapped, so they are in
- * it however the program ends. What the C library allocates by these three counts too, as for the start of a thread. A thread's
- * stack, which it maps, does not.
+ * is answered NULL, from 1 in the order in which they come. If it is 0, none is. REFUSE_ALSO may be the number of one more. The file
+ * REFUSE_COUNTS has room for three unsigned longs: how many allocations came, from how many threads, and how many bytes they asked for
+ * together. It is mapped, so they are in it however the program ends. What the C library allocates by these three counts too, as for
+ * the start of a thread. A thread's stack, which it maps, does not.
  */
 #include <errno.h>
 #include <fcntl.h>
@@ -23,7 +23,7 @@ struct counts {
 
 /* Before `begin` there is no number, and the counts go nowhere. */
 static struct counts nowhere, *counts = &nowhere;
-static unsigned long number;
+static unsigned long number, also;
 static __thread int has_allocated __attribute__((tls_model("initial-exec")));
 
 __attribute__((constructor)) static void begin(void) {
@@ -33,6 +33,7 @@ __attribute__((constructor)) static void begin(void) {
     close(file);
     counts = mapped;
     number = strtoul(getenv("REFUSE_NUMBER"), NULL, 10);
+    also = strtoul(getenv("REFUSE_ALSO"), NULL, 10);
 }
 
 static int is_refused(size_t size) {
@@ -41,7 +42,8 @@ static int is_refused(size_t size) {
         atomic_fetch_add(&counts->threads, 1);
     }
     atomic_fetch_add(&counts->bytes, size);
-    if (atomic_fetch_add(&counts->allocations, 1) + 1 != number) return 0;
+    unsigned long this = atomic_fetch_add(&counts->allocations, 1) + 1;
+    if (this != number && this != also) return 0;
     errno = ENOMEM; /* pthread_create answers it if its own allocation is refused */
     return 1;
 }
