@@ -10,6 +10,7 @@ pub mod NameRule
 pub mod Names
 pub mod Ordered
 pub mod Places
+pub mod PlainLists
 pub mod PlainTexts
 pub mod RecallForms
 pub mod Refusals

@@ -1,15 +1,14 @@
 -- An object whose members are all texts.
-use Rattle.std.proofs.Common.{◌≡◌, ◌∙◌, ap, sym, subst, refl, arith, ℕ, ◌+◌, ◌-◌, ◌<◌, Bool, true, false, cond, List, [], ◌∷◌, ◌++◌, length, Option, Some, None, option_map, Result, Ok, take, get_or}
+use Rattle.std.proofs.Common.{◌≡◌, ◌∙◌, ap, sym, subst, refl, arith, ℕ, ◌+◌, ◌-◌, ◌<◌, ◌≤◌, Bool, true, false, cond, List, [], ◌∷◌, ◌++◌, length, Option, Some, None, option_map, Result, Ok, take, get_or}
 use Rattle.std.specs.Prelude.{option_and_then, zero, suc, ok_or}
 use Rattle.std.specs.Cmp.Lexicographic.{bytes_decides}
 use Rattle.std.specs.List.{list_all}
 use Rattle.std.proofs.lemmas.Bool.{false≢true, and_parts, cond-true, cond-false}
 use Rattle.std.proofs.lemmas.List.{take_all, take_more, map-append}
 use Rattle.json.specs.Token as json
-use Rattle.json.specs.Lex.{tokens}
 use Rattle.json.specs.Json as grammar
 use Rattle.serde_json.specs.Data.{Data, string, object, Members, no_members, put}
-use Rattle.serde_json.specs.Read.{read, of_json, of_members, max_depth}
+use Rattle.serde_json.specs.Read.{of_members}
 use Rattle.serde_json.specs.Find.{get_member}
 use Rattle.serde_json.proofs.Views.{get_member-put, get_member-put_other}
 use Rattle.sct_element.specs.Text.{is_text}
@@ -19,55 +18,45 @@ use Rattle.sct_json.specs.declared.faults.JsonFault.{JsonFault}
 use Rattle.sct_json.specs.declared.faults.JsonFault.TheVariants.{UnknownKind}
 use Rattle.sct_message.specs.Rules.{first_broken_rule}
 use Rattle.sct_json.specs.declared.keys.Key.{Key}
+use Rattle.sct_json.specs.declared.keys.Key.TheVariants.{TxInf}
 use Rattle.sct_json.specs.declared.keys.Shape.{Shape}
 use Rattle.sct_json.specs.declared.plain.Member.{Member}
 use Rattle.sct_json.specs.Keys.{key_text, is_key_in}
 use Rattle.sct_json.specs.Members.{texts_of}
-use Rattle.sct_json.specs.Objects.{put_texts, object_of, later_or, last_text, tokens_before}
-use Rattle.sct_json.specs.Reading.{◌>>=◌, items_in, names_of, passes_unless, kind_in, draft_in, shape_in, follows_unless, message_in_whole, object_in}
+use Rattle.sct_json.specs.Objects.{put_texts, later_or, last_text, tokens_before}
+use Rattle.sct_json.specs.Reading.{◌>>=◌, names_of, passes_unless, kind_in, draft_in, shape_in, follows_unless, message_in_whole, object_in}
 use Rattle.sct_json.proofs.Rows.{names_put}
 use Rattle.sct_json.proofs.TableForms.{none_fails}
 
 -- ---- the last text at a key
 
 -- the text, or else what was there
-text_or : Option (List ℕ) → Option Data → Option Data
+abbrev pub text_or : Option (List ℕ) → Option Data → Option Data
 text_or None earlier = earlier
 text_or (Some s) earlier = Some (string s)
 
-not_same : (s t : List ℕ) → is_text s t ≡ false → s ≡ t → ⊥
+pub not_same : (s t : List ℕ) → is_text s t ≡ false → s ≡ t → ⊥
 not_same s t other same = false≢true (sym other ∙ (bytes_decides s t).1 same)
 
 one_put : (b : Bool) (name : List ℕ) (m : Key × List ℕ) (later : Option (List ℕ)) (found : Members) → is_text name (key_text m.0) ≡ b
     → text_or later (get_member name (put (key_text m.0) (string m.1) found)) ≡ text_or (later_or later (cond b (Some m.1) None)) (get_member name found)
-unfolding text_or
 one_put b name m (Some s) found e = refl
 one_put true name m None found e =
     subst (λ (s : List ℕ). get_member s (put (key_text m.0) (string m.1) found) ≡ Some (string m.1)) (sym ((bytes_decides name (key_text m.0)).0 e)) (get_member-put (key_text m.0) (string m.1) found)
 one_put false name m None found e = get_member-put_other name (key_text m.0) (string m.1) found (not_same name (key_text m.0) e)
 
-texts_found : (name : List ℕ) (ms : List (Key × List ℕ)) (found : Members) → get_member name (put_texts ms found) ≡ text_or (last_text name ms) (get_member name found)
-unfolding text_or
+pub texts_found : (name : List ℕ) (ms : List (Key × List ℕ)) (found : Members) → get_member name (put_texts ms found) ≡ text_or (last_text name ms) (get_member name found)
 texts_found name [] found = refl
 texts_found name (m ∷ ms) found =
     texts_found name ms (put (key_text m.0) (string m.1) found) ∙ one_put (is_text name (key_text m.0)) name m (last_text name ms) found refl
 
 only_text : (o : Option (List ℕ)) → text_or o None ≡ option_map string o
-unfolding text_or
 only_text None = refl
 only_text (Some s) = refl
 
 -- what is at a name is the last text there
 pub text_at : (name : List ℕ) (ms : List (Key × List ℕ)) → get_member name (put_texts ms no_members) ≡ option_map string (last_text name ms)
 text_at name ms = texts_found name ms no_members ∙ only_text (last_text name ms)
-
-no_items : (o : Option (List ℕ)) → None ≡ option_and_then items_in (option_map string o)
-no_items None = refl
-no_items (Some s) = refl
-
--- a text is no list
-pub no_list_at : (name : List ℕ) (ms : List (Key × List ℕ)) → None ≡ option_and_then items_in (get_member name (put_texts ms no_members))
-no_list_at name ms = no_items (last_text name ms) ∙ ap (option_and_then items_in) (sym (text_at name ms))
 
 -- what was found as the last text at a name is what is there
 pub text_seen : (found : Option (List ℕ)) (name : List ℕ) (ms : List (Key × List ℕ)) → found ≡ last_text name ms → get_member name (put_texts ms no_members) ≡ option_map string found
@@ -118,49 +107,61 @@ one_more first before left now name ms m so_far next named text =
     ∙ sym (tokens_before-append (texts_of ms) (m.key, m.text.now) now)
     ∙ ap (λ (all : List (Key × List ℕ)). tokens_before all now) (sym (map-append (λ (other : Member). (other.key, other.text.now)) ms (m ∷ [])))
 
+-- the list comes after the members
+pub list_next : (first before left now : List json.Token) (name : List ℕ) (ms : List (Key × List ℕ)) → first ≡ tokens_before ms before → before ≡ json.key name ∷ left
+    → name ≡ key_text TxInf → left ≡ json.begin_array ∷ now → first ≡ tokens_before ms (json.key (key_text TxInf) ∷ json.begin_array ∷ now)
+list_next first before left now name ms so_far next named list =
+    so_far ∙ ap (tokens_before ms) (next ∙ ap (λ (s : List ℕ). json.key s ∷ left) named ∙ ap (λ (ts : List json.Token). json.key (key_text TxInf) ∷ ts) list)
+
 -- ---- the value of the tokens
 
-json_members : List (Key × List ℕ) → grammar.Members
-json_members [] = grammar.no_members
-json_members (m ∷ ms) = grammar.member (key_text m.0) (grammar.string m.1) (json_members ms)
+-- texts, and the members after them
+abbrev pub json_members : List (Key × List ℕ) → grammar.Members → grammar.Members
+json_members [] js = js
+json_members (m ∷ ms) js = grammar.member (key_text m.0) (grammar.string m.1) (json_members ms js)
 
 value_string : (d : ℕ) (s : List ℕ) (ts : List json.Token) → grammar.value d (json.string s ∷ ts) ≡ Some (grammar.string s, ts)
 unfolding grammar.value
 value_string zero s ts = refl
 value_string (suc d) s ts = refl
 
-enough : (ms : List (Key × List ℕ)) (rest : List json.Token) → length ms < length (tokens_before ms (json.end_object ∷ rest))
-enough [] rest = omega arith
-enough (m ∷ ms) rest = let later : length ms < length (tokens_before ms (json.end_object ∷ rest)) = enough ms rest in omega arith
+-- the tokens after the texts are members, for any number of turns above a bound
+abbrev pub AreMembers : ℕ → ℕ → List json.Token → grammar.Members → List json.Token → Type 0
+AreMembers d bound ts js rest = (n : ℕ) → bound < n → grammar.members (grammar.value d) n ts ≡ Some (js, rest)
 
-members_read : (d n : ℕ) (ms : List (Key × List ℕ)) (rest : List json.Token) → length ms < n
-    → grammar.members (grammar.value d) n (tokens_before ms (json.end_object ∷ rest)) ≡ Some (json_members ms, rest)
-unfolding grammar.members json_members
-members_read d zero ms rest more = absurd (omega arith)
-members_read d (suc n) [] rest more = refl
-members_read d (suc n) (m ∷ ms) rest more =
-    ap (option_and_then (λ p. grammar.parse_map (grammar.member (key_text m.0) p.0) (grammar.members (grammar.value d) n p.1))) (value_string d m.1 (tokens_before ms (json.end_object ∷ rest)))
-    ∙ ap (grammar.parse_map (grammar.member (key_text m.0) (grammar.string m.1))) (members_read d n ms rest (omega arith))
+pub texts_first : (d bound : ℕ) (ms : List (Key × List ℕ)) (ts : List json.Token) (js : grammar.Members) (rest : List json.Token) → AreMembers d bound ts js rest
+    → AreMembers d (length ms + bound) (tokens_before ms ts) (json_members ms js) rest
+unfolding grammar.members
+texts_first d bound [] ts js rest after n more = after n (omega (arith, more))
+texts_first d bound (m ∷ ms) ts js rest after zero more = absurd (omega arith)
+texts_first d bound (m ∷ ms) ts js rest after (suc n) more =
+    ap (option_and_then (λ p. grammar.parse_map (grammar.member (key_text m.0) p.0) (grammar.members (grammar.value d) n p.1))) (value_string d m.1 (tokens_before ms ts))
+    ∙ ap (grammar.parse_map (grammar.member (key_text m.0) (grammar.string m.1))) (texts_first d bound ms ts js rest after n (omega (arith, more)))
 
-object_read : (d : ℕ) (ms : List (Key × List ℕ)) → grammar.value (suc d) (json.begin_object ∷ tokens_before ms (json.end_object ∷ [])) ≡ Some (grammar.object (json_members ms), [])
+pub no_more : (d : ℕ) (rest : List json.Token) → AreMembers d 0 (json.end_object ∷ rest) grammar.no_members rest
+unfolding grammar.members
+no_more d rest zero more = absurd (omega (arith, more))
+no_more d rest (suc n) more = refl
+
+pub length_before : (ms : List (Key × List ℕ)) (ts : List json.Token) → length ms + length ts ≤ length (tokens_before ms ts)
+length_before [] ts = omega arith
+length_before (m ∷ ms) ts = let later : length ms + length ts ≤ length (tokens_before ms ts) = length_before ms ts in omega (arith, later)
+
+-- an object of texts
+pub object_read : (d : ℕ) (ms : List (Key × List ℕ)) (rest : List json.Token)
+    → grammar.value (suc d) (json.begin_object ∷ tokens_before ms (json.end_object ∷ rest)) ≡ Some (grammar.object (json_members ms grammar.no_members), rest)
 unfolding grammar.value
-object_read d ms = ap (grammar.parse_map grammar.object) (members_read d (length (tokens_before ms (json.end_object ∷ []))) ms [] (enough ms []))
+object_read d ms rest =
+    let long : length ms + length (json.end_object ∷ rest) ≤ length (tokens_before ms (json.end_object ∷ rest)) = length_before ms (json.end_object ∷ rest) in
+    ap (grammar.parse_map grammar.object) (texts_first d 0 ms (json.end_object ∷ rest) grammar.no_members rest (no_more d rest) (length (tokens_before ms (json.end_object ∷ rest))) (omega (arith, long)))
 
-texts_put : (ms : List (Key × List ℕ)) (found : Members) → of_members (json_members ms) found ≡ Some (put_texts ms found)
-unfolding json_members
-texts_put [] found = refl
-texts_put (m ∷ ms) found = texts_put ms (put (key_text m.0) (string m.1) found)
-
--- a text of these tokens is the object
-pub read_texts : (text : List ℕ) (ms : List (Key × List ℕ)) → tokens text ≡ json.begin_object ∷ tokens_before ms (json.end_object ∷ []) → read text ≡ Some (object_of ms)
-read_texts text ms e =
-    ap (λ (ts : List json.Token). option_and_then of_json (option_and_then (λ p. grammar.if_last p.0 p.1) (grammar.value max_depth ts))) e
-    ∙ ap (λ r. option_and_then of_json (option_and_then (λ p. grammar.if_last p.0 p.1) r)) (object_read 126 ms)
-    ∙ ap (option_map object) (texts_put ms no_members)
+pub texts_put : (ms : List (Key × List ℕ)) (js : grammar.Members) (found : Members) → of_members (json_members ms js) found ≡ of_members js (put_texts ms found)
+texts_put [] js found = refl
+texts_put (m ∷ ms) js found = texts_put ms js (put (key_text m.0) (string m.1) found)
 
 -- ---- no other key
 
-names_of_texts : (q : List ℕ → Bool) (ms : List (Key × List ℕ)) (found : Members) → list_all (λ m. q (key_text m.0)) ms ≡ true → list_all q (names_of found) ≡ true
+pub names_of_texts : (q : List ℕ → Bool) (ms : List (Key × List ℕ)) (found : Members) → list_all (λ m. q (key_text m.0)) ms ≡ true → list_all q (names_of found) ≡ true
     → list_all q (names_of (put_texts ms found)) ≡ true
 names_of_texts q [] found all before = before
 names_of_texts q (m ∷ ms) found all before =
@@ -168,18 +169,17 @@ names_of_texts q (m ∷ ms) found all before =
     (names_put q (key_text m.0) (string m.1) found (and_parts _ _ all).0 before)
 
 -- an object with keys of its shape alone is a message if its elements follow the rules
-pub message_of_texts : (shape : Shape) (ms : List (Key × List ℕ)) (elements : Draft) → list_all (λ m. is_key_in shape (key_text m.0)) ms ≡ true
-    → message_in_whole shape (put_texts ms no_members) elements ≡ follows_unless (first_broken_rule elements) elements
-message_of_texts shape ms elements all =
-    ap (λ (extra : Option (List ℕ)). passes_unless extra >>= λ alone. follows_unless (first_broken_rule elements) elements)
-    (none_fails (is_key_in shape) (names_of (put_texts ms no_members)) (names_of_texts (is_key_in shape) ms no_members all refl))
+message_of_names : (shape : Shape) (ms : Members) (elements : Draft) → list_all (is_key_in shape) (names_of ms) ≡ true
+    → message_in_whole shape ms elements ≡ follows_unless (first_broken_rule elements) elements
+message_of_names shape ms elements all =
+    ap (λ (extra : Option (List ℕ)). passes_unless extra >>= λ alone. follows_unless (first_broken_rule elements) elements) (none_fails (is_key_in shape) (names_of ms) all)
 
 -- an object of a kind, with keys of its shape alone
-pub object_of_kind : (ms : List (Key × List ℕ)) (kind : Kind) (shape : Shape) (elements : Draft) → Some kind ≡ kind_in (object_of ms) → draft_in kind (object_of ms) ≡ Ok elements
-    → shape ≡ shape_in kind (object_of ms) → true ≡ list_all (λ m. is_key_in shape (key_text m.0)) ms → object_in (object_of ms) ≡ follows_unless (first_broken_rule elements) elements
+pub object_of_kind : (ms : Members) (kind : Kind) (shape : Shape) (elements : Draft) → Some kind ≡ kind_in (object ms) → draft_in kind (object ms) ≡ Ok elements
+    → shape ≡ shape_in kind (object ms) → list_all (is_key_in shape) (names_of ms) ≡ true → object_in (object ms) ≡ follows_unless (first_broken_rule elements) elements
 unfolding object_in
 object_of_kind ms kind shape elements found drafted shaped all =
-    ap (λ (k : Option Kind). ok_or k UnknownKind >>= λ k. draft_in k (object_of ms) >>= λ m. message_in_whole (shape_in k (object_of ms)) (put_texts ms no_members) m) (sym found)
-    ∙ ap (λ (r : Result Draft JsonFault). r >>= λ m. message_in_whole (shape_in kind (object_of ms)) (put_texts ms no_members) m) drafted
-    ∙ ap (λ (s : Shape). message_in_whole s (put_texts ms no_members) elements) (sym shaped)
-    ∙ message_of_texts shape ms elements (sym all)
+    ap (λ (k : Option Kind). ok_or k UnknownKind >>= λ k. draft_in k (object ms) >>= λ m. message_in_whole (shape_in k (object ms)) ms m) (sym found)
+    ∙ ap (λ (r : Result Draft JsonFault). r >>= λ m. message_in_whole (shape_in kind (object ms)) ms m) drafted
+    ∙ ap (λ (s : Shape). message_in_whole s ms elements) (sym shaped)
+    ∙ message_of_names shape ms elements all

@@ -408,7 +408,7 @@ refused bytes e h = text_refused bytes (is_utf8 bytes) e refl h
 
 -- ---- the laws
 
--- reading never answers want of memory: that fault is of the call alone
+-- reading never reports out of memory: that fault is of the call alone
 pub memory_is_not_told : (bytes : List ℕ) → message_in bytes ≢ Err fault.Memory
 memory_is_not_told bytes h = elim (refused bytes _ h) [ inl other ↦ cc | inr told ↦ told.2 ]
 

@@ -47,7 +47,7 @@ abbrev pub ◌>>=◌ : {X Y : Type 0} → Result X JsonFault → (X → Result Y
 (Ok x) >>= f = f x
 (Err e) >>= f = Err e
 
--- What a function of the code answered is what is read. Want of memory may be answered in its place, but only
+-- What a function of the code answered is what is read. Out of memory may be answered in its place, but only
 -- where the function takes memory.
 abbrev pub FailsWhere : {X : Type 0} → Bool → JsonFault → Result X JsonFault → Type 0
 FailsWhere takes_memory fault.Memory read = IsTrue takes_memory
@@ -68,27 +68,17 @@ abbrev pub GivesItems : Result (Vec RecallTx Global) JsonFault → Result (List 
 GivesItems (Ok txs) read = read ≡ Ok txs.items
 GivesItems (Err e) read = FailsWhere true e read
 
--- A text is read as an element, or refused with the fault of the element's type. Want of memory is an answer only
+-- A text is read as an element, or refused with the fault of the element's type. Out of memory is an answer only
 -- where reading the element takes memory.
 abbrev pub ReadsElement : {X : Type 0} → Bool → Option X → ElementFault → Result X ElementFault → Type 0
 ReadsElement takes_memory found refusal (Ok x) = found ≡ Some x
 ReadsElement takes_memory found refusal (Err element.Memory) = IsTrue takes_memory
 ReadsElement takes_memory found refusal (Err e) = (found ≡ None) × (e ≡ refusal)
 
--- the fault is want of memory; it is that of no type of element
+-- the fault is out of memory; it is that of no type of element
 abbrev pub is_want_of_memory : ElementFault → Bool
 is_want_of_memory element.Memory = true
 is_want_of_memory e = false
-
--- a pacs.008 has names and remittance information, and a camt.056 has a list, which are kept in memory of their own;
--- every other element takes no memory
-abbrev pub keeps_memory : Kind → Bool
-keeps_memory Camt029 = false
-keeps_memory Camt056 = true
-keeps_memory Pacs002 = false
-keeps_memory Pacs004 = false
-keeps_memory Pacs008 = true
-keeps_memory Pacs028 = false
 
 -- a name and remittance information are read as they stand
 abbrev pub name_of : List ℕ → Option (List ℕ)

@@ -45,7 +45,7 @@ fn read_listed<O: Object>(alloc: Global, object: &O) -> Result<CancellationReque
         → Gives result (listed_recalls_in list (O.value object.now)) }
 {
     let head = head::read(alloc, object)?;
-    let txs = recall_list::read_list(alloc, object.items(Key::TxInf))?;
+    let txs = object.transactions(alloc)?;
     Ok(CancellationRequest { head, txs })
 }
 

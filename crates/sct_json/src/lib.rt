@@ -18,6 +18,7 @@ mod object;
 mod original;
 mod payment_return;
 mod plain;
+mod plain_message;
 mod reading;
 mod recall_list;
 mod resolution;

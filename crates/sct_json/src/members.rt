@@ -7,7 +7,7 @@ ghost use Rattle.sct_json.specs.Writing.{ReadsBack, MayReadBack};
 use crate::elements::Element;
 use crate::faults::JsonFault;
 use crate::keys::Key;
-use crate::object::{Found, Object};
+use crate::object::{Found, Keyed};
 use json::Writer;
 use sct_element::ElementFault;
 use std::alloc::{AllocError, Global};
@@ -25,7 +25,7 @@ fn text_as<E: Element>(alloc: Global, key: Key, text: &str) -> Result<E, JsonFau
 
 /// The element at a key that each message of the kind has.
 #[tactic(auto, unfolding(crate::specs::Reading::required))]
-pub(crate) fn required<E: Element, O: Object>(
+pub(crate) fn required<E: Element, O: Keyed>(
     alloc: Global,
     key: Key,
     object: &O,
@@ -41,7 +41,7 @@ pub(crate) fn required<E: Element, O: Object>(
 
 /// The element at a key that may be absent.
 #[tactic(auto, unfolding(crate::specs::Reading::optional))]
-pub(crate) fn optional<E: Element, O: Object>(
+pub(crate) fn optional<E: Element, O: Keyed>(
     alloc: Global,
     key: Key,
     object: &O,

@@ -6,7 +6,7 @@ ghost use Rattle.sct_json.specs.Writing.{OriginalReadsBack};
 use crate::faults::JsonFault;
 use crate::keys::Key;
 use crate::members::{may_read_back, optional, reads_back, required};
-use crate::object::Object;
+use crate::object::Keyed;
 use crate::tables::{read_back_member, read_back_table, read_member, read_table};
 use sct_message::Original;
 use std::alloc::Global;
@@ -24,7 +24,7 @@ macro_rules! original_table {
 }
 
 #[tactic(auto, unfolding(crate::specs::Reading::original_in))]
-pub(crate) fn read<O: Object>(alloc: Global, object: &O) -> Result<Original, JsonFault>
+pub(crate) fn read<O: Keyed>(alloc: Global, object: &O) -> Result<Original, JsonFault>
     ensures { GivesWithoutMemory result (original_in (O.value object.now)) }
 {
     original_table!(read_table! { alloc, object })

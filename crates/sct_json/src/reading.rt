@@ -1,22 +1,22 @@
 //! From the bytes of an object to its message.
-ghost use Rattle.std.specs.Prelude.{◌≡◌};
+ghost use Rattle.std.specs.Prelude.{◌≡◌, Ok};
 ghost use Rattle.serde_json.specs.Read.{read};
 ghost use Rattle.serde_json.specs.View.{view, members_view};
 ghost use Rattle.sct_message.specs.Rules.{first_broken_rule};
-ghost use Rattle.sct_json.specs.Objects.{object_of, GivesOrLeaves};
-ghost use Rattle.sct_json.specs.Reading.{Gives, GivesWhere, keeps_memory, draft_in, kind_in, shape_in, follows_unless, message_in_whole, object_in, value_in, message_in};
+ghost use Rattle.sct_json.specs.Objects.{message_object, GivesOrLeaves};
+ghost use Rattle.sct_json.specs.Reading.{Gives, draft_in, kind_in, shape_in, follows_unless, message_in_whole, object_in, value_in, message_in};
 
 use crate::extra_key::refuse_extra;
 use crate::faults::JsonFault;
 use crate::keys::{Key, Shape};
 use crate::object::{Found, Object};
-use crate::plain::PlainObject;
+use crate::plain_message::PlainMessage;
 use crate::{
-    cancellation_request, credit_transfer, payment_return, plain, resolution, status_report,
-    status_request,
+    cancellation_request, credit_transfer, payment_return, plain_message, resolution,
+    status_report, status_request,
 };
 use json::Scratch;
-use sct_message::{Draft, Kind, Message};
+use sct_message::{Boxed, Draft, Kind, Message};
 use serde_json::{Map, Value};
 use std::alloc::Global;
 
@@ -40,17 +40,45 @@ fn shape_in<O: Object>(kind: Kind, object: &O) -> Shape
     }
 }
 
+/// The elements that were read, in memory of their own.
+fn boxed<T: Drop>(alloc: Global, elements: T) -> Result<Boxed<T>, JsonFault>
+    ensures { Gives result (Ok elements) }
+{
+    match Boxed::new(alloc, elements) {
+        Ok(elements) => Ok(elements),
+        Err(_) => Err(JsonFault::Memory),
+    }
+}
+
 /// The elements of a message of a kind.
 fn read_draft<O: Object>(alloc: Global, kind: Kind, object: &O) -> Result<Draft, JsonFault>
-    ensures { GivesWhere (keeps_memory kind) result (draft_in kind (O.value object.now)) }
+    ensures { Gives result (draft_in kind (O.value object.now)) }
 {
     match kind {
-        Kind::Pacs008 => Ok(Draft::CreditTransfer(credit_transfer::read(alloc, object)?)),
-        Kind::Pacs002 => Ok(Draft::StatusReport(status_report::read(alloc, object)?)),
-        Kind::Pacs028 => Ok(Draft::StatusRequest(status_request::read(alloc, object)?)),
-        Kind::Camt056 => Ok(Draft::CancellationRequest(cancellation_request::read(alloc, object)?)),
-        Kind::Pacs004 => Ok(Draft::PaymentReturn(payment_return::read(alloc, object)?)),
-        Kind::Camt029 => Ok(Draft::Resolution(resolution::read(alloc, object)?)),
+        Kind::Pacs008 => {
+            let elements = credit_transfer::read(alloc, object)?;
+            Ok(Draft::CreditTransfer(boxed(alloc, elements)?))
+        }
+        Kind::Pacs002 => {
+            let elements = status_report::read(alloc, object)?;
+            Ok(Draft::StatusReport(boxed(alloc, elements)?))
+        }
+        Kind::Pacs028 => {
+            let elements = status_request::read(alloc, object)?;
+            Ok(Draft::StatusRequest(boxed(alloc, elements)?))
+        }
+        Kind::Camt056 => {
+            let elements = cancellation_request::read(alloc, object)?;
+            Ok(Draft::CancellationRequest(boxed(alloc, elements)?))
+        }
+        Kind::Pacs004 => {
+            let elements = payment_return::read(alloc, object)?;
+            Ok(Draft::PaymentReturn(boxed(alloc, elements)?))
+        }
+        Kind::Camt029 => {
+            let elements = resolution::read(alloc, object)?;
+            Ok(Draft::Resolution(boxed(alloc, elements)?))
+        }
     }
 }
 
@@ -93,10 +121,10 @@ fn read_object(alloc: Global, object: &Value) -> Result<Message, JsonFault>
     message_of(alloc, shape, members, elements)
 }
 
-/// The message of a plain object; none if it has a key of another kind.
+/// The message of an object that was read token by token; none if it has a key of another kind.
 #[tactic(auto, unfolding(crate::specs::Reading::object_in))]
-fn read_plain(alloc: Global, object: &PlainObject<'_>) -> Result<Option<Message>, JsonFault>
-    ensures { GivesOrLeaves result (object_in (object_of object.now)) }
+fn read_plain(alloc: Global, object: &PlainMessage<'_>) -> Result<Option<Message>, JsonFault>
+    ensures { GivesOrLeaves result (object_in (message_object object.now)) }
 {
     let Some(kind) = kind_in(object) else {
         return Err(JsonFault::UnknownKind);
@@ -138,11 +166,12 @@ impl MessageReader {
         }
     }
 
-    /// The message of a text whose members are all texts at keys of its kind; none for another text.
+    /// The message of a text whose members are texts at keys of its kind, and maybe one list at `TxInf` of objects whose
+    /// members are texts at keys of a transaction; none for another text.
     fn read_texts(&mut self, text: &str) -> Result<Option<Message>, JsonFault>
         ensures { GivesOrLeaves result (value_in (read text.now)) }
     {
-        match plain::read(self.alloc, text, &mut self.scratch) {
+        match plain_message::read(self.alloc, text, &mut self.scratch) {
             Ok(Some(object)) => read_plain(self.alloc, &object),
             Ok(None) => Ok(None),
             Err(_) => Err(JsonFault::Memory),

@@ -1,15 +1,18 @@
 //! The list of transactions of a camt.056.
 ghost use Rattle.std.specs.Prelude.{◌≡◌, ◌≤◌, length, map, option_map, OnOk};
 ghost use Rattle.std.specs.List.{AllByRecursion};
-ghost use Rattle.serde_json.specs.Data.{Data};
+ghost use Rattle.serde_json.specs.Data.{Data, array};
 ghost use Rattle.serde_json.specs.View.{view};
 ghost use Rattle.sct_json.specs.Reading.{GivesItems, items_in, first_no_object, elements_in, list_in};
+ghost use Rattle.sct_json.specs.Objects.{objects_of};
 ghost use Rattle.sct_json.specs.Line.{with_objects, with_array, Writes};
 ghost use Rattle.sct_json.specs.Writing.{TransactionReadsBack};
 
 use crate::faults::JsonFault;
 use crate::keys::Key;
+use crate::plain::PlainTransaction;
 use crate::transaction;
+use crate::transaction::ListElement;
 use json::Writer;
 use sct_message::{RecallTx, is_right_count};
 use serde_json::Value;
@@ -33,9 +36,9 @@ fn first_no_object(elements: &[Value]) -> Option<usize>
 }
 
 /// The transactions that the elements are, in the order of the list.
-fn read_elements(alloc: Global, elements: &[Value]) -> Result<Vec<RecallTx>, JsonFault>
+fn read_elements<E: ListElement>(alloc: Global, elements: &[E]) -> Result<Vec<RecallTx>, JsonFault>
     requires { length elements.now ≤ 100 }
-    ensures { GivesItems result (elements_in 1 (map view elements.now)) }
+    ensures { GivesItems result (elements_in 1 (map E.element elements.now)) }
 {
     let mut txs = Vec::new(alloc);
     let mut place = 1;
@@ -71,6 +74,20 @@ pub(crate) fn read_list(alloc: Global, list: Option<&[Value]>) -> Result<Vec<Rec
         return Err(JsonFault::BadTransactions(place));
     }
     read_elements(alloc, elements)
+}
+
+/// The transactions of a list of 1 to 100 objects of texts.
+#[tactic(auto, unfolding(crate::specs::Reading::list_in))]
+pub(crate) fn read_plain_list(
+    alloc: Global,
+    list: &[PlainTransaction<'_>],
+) -> Result<Vec<RecallTx>, JsonFault>
+    ensures { GivesItems result (list_in (array (objects_of list.now))) }
+{
+    if !is_right_count(list.len()) {
+        return Err(JsonFault::BadTransactions(0));
+    }
+    read_elements(alloc, list)
 }
 
 /// Writes an object for each transaction.

@@ -1,6 +1,8 @@
 //! A transaction of a camt.056: the recall of one transfer.
 ghost use Rattle.std.specs.Prelude.{◌≡◌, OnOk};
+ghost use Rattle.serde_json.specs.Data.{Data};
 ghost use Rattle.serde_json.specs.View.{view};
+ghost use Rattle.sct_json.specs.Objects.{object_of};
 ghost use Rattle.sct_json.specs.Reading.{Gives, GivesWithoutMemory, transaction_in, element_in, at_place};
 ghost use Rattle.sct_json.specs.Line.{with_line, transaction_line, with_object, Writes};
 ghost use Rattle.sct_json.specs.Writing.{TransactionReadsBack};
@@ -9,8 +11,9 @@ use crate::extra_key::refuse_extra;
 use crate::faults::JsonFault;
 use crate::keys::{Key, Shape};
 use crate::members::{may_read_back, optional, put, put_optional, reads_back, required};
-use crate::object::Object;
+use crate::object::Keyed;
 use crate::original;
+use crate::plain::PlainTransaction;
 use crate::tables::{read_back_member, read_back_table, read_member, read_table};
 use json::Writer;
 use sct_message::RecallTx;
@@ -33,30 +36,53 @@ macro_rules! transaction_table {
 }
 
 #[tactic(auto, unfolding(crate::specs::Reading::transaction_in))]
-pub(crate) fn read<O: Object>(alloc: Global, object: &O) -> Result<RecallTx, JsonFault>
+pub(crate) fn read<O: Keyed>(alloc: Global, object: &O) -> Result<RecallTx, JsonFault>
     ensures { GivesWithoutMemory result (transaction_in (O.value object.now)) }
 {
     transaction_table!(read_table! { alloc, object })
 }
 
-/// The transaction of an object that has no other key.
-#[tactic(auto, unfolding(crate::specs::Reading::element_in))]
-fn read_alone(alloc: Global, object: &Value) -> Result<RecallTx, JsonFault>
-    ensures { Gives result (element_in (view object.now)) }
-{
-    let Some(members) = object.as_object() else {
-        return Err(JsonFault::NotObject);
-    };
-    let tx = read(alloc, object)?;
-    refuse_extra(alloc, Shape::Transaction, members)?;
-    Ok(tx)
+/// An element of the list of a camt.056.
+pub(crate) trait ListElement {
+    /// The JSON value that the element is.
+    ghost element: { Self → Data };
+
+    /// The transaction that the element is, if the element is an object with no other key.
+    fn read_alone(&self, alloc: Global) -> Result<RecallTx, JsonFault>
+        ensures { Gives result (element_in (element self.now)) };
+}
+
+impl ListElement for Value {
+    ghost element = { view };
+
+    #[tactic(auto, unfolding(crate::specs::Reading::element_in))]
+    fn read_alone(&self, alloc: Global) -> Result<RecallTx, JsonFault> {
+        let Some(members) = self.as_object() else {
+            return Err(JsonFault::NotObject);
+        };
+        let tx = read(alloc, self)?;
+        refuse_extra(alloc, Shape::Transaction, members)?;
+        Ok(tx)
+    }
+}
+
+impl ListElement for PlainTransaction<'_> {
+    ghost element = { object_of };
+
+    fn read_alone(&self, alloc: Global) -> Result<RecallTx, JsonFault> {
+        read(alloc, self.object())
+    }
 }
 
 /// The transaction at a place of a list, counted from 1.
-pub(crate) fn read_at(alloc: Global, place: usize, object: &Value) -> Result<RecallTx, JsonFault>
-    ensures { Gives result (at_place place (element_in (view object.now))) }
+pub(crate) fn read_at<E: ListElement>(
+    alloc: Global,
+    place: usize,
+    element: &E,
+) -> Result<RecallTx, JsonFault>
+    ensures { Gives result (at_place place (element_in (E.element element.now))) }
 {
-    match read_alone(alloc, object) {
+    match element.read_alone(alloc) {
         Ok(tx) => Ok(tx),
         Err(fault) => Err(fault.placed(place)),
     }

@@ -3,6 +3,7 @@ pub mod Ascending
 pub mod Cells
 pub mod CellsBack
 pub mod Drafts
+pub mod Inside
 pub mod KeyOrders
 pub mod Keys
 pub mod Kinds

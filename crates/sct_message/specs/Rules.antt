@@ -198,13 +198,3 @@ unfoldable pub first_broken_rule : Draft → Option RuleFault
 first_broken_rule d = if not (is_name_of (kind_of d) (head_of d).message_name) then Some WrongName
     else broken_first (broken_in_kind d)
     (if not (names_its_original d) then Some WrongOriginalName else broken_in_list d)
-
--- the first broken rule, except the rules on the list of a recall message
-unfoldable pub broken_before_list : Draft → Option RuleFault
-broken_before_list d = if not (is_name_of (kind_of d) (head_of d).message_name) then Some WrongName
-    else broken_first (broken_in_kind d) (if not (names_its_original d) then Some WrongOriginalName else None)
-
--- a recall message with more transactions than are allowed
-abbrev pub is_long : Draft → Bool
-is_long (draft.CancellationRequest d) = not (nat_le (length d.txs) 100)
-is_long other = false

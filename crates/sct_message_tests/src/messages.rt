@@ -85,7 +85,11 @@ fn tells_the_first_rule_that_a_status_request_breaks(rt: HostRuntime) -> Result<
             original: *original,
             ..REQUEST
         };
-        assert_eq!(rt; broken(&texts)?, *number, "at {name} {original}");
+        assert_eq!(rt;
+            broken(rt.alloc(), &texts)?,
+            *number,
+            "at {name} {original}"
+        );
     }
     Ok(())
 }

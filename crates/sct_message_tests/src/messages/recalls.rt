@@ -92,11 +92,9 @@ fn push_numbered(txs: &mut Vec<RecallTx>, alloc: Global, count: usize) -> Result
     Ok(())
 }
 
-/// The number of the first rule that the elements break, and 0 if they break none.
-fn broken(head: Head, txs: Vec<RecallTx>) -> u8 {
-    Message::of(Draft::CancellationRequest(CancellationRequest { head, txs }))
-        .err()
-        .map_or(0, RuleFault::number)
+fn draft(alloc: Global, head: Head, txs: Vec<RecallTx>) -> Result<Draft, Fail> {
+    let recalls = CancellationRequest { head, txs };
+    Ok(Draft::CancellationRequest(Boxed::new(alloc, recalls)?))
 }
 
 /// The number of the first rule that a message breaks. Before its own transactions it has `count` of other recalls.
@@ -104,15 +102,17 @@ pub(crate) fn broken_behind(alloc: Global, count: usize, texts: &ListTexts) -> R
     let mut txs = Vec::new(alloc);
     push_numbered(&mut txs, alloc, count)?;
     push_txs(&mut txs, texts.txs)?;
-    Ok(broken(head(texts)?, txs))
+    Ok(
+        Message::of(draft(alloc, head(texts)?, txs)?)
+            .err()
+            .map_or(0, RuleFault::number),
+    )
 }
 
 fn push_list(messages: &mut Vec<Message>, alloc: Global, texts: &ListTexts) -> Result<(), Fail> {
     let mut txs = Vec::new(alloc);
     push_txs(&mut txs, texts.txs)?;
-    let head = head(texts)?;
-    let draft = Draft::CancellationRequest(CancellationRequest { head, txs });
-    messages.push(Message::of(draft)?)?;
+    messages.push(Message::of(draft(alloc, head(texts)?, txs)?)?)?;
     Ok(())
 }
 

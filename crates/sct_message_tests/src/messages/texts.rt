@@ -65,27 +65,25 @@ fn read_request(texts: &RequestTexts) -> Result<StatusRequest, ElementFault> {
     })
 }
 
-/// The number of the first rule that the elements break, and 0 if they break none.
-pub(crate) fn broken(texts: &RequestTexts) -> Result<u8, ElementFault> {
+fn draft(alloc: Global, texts: &RequestTexts) -> Result<Draft, Fail> {
     let request = read_request(texts)?;
+    Ok(Draft::StatusRequest(Boxed::new(alloc, request)?))
+}
+
+/// The number of the first rule that the elements break, and 0 if they break none.
+pub(crate) fn broken(alloc: Global, texts: &RequestTexts) -> Result<u8, Fail> {
     Ok(
-        Message::of(Draft::StatusRequest(request))
+        Message::of(draft(alloc, texts)?)
             .err()
             .map_or(0, RuleFault::number),
     )
-}
-
-fn push_request(messages: &mut Vec<Message>, texts: &RequestTexts) -> Result<(), Fail> {
-    let request = read_request(texts)?;
-    messages.push(Message::of(Draft::StatusRequest(request))?)?;
-    Ok(())
 }
 
 /// The messages of these texts.
 pub(crate) fn requests(alloc: Global, rows: &[RequestTexts]) -> Result<Vec<Message>, Fail> {
     let mut messages = Vec::new(alloc);
     for texts in rows {
-        push_request(&mut messages, texts)?;
+        messages.push(Message::of(draft(alloc, texts)?)?)?;
     }
     Ok(messages)
 }

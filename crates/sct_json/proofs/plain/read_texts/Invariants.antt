@@ -2,7 +2,7 @@
 use Rattle.std.proofs.Common.{◌≡◌, length}
 use Rattle.sct_json.specs.Members.{texts_of}
 use Rattle.sct_json.specs.Objects.{tokens_before}
-use Rattle.sct_json.proofs.plain.read_members.Given as goal
+use Rattle.sct_json.proofs.plain.read_texts.Given as goal
 
 abbrev pub decreases-loop-name : goal.decreases-loop-name
 decreases-loop-name l = length l.reader
