@@ -6,7 +6,8 @@ use Rattle.sct_message.specs.declared.rules.RuleFault.{RuleFault}
 use Rattle.sct_message.specs.declared.rules.RuleFault.TheVariants.{WrongName, WrongOriginalName}
 use Rattle.sct_message.specs.Drafts.{kind_of, head_of}
 use Rattle.sct_message.specs.Kinds.{is_name_of}
-use Rattle.sct_message.specs.Rules.{broken_first, broken_in_kind, broken_in_list, broken_before_list, first_broken_rule, names_its_original}
+use Rattle.sct_message.specs.Inside.{broken_before_list}
+use Rattle.sct_message.specs.Rules.{broken_first, broken_in_kind, broken_in_list, first_broken_rule, names_its_original}
 
 last_by : (unnamed astray : Bool) (in_kind in_list : Option RuleFault)
     → cond unnamed (Some WrongName) (broken_first in_kind (cond astray (Some WrongOriginalName) in_list))

@@ -1,7 +1,8 @@
 //! Interbank messages of the SEPA Instant Credit Transfer scheme (EPC004-16, messages of ISO 20022): their kinds, their
-//! elements, the rules of each kind, and the keys by which they are filed. No call allocates.
+//! elements, the rules of each kind, and the keys by which they are filed. No call but `Boxed::new` allocates.
 #![tactic(auto)]
 
+mod boxed;
 mod draft;
 mod filing;
 mod keys;
@@ -11,6 +12,7 @@ mod order;
 mod recall_list;
 mod rules;
 
+pub use boxed::Boxed;
 pub use draft::{
     CancellationRequest, CreditTransfer, Draft, Head, Original, PaymentReturn, RecallTx,
     Resolution, StatusReport, StatusRequest,

@@ -1,6 +1,7 @@
 //! The rules of each kind.
 ghost use Rattle.std.specs.Prelude.{◌≡◌, ◌↔◌, Option, Some, None, IsTrue};
-ghost use Rattle.sct_message.specs.Rules.{rule_number, first_broken_rule, broken_before_list, broken_in_list, is_long, broken_in_credit_transfer, broken_in_status_report, broken_in_cancellation_request, broken_in_payment_return, broken_in_resolution, broken_in_kind, kind_it_is_about, names_its_original, FollowsRules, Breaks, IsFirstBroken};
+ghost use Rattle.sct_message.specs.Inside.{broken_before_list, is_long};
+ghost use Rattle.sct_message.specs.Rules.{rule_number, first_broken_rule, broken_in_list, broken_in_credit_transfer, broken_in_status_report, broken_in_cancellation_request, broken_in_payment_return, broken_in_resolution, broken_in_kind, kind_it_is_about, names_its_original, FollowsRules, Breaks, IsFirstBroken};
 
 use crate::draft::{
     CancellationRequest, CreditTransfer, Draft, PaymentReturn, Resolution, StatusReport,
@@ -210,7 +211,7 @@ pub(crate) fn broken_in_list(draft: &Draft) -> Option<RuleFault>
 }
 
 /// The first broken rule, by number, except those on the list of a camt.056.
-#[tactic(auto, unfolding(crate::specs::Rules::broken_before_list))]
+#[tactic(auto, unfolding(crate::specs::Inside::broken_before_list))]
 pub(crate) fn broken_before_list(draft: &Draft) -> Option<RuleFault>
     ensures { result ≡ broken_before_list draft.now }
 {
@@ -245,7 +246,7 @@ pub(crate) fn broken_in_long(draft: Draft) -> RuleFault
     ensures { broken_in_list draft ≡ Some result }
 {
     match draft {
-        Draft::CancellationRequest(m) => broken_by_long(m),
+        Draft::CancellationRequest(m) => broken_by_long(m.into_inner()),
         _ => unreachable!(),
     }
 }
