@@ -1,5 +1,5 @@
 -- Lines of a text, one after another. Proof plumbing.
-use Rattle.std.proofs.Common.{ℕ, ◌≡◌, ◌+◌, ◌<◌, ◌++◌, ◌∷◌, [], List, Bool, true, false, cond, Option, Some, None, Result, Ok, Err, ◌==◌, not, length, take, drop, refl, sym, ap, ◌∙◌, rules, arith, add-one, take_all, append_assoc, length-append}
+use Rattle.std.proofs.Common.{ℕ, ◌≡◌, ◌+◌, ◌<◌, ◌++◌, ◌∷◌, [], List, Bool, true, false, cond, Option, Some, None, Result, Ok, Err, ◌==◌, not, length, take, drop, refl, sym, ap, subst, ◌∙◌, rules, arith, add-one, take_all, append_assoc, length-append}
 use Rattle.std.specs.List.{flat_map, position_from}
 use Rattle.std.proofs.Math.Seq.{drop-length}
 use Rattle.std.specs.Arc.{arc_value}
@@ -229,3 +229,23 @@ pub count_end : {X : Type 0} (found : List (ℕ × List ℕ) → List X) → IsB
 count_end found by so_far all number text none whole =
     let nothing : length (found (lines_left number text)) ≡ 0 = rw (lines_left_none number text none, by.none) refl in
     omega (arith, nothing, whole)
+
+-- ---- the lines of a part, which count on from those before it
+
+pub next_line : {X : Type 0} (found : List (ℕ × List ℕ) → List X) → IsByLine found → (before after all : List X) (counted was lines : ℕ) (line rest text : List ℕ)
+    → was ≡ counted → lines_of text ≡ line ∷ lines_of rest → before ++ found (lines_left (counted + lines + 1) text) ≡ all
+    → after ≡ before ++ found (numbered_from (was + (lines + 1)) (line ∷ [])) → after ++ found (lines_left (counted + (lines + 1) + 1) rest) ≡ all
+next_line found by before after all counted was lines line rest text same first whole now =
+    let here : was + (lines + 1) ≡ counted + lines + 1 = omega (arith, same) in
+    let next : counted + lines + 1 + 1 ≡ counted + (lines + 1) + 1 = omega arith in
+    subst (λ n. after ++ found (lines_left n rest) ≡ all) next
+    (step found by before after all (counted + lines + 1) line rest text first whole (now ∙ ap (λ n. before ++ found (numbered_from n (line ∷ []))) here))
+
+pub next_count : {X : Type 0} (found : List (ℕ × List ℕ) → List X) → IsByLine found → (before after all counted was lines : ℕ) (line rest text : List ℕ)
+    → was ≡ counted → lines_of text ≡ line ∷ lines_of rest → before + length (found (lines_left (counted + lines + 1) text)) ≡ all
+    → after ≡ before + length (found (numbered_from (was + (lines + 1)) (line ∷ []))) → after + length (found (lines_left (counted + (lines + 1) + 1) rest)) ≡ all
+next_count found by before after all counted was lines line rest text same first whole now =
+    let here : was + (lines + 1) ≡ counted + lines + 1 = omega (arith, same) in
+    let next : counted + lines + 1 + 1 ≡ counted + (lines + 1) + 1 = omega arith in
+    subst (λ n. after + length (found (lines_left n rest)) ≡ all) next
+    (count_step found by before after all (counted + lines + 1) line rest text first whole (now ∙ ap (λ n. before + length (found (numbered_from n (line ∷ [])))) here))

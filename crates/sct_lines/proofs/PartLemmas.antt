@@ -1,7 +1,9 @@
 -- A text cut behind a line feed, and what is read of its two parts. Proof plumbing.
-use Rattle.std.proofs.Common.{ℕ, ◌≡◌, ◌+◌, ◌<◌, suc, zero, ◌++◌, ◌∷◌, [], List, true, false, cond, ◌==◌, length, take, drop, get_or, filter, not, refl, sym, ap, ◌∙◌, arith, add-one, append_assoc, length-append, eqb-true}
+use Rattle.std.proofs.Common.{ℕ, ◌≡◌, ◌+◌, ◌-◌, ◌<◌, ◌≤◌, suc, zero, ◌++◌, ◌∷◌, [], List, true, false, cond, ◌==◌, length, take, drop, get_or, filter, not, refl, sym, ap, subst, ◌∙◌, arith, add-one, append_assoc, length-append, length-drop, take-add, eqb-true}
 use Rattle.std.specs.List.{filter_map}
 use Rattle.std.specs.Result.{result_ok}
+use Rattle.std.proofs.lemmas.List.{drop-drop, drop-take, get_or-drop, take-take}
+use Rattle.std.proofs.lemmas.List.Elements.{filter-append}
 use Rattle.std.proofs.lemmas.List.Sums.{length-filter}
 use Rattle.memchr.specs.Find.{is_byte, places}
 use Rattle.memchr.proofs.lemmas.CallerLemmas.{length-places}
@@ -10,12 +12,19 @@ use Rattle.sct_lines.specs.declared.intake.Intake.{Intake}
 use Rattle.sct_json.specs.Reading.{message_in}
 use Rattle.sct_lines.specs.LineLaws.{IsOfWholeLines, MessagesStay, WholeLinesStay}
 use Rattle.sct_lines.specs.Lines.{is_blank, lines_of, messages_among, messages_read, numbered_from, onto_first, refusals_among}
-use Rattle.sct_lines.specs.Parts.{refusals_after, IsReadAfter}
+use Rattle.sct_lines.specs.Parts.{refusals_after, IsPartOf, IsReadAfter}
 use Rattle.sct_lines.proofs.LineLemmas.{is_feed, messages_by_line, numbered-cons, numbered_none, refusals_by_line, told_by_line}
 
 -- as many places have a line feed as there are line feeds
 pub feeds_counted : (text found : List ℕ) → found ≡ places (is_byte 10) text → length found ≡ length (filter is_feed text)
 feeds_counted text found is = ap length is ∙ length-places (is_byte 10) text ∙ sym (length-filter is_feed text)
+
+pub few_feeds : (text : List ℕ) → length (filter is_feed text) ≤ length text
+few_feeds [] = omega arith
+few_feeds (byte ∷ bytes) =
+    let few = few_feeds bytes in
+    elim (byte == 10) as (λ feed. length (cond feed (byte ∷ filter is_feed bytes) (filter is_feed bytes)) ≤ length (byte ∷ bytes))
+    [ true ↦ omega (arith, few) | false ↦ omega (arith, few) ]
 
 -- a text is cut in two behind a line feed
 pub record IsCutAt (text front back : List ℕ) : Type 0 where
@@ -130,6 +139,51 @@ read_in_two shown before text front back first second both lines one two message
       told = told ∙ rw (one.told, two.told, numbered) (sym ((told_by_line shown).append some more));
       refused = omega (arith, refused, one.refused, two.refused, count);
     }
+
+-- ---- a part of a text
+
+feeds_in_two : (text : List ℕ) (from more : ℕ) → length (filter is_feed (take (from + more) text)) ≡ length (filter is_feed (take from text)) + length (filter is_feed (take more (drop from text)))
+feeds_in_two text from more =
+    ap (λ ts. length (filter is_feed ts)) (take-add from more text)
+    ∙ ap length (filter-append is_feed (take from text) (take more (drop from text)))
+    ∙ length-append (filter is_feed (take from text)) (filter is_feed (take more (drop from text)))
+
+-- the part of a text that begins at a place is read in two, cut behind a line feed
+pub halves_read : (shown : List ℕ) (counted : ℕ) (text : List ℕ) (from more : ℕ) (first second both : Intake) → from + more < length text → get_or text (from + more) 0 ≡ 10
+    → IsPartOf shown counted (take (from + more + 1) text) from first → IsPartOf shown counted text (from + more + 1) second → messages_in both.messages.items ≡ messages_in first.messages.items ++ messages_in second.messages.items
+    → both.refusals.text ≡ first.refusals.text ++ second.refusals.text
+    → both.refusals.count ≡ first.refusals.count + second.refusals.count
+    → IsPartOf shown counted text from both
+halves_read shown counted text from more first second both within feed one two messages told refused =
+    let part = drop from text in
+    let size : length part ≡ length text - from = length-drop from text in
+    let cut : IsCutAt part (take (more + 1) part) (drop (more + 1) part) =
+    cut_at_feed part more (omega (arith, size, within)) (get_or-drop from text more 0 ∙ feed) in
+    let end : from + more + 1 ≡ from + (more + 1) = omega arith in
+    let head : take from (take (from + more + 1) text) ≡ take from text = take-take from (from + more + 1) text (omega arith) in
+    let front : drop from (take (from + more + 1) text) ≡ take (more + 1) part = ap (λ n. drop from (take n text)) end ∙ drop-take from (more + 1) text in
+    let back : drop (from + more + 1) text ≡ drop (more + 1) part = ap (λ n. drop n text) end ∙ sym (drop-drop (more + 1) from text) in
+    let feeds : counted + length (filter is_feed (take (from + more + 1) text))
+    ≡ counted + length (filter is_feed (take from text)) + length (lines_of (take (more + 1) part)) =
+    let counts = ap (λ n. length (filter is_feed (take n text))) end ∙ feeds_in_two text from (more + 1) in omega (arith, counts, cut.feeds) in
+    read_in_two shown (counted + length (filter is_feed (take from text))) part (take (more + 1) part) (drop (more + 1) part) first second both cut.lines
+    (subst (λ f. IsReadAfter shown (counted + length (filter is_feed (take from text))) f first) front
+    (subst (λ h. IsReadAfter shown (counted + length (filter is_feed h)) (drop from (take (from + more + 1) text)) first) head one))
+    (subst (λ b. IsReadAfter shown (counted + length (filter is_feed (take from text)) + length (lines_of (take (more + 1) part))) b second) back
+    (subst (λ n. IsReadAfter shown n (drop (from + more + 1) text) second) feeds two))
+    messages told refused
+
+pub halves_read_at : (shown : List ℕ) (counted : ℕ) (text : List ℕ) (from at : ℕ) (first second both : Intake) → from ≤ at → at < length text → get_or text at 0 ≡ 10
+    → IsPartOf shown counted (take (at + 1) text) from first → IsPartOf shown counted text (at + 1) second → messages_in both.messages.items ≡ messages_in first.messages.items ++ messages_in second.messages.items
+    → both.refusals.text ≡ first.refusals.text ++ second.refusals.text
+    → both.refusals.count ≡ first.refusals.count + second.refusals.count
+    → IsPartOf shown counted text from both
+halves_read_at shown counted text from at first second both behind within feed one two messages told refused =
+    let more : ℕ = at - from in
+    let same : from + more ≡ at = omega (arith, behind) in
+    subst (λ n. n < length text → get_or text n 0 ≡ 10 → IsPartOf shown counted (take (n + 1) text) from first → IsPartOf shown counted text (n + 1) second
+    → IsPartOf shown counted text from both) same
+    (λ w f o t. halves_read shown counted text from more first second both w f o t messages told refused) within feed one two
 
 -- ---- messages do not depend on the numbers of their lines
 

@@ -1,5 +1,5 @@
 -- A part of an input, with the number of the lines before it. Serves proofs.
-use Rattle.std.specs.Prelude.{ℕ, ◌≡◌, ◌+◌, List, length}
+use Rattle.std.specs.Prelude.{ℕ, ◌≡◌, ◌+◌, ◌==◌, List, drop, filter, length, take}
 use Rattle.sct_json.specs.declared.faults.JsonFault.{JsonFault}
 use Rattle.sct_message.specs.declared.draft.Draft.{Draft}
 use Rattle.sct_message.specs.Sets.{messages_in}
@@ -19,3 +19,7 @@ pub record IsReadAfter (front : List ℕ) (before : ℕ) (part : List ℕ) (inta
   pub messages : messages_in intake.messages.items ≡ messages_after before part
   pub told : intake.refusals.text ≡ told_after front (refusals_after before part)
   pub refused : intake.refusals.count ≡ length (refusals_after before part)
+
+-- the same of the part of a text that begins at a place, behind these lines and those of the text before that place
+abbrev pub IsPartOf : List ℕ → ℕ → List ℕ → ℕ → Intake → Type 0
+IsPartOf front counted text from intake = IsReadAfter front (counted + length (filter (λ byte. byte == 10) (take from text))) (drop from text) intake

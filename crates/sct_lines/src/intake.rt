@@ -12,6 +12,7 @@ ghost use Rattle.sct_lines.specs.Lines.{
 ghost use Rattle.sct_lines.specs.Parts.{IsReadAfter};
 ghost use Rattle.sct_message.specs.Sets.{messages_in};
 
+use crate::before::LinesBefore;
 use crate::lines::{first_line, is_blank_line};
 use crate::refusals::Refusals;
 use crate::shortage::Shortage;
@@ -60,30 +61,39 @@ impl Intake {
         }
     }
 
-    // Adds one line: its message, or its refusal. `front` is written before the line that reports the refusal.
+    // Adds one line: its message, or its refusal. It is the line with this number of its part. `front` is written before
+    // the line that reports the refusal.
     #[tactic(auto, using(crate::proofs::LineLemmas::one_line))]
     fn take(
         &mut self,
         alloc: Global,
         reader: &mut MessageReader,
         front: &str,
+        before: &mut LinesBefore<'_>,
         number: u64,
         line: &[u8],
     ) -> Result<(), AllocError>
+        requires { before.old + number < 2 ^ 64 }
+        ensures before { before.new ≡ before.old }
         ensures messages { OnOk result (messages_in self.new.messages.items
-            ≡ messages_in self.old.messages.items ++ messages_among (numbered_from number (line.now ∷ []))) }
+            ≡ messages_in self.old.messages.items
+            ++ messages_among (numbered_from (before.old + number) (line.now ∷ []))) }
         ensures told { OnOk result (self.new.refusals.text
             ≡ self.old.refusals.text
-            ++ told_after front.now (refusals_among (numbered_from number (line.now ∷ [])))) }
+            ++ told_after front.now (refusals_among (numbered_from (before.old + number) (line.now ∷ [])))) }
         ensures refused { OnOk result (self.new.refusals.count
-            ≡ self.old.refusals.count + length (refusals_among (numbered_from number (line.now ∷ [])))) }
+            ≡ self.old.refusals.count
+            + length (refusals_among (numbered_from (before.old + number) (line.now ∷ [])))) }
     {
         if is_blank_line(line) {
             return Ok(());
         }
         match read_by(reader, line)? {
             Ok(message) => self.messages.push(Arc::new(alloc, message)?)?,
-            Err(fault) => self.refusals.push(alloc, front, number, &fault)?,
+            Err(fault) => {
+                let number = before.count() + number;
+                self.refusals.push(alloc, front, number, &fault)?
+            }
         }
         Ok(())
     }
@@ -120,27 +130,27 @@ fn ask_ahead(alloc: Global, number: u64) {
     }
 }
 
-// Reads a part of an input, which follows `before` lines. `front` is written before each line that reports a refused one. The
-// part ends early if another part is out of memory.
+// Reads a part of an input. `front` is written before each line that reports a refused one. The part ends early if another
+// part is out of memory.
 pub(crate) fn read_part(
     alloc: Global,
     front: &str,
-    before: u64,
+    before: &mut LinesBefore<'_>,
     part: &[u8],
     shortage: &Shortage,
 ) -> Result<Intake, AllocError>
-    requires { before + length part.now < 2 ^ 64 }
-    ensures { IfOk result (IsReadAfter front.now before part.now) }
+    requires { before.old + length part.now < 2 ^ 64 }
+    ensures { IfOk result (IsReadAfter front.now before.old part.now) }
 {
     let mut intake = Intake::new(alloc);
     let mut reader = MessageReader::new(alloc);
-    let mut number = before;
+    let mut lines = 0;
     let mut rest = part;
     while let Some((line, after)) = first_line(rest) {
         shortage.check()?;
-        ask_ahead(alloc, number);
-        number += 1;
-        intake.take(alloc, &mut reader, front, number, line)?;
+        ask_ahead(alloc, lines);
+        lines += 1;
+        intake.take(alloc, &mut reader, front, before, lines, line)?;
         rest = after;
     }
     Ok(intake)
@@ -154,5 +164,11 @@ pub fn read_lines_after(alloc: Global, front: &str, input: &[u8]) -> Result<Inta
         ≡ told_after front.now (refusals_told input.now)) }
     ensures refused { IfOk result (λ intake. intake.refusals.count ≡ length (refusals_told input.now)) }
 {
-    read_part(alloc, front, 0, input, &Shortage::none())
+    read_part(
+        alloc,
+        front,
+        &mut LinesBefore::none(),
+        input,
+        &Shortage::none(),
+    )
 }

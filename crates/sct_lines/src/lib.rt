@@ -8,6 +8,7 @@
 //! Such a crate says by [`Reason`] why it refuses a line. The only error is that a call is out of memory.
 #![tactic(auto)]
 
+mod before;
 mod intake;
 mod lines;
 mod parts;

@@ -1,14 +1,14 @@
 //! An input read in parts, each in a thread of its own where one can be made.
-ghost use Rattle.std.specs.Prelude.{◌≡◌, ◌+◌, ◌<◌, ◌≤◌, ◌++◌, ◌==◌, ◌^◌, [], filter, length, slice_index, IfOk, IfSome};
+ghost use Rattle.std.specs.Prelude.{◌≡◌, ◌+◌, ◌<◌, ◌≤◌, ◌^◌, length, slice_index, IfOk, IfSome};
 ghost use Rattle.std.specs.Thread.{IsSync};
-ghost use Rattle.sct_lines.specs.Lines.{lines_of, messages_read, refusals_told, told_after, told_text_of};
-ghost use Rattle.sct_lines.specs.Parts.{IsReadAfter};
+ghost use Rattle.sct_lines.specs.Lines.{messages_read, refusals_told, told_after, told_text_of};
+ghost use Rattle.sct_lines.specs.Parts.{IsPartOf};
 ghost use Rattle.sct_message.specs.Sets.{messages_in};
 
+use crate::before::LinesBefore;
 use crate::intake::{Intake, read_part};
 use crate::lines::line_feed;
 use crate::shortage::Shortage;
-use memchr::memchr_iter;
 use std::alloc::{AllocError, Global};
 use std::thread::{Threads, available_parallelism, join};
 
@@ -18,44 +18,10 @@ const WORTH_A_THREAD: usize = 65_536;
 // The most halvings of an input.
 const MOST_HALVINGS: u32 = 16;
 
-// How many line feeds a text has.
-#[tactic(auto, using(crate::proofs::PartLemmas::feeds_counted))]
-fn count_feeds(text: &[u8]) -> u64
-    ensures count { result ≡ length (filter (λ byte. byte == 10) text.now) }
-    ensures most { result ≤ length text.now }
-{
-    memchr_iter(b'\n', text).count() as u64
-}
-
-// How many line feeds a text has. Its halves, and the halves of these, are counted in threads of their own.
-#[cycle(counting)]
-fn count_by_halves<R: Threads + Sync>(rt: &R, text: &[u8], halvings: u32) -> u64
-    ensures count { result ≡ length (filter (λ byte. byte == 10) text.now) }
-    ensures most { result ≤ length text.now }
-{
-    if halvings == 0 {
-        return count_feeds(text);
-    }
-    let (front, back) = text.split_at(text.len() / 2);
-    let (first, second) = join(
-        rt,
-        || -> u64
-            requires { IsSync R.row × (0 < halvings) }
-            ensures { (result ≡ length (filter (λ byte. byte == 10) front.entry.now))
-                × (result ≤ length front.entry.now) }
-        { count_by_halves(rt, front, halvings - 1) },
-        || -> u64
-            requires { IsSync R.row × (0 < halvings) }
-            ensures { (result ≡ length (filter (λ byte. byte == 10) back.entry.now))
-                × (result ≤ length back.entry.now) }
-        { count_by_halves(rt, back, halvings - 1) },
-    );
-    first + second
-}
-
 // The place of the first line feed that is not before `place`.
 fn feed_from(text: &[u8], place: usize) -> Option<usize>
     requires { place ≤ length text.now }
+    ensures from { IfSome result (λ at. place ≤ at) }
     ensures within { IfSome result (λ at. at < length text.now) }
     ensures feed { IfSome result (λ at. slice_index text.now at ≡ 10) }
 {
@@ -63,57 +29,82 @@ fn feed_from(text: &[u8], place: usize) -> Option<usize>
     Some(place + line_feed(rest)?)
 }
 
-// A text in two parts. The first ends with the first line feed that is not before `place`.
-pub(crate) fn cut_from(text: &[u8], place: usize) -> Option<(&[u8], &[u8])>
-    requires { place ≤ length text.now }
-    ensures lines { IfSome result (λ parts. lines_of text.now ≡ lines_of parts.0.now ++ lines_of parts.1.now) }
-    ensures feeds { IfSome result (λ parts.
-        length (lines_of parts.0.now) ≡ length (filter (λ byte. byte == 10) parts.0.now)) }
-    ensures whole { IfSome result (λ parts. length parts.0.now + length parts.1.now ≡ length text.now) }
+// Reads the part of a text that begins at `from`, without threads of its own. `counted` lines are before the text.
+fn read_rest(
+    alloc: Global,
+    label: &str,
+    counted: u64,
+    text: &[u8],
+    from: usize,
+    shortage: &Shortage,
+) -> Result<Intake, AllocError>
+    requires within { from ≤ length text.now }
+    requires few { counted + length text.now < 2 ^ 64 }
+    ensures { IfOk result (IsPartOf label.now counted text.now from) }
 {
-    let at = feed_from(text, place)?;
-    Some(text.split_at(at + 1))
+    let (front, part) = text.split_at(from);
+    read_part(
+        alloc,
+        label,
+        &mut LinesBefore::of(counted, front),
+        part,
+        shortage,
+    )
 }
 
-// Reads a part of an input, which follows `before` lines. Its halves, and the halves of these, are read in threads of their
-// own. `label` is written before each line that reports a refused one. If one of the threads is out of memory, the others
-// end early.
+// Reads the part of a text that begins at `from`. Its halves, and the halves of these, are read in threads of their own.
+// `counted` lines are before the text. `label` is written before each line that reports a refused one. If one of the
+// threads is out of memory, the others end early.
 #[cycle(halves)]
 fn read_by_halves<R: Threads + Sync>(
     rt: &R,
     alloc: Global,
     label: &str,
-    before: u64,
-    part: &[u8],
+    counted: u64,
+    text: &[u8],
+    from: usize,
     halvings: u32,
     shortage: &Shortage,
 ) -> Result<Intake, AllocError>
-    requires { before + length part.now < 2 ^ 64 }
-    ensures { IfOk result (IsReadAfter label.now before part.now) }
+    requires within { from ≤ length text.now }
+    requires few { counted + length text.now < 2 ^ 64 }
+    ensures { IfOk result (IsPartOf label.now counted text.now from) }
 {
     if halvings == 0 {
-        return read_part(alloc, label, before, part, shortage);
+        return read_rest(alloc, label, counted, text, from, shortage);
     }
-    let Some((front, back)) = cut_from(part, part.len() / 2) else {
-        return read_part(alloc, label, before, part, shortage);
+    let Some(at) = feed_from(text, from + (text.len() - from) / 2) else {
+        return read_rest(alloc, label, counted, text, from, shortage);
     };
-    let before_back = before + count_by_halves(rt, front, halvings);
+    let (front, _) = text.split_at(at + 1);
     let (first, second) = join(
         rt,
         || -> Result<Intake, AllocError>
-            requires { IsSync R.row × (0 < halvings) × (before + length front.now < 2 ^ 64) }
-            ensures { IfOk result (IsReadAfter label.entry.now before front.entry.now) }
-        { shortage.noted(read_by_halves(rt, alloc, label, before, front, halvings - 1, shortage)) },
-        || -> Result<Intake, AllocError>
-            requires { IsSync R.row × (0 < halvings) × (before_back + length back.now < 2 ^ 64) }
-            ensures { IfOk result (IsReadAfter label.entry.now before_back back.entry.now) }
+            requires { IsSync R.row × (0 < halvings) × (from ≤ length front.now) × (counted + length front.now < 2 ^ 64) }
+            ensures { IfOk result (IsPartOf label.entry.now counted front.entry.now from) }
         {
             shortage.noted(read_by_halves(
                 rt,
                 alloc,
                 label,
-                before_back,
-                back,
+                counted,
+                front,
+                from,
+                halvings - 1,
+                shortage,
+            ))
+        },
+        || -> Result<Intake, AllocError>
+            requires { IsSync R.row × (0 < halvings) × (at < length text.now) × (counted + length text.now < 2 ^ 64) }
+            ensures { IfOk result (IsPartOf label.entry.now counted text.entry.now (at + 1)) }
+        {
+            shortage.noted(read_by_halves(
+                rt,
+                alloc,
+                label,
+                counted,
+                text,
+                at + 1,
                 halvings - 1,
                 shortage,
             ))
@@ -148,16 +139,9 @@ pub fn read_lines_by_halves<R: Threads + Sync>(
     ensures told { IfOk result (λ intake. intake.refusals.text ≡ told_text_of (refusals_told input.now)) }
     ensures refused { IfOk result (λ intake. intake.refusals.count ≡ length (refusals_told input.now)) }
 {
+    let halvings = halvings.min(MOST_HALVINGS);
     let shortage = Shortage::none();
-    read_by_halves(
-        rt,
-        alloc,
-        "",
-        0,
-        input,
-        halvings.min(MOST_HALVINGS),
-        &shortage,
-    )
+    read_by_halves(rt, alloc, "", 0, input, 0, halvings, &shortage)
 }
 
 /// Reads the lines of an input, which count from 1, in as many threads as there are processors. The only error is that it
@@ -187,7 +171,7 @@ pub fn read_file_lines<R: Threads + Sync>(
         ≡ told_after label.now (refusals_told input.now)) }
     ensures refused { IfOk result (λ intake. intake.refusals.count ≡ length (refusals_told input.now)) }
 {
-    let shortage = Shortage::none();
     let halvings = halvings(rt, input).min(MOST_HALVINGS);
-    read_by_halves(rt, alloc, label, 0, input, halvings, &shortage)
+    let shortage = Shortage::none();
+    read_by_halves(rt, alloc, label, 0, input, 0, halvings, &shortage)
 }

@@ -4,7 +4,7 @@ use Rattle.std.proofs.lemmas.List.{append-nil, length-map, map-append, take-map}
 use Rattle.std.proofs.lemmas.List.Elements.{filter-append}
 use Rattle.std.proofs.Math.Seq.{take-append_seam}
 use Rattle.std.specs.Arc.{arc_value}
-use Rattle.std.specs.Global.{Vec, Global}
+use Rattle.std.specs.Global.{Global}
 use Rattle.std.specs.declared.sync.Arc.{Arc}
 use Rattle.indexmap.specs.IndexMap.{IndexMap, get}
 use Rattle.sct_message.specs.declared.draft.Draft.{Draft}
@@ -46,7 +46,7 @@ module _ {A D : Type 0} (value : A → D) (is_of : D → Bool) where
       ] parts
 
 -- a map compares its keys by a test that answers as the one of the index does
-module _ {K S : Type 0} (key_of : Draft → K) (T E : K → K → Bool) (ties : (j k : K) → E j k ≡ T j k) (old new : IndexMap K (Vec (Arc Draft Global)) S) where
+module _ {K S : Type 0} (key_of : Draft → K) (T E : K → K → Bool) (ties : (j k : K) → E j k ≡ T j k) (old new : IndexMap K (List (Arc Draft Global)) S) where
   is_same : E ≡ T
   is_same = λ n j k. ties j k n
 
@@ -116,7 +116,7 @@ module _ {K S : Type 0} (key_of : Draft → K) (T E : K → K → Bool) (ties : 
   IsIndexBy-some ds k was = ap (λ (F : K → K → Bool). is_some (get F old k)) is_same ∙ was.no_empty k ∙ ap (λ (F : K → K → Bool). nat_lt 0 (length (bucket F old k))) (sym is_same)
 
 -- an index with the entries of another has the same messages
-pub IsIndexBy-entries : {K S : Type 0} (key_of : Draft → K) (same : K → K → Bool) (old new : IndexMap K (Vec (Arc Draft Global)) S) (ds : List Draft)
+pub IsIndexBy-entries : {K S : Type 0} (key_of : Draft → K) (same : K → K → Bool) (old new : IndexMap K (List (Arc Draft Global)) S) (ds : List Draft)
     → new.entries ≡ old.entries → IsIndexBy key_of same old ds → IsIndexBy key_of same new ds
 IsIndexBy-entries key_of same old new ds e was = record {
   messages = λ k. rw e (was.messages k);

@@ -1,6 +1,7 @@
 -- The lemmas of the archive.
 pub mod AgainstLemmas
 pub mod ArchiveLemmas
+pub mod BucketLemmas
 pub mod ContentsLemmas
 pub mod GroupLemmas
 pub mod IndexLemmas

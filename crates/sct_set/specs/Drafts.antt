@@ -1,6 +1,6 @@
 -- Lists of shared messages, read as lists of messages, and the indexes of such lists. Read by an auditor.
 use Rattle.std.specs.Prelude.{ℕ, nat_eq, Bool, ◌≡◌, ◌∷◌, ◌++◌, [], List, map, filter, if◌then◌else◌}
-use Rattle.std.specs.Global.{Vec, Global}
+use Rattle.std.specs.Global.{Global}
 use Rattle.std.specs.Arc.{arc_value}
 use Rattle.std.specs.List.{list_any}
 use Rattle.std.specs.declared.sync.Arc.{Arc}
@@ -43,13 +43,13 @@ against_in drafts = against_after [] drafts
 -- an index of messages: the map has each key of a message, with the messages of that key
 -- in their order, and no other key
 pub record IsIndexBy {K S : Type 0} (key_of : Draft → K) (same : K → K → Bool)
-    (index : IndexMap K (Vec (Arc Draft Global)) S) (drafts : List Draft) : Type 0 where
+    (index : IndexMap K (List (Arc Draft Global)) S) (drafts : List Draft) : Type 0 where
   pub messages : (key : K)
       → drafts_in (bucket same index key) ≡ filter (λ draft. same (key_of draft) key) drafts
   pub no_empty : HasNoEmptyList same index
 
 -- the index of identities, and the index of the digests of the messages that are not the first of their identity
-pub record AreIndexes {S Z : Type 0} (by_identity : IndexMap Identity (Vec (Arc Draft Global)) S)
-    (by_digest : IndexMap ℕ (Vec (Arc Draft Global)) Z) (drafts : List Draft) : Type 0 where
+pub record AreIndexes {S Z : Type 0} (by_identity : IndexMap Identity (List (Arc Draft Global)) S)
+    (by_digest : IndexMap ℕ (List (Arc Draft Global)) Z) (drafts : List Draft) : Type 0 where
   pub identities : IsIndexBy identity_of same_identity by_identity drafts
   pub digests : IsIndexBy digest_of nat_eq by_digest (against_in drafts)

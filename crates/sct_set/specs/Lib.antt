@@ -10,3 +10,4 @@ pub mod Groups
 pub mod Laws
 pub mod LineOrder
 pub mod Pieces
+pub mod Places

@@ -19,7 +19,7 @@ ghost use Rattle.sct_set.specs.Filing.{is_first_in, with_new};
 ghost use Rattle.sct_set.specs.declared.arrivals.Front.TheVariants as front;
 
 use crate::added::Added;
-use crate::buckets::{file, items_at, unfile};
+use crate::buckets::{Bucket, file, items_at, unfile};
 use indexmap::IndexMap;
 use indexmap::map::Entry;
 use sct_message::{Identity, Message, keys_are_ordered};
@@ -28,9 +28,9 @@ use std::hash::{FoldHasher, Hash, Hasher};
 use std::marker::Model;
 use std::sync::Arc;
 
-type ByIdentity = IndexMap<Identity, Vec<Arc<Message>>>;
+type ByIdentity = IndexMap<Identity, Bucket<Arc<Message>>>;
 
-type ByDigest = IndexMap<u64, Vec<Arc<Message>>>;
+type ByDigest = IndexMap<u64, Bucket<Arc<Message>>>;
 
 // The digest of a message's elements: equal for equal messages, and mostly different for different ones.
 #[tactic(auto, unfolding(crate::specs::Digest::digest_of))]
@@ -66,15 +66,6 @@ fn is_first(message: &Message, messages: &[Arc<Message>]) -> bool
     }
 }
 
-// A list of this one message.
-fn list_of(alloc: Global, message: &Arc<Message>) -> Result<Vec<Arc<Message>>, AllocError>
-    ensures { IfOk result (λ list. drafts_in list.items ≡ arc_value message.now ∷ []) }
-{
-    let mut list = Vec::with_capacity(alloc, 1)?;
-    list.push(message.clone()?)?;
-    Ok(list)
-}
-
 // Appends a handle to a message. If out of memory, nothing changes.
 fn push_handle(messages: &mut Vec<Arc<Message>>, message: &Arc<Message>) -> Result<(), AllocError>
     ensures ok { OnOk result (drafts_in messages.new.items
@@ -99,8 +90,7 @@ pub(crate) enum Front {
 
 // Files a message under a key that has no list, with one look-up. If out of memory, no list is changed.
 fn file_at_front<K: Eq + Hash + Drop>(
-    alloc: Global,
-    index: &mut IndexMap<K, Vec<Arc<Message>>>,
+    index: &mut IndexMap<K, Bucket<Arc<Message>>>,
     key: K,
     message: &Arc<Message>,
 ) -> Result<Front, AllocError>
@@ -119,32 +109,28 @@ fn file_at_front<K: Eq + Hash + Drop>(
 {
     match index.entry(key)? {
         Entry::Occupied(entry) => {
-            if is_first(message, entry.get()) {
+            if is_first(message, entry.get().items()) {
                 Ok(Front::Same)
             } else {
                 Ok(Front::Other)
             }
         }
         Entry::Vacant(entry) => {
-            let list = match list_of(alloc, message) {
-                Ok(list) => list,
+            let handle = match message.clone() {
+                Ok(handle) => handle,
                 Err(refused) => {
                     entry.into_key();
                     return Err(refused);
                 }
             };
-            entry.insert(list);
+            entry.insert(Bucket::of(handle));
             Ok(Front::Filed)
         }
     }
 }
 
 // Files a message as the first of its identity, with one look-up. If out of memory, the index holds what it held.
-fn file_first(
-    alloc: Global,
-    index: &mut ByIdentity,
-    message: &Arc<Message>,
-) -> Result<Front, AllocError>
+fn file_first(index: &mut ByIdentity, message: &Arc<Message>) -> Result<Front, AllocError>
     ensures filed { IfOk result (λ at. at ≡ front.Filed → (ds : List DraftOf)
         → IsIndexBy identity_of same_identity index.old ds
         → IsIndexBy identity_of same_identity index.new (ds ++ arc_value message.now ∷ [])) }
@@ -163,7 +149,7 @@ fn file_first(
     ensures err { OnErr result (index.new.entries ≡ index.old.entries) }
 {
     keys_are_ordered();
-    let at = file_at_front(alloc, index, message.identity(), message)?;
+    let at = file_at_front(index, message.identity(), message)?;
     Ok(at)
 }
 
@@ -353,7 +339,7 @@ impl Arrivals {
         ensures ok { OnOk result (self.new ≡ with_new self.old (arc_value message.now)) }
         ensures err { OnErr result (self.new ≡ self.old) }
     {
-        match file_first(self.alloc, &mut self.by_identity, message)? {
+        match file_first(&mut self.by_identity, message)? {
             Front::Filed => {
                 if let Err(refused) = push_handle(&mut self.messages, message) {
                     unfile_by_identity(&mut self.by_identity, message);
@@ -366,6 +352,17 @@ impl Arrivals {
         }
     }
 
+    // Makes room for more messages in one step, if they are more than there are. Else the room grows by doubling.
+    fn reserve(&mut self, more: usize) -> Result<(), AllocError>
+        ensures { self.new ≡ self.old }
+    {
+        if more > self.len() {
+            self.messages.reserve(more)?;
+            self.by_identity.reserve(more)?;
+        }
+        Ok(())
+    }
+
     /// Appends the messages that are not held. Returns how many these are. If out of memory, none is appended.
     pub(crate) fn add_all(&mut self, messages: &[Arc<Message>]) -> Result<u64, AllocError>
         requires { HasNoRepeat self.old }
@@ -376,6 +373,7 @@ impl Arrivals {
         ensures err { OnErr result (self.new ≡ self.old) }
     {
         let before = self.len();
+        self.reserve(messages.len())?;
         for message in messages {
             if let Err(refused) = self.add(message) {
                 self.truncate(before);

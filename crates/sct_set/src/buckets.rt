@@ -3,16 +3,17 @@
 ghost use Rattle.std.specs.Prelude.{◌≡◌, ◌-◌, ◌++◌, ◌∷◌, [], length, take, OnOk, OnErr, if◌then◌else◌};
 ghost use Rattle.sct_set.specs.Buckets.{bucket, HasNoEmptyList};
 
+pub use crate::bucket::Bucket;
 use indexmap::IndexMap;
 use std::alloc::{AllocError, Global};
 use std::hash::Hash;
 
 /// The items at a key, in the order in which they were filed. Expected O(1).
-pub fn items_at<'a, K: Eq + Hash, V>(index: &'a IndexMap<K, Vec<V>>, key: &K) -> &'a [V]
+pub fn items_at<'a, K: Eq + Hash, V>(index: &'a IndexMap<K, Bucket<V>>, key: &K) -> &'a [V]
     ensures { result.now ≡ bucket K.eq index.now key.now }
 {
     match index.get(key) {
-        Some(items) => items,
+        Some(bucket) => bucket.items(),
         None => &[],
     }
 }
@@ -20,8 +21,7 @@ pub fn items_at<'a, K: Eq + Hash, V>(index: &'a IndexMap<K, Vec<V>>, key: &K) ->
 /// Gives a key a new list of this one item, in place of any list that it had. If out of memory, no list is changed.
 /// Expected O(1).
 pub fn file_first<K: Eq + Hash + Drop, V: Drop>(
-    alloc: Global,
-    index: &mut IndexMap<K, Vec<V>>,
+    index: &mut IndexMap<K, Bucket<V>>,
     key: K,
     item: V,
 ) -> Result<(), AllocError>
@@ -30,16 +30,14 @@ pub fn file_first<K: Eq + Hash + Drop, V: Drop>(
     ensures err { OnErr result ((k : K) → bucket K.eq index.new k ≡ bucket K.eq index.old k) }
     ensures no_empty { HasNoEmptyList K.eq index.old → HasNoEmptyList K.eq index.new }
 {
-    let mut list = Vec::with_capacity(alloc, 1)?;
-    list.push(item)?;
-    index.insert(key, list)?;
+    index.insert(key, Bucket::of(item))?;
     Ok(())
 }
 
 /// Appends an item to its key's list. If out of memory, no list is changed. Expected O(1).
 pub fn file<K: Eq + Hash + Drop, V: Drop>(
     alloc: Global,
-    index: &mut IndexMap<K, Vec<V>>,
+    index: &mut IndexMap<K, Bucket<V>>,
     key: K,
     item: V,
 ) -> Result<(), AllocError>
@@ -48,26 +46,26 @@ pub fn file<K: Eq + Hash + Drop, V: Drop>(
     ensures err { OnErr result ((k : K) → bucket K.eq index.new k ≡ bucket K.eq index.old k) }
     ensures no_empty { HasNoEmptyList K.eq index.old → HasNoEmptyList K.eq index.new }
 {
-    if let Some(list) = index.get_mut(&key) {
-        list.push(item)?;
+    if let Some(bucket) = index.get_mut(&key) {
+        bucket.push(alloc, item)?;
         return Ok(());
     }
-    file_first(alloc, index, key, item)?;
+    file_first(index, key, item)?;
     Ok(())
 }
 
 /// Removes the last item of a key's list, if the key has one. A list that becomes empty is removed. Expected O(1).
-pub fn unfile<K: Eq + Hash + Drop, V: Drop>(index: &mut IndexMap<K, Vec<V>>, key: &K)
+pub fn unfile<K: Eq + Hash + Drop, V: Drop>(index: &mut IndexMap<K, Bucket<V>>, key: &K)
     ensures taken { (k : K) → bucket K.eq index.new k
         ≡ (if K.eq key.now k then take (length (bucket K.eq index.old k) - 1) (bucket K.eq index.old k)
         else bucket K.eq index.old k) }
     ensures no_empty { HasNoEmptyList K.eq index.old → HasNoEmptyList K.eq index.new }
 {
-    let Some(list) = index.get_mut(key) else {
+    let Some(bucket) = index.get_mut(key) else {
         return;
     };
-    list.pop();
-    if list.is_empty() {
+    bucket.pop();
+    if bucket.is_empty() {
         index.swap_remove(key);
     }
 }

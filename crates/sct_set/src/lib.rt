@@ -4,6 +4,7 @@
 mod added;
 mod archive;
 mod arrivals;
+mod bucket;
 pub mod buckets;
 mod fault;
 pub mod laws;

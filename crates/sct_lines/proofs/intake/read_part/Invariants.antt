@@ -7,10 +7,11 @@ use Rattle.sct_lines.proofs.intake.read_part.Given as goal
 
 abbrev pub invariant-loop-line : goal.invariant-loop-line
 invariant-loop-line l = record {
-  counted : l.number + length l.rest ≤ l.before + length l.part;
-  messages : messages_in l.intake.messages.items ++ messages_after l.number l.rest ≡ messages_after l.before l.part;
-  told : l.intake.refusals.text ++ told_after l.front (refusals_after l.number l.rest) ≡ told_after l.front (refusals_after l.before l.part);
-  refused : l.intake.refusals.count + length (refusals_after l.number l.rest) ≡ length (refusals_after l.before l.part);
+  before : l.before ≡ l.initial.before;
+  counted : l.lines + length l.rest ≤ length l.part;
+  messages : messages_in l.intake.messages.items ++ messages_after (l.initial.before + l.lines) l.rest ≡ messages_after l.initial.before l.part;
+  told : l.intake.refusals.text ++ told_after l.front (refusals_after (l.initial.before + l.lines) l.rest) ≡ told_after l.front (refusals_after l.initial.before l.part);
+  refused : l.intake.refusals.count + length (refusals_after (l.initial.before + l.lines) l.rest) ≡ length (refusals_after l.initial.before l.part);
 }
 
 abbrev pub decreases-loop-line : goal.decreases-loop-line
