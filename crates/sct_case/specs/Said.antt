@@ -19,7 +19,6 @@ use Rattle.sct_case.specs.declared.said.OriginalAmount.{OriginalAmount}
 use Rattle.sct_case.specs.declared.said.ReturnMade.{ReturnMade}
 use Rattle.sct_case.specs.declared.said.RefusalMade.{RefusalMade}
 use Rattle.sct_case.specs.declared.said.RecallAsked.{RecallAsked}
-use Rattle.sct_case.specs.declared.said.RecallNamed.{RecallNamed}
 
 -- One of the messages makes the statement, as a statement of the named sort.
 pub record IsSaid {X : Type 0} (by : Draft → List X) (clean : List Draft) (said : X) : Type 0 where
@@ -103,6 +102,10 @@ abbrev pub requests_by : TransferKey → Draft → List RecallAsked
 requests_by transfer (StatusRequest d) =
     where_of transfer (transfer_key d.debtor_agent d.original.transaction_id) (cancellations_in d.cancellation_id)
 requests_by transfer other = []
+
+-- a recall that a message names, by its identification
+pub record RecallNamed : Type 0 where
+  pub cxl : List ℕ
 
 -- the recalls of the transfer that it names, in whatever way
 abbrev pub named_in : TransferKey → RecallKey → List RecallNamed

@@ -12,10 +12,9 @@ use Rattle.sct_case.specs.declared.status.Status.TheVariants as status
 use Rattle.sct_case.specs.declared.status.RecallStatus.{RecallStatus}
 use Rattle.sct_case.specs.declared.status.RecallStatus.TheVariants as recall
 use Rattle.sct_case.specs.declared.said.RecallAsked.{RecallAsked}
-use Rattle.sct_case.specs.declared.said.RecallNamed.{RecallNamed}
 use Rattle.sct_case.specs.declared.said.ReturnMade.{ReturnMade}
 use Rattle.sct_case.specs.declared.said.RefusalMade.{RefusalMade}
-use Rattle.sct_case.specs.Said.{is_acceptance, is_investigation, instructions_by, rejections_by, recalls_made_by, returns_by, refusals_by, requests_by, recalls_named_by}
+use Rattle.sct_case.specs.Said.{is_acceptance, is_investigation, instructions_by, rejections_by, recalls_made_by, returns_by, refusals_by, requests_by, recalls_named_by, RecallNamed}
 use Rattle.sct_case.specs.Told.{findings_of, has_some, recall_of_it, return_of_it, refusal_of_it}
 
 -- ---- tables of statuses

@@ -67,12 +67,6 @@ pub(crate) struct RecallAsked {
     pub(crate) cxl: Id35,
 }
 
-/// A recall that a message names. Contracts alone use it, and no code makes one.
-#[derive(Drop)]
-pub(crate) struct RecallNamed {
-    pub(crate) cxl: Id35,
-}
-
 /// What messages say of a transfer. Each list is in the order of the messages.
 #[derive(Drop)]
 pub(crate) struct Said {

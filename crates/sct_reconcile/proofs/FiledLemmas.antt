@@ -3,7 +3,6 @@ use Rattle.std.specs.Prelude.{map, filter, length, get_or, take, ◌+◌, ◌<�
 use Rattle.std.proofs.Common.{◌≡◌, ◌∙◌, ap, sym, subst, refl, Bool, true, false, cond, List, [], ◌∷◌, ◌++◌}
 use Rattle.std.proofs.lemmas.List.{append-nil, map-append, take_more as longer}
 use Rattle.std.proofs.lemmas.List.Elements.{filter-append}
-use Rattle.std.specs.Global.{Vec}
 use Rattle.indexmap.specs.IndexMap.{IndexMap}
 use Rattle.sct_message.specs.Order.{same_transfer}
 use Rattle.sct_message.specs.declared.keys.TransferKey.{TransferKey}
@@ -33,7 +32,7 @@ module _ (E : TransferKey → TransferKey → Bool) (ties : (j k : TransferKey) 
   is_same : E ≡ same_transfer
   is_same = λ n j k. ties j k n
 
-  pub filed_more : {S : Type 0} (old new : IndexMap TransferKey (Vec Listed) S) (rows : List ListedRow) (row : ListedRow) → IsFiled old rows
+  pub filed_more : {S : Type 0} (old new : IndexMap TransferKey (List Listed) S) (rows : List ListedRow) (row : ListedRow) → IsFiled old rows
       → ((k : TransferKey) → bucket E new k ≡ cond (E row.key k) (bucket E old k ++ row.listed ∷ []) (bucket E old k))
       → IsFiled new (rows ++ row ∷ [])
   filed_more old new rows row was became = λ k.
@@ -41,6 +40,6 @@ module _ (E : TransferKey → TransferKey → Bool) (ties : (j k : TransferKey) 
       ∙ ap (λ (b : List Listed). cond (same_transfer row.key k) (b ++ row.listed ∷ []) b) (was k)
       ∙ sym (listed_more rows row k)
 
-  pub filed_at : {S : Type 0} (index : IndexMap TransferKey (Vec Listed) S) (rows : List ListedRow) (key : TransferKey) → IsFiled index rows
+  pub filed_at : {S : Type 0} (index : IndexMap TransferKey (List Listed) S) (rows : List ListedRow) (key : TransferKey) → IsFiled index rows
       → bucket E index key ≡ listed_on rows key
   filed_at index rows key filed = ap (λ (T : TransferKey → TransferKey → Bool). bucket T index key) is_same ∙ filed key

@@ -1,6 +1,5 @@
 -- The rows of a list, filed by transfer. Proof plumbing.
 use Rattle.std.specs.Prelude.{◌≡◌, List}
-use Rattle.std.specs.Global.{Vec}
 use Rattle.indexmap.specs.IndexMap.{IndexMap}
 use Rattle.sct_message.specs.Order.{same_transfer}
 use Rattle.sct_message.specs.declared.keys.TransferKey.{TransferKey}
@@ -10,5 +9,5 @@ use Rattle.sct_reconcile.specs.declared.rows.Listed.{Listed}
 use Rattle.sct_reconcile.specs.declared.rows.ListedRow.{ListedRow}
 
 -- the table has at each transfer what the rows on it say
-abbrev pub IsFiled : {S : Type 0} → IndexMap TransferKey (Vec Listed) S → List ListedRow → Type 0
+abbrev pub IsFiled : {S : Type 0} → IndexMap TransferKey (List Listed) S → List ListedRow → Type 0
 IsFiled index rows = (key : TransferKey) → bucket same_transfer index key ≡ listed_on rows key

@@ -7,11 +7,11 @@ ghost use Rattle.sct_reconcile.specs.declared.rows.ListedRow.{ListedRow as Row};
 use crate::rows::{Listed, ListedRow};
 use indexmap::IndexMap;
 use sct_message::{TransferKey, keys_are_ordered};
-use sct_set::buckets::{file, items_at};
+use sct_set::buckets::{Bucket, file, items_at};
 use std::alloc::{AllocError, Global};
 
 /// What the rows of a list say of each transfer.
-pub(crate) type Index = IndexMap<TransferKey, Vec<Listed>>;
+pub(crate) type Index = IndexMap<TransferKey, Bucket<Listed>>;
 
 /// The rows filed by transfer. Those of one transfer are in the order of the list.
 pub(crate) fn by_transfer(alloc: Global, rows: &[ListedRow]) -> Result<Index, AllocError>

@@ -17,7 +17,7 @@ use Rattle.sct_case.specs.Statuses.{Unknown, transfer_status_of}
 use Rattle.sct_case.proofs.Judged.{found_of_asides, unknown}
 use Rattle.sct_view.specs.Answers.{status_of}
 use Rattle.sct_view.specs.Changes.{Change, case_after, change_in, changes_of}
-use Rattle.sct_view.specs.Kept.{Kept, case_of, contradicted_on, kept_in, no_messages, same_key}
+use Rattle.sct_view.specs.Kept.{Kept, ListsAll, case_of, contradicted_on, kept_in, no_messages, same_key}
 use Rattle.sct_view.specs.Touched.{touched_by}
 use Rattle.sct_view.specs.declared.case.Planned.{Planned}
 use Rattle.sct_message.proofs.Tests.{none_kept}
@@ -34,22 +34,26 @@ no_asides : ascending identity_order [] ≡ []
 unfolding IsStrictlySortedBy
 no_asides = ascending-sorted identity_total identities_same [] tt
 
--- nothing is kept of a transfer that is no key of the set
-pub nothing_kept : (s : MessageSet) (t : TransferKey) → list_any (same_key t) (keys_of s) ≡ false → case_of s t ≡ no_messages
+-- nothing is kept of a transfer that no message of the set is on
+pub nothing_on : (s : MessageSet) (t : TransferKey) → filter (is_on t) (in_order s) ≡ [] → case_of s t ≡ no_messages
 unfolding case_of status_of
-nothing_kept s t e =
-    let nowhere : list_any (is_on t) (in_order s) ≡ false =
-    any_ascending message_total message_same (is_on t) (set.items s)
-    ∙ sym (key-is_on s t)
-    ∙ ap (λ (E : TransferKey → TransferKey → Bool). list_any (E t) (keys_of s)) (sym same_key_is)
-    ∙ e in
-    let none = λ (q : Draft → Bool). filter_swap (is_on t) q (in_order s) ∙ ap (filter q) (none_kept (is_on t) (in_order s) nowhere) in
+nothing_on s t none_on =
+    let none = λ (q : Draft → Bool). filter_swap (is_on t) q (in_order s) ∙ ap (filter q) none_on in
     let clean : messages_on s t ≡ [] = none (λ m. not (is_contradicted s m)) in
     let contradicted : contradicted_on s t ≡ [] = none (is_contradicted s) in
     let asides : asides_of s t ≡ [] = ap (λ (ms : List Draft). ascending identity_order (map identity_of ms)) contradicted ∙ no_asides in
     let stands : transfer_status_of t (messages_on s t) (asides_of s t) ≡ Unknown =
     (λ i. transfer_status_of t (clean i) (asides i)) ∙ sym (unknown t [] [] [] (found_of_asides t [] [] refl) refl refl) in
     λ i. record { clean = clean i; contradicted = contradicted i; stands = stands i }
+
+-- nothing is kept of a transfer that is no key of the set
+pub nothing_kept : (s : MessageSet) (t : TransferKey) → list_any (same_key t) (keys_of s) ≡ false → case_of s t ≡ no_messages
+nothing_kept s t e =
+    nothing_on s t (none_kept (is_on t) (in_order s)
+    (any_ascending message_total message_same (is_on t) (set.items s)
+    ∙ sym (key-is_on s t)
+    ∙ ap (λ (E : TransferKey → TransferKey → Bool). list_any (E t) (keys_of s)) (sym same_key_is)
+    ∙ e))
 
 -- ---- changes, one after the other
 
@@ -70,15 +74,15 @@ after_changes later (k ∷ ts) cases t =
       | false ↦ λ _. refl
     ] refl
 
--- changes of all keys of a set make the cases of the set of cases without messages
-pub cases_built : (s : MessageSet) (changes : List Change) → changes ≡ changes_of s (keys_of s) → (t : TransferKey)
+-- changes of transfers that have all keys of a set make the cases of the set of cases without messages
+pub cases_built : (s : MessageSet) (ts : List TransferKey) → ListsAll ts (case_of s) → (changes : List Change) → changes ≡ changes_of s ts → (t : TransferKey)
     → case_after changes (λ t. no_messages) t ≡ case_of s t
-cases_built s changes are t =
+cases_built s ts all changes are t =
     ap (λ (cs : List Change). case_after cs (λ t. no_messages) t) are
-    ∙ after_changes s (keys_of s) (λ t. no_messages) t
-    ∙ elim (list_any (same_key t) (keys_of s)) as (λ b. list_any (same_key t) (keys_of s) ≡ b → (if b then case_of s t else no_messages) ≡ case_of s t) [
+    ∙ after_changes s ts (λ t. no_messages) t
+    ∙ elim (list_any (same_key t) ts) as (λ b. list_any (same_key t) ts ≡ b → (if b then case_of s t else no_messages) ≡ case_of s t) [
       | true ↦ λ _. refl
-      | false ↦ λ e. sym (nothing_kept s t e)
+      | false ↦ λ e. sym (all t e)
     ] refl
 
 -- tables that kept what a set has of each transfer keep after the changes what the larger set has of it

@@ -1,7 +1,7 @@
 -- The messages of a transfer, parted, are what a set of messages keeps of it. Proof plumbing.
 use Rattle.std.specs.FinSet as set
 use Rattle.std.specs.FinSet.{contains-items, contains-union}
-use Rattle.std.proofs.Common.{◌≡◌, ◌∙◌, refl, sym, ap, Bool, not, ◌&&◌, ◌||◌, List, [], ◌∷◌, ◌++◌, map, filter, arith}
+use Rattle.std.proofs.Common.{◌≡◌, ◌∙◌, refl, sym, ap, Bool, false, not, ◌&&◌, ◌||◌, List, [], ◌∷◌, ◌++◌, map, filter, arith}
 use Rattle.std.specs.List.{list_any}
 use Rattle.std.proofs.lemmas.List.Folds.{list_any-append}
 use Rattle.std.proofs.lemmas.Map.Views.{any-filter_same}
@@ -22,6 +22,11 @@ use Rattle.sct_view.specs.Kept.{case_of, contradicted_on}
 pub filter_swap : {X : Type 0} (p r : X → Bool) (xs : List X) → filter p (filter r xs) ≡ filter r (filter p xs)
 filter_swap p r [] = refl
 filter_swap p r (x ∷ xs) = grind (arith, filter_swap p r xs)
+
+-- where no item passes, all of them fail
+pub all_fail : {X : Type 0} (p : X → Bool) (xs : List X) → list_any p xs ≡ false → filter (λ x. not (p x)) xs ≡ xs
+all_fail p [] e = refl
+all_fail p (x ∷ xs) e = grind (arith, all_fail p xs)
 
 -- ---- the messages of two sets
 

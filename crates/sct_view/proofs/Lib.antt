@@ -4,6 +4,7 @@ pub mod BankLemmas
 pub mod CaseLemmas
 pub mod ChangeLemmas
 pub mod CommitLemmas
+pub mod EntryLemmas
 pub mod EvaluationLemmas
 pub mod FewLemmas
 pub mod FiledLemmas

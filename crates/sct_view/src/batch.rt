@@ -19,14 +19,13 @@ use crate::by_transfer::{by_transfer, on_transfer, push_keys};
 use crate::case::Planned;
 use crate::evaluation::evaluate;
 use crate::view::View;
-use sct_case::CaseFault;
 use sct_message::{Message, TransferKey};
 use sct_set::Archive;
 use std::alloc::{AllocError, Global};
 use std::sync::Arc;
 
 /// Adds a message to the fresh ones, if it is not held.
-fn add_fresh(held: &Archive, fresh: &mut Archive, message: &Arc<Message>) -> Result<(), CaseFault>
+fn add_fresh(held: &Archive, fresh: &mut Archive, message: &Arc<Message>) -> Result<(), AllocError>
     ensures { OnOk result (fresh.new ≡ (if set.contains held.now (arc_value message.now) then fresh.old
         else set.insert fresh.old (arc_value message.now))) }
 {
@@ -34,7 +33,7 @@ fn add_fresh(held: &Archive, fresh: &mut Archive, message: &Arc<Message>) -> Res
         return Ok(());
     }
     let Ok(_) = fresh.add(message.clone()?) else {
-        return Err(CaseFault::Memory);
+        return Err(AllocError);
     };
     Ok(())
 }
@@ -44,7 +43,7 @@ pub(crate) fn fresh_among(
     alloc: Global,
     held: &Archive,
     batch: &[Arc<Message>],
-) -> Result<Archive, CaseFault>
+) -> Result<Archive, AllocError>
     ensures { IfOk result (λ fresh. fresh ≡ fresh_of held.now (contents_of (messages_in batch.now))) }
 {
     let mut fresh = Archive::new(alloc);
@@ -168,7 +167,7 @@ impl View {
         transfer: &TransferKey,
         messages: &[Arc<Message>],
         evaluations: &mut u64,
-    ) -> Result<Planned, CaseFault>
+    ) -> Result<Planned, AllocError>
         requires room { evaluations.old < 2 ^ 63 }
         requires case { ascending message_order
             ((case_of self.now transfer.now).clean
@@ -193,7 +192,7 @@ impl View {
         fresh: &Archive,
         touched: &[TransferKey],
         evaluations: &mut u64,
-    ) -> Result<Vec<Planned>, CaseFault>
+    ) -> Result<Vec<Planned>, AllocError>
         requires none { evaluations.old ≡ 0 }
         ensures planned { IfOk result (λ planned. map change_in planned.items
             ≡ changes_of (set.union self.now fresh.now) touched.now) }
@@ -209,7 +208,7 @@ impl View {
     }
 
     /// Finds the fresh messages of a batch and the transfers that they touch, and evaluates these transfers.
-    pub(crate) fn replan(&self, batch: &[Arc<Message>]) -> Result<Replanned, CaseFault>
+    pub(crate) fn replan(&self, batch: &[Arc<Message>]) -> Result<Replanned, AllocError>
         ensures fresh { IfOk result (λ plan. plan.fresh ≡ fresh_of self.now (contents_of (messages_in batch.now))) }
         ensures planned { IfOk result (λ plan. map change_in plan.planned.items
             ≡ changes_of (set.union self.now plan.fresh) (touched_by self.now plan.fresh)) }

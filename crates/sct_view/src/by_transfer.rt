@@ -2,22 +2,23 @@
 
 ghost use Rattle.std.specs.Prelude.{◌≡◌, ◌≤◌, ◌<◌, ◌+◌, ◌-◌, ◌++◌, ◌∷◌, [], true, List, Some, length, map, filter, IfOk, OnOk};
 ghost use Rattle.std.specs.Arc.{arc_value};
-ghost use Rattle.std.specs.List.{flat_map, slice_get};
+ghost use Rattle.std.specs.List.{slice_get};
 ghost use Rattle.sct_message.specs.Ascending.{ascending};
 ghost use Rattle.sct_message.specs.Keys.{identity_of, transfers_of};
-ghost use Rattle.sct_message.specs.Order.{message_order, identity_order, transfer_order};
+ghost use Rattle.sct_message.specs.Order.{message_order, identity_order};
 ghost use Rattle.sct_message.specs.Sets.{messages_in};
 ghost use Rattle.sct_message.specs.Transfers.{is_on};
 ghost use Rattle.sct_message.specs.declared.draft.Draft.{Draft as DraftOf};
 ghost use Rattle.sct_view.specs.Filed.{HasThose, IsFiledBy};
 
 use indexmap::IndexMap;
-use rayon::prelude::*;
 use sct_message::{Identity, Message, TransferKey, keys_are_ordered};
-use sct_set::buckets::file;
+use sct_set::buckets::{Bucket, file};
 use std::alloc::{AllocError, Global};
 use std::sync::Arc;
-use std::thread::Threads;
+
+/// Messages filed by transfer, in the order in which the transfers came.
+pub(crate) type ByTransfer = IndexMap<TransferKey, Bucket<Arc<Message>>>;
 
 /// The messages in their order, each once.
 pub(crate) fn in_order(
@@ -27,7 +28,7 @@ pub(crate) fn in_order(
     ensures { IfOk result (λ sorted.
         messages_in sorted.items ≡ ascending message_order (messages_in messages.now)) }
 {
-    let mut sorted = Vec::new(alloc);
+    let mut sorted = Vec::with_capacity(alloc, messages.len())?;
     for message in messages {
         sorted.push(message.clone()?)?;
     }
@@ -44,7 +45,7 @@ pub(crate) fn identities(
     ensures { IfOk result (λ found.
         found.items ≡ ascending identity_order (map identity_of (messages_in messages.now))) }
 {
-    let mut found = Vec::new(alloc);
+    let mut found = Vec::with_capacity(alloc, messages.len())?;
     for message in messages {
         found.push(message.identity())?;
     }
@@ -71,7 +72,7 @@ fn is_as_before(message: &Message, i: usize, transfer: &TransferKey) -> bool
 // Files a message under each transfer that it is on. Transactions of one transfer in a row count once.
 fn file_each(
     alloc: Global,
-    index: &mut IndexMap<TransferKey, Vec<Arc<Message>>>,
+    index: &mut ByTransfer,
     message: &Arc<Message>,
 ) -> Result<(), AllocError>
     ensures { OnOk result ((ms : List DraftOf) → IsFiledBy index.old ms
@@ -92,7 +93,7 @@ fn file_each(
 pub(crate) fn by_transfer(
     alloc: Global,
     messages: &[Arc<Message>],
-) -> Result<IndexMap<TransferKey, Vec<Arc<Message>>>, AllocError>
+) -> Result<ByTransfer, AllocError>
     ensures { IfOk result (λ index. IsFiledBy index (messages_in messages.now)) }
 {
     let mut index = IndexMap::new(alloc);
@@ -103,15 +104,12 @@ pub(crate) fn by_transfer(
 }
 
 /// The messages that are filed under a transfer.
-pub(crate) fn on_transfer<'a>(
-    index: &'a IndexMap<TransferKey, Vec<Arc<Message>>>,
-    transfer: &TransferKey,
-) -> &'a [Arc<Message>]
+pub(crate) fn on_transfer<'a>(index: &'a ByTransfer, transfer: &TransferKey) -> &'a [Arc<Message>]
     ensures { (ms : List DraftOf) → IsFiledBy index.now ms
         → HasThose (messages_in result.now) (filter (is_on transfer.now) ms) }
 {
     match index.get(transfer) {
-        Some(messages) => messages,
+        Some(bucket) => bucket.items(),
         None => &[],
     }
 }
@@ -128,47 +126,4 @@ pub(crate) fn push_keys(found: &mut Vec<TransferKey>, message: &Message) -> Resu
         found.push(transfer)?;
     }
     Ok(())
-}
-
-// The transfers of each message.
-fn transfers_of_each(
-    alloc: Global,
-    messages: &[Arc<Message>],
-) -> Result<Vec<TransferKey>, AllocError>
-    ensures { IfOk result (λ found. found.items ≡ flat_map transfers_of (messages_in messages.now)) }
-{
-    let mut found = Vec::with_capacity(alloc, messages.len())?;
-    for message in messages {
-        push_keys(&mut found, message)?;
-    }
-    Ok(found)
-}
-
-/// The transfers that the messages are on, ascending, each once.
-pub(crate) fn transfers(
-    alloc: Global,
-    messages: &[Arc<Message>],
-) -> Result<Vec<TransferKey>, AllocError>
-    ensures { IfOk result (λ found.
-        found.items ≡ ascending transfer_order (flat_map transfers_of (messages_in messages.now))) }
-{
-    let mut found = transfers_of_each(alloc, messages)?;
-    found.sort()?;
-    found.dedup();
-    Ok(found)
-}
-
-/// The transfers that the messages are on, ascending, each once, sorted in several threads.
-pub(crate) fn transfers_in_parts<R: Threads + Sync>(
-    rt: &R,
-    alloc: Global,
-    messages: &[Arc<Message>],
-) -> Result<Vec<TransferKey>, AllocError>
-    ensures { IfOk result (λ found.
-        found.items ≡ ascending transfer_order (flat_map transfers_of (messages_in messages.now))) }
-{
-    let mut found = transfers_of_each(alloc, messages)?;
-    par_sort(rt, alloc, &mut found)?;
-    found.dedup();
-    Ok(found)
 }

@@ -1,6 +1,8 @@
 //! The case of a transfer, evaluated from all its messages.
 
 ghost use Rattle.std.specs.Prelude.{◌≡◌, filter, not, IfOk};
+ghost use Rattle.std.specs.Arc.{arc_value};
+ghost use Rattle.std.specs.List.{list_any};
 ghost use Rattle.std.specs.Option.{option_copied};
 ghost use Rattle.sct_message.specs.Ascending.{ascending};
 ghost use Rattle.sct_message.specs.Order.{message_order};
@@ -11,7 +13,7 @@ ghost use Rattle.sct_view.specs.Kept.{case_of, kept_in};
 
 use crate::by_transfer::{identities, in_order};
 use crate::case::Case;
-use sct_case::{CaseFault, transfer_status};
+use sct_case::transfer_status;
 use sct_message::{Message, TransferKey};
 use sct_set::Archive;
 use std::alloc::{AllocError, Global};
@@ -34,9 +36,18 @@ fn is_disputed(held: &Archive, fresh: Option<&Archive>, message: &Message) -> bo
     }
 }
 
+/// Whether an archive, with the fresh messages, contradicts the identity of one of the messages.
+fn is_some_disputed(held: &Archive, fresh: Option<&Archive>, messages: &[Arc<Message>]) -> bool
+    ensures { result ≡ list_any (λ m. is_contradicted (with_fresh held.now (option_copied fresh.entry)) (arc_value m)) messages.now }
+{
+    messages
+        .iter()
+        .any(|message| is_disputed(held, fresh, message))
+}
+
 /// The messages, separated by whether an archive, with the fresh messages, contradicts their identity.
 /// Each part keeps the order of the list.
-fn part(
+fn separate(
     alloc: Global,
     held: &Archive,
     fresh: Option<&Archive>,
@@ -62,6 +73,27 @@ fn part(
     })
 }
 
+/// The same as [`separate`]. If no identity is contradicted, the list itself has the clean messages.
+fn part(
+    alloc: Global,
+    held: &Archive,
+    fresh: Option<&Archive>,
+    messages: Vec<Arc<Message>>,
+) -> Result<Parted, AllocError>
+    ensures clean { IfOk result (λ parted. messages_in parted.clean.items
+        ≡ filter (λ m. not (is_contradicted (with_fresh held.now (option_copied fresh.entry)) m)) (messages_in messages.items)) }
+    ensures contradicted { IfOk result (λ parted. messages_in parted.contradicted.items
+        ≡ filter (is_contradicted (with_fresh held.now (option_copied fresh.entry))) (messages_in messages.items)) }
+{
+    if is_some_disputed(held, fresh, &messages) {
+        return separate(alloc, held, fresh, &messages);
+    }
+    Ok(Parted {
+        clean: messages,
+        contradicted: Vec::new(alloc),
+    })
+}
+
 /// The case of a transfer in the messages of an archive, with the fresh messages if there are any.
 /// `messages` are all messages on the transfer, in any order.
 pub(crate) fn evaluate(
@@ -70,15 +102,17 @@ pub(crate) fn evaluate(
     fresh: Option<&Archive>,
     transfer: &TransferKey,
     messages: &[Arc<Message>],
-) -> Result<Case, CaseFault>
+) -> Result<Case, AllocError>
     requires { ascending message_order (messages_in messages.now)
         ≡ filter (is_on transfer.now) (in_order (with_fresh held.now (option_copied fresh))) }
     ensures { IfOk result (λ case. kept_in case ≡ case_of (with_fresh held.now (option_copied fresh.entry)) transfer.now) }
 {
     let sorted = in_order(alloc, messages)?;
-    let parted = part(alloc, held, fresh, &sorted)?;
+    let parted = part(alloc, held, fresh, sorted)?;
     let asides = identities(alloc, &parted.contradicted)?;
-    let status = transfer_status(alloc, transfer, &parted.clean, &asides)?;
+    let Ok(status) = transfer_status(alloc, transfer, &parted.clean, &asides) else {
+        return Err(AllocError);
+    };
     Ok(Case {
         clean: parted.clean,
         contradicted: parted.contradicted,

@@ -1,6 +1,6 @@
 //! The lists that a view gives.
 
-ghost use Rattle.std.specs.Prelude.{◌≡◌, ◌++◌, IfOk, OnOk};
+ghost use Rattle.std.specs.Prelude.{◌≡◌, ◌++◌, ◌||◌, filter, IfOk, OnOk};
 ghost use Rattle.std.specs.List.{flat_map};
 ghost use Rattle.sct_message.specs.Sets.{messages_in};
 ghost use Rattle.sct_message.specs.Transfers.{keys_of, instruction_of};
@@ -11,11 +11,13 @@ ghost use Rattle.sct_view.specs.Listed.{cxls_in, recalls_in_case};
 use crate::case::Case;
 use crate::findings::{findings_in, push_beside};
 use crate::view::View;
+use rayon::prelude::*;
 use sct_case::{CaseFault, Finding};
 use sct_element::{Bic, Id35};
 use sct_message::{Message, RecallKey, TransferKey, keys_are_ordered};
 use std::alloc::{AllocError, Global};
 use std::sync::Arc;
+use std::thread::Threads;
 
 // ---- one transfer
 
@@ -140,6 +142,19 @@ impl View {
         Ok(keys)
     }
 
+    /// The same as [`View::keys`], sorted in several threads.
+    pub(crate) fn keys_in_parts<R: Threads + Sync>(
+        &self,
+        rt: &R,
+    ) -> Result<Vec<TransferKey>, AllocError>
+        ensures { IfOk result (λ keys. keys.items ≡ keys_of self.now) }
+    {
+        let mut keys = self.tables.keys(self.alloc)?;
+        par_sort(rt, self.alloc, &mut keys)?;
+        keys.dedup();
+        Ok(keys)
+    }
+
     /// The recalls of a transfer that messages held name, contradicted messages included,
     /// ascending. Error: `Memory` (39).
     pub fn recalls_of(&self, transfer: &TransferKey) -> Result<Vec<Id35>, CaseFault>
@@ -151,20 +166,34 @@ impl View {
         }
     }
 
+    // Those of the transfers that have a bank as the originator bank, or as the beneficiary bank of their instruction.
+    fn those_of(
+        &self,
+        bank: &Bic,
+        transfers: Vec<TransferKey>,
+    ) -> Result<Vec<TransferKey>, AllocError>
+        ensures { IfOk result (λ found. found.items
+            ≡ filter (λ t. is_originator bank.now t || is_beneficiary bank.now (instruction_of self.now t)) transfers.items) }
+    {
+        let mut found = Vec::new(self.alloc);
+        for transfer in transfers {
+            if is_originator(bank, &transfer) || self.is_paid(bank, &transfer) {
+                found.push(transfer)?;
+            }
+        }
+        Ok(found)
+    }
+
     /// The transfers that have a bank as the originator bank, or as the beneficiary bank
     /// of their instruction, ascending.
-    /// Error: `Memory` (39). It looks at every transfer held.
-    #[tactic(auto, unfolding(crate::specs::Answers::transfers_of_bank))]
+    /// Error: `Memory` (39). It looks at every transfer held, and sorts those of the bank.
     pub fn transfers_of(&self, bank: &Bic) -> Result<Vec<TransferKey>, CaseFault>
         ensures { IfOk result (λ transfers. transfers.items ≡ transfers_of_bank self.now bank.now) }
     {
-        let keys = self.keys()?;
-        let mut transfers = Vec::new(self.alloc);
-        for transfer in keys {
-            if is_originator(bank, &transfer) || self.is_paid(bank, &transfer) {
-                transfers.push(transfer)?;
-            }
-        }
+        let keys = self.tables.keys(self.alloc)?;
+        let mut transfers = self.those_of(bank, keys)?;
+        transfers.sort()?;
+        transfers.dedup();
         Ok(transfers)
     }
 

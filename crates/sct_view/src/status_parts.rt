@@ -10,11 +10,12 @@ use crate::build::halvings;
 use crate::view::View;
 use sct_case::CaseFault;
 use sct_message::TransferKey;
+use std::alloc::AllocError;
 use std::thread::{Threads, join};
 
 impl View {
     // The lines of each of the transfers, as one piece.
-    fn one_piece(&self, transfers: &[TransferKey]) -> Result<Vec<Vec<u8>>, CaseFault>
+    fn one_piece(&self, transfers: &[TransferKey]) -> Result<Vec<Vec<u8>>, AllocError>
         ensures { IfOk result (λ pieces. joined pieces.items ≡ flat_map (lines_on self.now) transfers.now) }
     {
         let mut text = String::new(self.alloc);
@@ -31,7 +32,7 @@ impl View {
         rt: &R,
         transfers: &[TransferKey],
         halvings: u32,
-    ) -> Result<Vec<Vec<u8>>, CaseFault>
+    ) -> Result<Vec<Vec<u8>>, AllocError>
         ensures { IfOk result (λ pieces. joined pieces.items ≡ flat_map (lines_on self.now) transfers.now) }
     {
         if halvings == 0 {
@@ -40,12 +41,12 @@ impl View {
         let (front, back) = transfers.split_at(transfers.len() / 2);
         let (first, second) = join(
             rt,
-            || -> Result<Vec<Vec<u8>>, CaseFault>
+            || -> Result<Vec<Vec<u8>>, AllocError>
                 requires { IsSync R.row × (0 < halvings) }
                 ensures { IfOk result (λ pieces. joined pieces.items
                     ≡ flat_map (lines_on self.entry.now) front.entry.now) }
             { self.pieces_by_halves(rt, front, halvings - 1) },
-            || -> Result<Vec<Vec<u8>>, CaseFault>
+            || -> Result<Vec<Vec<u8>>, AllocError>
                 requires { IsSync R.row × (0 < halvings) }
                 ensures { IfOk result (λ pieces. joined pieces.items
                     ≡ flat_map (lines_on self.entry.now) back.entry.now) }
@@ -66,8 +67,8 @@ impl View {
     ) -> Result<Vec<Vec<u8>>, CaseFault>
         ensures { IfOk result (λ pieces. joined pieces.items ≡ status_text_of self.now) }
     {
-        let transfers = self.keys()?;
-        let pieces = self.pieces_by_halves(rt, &transfers, halvings(rt, &transfers))?;
-        Ok(pieces)
+        let transfers = self.keys_in_parts(rt)?;
+        let halvings = halvings(rt, transfers.len());
+        Ok(self.pieces_by_halves(rt, &transfers, halvings)?)
     }
 }

@@ -45,16 +45,20 @@ fn push_recall_lines(
 
 impl View {
     // Appends the lines of a transfer: its T line, its F lines and its R lines. A transfer without a case is unknown.
-    fn push_transfer(&self, text: &mut String, transfer: &TransferKey) -> Result<(), CaseFault>
+    fn push_transfer(&self, text: &mut String, transfer: &TransferKey) -> Result<(), AllocError>
         ensures { OnOk result (string_bytes text.new ≡ string_bytes text.old ++ lines_on self.now transfer.now) }
     {
         let Some(case) = self.case_on(transfer) else {
-            return Ok(push_status_line(text, transfer, &Status::Unknown)?);
+            push_status_line(text, transfer, &Status::Unknown)?;
+            return Ok(());
         };
         push_status_line(text, transfer, &case.status)?;
         push_findings(text, transfer, findings_in(&case.status))?;
         let cxls = recalls_in(self.alloc, transfer, case)?;
-        let recalls = recall_statuses(self.alloc, &case.status, transfer, &case.clean, &cxls)?;
+        let Ok(recalls) = recall_statuses(self.alloc, &case.status, transfer, &case.clean, &cxls)
+        else {
+            return Err(AllocError);
+        };
         push_recall_lines(text, transfer, &recalls)?;
         Ok(())
     }
@@ -64,7 +68,7 @@ impl View {
         &self,
         text: &mut String,
         transfers: &[TransferKey],
-    ) -> Result<(), CaseFault>
+    ) -> Result<(), AllocError>
         ensures { OnOk result (string_bytes text.new
             ≡ string_bytes text.old ++ flat_map (lines_on self.now) transfers.now) }
     {

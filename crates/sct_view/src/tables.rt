@@ -41,7 +41,7 @@ impl Tables {
         }
     }
 
-    /// Tables with room for as many transfers, but without places. Error: `Memory` (39).
+    /// Tables with room for as many transfers, but without places.
     fn with_room(alloc: Global, transfers: usize) -> Result<Self, AllocError>
         ensures { IfOk result (λ tables. (t : TransferOf) → case_at tables.cases t ≡ no_messages) }
     {
@@ -73,7 +73,7 @@ impl Tables {
         ensures keys { IfOk result (λ keys. keys.items ≡ keys_with has_messages self.now.cases.entries) }
         ensures unique { IfOk result (λ keys. IsUnique same_key self.now.cases) }
     {
-        let mut keys = Vec::new(alloc);
+        let mut keys = Vec::with_capacity(alloc, self.cases.len())?;
         for (transfer, case) in &self.cases {
             if case.has_messages() {
                 keys.push(transfer.copy())?;

@@ -3,12 +3,14 @@
 
 mod scenes;
 
+use crate::texts::messages_of as messages_of_texts;
 use indexmap::IndexMap;
 use scenes::{Row, answers_to, archive_of, messages_of};
 use sct_message::{Identity, Kind};
 use sct_set::buckets::{file, unfile};
 use sct_set::*;
 use std::alloc::Global;
+use std::test::Fail;
 use std::thread::Threads;
 
 // Messages, which are added one after another, and the answers of the archive.
@@ -96,6 +98,25 @@ fn tells_how_each_message_comes(rt: HostRuntime) {
     assert_eq!(rt; answers.as_slice(), COMING_ANSWERS.as_slice());
     assert_eq!(rt; archive.len(), 6);
     assert!(rt; is_contradicted_once(&archive));
+}
+
+// A recall of one transaction, and the same recall as a list of one.
+static RECALL_IN_TWO_FORMS: [&str; 2] = [
+    r#"{"MsgNmId":"camt.056","MsgId":"K1","CreDtTm":"2024-05-03T09:00:00Z","InstgAgt":"BANKDEFF","CxlId":"R3","OrgnlMsgId":"M1","OrgnlMsgNmId":"pacs.008","OrgnlTxId":"T3","OrgnlIntrBkSttlmAmt":"1.00","Ccy":"EUR","Rsn":"FRAD","DbtrAgt":"BANKDEFF"}"#,
+    r#"{"MsgNmId":"camt.056","MsgId":"K1","CreDtTm":"2024-05-03T09:00:00Z","InstgAgt":"BANKDEFF","TxInf":[{"CxlId":"R3","OrgnlMsgId":"M1","OrgnlMsgNmId":"pacs.008","OrgnlTxId":"T3","OrgnlIntrBkSttlmAmt":"1.00","Ccy":"EUR","Rsn":"FRAD","DbtrAgt":"BANKDEFF"}]}"#,
+];
+
+#[test]
+fn a_list_of_one_repeats_the_recall(rt: HostRuntime) -> Result<(), Fail> {
+    let mut archive = Archive::new(rt.alloc());
+    let list = messages_of_texts(rt.alloc(), &RECALL_IN_TWO_FORMS)?;
+    let answers = answers_to(rt.alloc(), &mut archive, &list).expect(&rt, "answers");
+    assert_eq!(rt;
+        answers.as_slice(),
+        [Added::Fresh, Added::Repeat].as_slice()
+    );
+    assert_eq!(rt; archive.len(), 1);
+    Ok(())
 }
 
 // The pieces of the archive text of the messages of the rows, one after another.

@@ -238,6 +238,15 @@ fn answers_after_batches(alloc: Global, view: &mut View) -> Result<bool, Fail> {
 }
 
 #[test]
+fn a_new_view_lists_nothing(rt: HostRuntime) -> Result<(), Fail> {
+    let view = View::new(rt.alloc());
+    assert!(rt; view.keys()?.is_empty());
+    assert!(rt; view.banks()?.is_empty());
+    assert!(rt; view.all_findings()?.is_empty());
+    Ok(())
+}
+
+#[test]
 fn answers_on_messages_of_all_kinds(rt: HostRuntime) -> Result<(), Fail> {
     let mut view = View::new(rt.alloc());
     assert!(rt; answers_after_batches(rt.alloc(), &mut view)?);
@@ -262,6 +271,11 @@ static RECALLED_AGAIN: [&str; 1] = [
     r#"{"MsgNmId":"camt.056","MsgId":"K1","CreDtTm":"2024-05-03T09:00:00Z","InstgAgt":"BANKDEFF","CxlId":"R3","OrgnlMsgId":"M1","OrgnlMsgNmId":"pacs.008","OrgnlTxId":"T3","OrgnlIntrBkSttlmAmt":"1.00","Ccy":"EUR","Rsn":"FRAD","DbtrAgt":"BANKDEFF"}"#,
 ];
 
+// The same recall as a list of one transaction.
+static RECALLED_IN_A_LIST: [&str; 1] = [
+    r#"{"MsgNmId":"camt.056","MsgId":"K1","CreDtTm":"2024-05-03T09:00:00Z","InstgAgt":"BANKDEFF","TxInf":[{"CxlId":"R3","OrgnlMsgId":"M1","OrgnlMsgNmId":"pacs.008","OrgnlTxId":"T3","OrgnlIntrBkSttlmAmt":"1.00","Ccy":"EUR","Rsn":"FRAD","DbtrAgt":"BANKDEFF"}]}"#,
+];
+
 const RECALLED_LISTED: &str =
     " BANKDEFFXXX T1 M1 R1\n BANKDEFFXXX T2 M2 R2\n BANKDEFFXXX T1 T2\n BANQFRPPXXX T1 T2\n T2 AmountDiffers\n";
 
@@ -273,9 +287,14 @@ fn is_recalled(alloc: Global, view: &mut View) -> Result<bool, Fail> {
     Ok(brings(alloc, view, &RECALLED, (1, 2))? && lists(alloc, view, RECALLED_LISTED)?)
 }
 
-// Whether a recall under its identity contradicts it, and touches these two transfers and its own.
+// Whether a recall under its identity contradicts it, and touches these two transfers and its own. The same recall as a
+// list brings nothing.
 fn is_recalled_again(alloc: Global, view: &mut View) -> Result<bool, Fail> {
-    Ok(brings(alloc, view, &RECALLED_AGAIN, (1, 3))? && lists(alloc, view, RECALLED_AGAIN_LISTED)?)
+    Ok(
+        brings(alloc, view, &RECALLED_AGAIN, (1, 3))?
+            && lists(alloc, view, RECALLED_AGAIN_LISTED)?
+            && brings(alloc, view, &RECALLED_IN_A_LIST, (0, 0))?,
+    )
 }
 
 fn recalls_touch(alloc: Global, view: &mut View) -> Result<bool, Fail> {

@@ -8,12 +8,11 @@ ghost use Rattle.sct_view.specs.Kept.{case_at, has_case, has_totals, is_ready, k
 use crate::case::Planned;
 use crate::tables::Tables;
 use crate::tables::shares::{put_shares, take_shares};
-use sct_case::CaseFault;
-use std::alloc::Global;
+use std::alloc::{AllocError, Global};
 
 impl Tables {
-    /// Tables with these cases. A later case of a transfer takes the place of an earlier one. Error: `Memory` (39).
-    pub(crate) fn of(alloc: Global, planned: Vec<Planned>) -> Result<Self, CaseFault>
+    /// Tables with these cases. A later case of a transfer takes the place of an earlier one.
+    pub(crate) fn of(alloc: Global, planned: Vec<Planned>) -> Result<Self, AllocError>
         ensures { IfOk result (λ tables. (t : TransferOf) → case_at tables.cases t
             ≡ case_after (map change_in planned.items) (λ t. no_messages) t) }
     {

@@ -12,11 +12,11 @@ use crate::case::{Case, Planned};
 use crate::tables::Tables;
 use crate::totals::Totals;
 use indexmap::IndexMap;
-use sct_case::{CaseFault, Status};
+use sct_case::Status;
 use sct_element::Bic;
 use sct_message::TransferKey;
 use sct_set::Archive;
-use std::alloc::Global;
+use std::alloc::{AllocError, Global};
 
 /// A case without messages.
 fn no_case(alloc: Global) -> Case
@@ -34,7 +34,7 @@ fn open_case(
     alloc: Global,
     cases: &mut IndexMap<TransferKey, Case>,
     transfer: &TransferKey,
-) -> Result<(), CaseFault>
+) -> Result<(), AllocError>
     ensures there { OnOk result (has_case cases.new transfer.now ≡ true) }
     ensures same { (t : TransferOf) → case_at cases.new t ≡ case_at cases.old t }
     ensures stays { (t : TransferOf) → has_case cases.old t ≡ true → has_case cases.new t ≡ true }
@@ -50,7 +50,7 @@ fn open_case(
 }
 
 /// Opens a place for the totals of a bank, if it has none.
-fn open_total(totals: &mut IndexMap<Bic, Totals>, bank: &Bic) -> Result<(), CaseFault>
+fn open_total(totals: &mut IndexMap<Bic, Totals>, bank: &Bic) -> Result<(), AllocError>
     ensures there { OnOk result (has_totals totals.new bank.now ≡ true) }
     ensures same { (p : List ℕ) → totals_at totals.new p ≡ totals_at totals.old p }
     ensures stays { (p : List ℕ) → has_totals totals.old p ≡ true → has_totals totals.new p ≡ true }
@@ -66,7 +66,7 @@ fn open_total(totals: &mut IndexMap<Bic, Totals>, bank: &Bic) -> Result<(), Case
 }
 
 /// Opens a place for the totals of the beneficiary bank of a case, if the case has an instruction.
-fn open_beneficiary(totals: &mut IndexMap<Bic, Totals>, case: &Case) -> Result<(), CaseFault>
+fn open_beneficiary(totals: &mut IndexMap<Bic, Totals>, case: &Case) -> Result<(), AllocError>
     ensures there { OnOk result (list_all (has_totals totals.new)
         (beneficiary_in (instruction_in (kept_in case.now))) ≡ true) }
     ensures same { (p : List ℕ) → totals_at totals.new p ≡ totals_at totals.old p }
@@ -82,8 +82,8 @@ fn open_beneficiary(totals: &mut IndexMap<Bic, Totals>, case: &Case) -> Result<(
 }
 
 impl Tables {
-    /// Opens the places that a planned case needs. Error: `Memory` (39); places may be open then.
-    pub(crate) fn open(&mut self, alloc: Global, planned: &Planned) -> Result<(), CaseFault>
+    /// Opens the places that a planned case needs. If out of memory, some places may be open.
+    pub(crate) fn open(&mut self, alloc: Global, planned: &Planned) -> Result<(), AllocError>
         ensures ready { OnOk result (is_ready self.new.cases self.new.totals planned.now.transfer
             (kept_in planned.now.case) ≡ true) }
         ensures same_cases { (t : TransferOf) → case_at self.new.cases t ≡ case_at self.old.cases t }
@@ -103,8 +103,8 @@ impl Tables {
         open_beneficiary(&mut self.totals, &planned.case)
     }
 
-    /// Opens the places that each planned case needs. Error: `Memory` (39); places may be open then.
-    fn open_all(&mut self, alloc: Global, planned: &[Planned]) -> Result<(), CaseFault>
+    /// Opens the places that each planned case needs. If out of memory, some places may be open.
+    fn open_all(&mut self, alloc: Global, planned: &[Planned]) -> Result<(), AllocError>
         ensures ready { OnOk result (are_ready self.new.cases self.new.totals planned.now ≡ true) }
         ensures same_cases { (t : TransferOf) → case_at self.new.cases t ≡ case_at self.old.cases t }
         ensures same_totals { (p : List ℕ) → totals_at self.new.totals p ≡ totals_at self.old.totals p }
@@ -127,7 +127,7 @@ pub(crate) fn make_room(
     tables: &mut Tables,
     fresh: &Archive,
     planned: &[Planned],
-) -> Result<(), CaseFault>
+) -> Result<(), AllocError>
     ensures joined { OnOk result (archive.new ≡ set.union archive.old fresh.now) }
     ensures ready { OnOk result (are_ready tables.new.cases tables.new.totals planned.now ≡ true) }
     ensures same_cases { (t : TransferOf) → case_at tables.new.cases t ≡ case_at tables.old.cases t }
@@ -145,7 +145,7 @@ pub(crate) fn make_room(
     if archive.merge(fresh).is_err() {
         tables.cases.truncate(transfers);
         tables.totals.truncate(banks);
-        return Err(CaseFault::Memory);
+        return Err(AllocError);
     }
     Ok(())
 }

@@ -10,7 +10,7 @@ use Rattle.sct_view.proofs.by_transfer.on_transfer.Goals as goal
 pub returns-in-Some : goal.returns-in-Some
 returns-in-Some c = λ ms filed m.
     ap (λ found. list_any (same_message m) (messages_in found))
-    (c.deref.ensures.value ∙ ap (λ o. items_in (option_copied o)) (sym c.in-Some.is) ∙ ap items_in c.get.ensures.value)
+    (c.items.ensures ∙ ap (λ o. items_in (option_copied o)) (sym c.in-Some.is) ∙ ap items_in c.get.ensures.value)
     ∙ filed c.args.transfer.now m
 
 pub returns-in-None : goal.returns-in-None

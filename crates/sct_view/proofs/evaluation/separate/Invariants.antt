@@ -3,7 +3,7 @@ use Rattle.std.proofs.Common.{◌≡◌, filter, not, take}
 use Rattle.std.specs.Option.{option_copied}
 use Rattle.sct_message.specs.Sets.{messages_in, is_contradicted}
 use Rattle.sct_view.specs.Changes.{with_fresh}
-use Rattle.sct_view.proofs.evaluation.part.Given as goal
+use Rattle.sct_view.proofs.evaluation.separate.Given as goal
 
 abbrev pub invariant-loop-message : goal.invariant-loop-message
 invariant-loop-message l =
