@@ -7,8 +7,8 @@ use Rattle.sct_delta.specs.declared.fault.DeltaFault.{DeltaFault}
 use Rattle.sct_delta.specs.declared.fault.DeltaFault.TheVariants as fault
 use Rattle.sct_delta.specs.Entries.{Placed}
 use Rattle.sct_delta.specs.TextLines.{Line, lines_by_end, ended, end_line}
-use Rattle.sct_delta.specs.EntryText.{IsEntryText, entries_head, entries_in}
-use Rattle.sct_delta.specs.GroupText.{IsGroupText, groups_head, groups_in, lines_after}
+use Rattle.sct_delta.specs.EntryText.{IsEntryText, entries_head, entries_after_head}
+use Rattle.sct_delta.specs.GroupText.{IsGroupText, groups_head, groups_after_head, lines_after}
 
 -- A text is a form of a delta: form 1, a line for each entry, or form 2, the messages by origin.
 abbrev pub IsDeltaText : List ℕ → List Placed → Type 0
@@ -24,8 +24,8 @@ written_delta entries =
 -- what the lines after a head line are read as, by the form that the head line names
 abbrev pub entries_behind : List ℕ → List Line → Result (List Placed) ℕ
 entries_behind head lines =
-    if pointwise nat_eq head entries_head then entries_in 2 0 0 [] lines
-    else if pointwise nat_eq head groups_head then groups_in 2 0 1 0 [] lines
+    if pointwise nat_eq head entries_head then entries_after_head lines
+    else if pointwise nat_eq head groups_head then groups_after_head lines
     else Err 1
 
 abbrev pub delta_of_lines : List Line → Result (List Placed) ℕ

@@ -81,3 +81,7 @@ entries_in place origin n entries (None ∷ lines) = Err place
 entries_in place origin n entries (Some line ∷ lines) =
     entries_on place origin n entries line lines
     (λ entry. entries_in (place + 1) entry.origin entry.n (entries ++ entry ∷ []) lines) (entry_in line)
+
+-- The reading of the lines after the head line. It begins on line 2, with no origin or number before it and no entry.
+abbrev pub entries_after_head : List Line → Result (List Placed) ℕ
+entries_after_head lines = entries_in 2 0 0 [] lines

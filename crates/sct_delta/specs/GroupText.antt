@@ -127,3 +127,7 @@ groups_in place origin n due entries (Some line ∷ lines) =
     (λ message. groups_in (place + 1) origin (n + 1) (due - 1)
     (entries ++ record { origin = origin; n = n; message = message } ∷ []) lines)
     (result_ok (message_in line))
+
+-- The reading of the lines after the head line. It begins on line 2, with no origin before it, no message due and no entry.
+abbrev pub groups_after_head : List Line → Result (List Placed) ℕ
+groups_after_head lines = groups_in 2 0 1 0 [] lines

@@ -19,7 +19,7 @@ pub use entry::{Entry, messages_in};
 pub use fault::DeltaFault;
 pub use logs::Logs;
 pub use sites::MOST_SITES;
-pub use text::fields::number_before_space;
+pub use text::fields::{after_prefix, number_before_space};
 pub use text::laws::{
     a_text_is_a_form_of_one_delta, a_text_is_read_where_it_is_a_form,
     a_wrong_line_goes_by_its_front, a_wrong_line_means_no_form, both_forms_are_read_alike,

@@ -1,8 +1,7 @@
 //! The logs of one site: one log for each origin, with the vector that counts their entries.
 
-ghost use Rattle.std.specs.Prelude.{◌≡◌, ◌≢◌, ◌≤◌, ◌<◌, ◌^◌, ◌+◌, ℕ, [], None, true, false, length, nat_eq, not, if◌then◌else◌, OnOk, OnErr, IfOk, IfErr, IsOk, MatchOption, option_map};
+ghost use Rattle.std.specs.Prelude.{◌≡◌, ◌≢◌, ◌≤◌, ◌<◌, ◌^◌, ◌+◌, ℕ, [], None, true, false, length, nat_eq, if◌then◌else◌, OnOk, OnErr, IfOk, IfErr, IsOk, MatchOption, option_map};
 ghost use Rattle.std.specs.Arc.{arc_value};
-ghost use Rattle.std.specs.List.{list_all};
 ghost use Rattle.std.specs.Option.{option_copied};
 ghost use Rattle.sct_delta.specs.Entries.{entries_from, log_of, numbered, IsDelta};
 ghost use Rattle.sct_delta.specs.Vectors.{count_in};
@@ -81,14 +80,6 @@ impl Logs {
         ensures { result ≡ is_new (log_in self.now) entry.now }
     {
         self.get(entry.origin, entry.n).is_none()
-    }
-
-    /// Whether an entry is held under each number of a delta, whatever its message. It looks at no
-    /// message. O(entries of the delta).
-    pub fn has_numbers(&self, delta: &Delta) -> bool
-        ensures { result ≡ list_all (λ entry. not (is_new (log_in self.now) entry)) delta.now }
-    {
-        delta.entries().iter().all(|entry| !self.is_new(entry))
     }
 
     /// The entries of a delta that are not held, in its order, as a delta that shares their messages.

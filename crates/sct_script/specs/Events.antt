@@ -1,5 +1,5 @@
 -- One line of a script: its event at one site, or why the line is refused. Read by an auditor.
-use Rattle.std.specs.Prelude.{ℕ, ◌^◌, List, take, nat_lt, codes, Option, Some, None, option_map, option_and_then, Result, Ok, Err, if◌then◌else◌}
+use Rattle.std.specs.Prelude.{ℕ, ◌^◌, List, take, nat_lt, codes, Option, Some, None, option_map, option_and_then, Result, Ok, Err, ok_or, if◌then◌else◌}
 use Rattle.sct_message.specs.declared.draft.Draft.{Draft}
 use Rattle.sct_json.specs.declared.faults.JsonFault.{JsonFault}
 use Rattle.sct_json.specs.Reading.{message_in}
@@ -28,41 +28,41 @@ site_before_space text = option_and_then site_field (number_before_space text)
 
 -- ---- the three kinds of event
 
+-- a step that may refuse, and the next one
+infixl 10 ◌>>=◌
+abbrev pub ◌>>=◌ : {X Y : Type 0} → Result X LineFault → (X → Result Y LineFault) → Result Y LineFault
+(Ok x) >>= f = f x
+(Err refusal) >>= f = Err refusal
+
+-- a field that an event must have
+abbrev pub field : {X : Type 0} → Option X → Result X LineFault
+field found = ok_or found fault.NoEvent
+
+-- the message of a JSON text, or why it has none
+abbrev pub message_of : Result Draft JsonFault → Result Draft LineFault
+message_of (Ok message) = Ok message
+message_of (Err refusal) = Err (fault.Message refusal)
+
 -- A take: a site, and a JSON text of the message. A take with a refused message is not an event, whatever the site.
-abbrev pub taken_at : ℕ → Result Draft JsonFault → Result Happening LineFault
-taken_at site (Ok message) = Ok (Taken site message)
-taken_at site (Err refusal) = Err (fault.Message refusal)
-
-abbrev pub taken_by : Option Field → Result Happening LineFault
-taken_by None = Err fault.NoEvent
-taken_by (Some field) = taken_at field.0 (message_in field.1)
-
 abbrev pub take_in : List ℕ → Result Happening LineFault
-take_in rest = taken_by (site_before_space rest)
+take_in rest = do
+  site ← field (site_before_space rest)
+  message ← message_of (message_in site.1)
+  Ok (Taken site.0 message)
 
 -- A cut: a site, and a version vector.
-abbrev pub cut_at : ℕ → Option (List Pair) → Result Happening LineFault
-cut_at site None = Err fault.NoEvent
-cut_at site (Some pairs) = Ok (Cut site (counts_of pairs))
-
-abbrev pub cut_by : Option Field → Result Happening LineFault
-cut_by None = Err fault.NoEvent
-cut_by (Some field) = cut_at field.0 (vector_in field.1)
-
 abbrev pub cut_in : List ℕ → Result Happening LineFault
-cut_in rest = cut_by (site_before_space rest)
+cut_in rest = do
+  site ← field (site_before_space rest)
+  pairs ← field (vector_in site.1)
+  Ok (Cut site.0 (counts_of pairs))
 
 -- A hand: the number of a delta, and the site that it is handed to.
-abbrev pub handed_to : ℕ → Option ℕ → Result Happening LineFault
-handed_to delta None = Err fault.NoEvent
-handed_to delta (Some site) = Ok (Handed delta site)
-
-abbrev pub handed_by : Option Field → Result Happening LineFault
-handed_by None = Err fault.NoEvent
-handed_by (Some field) = handed_to field.0 (site_in field.1)
-
 abbrev pub hand_in : List ℕ → Result Happening LineFault
-hand_in rest = handed_by (number_before_space rest)
+hand_in rest = do
+  delta ← field (number_before_space rest)
+  site ← field (site_in delta.1)
+  Ok (Handed delta.0 site)
 
 -- ---- a line
 

@@ -3,8 +3,8 @@ ghost use Rattle.std.specs.Prelude.{◌≡◌, IfOk};
 ghost use Rattle.sct_script.specs.Events.{cut_in, hand_in, happening_in, take_in, told_by};
 
 use crate::fault::LineFault;
-use crate::fields::{after_prefix, site_before_space, site_of};
-use sct_delta::{number_before_space, read_vector};
+use crate::fields::{site_before_space, site_of};
+use sct_delta::{after_prefix, number_before_space, read_vector};
 use sct_lines::read_line;
 use sct_world::Event;
 use std::alloc::{AllocError, Global};

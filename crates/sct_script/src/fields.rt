@@ -1,6 +1,5 @@
 //! The fields of a line: words, and the numbers of sites.
 ghost use Rattle.std.specs.Prelude.{◌≡◌, option_map};
-ghost use Rattle.sct_delta.specs.TextLines.{after_prefix};
 ghost use Rattle.sct_script.specs.Events.{site_before_space, site_in, site_named};
 
 use sct_delta::{number_before_space, number_of};
@@ -30,11 +29,4 @@ pub fn site_before_space(text: &[u8]) -> Option<(u16, &[u8])>
     let (number, rest) = number_before_space(text)?;
     let site = site_named(number)?;
     Some((site, rest))
-}
-
-/// `line` without the prefix `word`, or none if it does not begin with the word.
-pub fn after_prefix<'a>(line: &'a [u8], word: &[u8]) -> Option<&'a [u8]>
-    ensures { option_map (λ rest. rest.now) result ≡ after_prefix word.now line.now }
-{
-    line.strip_prefix(word)
 }

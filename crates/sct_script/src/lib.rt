@@ -1,8 +1,8 @@
 //! Scripts of a world: the events at its sites, line by line, and the answer to each event and of each site.
 //!
-//! [`read_script`] reads the bytes of a script, and [`replay`] runs its events. [`after_prefix`], [`site_before_space`] and
-//! [`site_of`] are the steps by which a line is read. They are public for programs that read lines of another kind. So
-//! is [`push_delta_fault`], which writes the refusal of a site.
+//! [`read_script`] reads the bytes of a script, and [`replay`] runs its events. [`site_before_space`] and [`site_of`]
+//! are steps by which a line is read. They are public for programs that read lines of another kind. So is
+//! [`push_delta_fault`], which writes the refusal of a site.
 #![tactic(auto)]
 
 mod event;
@@ -14,7 +14,7 @@ mod replays;
 mod script;
 
 pub use fault::{LineFault, ScriptFault};
-pub use fields::{after_prefix, site_before_space, site_of};
+pub use fields::{site_before_space, site_of};
 pub use outcomes::push_delta_fault;
 pub use replays::replay;
 pub use script::{Script, read_script};

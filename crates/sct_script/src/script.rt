@@ -18,8 +18,7 @@ ghost use Rattle.sct_script.specs.Scripts.{
 
 use crate::event::read_event;
 use crate::fault::ScriptFault;
-use crate::fields::after_prefix;
-use sct_delta::{MOST_SITES, number_of};
+use sct_delta::{MOST_SITES, after_prefix, number_of};
 use sct_lines::{Refusals, first_line, is_blank_line};
 use sct_world::Event;
 use std::alloc::{AllocError, Global};

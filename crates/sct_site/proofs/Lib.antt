@@ -2,7 +2,9 @@
 pub mod AboveLemmas
 pub mod AcceptLemmas
 pub mod ArrivalLemmas
+pub mod CutRangeLemmas
 pub mod HeldLemmas
 pub mod MessageLemmas
+pub mod RangeLemmas
 pub mod SiteLemmas
 pub mod TakeLemmas

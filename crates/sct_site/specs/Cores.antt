@@ -2,15 +2,13 @@
 -- by an auditor. Worlds and desks use these words.
 use Rattle.std.specs.FinSet as set
 use Rattle.std.specs.Prelude.{◌≡◌, ℕ, ◌+◌, ◌++◌, ◌∷◌, [], not, ◌&&◌, Bool, true, List, Option, filter, nat_lt, if◌then◌else◌}
-use Rattle.std.specs.List.{list_all}
-use Rattle.std.specs.Option.{is_none}
 use Rattle.std.specs.Ordering.{nat_cmp, ordering_then}
 use Rattle.std.specs.declared.cmp.Ordering.{Ordering}
 use Rattle.sct_message.specs.Ascending.{ascending}
 use Rattle.sct_message.specs.Order.{message_order}
 use Rattle.sct_message.specs.declared.draft.Draft.{Draft}
 use Rattle.sct_delta.specs.Entries.{Placed, IsArrivals, log_of, held_from, holds, messages_of}
-use Rattle.sct_delta.specs.Refusals.{first_refusal, fresh_in, has_site, message_at}
+use Rattle.sct_delta.specs.Refusals.{first_refusal, fresh_in, has_site}
 use Rattle.sct_delta.specs.Sites.{most_sites}
 use Rattle.sct_delta.specs.declared.fault.DeltaFault.{DeltaFault}
 use Rattle.sct_site.specs.declared.answers.Took.{Took}
@@ -80,14 +78,6 @@ arrivals_joined arrivals delta = arrivals ++ fresh_of arrivals delta
 -- the site after an accepted delta
 abbrev pub core_joined : Core → List Placed → Core
 core_joined core delta = record { number = core.number; group = core.group; arrivals = arrivals_joined core.arrivals delta }
-
--- an entry of the same origin and number is held, whatever its message
-abbrev pub has_number : List Placed → Placed → Bool
-has_number arrivals entry = not (is_none (message_at (logs_of arrivals entry.origin) entry.n))
-
--- the number of each entry of the delta is held
-abbrev pub has_numbers : List Placed → List Placed → Bool
-has_numbers arrivals delta = list_all (has_number arrivals) delta
 
 -- ---- cutting
 

@@ -2,3 +2,4 @@
 pub mod Cores
 pub mod Inside
 pub mod Laws
+pub mod Ranges

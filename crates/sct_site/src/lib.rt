@@ -3,7 +3,9 @@
 
 mod answers;
 pub mod laws;
+mod ranges;
 mod site;
 
 pub use answers::{Accepted, Took};
+pub use ranges::{LogRange, entries_in};
 pub use site::SiteCore;

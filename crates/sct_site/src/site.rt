@@ -1,17 +1,19 @@
 //! The core of one site.
 
-ghost use Rattle.std.specs.Prelude.{◌≡◌, ◌∷◌, ◌++◌, ℕ, [], true, false, None, length, nat_eq, OnOk, OnErr, IfOk, IfErr, MatchOption};
+ghost use Rattle.std.specs.Prelude.{◌≡◌, ◌∷◌, ◌++◌, ◌<◌, ◌^◌, ℕ, [], true, false, None, filter, length, nat_eq, nat_lt, OnOk, OnErr, IfOk, IfErr, MatchOption};
 ghost use Rattle.std.specs.Arc.{arc_value};
 ghost use Rattle.sct_delta.specs.Entries.{IsArrivals, IsDelta, held_from, messages_of};
 ghost use Rattle.sct_delta.specs.Vectors.{count_in};
 ghost use Rattle.sct_delta.specs.declared.fault.DeltaFault.TheVariants as fault;
-ghost use Rattle.sct_site.specs.Cores.{Core, IsSite, is_open, took_by, arrivals_taken, refusal_by, fresh_of, has_numbers, arrivals_joined, entries_above};
+ghost use Rattle.sct_site.specs.Cores.{Core, IsSite, is_open, took_by, arrivals_taken, refusal_by, fresh_of, arrivals_joined, entries_above, is_above, logs_of};
+ghost use Rattle.sct_site.specs.Ranges.{in_range, in_ranges, size_of, ReachEnds};
 
 use crate::answers::{Accepted, Took};
+use crate::ranges::{LogRange, push_range};
 use sct_delta::{Delta, DeltaFault, Entry, Logs, Vector, messages_in};
 use sct_message::Message;
 use sct_set::Archive;
-use std::alloc::Global;
+use std::alloc::{AllocError, Global};
 use std::marker::Model;
 use std::sync::Arc;
 
@@ -127,14 +129,6 @@ impl SiteCore {
         Ok(Took::Taken { n })
     }
 
-    /// Whether the site holds an entry under each number of a delta, whatever its message. It
-    /// looks at no message. O(entries of the delta).
-    pub fn has_numbers(&self, delta: &Delta) -> bool
-        ensures { result ≡ has_numbers self.now.arrivals delta.now }
-    {
-        self.logs.has_numbers(delta)
-    }
-
     /// Why the site does not accept a delta, as by [`SiteCore::accept`]. None if it does. It does not allocate.
     /// O(entries of the delta).
     pub fn refusal(&self, delta: &Delta) -> Option<DeltaFault>
@@ -188,5 +182,70 @@ impl SiteCore {
         ensures site { IsSite self.now }
     {
         self.logs.cut(vector)
+    }
+
+    /// The entries that `cut` has, as ranges of the site's logs. Logs only grow, so the ranges keep these entries.
+    /// Error: `Memory` (40). The cost is two look-ups for each site of the group.
+    pub fn cut_ranges(&self, vector: &Vector) -> Result<Vec<LogRange>, DeltaFault>
+        requires { IsSite self.now }
+        ensures cut { IfOk result (λ ranges. in_ranges (logs_of self.now.arrivals) ranges.items
+            ≡ entries_above (count_in vector.now) self.now.arrivals) }
+        ensures shape { IfOk result (λ ranges. IsDelta (in_ranges (logs_of self.now.arrivals) ranges.items)) }
+        ensures ends { IfOk result (λ ranges. ReachEnds (logs_of self.now.arrivals) ranges.items) }
+        ensures few { IfOk result (λ ranges. size_of ranges.items < 2 ^ 64) }
+        ensures err { IfErr result (λ refusal. refusal ≡ fault.Memory) }
+    {
+        // Read only so that its range is known.
+        let _entries = self.arrivals.len();
+        let held = self.logs.vector();
+        let mut ranges = Vec::new(self.alloc);
+        for place in 0..self.group {
+            let origin = place + 1;
+            push_range(&mut ranges, origin, vector.get(origin), held.get(origin))?;
+        }
+        Ok(ranges)
+    }
+
+    // Appends the entries of a range that are numbered above `have`.
+    fn push_within(
+        &self,
+        out: &mut Vec<Entry>,
+        range: &LogRange,
+        have: u64,
+    ) -> Result<(), AllocError>
+        ensures { OnOk result (out.new.items
+            ≡ out.old.items ++ filter (λ entry. nat_lt have entry.n) (in_range (logs_of self.now.arrivals) range.now)) }
+    {
+        let origin = range.origin;
+        let mut n = range.above.max(have);
+        while n < range.upto {
+            let message = match self.logs.get(origin, n + 1) {
+                Some(message) => message,
+                None => return Ok(()),
+            };
+            out.push(Entry {
+                origin,
+                n: n + 1,
+                message: message.clone()?,
+            })?;
+            n += 1;
+        }
+        Ok(())
+    }
+
+    /// The entries of ranges of the site's logs that are numbered above `vector`, as a delta that shares their
+    /// messages. The entries of the ranges are a delta. Error: `Memory` (40).
+    /// The cost is one look-up for each range, and that of the entries of the result.
+    pub fn cut_within(&self, ranges: &[LogRange], vector: &Vector) -> Result<Delta, DeltaFault>
+        requires { IsDelta (in_ranges (logs_of self.now.arrivals) ranges.now) }
+        ensures ok { IfOk result (λ delta. delta
+            ≡ filter (is_above (count_in vector.now)) (in_ranges (logs_of self.now.arrivals) ranges.now)) }
+        ensures err { IfErr result (λ refusal. refusal ≡ fault.Memory) }
+    {
+        let mut out = Vec::new(self.alloc);
+        for range in ranges {
+            self.push_within(&mut out, range, vector.get(range.origin))?;
+        }
+        Delta::of(out)
     }
 }

@@ -2,7 +2,7 @@
 
 mod scenes;
 
-use crate::deltas::scenes::{Row, delta_of};
+use crate::deltas::scenes::Row;
 use scenes::{accepted, are_held, refusal, site_of, taken};
 use sct_delta::DeltaFault;
 use sct_site::*;
@@ -152,21 +152,6 @@ fn refuses_deltas_and_changes_nothing(rt: HostRuntime) {
     for row in &REFUSED {
         assert_eq!(rt; is_refused(rt.alloc(), row), Some(true));
     }
-}
-
-// Whether a site that took two messages has the numbers of a delta of the rows.
-fn has_numbers(alloc: Global, rows: &[Row]) -> Option<bool> {
-    let site = site_of(alloc, 1, TWO)?;
-    Some(site.has_numbers(&delta_of(alloc, rows)?))
-}
-
-#[test]
-fn knows_whether_it_has_the_numbers_of_a_delta(rt: HostRuntime) {
-    assert_eq!(rt; has_numbers(rt.alloc(), NONE), Some(true));
-    assert_eq!(rt; has_numbers(rt.alloc(), TWO), Some(true));
-    assert_eq!(rt; has_numbers(rt.alloc(), OTHER_SECOND), Some(true));
-    assert_eq!(rt; has_numbers(rt.alloc(), THREE), Some(false));
-    assert_eq!(rt; has_numbers(rt.alloc(), OF_SITE_4), Some(false));
 }
 
 // Brings entries to site 2: two of site 1, one of its own, all three of site 1, and these again. Whether it answers as it should.

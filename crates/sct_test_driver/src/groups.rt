@@ -1,9 +1,9 @@
 //! Sites of a group that are settled, described line by line.
 
 use anyhow::{Result, bail};
-use sct_delta::{Delta, DeltaFault, Entry, Vector, number_before_space, write_delta};
+use sct_delta::{Delta, DeltaFault, Entry, Vector, after_prefix, number_before_space, write_delta};
 use sct_json::read_message;
-use sct_script::{after_prefix, push_delta_fault, site_before_space, site_of};
+use sct_script::{push_delta_fault, site_before_space, site_of};
 use sct_site::SiteCore;
 use sct_world::settle;
 use std::alloc::Global;

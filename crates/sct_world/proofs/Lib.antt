@@ -3,9 +3,11 @@ pub mod AgainLemmas
 pub mod CoreLemmas
 pub mod ExactlyLemmas
 pub mod HandLemmas
+pub mod HandedLemmas
+pub mod KeepLemmas
 pub mod KeptLemmas
-pub mod KnownLemmas
 pub mod LawLemmas
+pub mod NewLemmas
 pub mod NoForkLemmas
 pub mod OpenLemmas
 pub mod SettledLemmas

@@ -6,6 +6,7 @@ mod answers;
 mod event;
 mod fault;
 mod history;
+mod kept;
 pub mod laws;
 mod settling;
 mod world;

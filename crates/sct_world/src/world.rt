@@ -1,13 +1,14 @@
 //! A world: the sites of one group, and the deltas that they cut.
 
-ghost use Rattle.std.specs.Prelude.{◌≡◌, ◌≢◌, ℕ, [], true, false, Ok, Err, length, replicate, if◌then◌else◌, OnOk, OnErr, IfOk, IfErr};
-ghost use Rattle.sct_delta.specs.Entries.{messages_of};
+ghost use Rattle.std.specs.Prelude.{◌≡◌, ◌≢◌, ◌<◌, ℕ, [], true, false, Ok, Err, filter, length, replicate, slice_index_or, if◌then◌else◌, OnOk, OnErr, IfOk, IfErr};
+ghost use Rattle.sct_delta.specs.Entries.{held_from, messages_of, IsDelta};
 ghost use Rattle.sct_delta.specs.Vectors.{count_in};
 ghost use Rattle.sct_reconcile.specs.Reports.{report_of};
 ghost use Rattle.sct_set.specs.Archive.{archive_text_of, contradicted_identities};
 ghost use Rattle.sct_view.specs.StatusText.{status_text_of};
 ghost use Rattle.sct_view.specs.TotalsText.{totals_text_of};
 ghost use Rattle.sct_delta.specs.declared.fault.DeltaFault.TheVariants as delta;
+ghost use Rattle.sct_site.specs.Cores.{is_above};
 ghost use Rattle.sct_world.specs.declared.event.Event.TheVariants as event;
 ghost use Rattle.sct_world.specs.declared.fault.WorldFault.TheVariants as fault;
 ghost use Rattle.sct_world.specs.Inside.{cores_from};
@@ -17,12 +18,13 @@ ghost use Rattle.sct_world.specs.States.{is_size};
 use crate::answers::{Answers, answers_of, report_on};
 use crate::event::{Event, Step};
 use crate::fault::WorldFault;
+use crate::kept::KeptDelta;
 use sct_delta::{Delta, DeltaFault, MOST_SITES, Vector};
 use sct_element::{Bic, Day};
 use sct_message::{Identity, Message};
 use sct_reconcile::{List, Report};
 use sct_set::Archive;
-use sct_site::{SiteCore, Took};
+use sct_site::{SiteCore, Took, entries_in};
 use std::alloc::Global;
 use std::marker::Model;
 use std::sync::Arc;
@@ -33,18 +35,18 @@ use std::thread::Threads;
 pub struct World {
     alloc: Global,
     cores: Vec<SiteCore>,
-    deltas: Vec<Delta>,
+    deltas: Vec<KeptDelta>,
 }
 
 impl Model for World {
     ghost use Rattle.sct_world.specs.States.{State};
-    ghost use Rattle.sct_world.specs.Inside.{state_of, IsWorld};
+    ghost use Rattle.sct_world.specs.Inside.{deltas_kept, state_of, IsKeeping};
 
     ghost Value = { State };
 
-    ghost view = { λ w. state_of w.cores.items w.deltas.items };
+    ghost view = { λ w. state_of w.cores.items (deltas_kept w.cores.items w.deltas.items) };
 
-    ghost invariant = { λ w. IsWorld w.cores.items w.deltas.items };
+    ghost invariant = { λ w. IsKeeping w.cores.items w.deltas.items };
 }
 
 // The sites numbered from 1, each without entries.
@@ -215,17 +217,32 @@ impl World {
         ensures err { IfErr result (λ refusal. refusal ≡ fault.Delta delta.Memory) }
         ensures unchanged { OnErr result (self.new ≡ self.old) }
     {
-        let delta = match self.cores[(site - 1) as usize].cut(vector) {
-            Ok(delta) => delta,
+        let ranges = match self.cores[(site - 1) as usize].cut_ranges(vector) {
+            Ok(ranges) => ranges,
             Err(refusal) => return Err(WorldFault::Delta(refusal)),
         };
-        let entries = delta.entries().len() as u64;
+        let entries = entries_in(&ranges);
         let number = self.deltas.len() as u64 + 1;
-        self.deltas.push(delta)?;
+        self.deltas.push(KeptDelta { site, ranges })?;
         Ok(Step::Cut {
             delta: number,
             entries,
         })
+    }
+
+    // The entries of the delta at a place that are numbered above a site's vector. In a world these are the ones that the
+    // site does not hold.
+    fn new_entries(&self, place: usize, site: u16) -> Result<Delta, DeltaFault>
+        requires cut { place < length self.now.deltas }
+        requires there { is_no_site self.now site ≡ false }
+        ensures ok { IfOk result (λ delta. delta ≡ filter
+            (is_above (λ origin. held_from origin (held_at self.now site))) (slice_index_or self.now.deltas place [])) }
+        ensures shape { OnOk result (IsDelta (slice_index_or self.now.deltas place [])) }
+        ensures err { IfErr result (λ refusal. refusal ≡ delta.Memory) }
+    {
+        let kept = &self.deltas[place];
+        let giver = &self.cores[(kept.site - 1) as usize];
+        giver.cut_within(&kept.ranges, self.cores[(site - 1) as usize].vector())
     }
 
     fn hand(&mut self, number: u64, site: u16) -> Result<Step, WorldFault>
@@ -240,12 +257,11 @@ impl World {
         if number == 0 || number > self.deltas.len() as u64 {
             return Err(WorldFault::NoSuchDelta);
         }
-        let delta = &self.deltas[(number - 1) as usize];
-        // In a world an entry's origin and number determine its message, so such a delta has nothing new.
-        if self.cores[(site - 1) as usize].has_numbers(delta) {
-            return Ok(Step::Accepted { fresh: 0 });
-        }
-        let accepted = match self.cores[(site - 1) as usize].accept(delta) {
+        let delta = match self.new_entries((number - 1) as usize, site) {
+            Ok(delta) => delta,
+            Err(refusal) => return Err(WorldFault::Delta(refusal)),
+        };
+        let accepted = match self.cores[(site - 1) as usize].accept(&delta) {
             Ok(accepted) => accepted,
             Err(refusal) => return Err(WorldFault::Delta(refusal)),
         };
@@ -254,13 +270,16 @@ impl World {
         })
     }
 
-    /// Runs one event. A refused event leaves the world unchanged. The first of these errors is returned:
+    /// Runs one event. A refused event leaves the world unchanged. The first of these errors is returned, and 40 may come
+    /// in place of 41:
     /// - `BadSite` (44): the world does not have this site;
     /// - `NoSuchDelta` (47): no delta of this number was cut;
     /// - `Delta(Gap)` (41): the site refuses the delta for a gap; in a world no site refuses one with 42 to 45;
     /// - `Delta(Memory)` (40).
     ///
-    /// The cost is that of the site's call: `take`, `cut` or `accept`. A delta whose numbers the site has is not compared.
+    /// A take costs what the site's `take` costs. A delta is kept as ranges of logs, so a cut costs two look-ups for each
+    /// site of the world, whatever it cuts. A hand costs one look-up for each origin of the delta, and the site's `accept`
+    /// of the entries that are new to it.
     #[tactic(auto, unfolding(crate::specs::Histories::step_of, crate::specs::Histories::world_after))]
     pub fn step(&mut self, event: &Event) -> Result<Step, WorldFault>
         ensures answer { IfOk result (λ step. step_of self.old event.now ≡ Ok step) }

@@ -1,7 +1,7 @@
 //! Form 1 of the delta text: reads entry lines as entries.
 ghost use Rattle.std.specs.Prelude.{◌≡◌, ◌+◌, ◌<◌, ◌^◌, [], Ok, Err, IfOk, IfErr, length};
 ghost use Rattle.sct_delta.specs.DeltaText.{Reads};
-ghost use Rattle.sct_delta.specs.EntryText.{entries_in, entry_in};
+ghost use Rattle.sct_delta.specs.EntryText.{entries_after_head, entry_in};
 ghost use Rattle.sct_delta.specs.TextLines.{lines_by_end};
 
 use crate::delta::may_be_next;
@@ -34,8 +34,8 @@ fn read_entry(alloc: Global, line: &[u8]) -> Result<Option<Entry>, AllocError>
 #[tactic(auto, using(crate::proofs::ReadingLemmas::read_missing))]
 pub fn read_entries(alloc: Global, text: &[u8]) -> Result<Vec<Entry>, DeltaFault>
     requires { length text.now + 4 < 2 ^ 64 }
-    ensures read { IfOk result (λ entries. entries_in 2 0 0 [] (lines_by_end text.now) ≡ Ok entries.items) }
-    ensures wrong { IfErr result (λ refusal. Reads (Err refusal) (entries_in 2 0 0 [] (lines_by_end text.now))) }
+    ensures read { IfOk result (λ entries. entries_after_head (lines_by_end text.now) ≡ Ok entries.items) }
+    ensures wrong { IfErr result (λ refusal. Reads (Err refusal) (entries_after_head (lines_by_end text.now))) }
 {
     let mut entries = Vec::new(alloc);
     let mut rest = text;

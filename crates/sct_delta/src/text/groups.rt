@@ -1,7 +1,7 @@
 //! Form 2 of the delta text: reads origin lines and message lines as entries.
 ghost use Rattle.std.specs.Prelude.{◌≡◌, ◌+◌, ◌<◌, ◌^◌, [], Some, None, Ok, Err, IfOk, IfErr, length, if◌then◌else◌};
 ghost use Rattle.sct_delta.specs.DeltaText.{Reads};
-ghost use Rattle.sct_delta.specs.GroupText.{groups_in, may_begin, origin_in};
+ghost use Rattle.sct_delta.specs.GroupText.{groups_after_head, may_begin, origin_in};
 ghost use Rattle.sct_delta.specs.TextLines.{lines_by_end};
 
 use crate::entry::Entry;
@@ -48,8 +48,8 @@ fn site_of_group(before: u16, origin: u64, first: u64, count: u64) -> Option<u16
 #[tactic(auto, using(crate::proofs::GroupReadingLemmas::groups_missing))]
 pub fn read_groups(alloc: Global, text: &[u8]) -> Result<Vec<Entry>, DeltaFault>
     requires { length text.now + 4 < 2 ^ 64 }
-    ensures read { IfOk result (λ entries. groups_in 2 0 1 0 [] (lines_by_end text.now) ≡ Ok entries.items) }
-    ensures wrong { IfErr result (λ refusal. Reads (Err refusal) (groups_in 2 0 1 0 [] (lines_by_end text.now))) }
+    ensures read { IfOk result (λ entries. groups_after_head (lines_by_end text.now) ≡ Ok entries.items) }
+    ensures wrong { IfErr result (λ refusal. Reads (Err refusal) (groups_after_head (lines_by_end text.now))) }
 {
     let mut entries = Vec::new(alloc);
     let mut rest = text;

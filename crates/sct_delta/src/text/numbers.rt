@@ -1,15 +1,8 @@
 //! Numbers in decimal, as the fields of a line.
 ghost use Rattle.std.specs.Prelude.{◌≡◌, ◌<◌, ◌&&◌, ◌||◌, ◌==◌, not, IsTrue, length, nat_le, slice_index, option_map, option_copied, MatchOption, IfSome, position};
-ghost use Rattle.std.specs.Char.{is_ascii_digit};
-ghost use Rattle.std.specs.List.{list_all};
 ghost use Rattle.sct_delta.specs.TextLines.{is_numeral, number_in, begins_right, is_space};
 
-// Whether all bytes are digits.
-fn are_digits(text: &[u8]) -> bool
-    ensures { result ≡ list_all is_ascii_digit text.now }
-{
-    text.iter().all(|byte| byte.is_ascii_digit())
-}
+use sct_element::are_digits;
 
 // Whether there is a character, and no zero comes before others.
 fn begins_right(text: &[u8]) -> bool
