@@ -3,7 +3,8 @@
 The test driver takes a message at a new desk. After a 50 the desk must do all that it does at first. After a 51 with position 1 a query
 sees nothing, and the next call reports one arrival, which an earlier call brought. Each growth is refused before each of four: the next
 publication, closing (53 with position 1 after a 51), the same message once more (a repeat, whose receipt reports the arrival), and
-another message (its receipt reports both). Each growth of these calls is refused too, after a take that had ample memory.
+another message (its receipt reports both). Each growth of these calls is refused too, after a take that had ample memory. The core
+has room for the other message, so that take grows nothing before the message has arrived, and 50 does not come.
 """
 from tests.faults import growths
 from tests.faults.growths import Trial, acceptance, instruction
@@ -24,7 +25,7 @@ NEXT = {
         "the repeat": {"50": TAKEN + "50\nclosed 1\n"}}),
     "take another": ([acceptance("C1", "T1"), "take"], "read\ntaken 2 2 1 0\nclosed 2\n", {
         "take": {"50": "50\nread\ntaken 1 1 1 0\nclosed 1\n", "51": "51 1\nread\ntaken 2 1 2 1\nclosed 2\n"},
-        "the other take": {"50": TAKEN + "read\n50\nclosed 1\n", "51": TAKEN + "read\n51 2\n53 2\n"}}),
+        "the other take": {"51": TAKEN + "read\n51 2\n53 2\n"}}),
 }
 
 

@@ -22,8 +22,8 @@ use Rattle.sct_desk.specs.declared.shown.Shown.{Shown}
 use Rattle.sct_desk.specs.declared.shown.Batch.{Batch}
 use Rattle.sct_desk.specs.declared.fault.DeskFault.{DeskFault}
 use Rattle.sct_desk.specs.HeldOk.{IsHeld}
-use Rattle.sct_desk.specs.Locked.{Locked, Fails, IsDeltaRefusal, answer_for, answer_to, arrivals_for, arrivals_handed, came_by_delta, came_by_take, unpublished}
-use Rattle.sct_desk.specs.Passes.{IsOf, ReportsRange, Told, before}
+use Rattle.sct_desk.specs.Locked.{Locked, Fails, IsDeltaRefusal, Publishes, answer_for, answer_to, arrivals_for, arrivals_handed, came_by_delta, came_by_take, unpublished}
+use Rattle.sct_desk.specs.Passes.{IsReceipt, ReportsRange, Told, before}
 use Rattle.sct_desk.specs.Rules.{view_of}
 
 -- ---- more arrivals
@@ -179,13 +179,27 @@ carries_so r news range count =
     let len : length (before r) ≡ length r.shown - (r.count - r.carried) = length-take-le (length r.shown - (r.count - r.carried)) r.shown less in
     omega (arith, len, range.0, range.1, range.2, count)
 
--- the same of a call that may be refused
-pub before_if : {T : Type 0} (r : Result (T × Told) DeskFault) (book : Book) (number : ℕ) (old new : List Placed) (news : ℕ)
-    → IfOk r (λ t. IsOf book number t.1) → IfOk r (λ t. t.1.shown ≡ new) → IfOk r (λ t. t.1.count ≡ t.1.carried + news)
-    → length new ≡ length old + news → IsPrefix old new
-    → IfOk r (λ t. IsOf book number t.1 × (before t.1 ≡ old) × (t.1.shown ≡ new))
-before_if (Ok t) book number old new news ours shown count len pre = (ours, before_is t.1 old new news shown count len pre, shown)
-before_if (Err f) book number old new news ours shown count len pre = tt
+-- the arrivals before a call that published all, if these begin what it shows
+pub before_if : {A : Type 0} (r : Result (A × Told) DeskFault) (book : Book) (number news : ℕ) (mid new : Locked) (old : List Placed)
+    → IfOk r (λ t. Publishes book number news mid new t.1) → length new.core.arrivals ≡ length old + news → IsPrefix old new.core.arrivals
+    → IfOk r (λ t. before t.1 ≡ old)
+before_if (Ok t) book number news mid new old published len pre =
+    before_is t.1 old new.core.arrivals news published.arrivals published.receipt_is.count len pre
+before_if (Err f) book number news mid new old published len pre = tt
+
+-- a call of which an event came first, by which as many arrivals came as its answer says
+pub published_if : {A : Type 0} (came : A → ℕ) (r : Result (A × Told) DeskFault) (book : Book) (number news : ℕ) (old mid new : Locked) (answer : A)
+    → mid.published ≡ old.published → IfOk r (λ t. t.0 ≡ answer) → news ≡ came answer → IfOk r (λ t. Publishes book number news mid new t.1)
+    → IfOk r (λ t. Publishes book number (came t.0) old new t.1)
+published_if came (Ok t) book number news old mid new answer same is count published =
+    let as_many : news ≡ came t.0 = count ∙ ap came (sym is) in
+    record {
+      receipt_is = subst (λ (n : ℕ). IsReceipt book number n t.1) as_many published.receipt_is;
+      from = published.from ∙ ap (λ (es : List Placed). length es + 1) same;
+      arrivals = published.arrivals;
+      shown = published.shown;
+    }
+published_if came (Err f) book number news old mid new answer same is count published = tt
 
 -- ---- refused calls
 

@@ -1,4 +1,5 @@
 -- The definitions of desks.
+pub mod Answering
 pub mod Faults
 pub mod HeldOk
 pub mod Locked

@@ -7,6 +7,8 @@ use Rattle.sct_site.specs.Cores.{Core, refusal_by, fresh_of, arrivals_joined}
 use Rattle.sct_site.specs.declared.answers.Accepted.{Accepted}
 use Rattle.sct_site.specs.declared.answers.Took.{Took}
 use Rattle.sct_site.specs.declared.answers.Took.TheVariants as took
+use Rattle.logbook.specs.Pages.{Book}
+use Rattle.sct_desk.specs.Passes.{IsReceipt, Told}
 use Rattle.sct_desk.specs.declared.fault.DeskFault.{DeskFault}
 use Rattle.sct_desk.specs.declared.fault.DeskFault.TheVariants as fault
 
@@ -22,6 +24,14 @@ IsShown held = held.published ≡ held.core.arrivals
 -- the position is that of the first pending arrival
 abbrev pub IsHeldBack : ℕ → Locked → Type 0
 IsHeldBack from held = (from ≡ length held.published + 1) × (from ≤ length held.core.arrivals)
+
+-- A call by which `news` arrivals came published all arrivals of the site. Its receipt begins at the first one that was
+-- pending, and shows all.
+pub record Publishes (book : Book) (number news : ℕ) (old new : Locked) (receipt : Told) : Type 0 where
+  pub receipt_is : IsReceipt book number news receipt
+  pub from : receipt.from ≡ length old.published + 1
+  pub arrivals : receipt.shown ≡ new.core.arrivals
+  pub shown : IsShown new
 
 -- ---- a delta that is accepted or refused
 

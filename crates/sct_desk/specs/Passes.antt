@@ -1,7 +1,7 @@
 -- The arrivals that receipts show and that queries have seen. Read by an auditor.
 use Rattle.std.specs.Prelude.{◌≡◌, ◌+◌, ◌-◌, ◌≤◌, ℕ, List, length, take}
 use Rattle.logbook.specs.Pages.{Book}
-use Rattle.sct_delta.specs.Entries.{Placed}
+use Rattle.sct_delta.specs.Entries.{IsArrivals, Placed}
 use Rattle.sct_site.specs.Cores.{Core}
 
 -- A receipt. It says that `count` of the site's arrivals were published, from position `from` on, and that the first
@@ -37,6 +37,15 @@ came receipt = receipt.count - receipt.carried
 -- the arrivals before the receipt's own call
 abbrev pub before : Told → List Placed
 before receipt = take (length receipt.shown - came receipt) receipt.shown
+
+-- The receipt of a call by which `news` arrivals came to this site. What it shows are arrivals in order. It reports the
+-- last of them: first those that it carries, which were there before the call, and then those of the call.
+pub record IsReceipt (book : Book) (number news : ℕ) (receipt : Told) : Type 0 where
+  pub site : IsOf book number receipt
+  pub order : IsArrivals receipt.shown
+  pub range : ReportsRange receipt
+  pub count : receipt.count ≡ receipt.carried + news
+  pub carried : receipt.from + receipt.carried ≡ length (before receipt) + 1
 
 -- the site of this number and group with these arrivals
 abbrev pub site_with : ℕ → ℕ → List Placed → Core

@@ -1,11 +1,11 @@
 //! The questions that a query answers.
 
-ghost use Rattle.std.specs.Prelude.{◌≡◌, ◌⊎◌, length, IfOk, IfErr};
-ghost use mathlib.Core.List.{IsPrefix};
+ghost use Rattle.std.specs.Prelude.{◌≡◌, ◌⊎◌, IfOk, IfErr};
 ghost use Rattle.sct_case.specs.Statuses.{as_standing};
-ghost use Rattle.sct_delta.specs.Entries.{IsArrivals, messages_of};
+ghost use Rattle.sct_delta.specs.Entries.{messages_of};
 ghost use Rattle.sct_view.specs.Answers.{status_of, found_on, recall_of};
 ghost use Rattle.sct_view.specs.Totals.{totals_of};
+ghost use Rattle.sct_desk.specs.Answering.{AnswersFromView};
 ghost use Rattle.sct_desk.specs.declared.fault.DeskFault.TheVariants as fault;
 
 use crate::fault::DeskFault;
@@ -26,10 +26,7 @@ impl Query {
         alloc: Global,
         transfer: &TransferKey,
     ) -> Result<Answer<Status>, DeskFault>
-        ensures same { (self.new.site ≡ self.old.site) × (self.new.book ≡ self.old.book) }
-        ensures later { IsPrefix self.old.seen self.new.seen }
-        ensures order { IsArrivals self.new.seen }
-        ensures front { IfOk result (λ answer. answer.front ≡ length self.new.seen) }
+        ensures answer { AnswersFromView self.old self.new result }
         ensures value { IfOk result (λ answer. as_standing answer.value
             ≡ status_of (messages_of self.new.seen) transfer.now) }
         ensures refused { IfErr result (λ refusal. (refusal ≡ fault.Closed) ⊎ (refusal ≡ fault.Memory)) }
@@ -47,10 +44,7 @@ impl Query {
         alloc: Global,
         transfer: &TransferKey,
     ) -> Result<Answer<Vec<Finding>>, DeskFault>
-        ensures same { (self.new.site ≡ self.old.site) × (self.new.book ≡ self.old.book) }
-        ensures later { IsPrefix self.old.seen self.new.seen }
-        ensures order { IsArrivals self.new.seen }
-        ensures front { IfOk result (λ answer. answer.front ≡ length self.new.seen) }
+        ensures answer { AnswersFromView self.old self.new result }
         ensures value { IfOk result (λ answer. answer.value.items
             ≡ found_on (messages_of self.new.seen) transfer.now) }
         ensures refused { IfErr result (λ refusal. (refusal ≡ fault.Closed) ⊎ (refusal ≡ fault.Memory)) }
@@ -62,10 +56,7 @@ impl Query {
 
     /// The status of a recall. Error: `Closed` (55), only after the desk was closed or dropped. It does not allocate.
     pub fn recall(&mut self, recall: &RecallKey) -> Result<Answer<RecallStatus>, DeskFault>
-        ensures same { (self.new.site ≡ self.old.site) × (self.new.book ≡ self.old.book) }
-        ensures later { IsPrefix self.old.seen self.new.seen }
-        ensures order { IsArrivals self.new.seen }
-        ensures front { IfOk result (λ answer. answer.front ≡ length self.new.seen) }
+        ensures answer { AnswersFromView self.old self.new result }
         ensures value { IfOk result (λ answer. answer.value
             ≡ recall_of (messages_of self.new.seen) recall.now) }
         ensures refused { IfErr result (λ refusal. refusal ≡ fault.Closed) }
@@ -80,10 +71,7 @@ impl Query {
     /// The totals of a bank, with amounts in cents. Error: `Closed` (55), only after the desk was
     /// closed or dropped. It does not allocate.
     pub fn totals(&mut self, bank: &Bic) -> Result<Answer<Totals>, DeskFault>
-        ensures same { (self.new.site ≡ self.old.site) × (self.new.book ≡ self.old.book) }
-        ensures later { IsPrefix self.old.seen self.new.seen }
-        ensures order { IsArrivals self.new.seen }
-        ensures front { IfOk result (λ answer. answer.front ≡ length self.new.seen) }
+        ensures answer { AnswersFromView self.old self.new result }
         ensures value { IfOk result (λ answer. answer.value ≡ totals_of (messages_of self.new.seen) bank.now) }
         ensures refused { IfErr result (λ refusal. refusal ≡ fault.Closed) }
     {

@@ -1,12 +1,11 @@
 //! A running site that threads share.
 
 ghost use Rattle.std.specs.Arc.{arc_value};
-ghost use Rattle.std.specs.Prelude.{◌≡◌, ◌+◌, length, IfOk, IfErr};
-ghost use Rattle.sct_delta.specs.Entries.{IsArrivals};
+ghost use Rattle.std.specs.Prelude.{◌≡◌, IfOk, IfErr};
 ghost use Rattle.sct_delta.specs.Vectors.{count_in};
 ghost use Rattle.sct_site.specs.Cores.{took_by, arrivals_taken, entries_above};
 ghost use Rattle.sct_desk.specs.Locked.{IsDeltaRefusal, IsWant, answer_to, arrivals_handed, came_by_delta, came_by_take};
-ghost use Rattle.sct_desk.specs.Passes.{IsOf, ReportsRange, before, site_with};
+ghost use Rattle.sct_desk.specs.Passes.{IsReceipt, before, site_with};
 ghost use Rattle.sct_desk.specs.Tilings.{AreOurs, FailsToClose, Tiles};
 
 use crate::fault::DeskFault;
@@ -57,15 +56,11 @@ impl<J: Site, R: Wait + Drop> Desk<J, R> {
         alloc: Global,
         message: Arc<Message>,
     ) -> Result<(Took, Receipt), DeskFault>
-        ensures receipt { IfOk result (λ t. IsOf J.book J.number t.1) }
-        ensures range { IfOk result (λ t. ReportsRange t.1) }
+        ensures receipt { IfOk result (λ t. IsReceipt J.book J.number (came_by_take t.0) t.1) }
         ensures took { IfOk result (λ t. t.0
             ≡ took_by (site_with J.number J.group (before t.1)) (arc_value message)) }
         ensures shown { IfOk result (λ t.
             t.1.shown ≡ arrivals_taken (site_with J.number J.group (before t.1)) (arc_value message)) }
-        ensures order { IfOk result (λ t. IsArrivals t.1.shown) }
-        ensures count { IfOk result (λ t. t.1.count ≡ t.1.carried + came_by_take t.0) }
-        ensures carried { IfOk result (λ t. t.1.from + t.1.carried ≡ length (before t.1) + 1) }
         ensures refused { IfErr result IsWant }
     {
         let mut held = self.lock.lock(rt);
@@ -83,16 +78,12 @@ impl<J: Site, R: Wait + Drop> Desk<J, R> {
         alloc: Global,
         delta: &Delta,
     ) -> Result<(Result<Accepted, DeltaFault>, Receipt), DeskFault>
-        ensures receipt { IfOk result (λ t. IsOf J.book J.number t.1) }
-        ensures range { IfOk result (λ t. ReportsRange t.1) }
+        ensures receipt { IfOk result (λ t. IsReceipt J.book J.number (came_by_delta t.0) t.1) }
         ensures answer { IfOk result (λ t. t.0
             ≡ answer_to (site_with J.number J.group (before t.1)) delta.now) }
         ensures refusals { IfOk result (λ t. IfErr t.0 IsDeltaRefusal) }
         ensures shown { IfOk result (λ t.
             t.1.shown ≡ arrivals_handed (site_with J.number J.group (before t.1)) delta.now) }
-        ensures order { IfOk result (λ t. IsArrivals t.1.shown) }
-        ensures count { IfOk result (λ t. t.1.count ≡ t.1.carried + came_by_delta t.0) }
-        ensures carried { IfOk result (λ t. t.1.from + t.1.carried ≡ length (before t.1) + 1) }
         ensures refused { IfErr result IsWant }
     {
         let mut held = self.lock.lock(rt);
@@ -108,12 +99,8 @@ impl<J: Site, R: Wait + Drop> Desk<J, R> {
         alloc: Global,
         vector: &Vector,
     ) -> Result<(Delta, Receipt), DeskFault>
-        ensures receipt { IfOk result (λ t. IsOf J.book J.number t.1) }
-        ensures range { IfOk result (λ t. ReportsRange t.1) }
+        ensures receipt { IfOk result (λ t. IsReceipt J.book J.number 0 t.1) }
         ensures cut { IfOk result (λ t. t.0 ≡ entries_above (count_in vector.now) t.1.shown) }
-        ensures order { IfOk result (λ t. IsArrivals t.1.shown) }
-        ensures count { IfOk result (λ t. t.1.count ≡ t.1.carried) }
-        ensures carried { IfOk result (λ t. t.1.from + t.1.carried ≡ length (before t.1) + 1) }
         ensures refused { IfErr result IsWant }
     {
         let mut held = self.lock.lock(rt);
@@ -123,11 +110,7 @@ impl<J: Site, R: Wait + Drop> Desk<J, R> {
     /// Publishes the pending arrivals. The call waits for the lock.
     /// Errors if out of memory, with nothing changed: `Unpublished` (51) if arrivals are pending, else `Memory` (50).
     pub fn publish<W: Wait>(&self, rt: &W, alloc: Global) -> Result<Receipt, DeskFault>
-        ensures receipt { IfOk result (λ receipt. IsOf J.book J.number receipt) }
-        ensures range { IfOk result ReportsRange }
-        ensures order { IfOk result (λ receipt. IsArrivals receipt.shown) }
-        ensures count { IfOk result (λ receipt. receipt.count ≡ receipt.carried) }
-        ensures carried { IfOk result (λ receipt. receipt.from + receipt.carried ≡ length (before receipt) + 1) }
+        ensures receipt { IfOk result (IsReceipt J.book J.number 0) }
         ensures refused { IfErr result IsWant }
     {
         let mut held = self.lock.lock(rt);

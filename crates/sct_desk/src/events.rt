@@ -2,13 +2,12 @@
 //! cut, pending arrivals are published.
 
 ghost use Rattle.std.specs.Arc.{arc_value};
-ghost use Rattle.std.specs.Prelude.{◌≡◌, ◌≢◌, ◌+◌, ◌≤◌, Err, IfNone, IfOk, IfErr, IfSome, MatchOption, OnOk, length};
-ghost use Rattle.sct_delta.specs.Entries.{IsArrivals};
+ghost use Rattle.std.specs.Prelude.{◌≡◌, ◌≢◌, ◌≤◌, Err, IfNone, IfOk, IfErr, IfSome, MatchOption, OnOk, length};
 ghost use Rattle.sct_delta.specs.Vectors.{count_in};
 ghost use Rattle.sct_delta.specs.declared.fault.DeltaFault.TheVariants as delta_fault;
 ghost use Rattle.sct_site.specs.Cores.{took_by, arrivals_taken, entries_above};
-ghost use Rattle.sct_desk.specs.Locked.{Fails, IsDeltaRefusal, IsShown, IsWant, answer_to, arrivals_handed, came_by_delta, came_by_take, unpublished};
-ghost use Rattle.sct_desk.specs.Passes.{IsOf, ReportsRange, before, site_with};
+ghost use Rattle.sct_desk.specs.Locked.{Fails, IsDeltaRefusal, IsWant, Publishes, answer_to, arrivals_handed, came_by_delta, came_by_take, unpublished};
+ghost use Rattle.sct_desk.specs.Passes.{before, site_with};
 
 use crate::fault::DeskFault;
 use crate::held::Held;
@@ -93,14 +92,9 @@ impl<J: Site, R: Wait + Drop> Held<J, R> {
         ensures took { IfOk result (λ t. t.0 ≡ took_by self.old.core (arc_value message)) }
         ensures arrivals { OnOk result (self.new.core.arrivals
             ≡ arrivals_taken self.old.core (arc_value message)) }
-        ensures shown { OnOk result (IsShown self.new) }
-        ensures receipt { IfOk result (λ t. IsOf J.book J.number t.1
-            × (before t.1 ≡ self.old.core.arrivals) × (t.1.shown ≡ self.new.core.arrivals)) }
-        ensures order { IfOk result (λ t. IsArrivals t.1.shown) }
-        ensures from { IfOk result (λ t. t.1.from ≡ length self.old.published + 1) }
-        ensures range { IfOk result (λ t. ReportsRange t.1) }
-        ensures count { IfOk result (λ t. t.1.count ≡ t.1.carried + came_by_take t.0) }
-        ensures carried { IfOk result (λ t. t.1.from + t.1.carried ≡ length (before t.1) + 1) }
+        ensures published { IfOk result (λ t.
+            Publishes J.book J.number (came_by_take t.0) self.old self.new t.1) }
+        ensures before_call { IfOk result (λ t. before t.1 ≡ self.old.core.arrivals) }
         ensures want { IfErr result IsWant }
         ensures failed { IfErr result (Fails self.old
             (arrivals_taken self.old.core (arc_value message)) self.new) }
@@ -129,14 +123,9 @@ impl<J: Site, R: Wait + Drop> Held<J, R> {
         ensures answer { IfOk result (λ t. t.0 ≡ answer_to self.old.core delta.now) }
         ensures refusals { IfOk result (λ t. IfErr t.0 IsDeltaRefusal) }
         ensures arrivals { OnOk result (self.new.core.arrivals ≡ arrivals_handed self.old.core delta.now) }
-        ensures shown { OnOk result (IsShown self.new) }
-        ensures receipt { IfOk result (λ t. IsOf J.book J.number t.1
-            × (before t.1 ≡ self.old.core.arrivals) × (t.1.shown ≡ self.new.core.arrivals)) }
-        ensures order { IfOk result (λ t. IsArrivals t.1.shown) }
-        ensures from { IfOk result (λ t. t.1.from ≡ length self.old.published + 1) }
-        ensures range { IfOk result (λ t. ReportsRange t.1) }
-        ensures count { IfOk result (λ t. t.1.count ≡ t.1.carried + came_by_delta t.0) }
-        ensures carried { IfOk result (λ t. t.1.from + t.1.carried ≡ length (before t.1) + 1) }
+        ensures published { IfOk result (λ t.
+            Publishes J.book J.number (came_by_delta t.0) self.old self.new t.1) }
+        ensures before_call { IfOk result (λ t. before t.1 ≡ self.old.core.arrivals) }
         ensures want { IfErr result IsWant }
         ensures failed { IfErr result (Fails self.old (arrivals_handed self.old.core delta.now) self.new) }
     {
@@ -160,13 +149,7 @@ impl<J: Site, R: Wait + Drop> Held<J, R> {
         requires { history.now ≡ J.book }
         ensures core { self.new.core ≡ self.old.core }
         ensures cut { IfOk result (λ t. t.0 ≡ entries_above (count_in vector.now) self.old.core.arrivals) }
-        ensures shown { OnOk result (IsShown self.new) }
-        ensures receipt { IfOk result (λ t. IsOf J.book J.number t.1 × (t.1.shown ≡ self.old.core.arrivals)) }
-        ensures order { IfOk result (λ t. IsArrivals t.1.shown) }
-        ensures from { IfOk result (λ t. t.1.from ≡ length self.old.published + 1) }
-        ensures range { IfOk result (λ t. ReportsRange t.1) }
-        ensures count { IfOk result (λ t. t.1.count ≡ t.1.carried) }
-        ensures carried { IfOk result (λ t. t.1.from + t.1.carried ≡ length (before t.1) + 1) }
+        ensures published { IfOk result (λ t. Publishes J.book J.number 0 self.old self.new t.1) }
         ensures want { IfErr result IsWant }
         ensures failed { IfErr result (Fails self.old self.old.core.arrivals self.new) }
     {
@@ -180,14 +163,7 @@ impl<J: Site, R: Wait + Drop> Held<J, R> {
     pub(crate) fn publish(&mut self, alloc: Global, history: &History) -> Result<Receipt, DeskFault>
         requires { history.now ≡ J.book }
         ensures core { self.new.core ≡ self.old.core }
-        ensures shown { OnOk result (IsShown self.new) }
-        ensures receipt { IfOk result (λ receipt. IsOf J.book J.number receipt
-            × (receipt.shown ≡ self.old.core.arrivals)) }
-        ensures order { IfOk result (λ receipt. IsArrivals receipt.shown) }
-        ensures from { IfOk result (λ receipt. receipt.from ≡ length self.old.published + 1) }
-        ensures range { IfOk result ReportsRange }
-        ensures count { IfOk result (λ receipt. receipt.count ≡ receipt.carried) }
-        ensures carried { IfOk result (λ receipt. receipt.from + receipt.carried ≡ length (before receipt) + 1) }
+        ensures published { IfOk result (Publishes J.book J.number 0 self.old self.new) }
         ensures want { IfErr result IsWant }
         ensures refused { IfErr result (λ refusal. refusal ≡ unpublished self.old) }
         ensures failed { IfErr result (Fails self.old self.old.core.arrivals self.new) }

@@ -4,8 +4,8 @@ ghost use Rattle.std.specs.FinSet as set;
 ghost use Rattle.std.specs.Prelude.{◌≡◌, ◌+◌, ◌<◌, ◌≤◌, List, [], length, take, drop, IfOk, IfErr, MatchBool, OnOk, OnErr};
 ghost use mathlib.Core.List.{IsPrefix};
 ghost use Rattle.sct_delta.specs.Entries.{IsArrivals, messages_of};
-ghost use Rattle.sct_desk.specs.Locked.{IsShown, unpublished};
-ghost use Rattle.sct_desk.specs.Passes.{IsOf, ReportsRange, before};
+ghost use Rattle.sct_desk.specs.Locked.{Publishes, unpublished};
+ghost use Rattle.sct_desk.specs.Passes.{IsReceipt};
 ghost use Rattle.sct_desk.specs.Rules.{GoesOn, handed_over};
 
 use crate::fault::DeskFault;
@@ -107,13 +107,9 @@ fn show<R: Wait>(writer: &mut ShownWriter, rt: &R) -> Result<(), AllocError>
 fn receipt_of(site: u16, from: u64, track: &Track, news: u64) -> Receipt
     requires from { 1 ≤ from }
     requires news { news + from ≤ length track.now.log + 1 }
-    ensures site { (result.site ≡ site) × (result.book ≡ track.now.book) }
-    ensures shown { result.shown ≡ track.now.log }
-    ensures order { IsArrivals result.shown }
+    ensures receipt { IsReceipt track.now.book site news result }
     ensures from { result.from ≡ from }
-    ensures range { ReportsRange result }
-    ensures news { result.count ≡ result.carried + news }
-    ensures carried { result.from + result.carried ≡ length (before result) + 1 }
+    ensures shown { result.shown ≡ track.now.log }
 {
     let count = track.len() - (from - 1);
     Receipt {
@@ -150,14 +146,7 @@ impl<J: Site, R: Wait + Drop> Held<J, R> {
         requires history { history.now ≡ J.book }
         requires news { news + length self.old.published ≤ length self.old.core.arrivals }
         ensures core { self.new.core ≡ self.old.core }
-        ensures shown { OnOk result (IsShown self.new) }
-        ensures site { IfOk result (λ receipt. IsOf J.book J.number receipt) }
-        ensures arrivals { IfOk result (λ receipt. receipt.shown ≡ self.old.core.arrivals) }
-        ensures order { IfOk result (λ receipt. IsArrivals receipt.shown) }
-        ensures from { IfOk result (λ receipt. receipt.from ≡ length self.old.published + 1) }
-        ensures range { IfOk result ReportsRange }
-        ensures news { IfOk result (λ receipt. receipt.count ≡ receipt.carried + news) }
-        ensures carried { IfOk result (λ receipt. receipt.from + receipt.carried ≡ length (before receipt) + 1) }
+        ensures published { IfOk result (Publishes J.book J.number news self.old self.new) }
         ensures refused { IfErr result (λ refusal. refusal ≡ unpublished self.old) }
         ensures unchanged { OnErr result (self.new ≡ self.old) }
     {
@@ -181,6 +170,7 @@ impl<J: Site, R: Wait + Drop> Held<J, R> {
         };
         Ok(receipt_of(self.core.number(), published + 1, &self.track, news))
     }
+
     // Publishes all pending arrivals. Returns the answer of this call with the receipt. The last `news` of the arrivals came by
     // this call.
     pub(crate) fn publish_with<T: Drop>(
@@ -194,14 +184,7 @@ impl<J: Site, R: Wait + Drop> Held<J, R> {
         requires news { news + length self.old.published ≤ length self.old.core.arrivals }
         ensures core { self.new.core ≡ self.old.core }
         ensures answer { IfOk result (λ t. t.0 ≡ answer) }
-        ensures shown { OnOk result (IsShown self.new) }
-        ensures site { IfOk result (λ t. IsOf J.book J.number t.1) }
-        ensures arrivals { IfOk result (λ t. t.1.shown ≡ self.old.core.arrivals) }
-        ensures order { IfOk result (λ t. IsArrivals t.1.shown) }
-        ensures from { IfOk result (λ t. t.1.from ≡ length self.old.published + 1) }
-        ensures range { IfOk result (λ t. ReportsRange t.1) }
-        ensures news { IfOk result (λ t. t.1.count ≡ t.1.carried + news) }
-        ensures carried { IfOk result (λ t. t.1.from + t.1.carried ≡ length (before t.1) + 1) }
+        ensures published { IfOk result (λ t. Publishes J.book J.number news self.old self.new t.1) }
         ensures refused { IfErr result (λ refusal. refusal ≡ unpublished self.old) }
         ensures unchanged { OnErr result (self.new ≡ self.old) }
     {

@@ -1,9 +1,9 @@
 //! Queries: they read the published view, and never wait.
 
-ghost use Rattle.std.specs.Prelude.{◌≡◌, ◌≢◌, ◌⊎◌, length, IfOk, IfErr};
-ghost use mathlib.Core.List.{IsPrefix};
+ghost use Rattle.std.specs.Prelude.{◌≡◌, ◌≢◌, ◌⊎◌, IfOk, IfErr};
 ghost use Rattle.sct_delta.specs.Entries.{IsArrivals, messages_of};
 ghost use Rattle.sct_history.specs.Sights.{IsLonger};
+ghost use Rattle.sct_desk.specs.Answering.{AnswersFromView};
 ghost use Rattle.sct_desk.specs.declared.fault.DeskFault.TheVariants as fault;
 
 use crate::fault::DeskFault;
@@ -64,11 +64,9 @@ impl Query {
         self,
         question: &Q,
     ) -> (Query, Result<Answer<Q::Value>, DeskFault>)
-        ensures same { (result.0.site ≡ self.site) × (result.0.book ≡ self.book) }
-        ensures later { IsPrefix self.seen result.0.seen }
-        ensures order { IsArrivals result.0.seen }
-        ensures value { IfOk result.1 (λ a. (a.front ≡ length result.0.seen)
-            × Q.is_answer question.now (messages_of result.0.seen) a.value) }
+        ensures answer { AnswersFromView self result.0 result.1 }
+        ensures value { IfOk result.1 (λ answer.
+            Q.is_answer question.now (messages_of result.0.seen) answer.value) }
         ensures refused { IfErr result.1 (λ refusal. (refusal ≡ fault.Closed)
             ⊎ ((refusal ≡ fault.Memory) × Q.may_want)) }
     {

@@ -1,5 +1,5 @@
 -- One run of the program: its request, its answer and its report. Read by an auditor.
-use Rattle.std.specs.Prelude.{ℕ, ◌≡◌, ◌≢◌, ◌+◌, ◌≤◌, false, List, length, map, Option, Some, Result, Ok, Err, IfOk, IfErr, OnOk, Vec, String, string_bytes}
+use Rattle.std.specs.Prelude.{ℕ, ◌≡◌, ◌≢◌, ◌+◌, ◌≤◌, false, List, length, map, Option, Some, Result, Ok, Err, IfOk, IfErr, IfSome, OnOk, Vec, String, string_bytes}
 use Rattle.std.specs.declared.alloc.Global.{Global}
 use Rattle.sct_engine.specs.declared.ending.Ending.{Ending}
 use Rattle.sct_engine.specs.declared.fault.ProgramFault.{ProgramFault}
@@ -11,7 +11,7 @@ use Rattle.sct_engine.specs.Engine.{AreCutOff, EndsWork, IsRefusedInput, StandsO
 use Rattle.sct_engine.specs.Exchanging.{is_possible, EndsExchange}
 use Rattle.sct_engine.specs.Fault.{failed_reads}
 use Rattle.sct_engine.specs.Stream.{Streams}
-use Rattle.sct_engine.specs.Tasks.{bad_row_in, out_text_of, refusals_text_of, EndsSettling, IsEndingOf, IsPrepared, LeavesInput}
+use Rattle.sct_engine.specs.Tasks.{bad_row_in, out_text_of, refusals_text_of, EndsSettling, IsEndingOf, IsPrepared, LeavesInput, ReadsInput, TakesInput}
 use Rattle.sct_engine.specs.declared.task.Task.{Task}
 use Rattle.sct_engine.specs.declared.task.Task.TheVariants as task
 use Rattle.sct_engine.specs.Runs.{are_sites}
@@ -45,11 +45,13 @@ EndsTask (task.Mistake text) fault.Write = Unit {0}
 EndsTask _ fault = ⊥
 
 -- how a task is answered, from the streams before to the streams after: the text on standard output, the refused lines
--- on standard error, and the cases of each fault. An input has at most 1,073,741,824 bytes.
+-- on standard error, the input that was read, and the cases of each fault. An input has at most 1,073,741,824 bytes.
 pub record IsAnswered (task : Task) (before after : Streams) (ended : Result Ending ProgramFault) : Type 0 where
   pub ending : IfOk ended (IsEndingOf task before.input.left)
   pub printed : OnOk ended (IsWritten before.out after.out (out_text_of task before.input.left))
   pub told : OnOk ended (IsWritten before.err after.err (refusals_text_of task before.input.left))
+  pub read : OnOk ended (ReadsInput task before.input after.input)
+  pub taken : OnOk ended (IfSome before.input.left (TakesInput task))
   pub usage : ended ≡ Err fault.Usage → CannotBeDone task before.input after.input
   pub list : StandsOnList (bad_row_in task) ended
   pub unlisted : (row : ℕ) → ended ≡ Err (fault.BadList row) → after.input.left ≡ before.input.left

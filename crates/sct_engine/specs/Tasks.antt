@@ -17,9 +17,10 @@ use Rattle.sct_engine.specs.declared.request.Request.TheVariants as request
 use Rattle.sct_engine.specs.Exchanging.{count_by_exchange, text_by_exchange, told_by_exchange, IsGathered}
 use Rattle.sct_engine.specs.declared.task.Task.{Task}
 use Rattle.sct_engine.specs.declared.task.Task.TheVariants.{Work, Settle, Exchange, Help, Mistake}
-use Rattle.sct_engine.specs.Engine.{bad_row_of, job_text_if_told, refused_of, told_text_if_told}
+use Rattle.sct_engine.specs.Engine.{bad_row_of, job_text_if_told, refused_of, told_text_if_told, IsInputOf, IsReadWhole}
 use Rattle.sct_engine.specs.Stream.{EndsFile, EndsFiles}
 use Rattle.sct_streams.specs.Files.{AreGiven, IsGiven}
+use Rattle.sct_streams.specs.Stream.{Input}
 
 -- ---- the files
 
@@ -91,6 +92,16 @@ bad_row_in _ = None
 abbrev pub LeavesInput : Task → Type 0
 LeavesInput (Work job) = ⊥
 LeavesInput _ = Unit {0}
+
+-- an input within 1,073,741,824 bytes was read whole, if the task is a job on standard input
+abbrev pub ReadsInput : Task → Input → Input → Type 0
+ReadsInput (Work job) before after = IsReadWhole 1073741824 before after
+ReadsInput _ before after = Unit {0}
+
+-- the task takes standard input with these bytes: a replay takes only a script
+abbrev pub TakesInput : Task → List ℕ → Type 0
+TakesInput (Work job) input = IsInputOf job input
+TakesInput _ input = Unit {0}
 
 -- the faults that may end the settling of inputs. No gate holds a worker (61). A refused
 -- call has the number of a refusal.

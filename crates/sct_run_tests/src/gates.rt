@@ -111,6 +111,40 @@ impl Gate for HeldAnswers {
     }
 }
 
+/// Holds the first message of site 1, and counts the deltas that sites have accepted.
+#[derive(Drop)]
+pub(crate) struct HeldFirst {
+    accepted: AtomicU64,
+}
+
+impl HeldFirst {
+    pub(crate) fn new() -> HeldFirst {
+        HeldFirst {
+            accepted: AtomicU64::new(0),
+        }
+    }
+
+    /// How many deltas sites have accepted.
+    pub(crate) fn accepted(&self) -> u64 {
+        self.accepted.load(Ordering::SeqCst)
+    }
+}
+
+impl Gate for HeldFirst {
+    ghost may_hold = { λ gate at. Unit {0} };
+
+    fn pass<R: Wait>(&self, _rt: &R, point: Point) -> Result<(), Held> {
+        match point {
+            Point::Take { site: 1, k: 1 } => Err(Held),
+            Point::Accepted { .. } => {
+                self.accepted.fetch_add(1, Ordering::SeqCst);
+                Ok(())
+            }
+            _ => Ok(()),
+        }
+    }
+}
+
 /// Lets no worker pass.
 pub(crate) struct Shut;
 

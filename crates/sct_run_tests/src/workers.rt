@@ -3,7 +3,7 @@
 mod faults;
 mod inputs;
 
-use crate::gates::{HeldAccepts, HeldAnswers, InStep, Meeting, Shut};
+use crate::gates::{HeldAccepts, HeldAnswers, HeldFirst, InStep, Meeting, Shut};
 use faults::FAILED;
 use inputs::{ONE_SITE, Row, TWO_SITES, WITH_REFUSED};
 use sct_set::Archive;
@@ -101,6 +101,16 @@ fn meeting_gate(rt: HostRuntime) {
 fn shut_gate(rt: HostRuntime) {
     let held = filled(&rt, rt.alloc(), &Shut, TWO_SITES.inputs);
     assert_eq!(rt; held.err(), Some(WorkFault::Held));
+}
+
+// The first of three sites has the only message. A message that is taken before its point is passed would be sent to the
+// other sites, which would accept it.
+#[test]
+fn a_point_is_passed_before_its_message_is_taken(rt: HostRuntime) {
+    let gate = HeldFirst::new();
+    let held = filled(&rt, rt.alloc(), &gate, WITH_REFUSED.inputs);
+    assert_eq!(rt; held.err(), Some(WorkFault::Held));
+    assert_eq!(rt; gate.accepted(), 0);
 }
 
 // The receipt of a delta that the held worker accepted is lost, so the desk could not be closed: 66 with 54.

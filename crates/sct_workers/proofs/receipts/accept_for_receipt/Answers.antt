@@ -10,4 +10,4 @@ pub returns-clause-keeps : goal.returns-clause-keeps
 returns-clause-keeps g c =
     let shape : IsDelta c.args.delta.now = search rules in
     handed_keeps g.J.Site.book g.J.Site.number g.J.Site.group (contents_of []) c.in_ok-answer.receipt c.in_ok-answer.answer (before c.in_ok-answer.receipt) c.args.delta.now
-    shape c.in_ok-answer.ensures.receipt c.in_ok-refuse_carried.ensures.first c.in_ok-refuse_carried.ensures.last c.in_ok-answer.ensures.count c.in_ok-refuse_carried.ensures.none c.in_ok-answer.ensures.answer c.in_ok-answer.ensures.shown
+    shape c.in_ok-answer.ensures.receipt.site c.in_ok-refuse_carried.ensures.first c.in_ok-refuse_carried.ensures.last c.in_ok-answer.ensures.receipt.count c.in_ok-refuse_carried.ensures.none c.in_ok-answer.ensures.answer c.in_ok-answer.ensures.shown

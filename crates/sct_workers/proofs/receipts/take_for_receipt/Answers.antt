@@ -7,7 +7,7 @@ use Rattle.sct_workers.proofs.receipts.take_for_receipt.Goals as goal
 pub returns-clause-keeps : goal.returns-clause-keeps
 returns-clause-keeps g c =
     taken_keeps g.J.Site.book g.J.Site.number g.J.Site.group c.in_ok-took.receipt c.in_ok-took.took (arc_value c.args.message) (before c.in_ok-took.receipt)
-    c.in_ok-took.ensures.receipt c.in_ok-refuse_carried.ensures.first c.in_ok-refuse_carried.ensures.last c.in_ok-took.ensures.count c.in_ok-refuse_carried.ensures.none c.in_ok-took.ensures.took c.in_ok-took.ensures.shown
+    c.in_ok-took.ensures.receipt.site c.in_ok-refuse_carried.ensures.first c.in_ok-refuse_carried.ensures.last c.in_ok-took.ensures.receipt.count c.in_ok-refuse_carried.ensures.none c.in_ok-took.ensures.took c.in_ok-took.ensures.shown
 
 pub returns-clause-shown : goal.returns-clause-shown
 returns-clause-shown g c =

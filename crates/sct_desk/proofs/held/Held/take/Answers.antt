@@ -1,14 +1,14 @@
 -- What is held after a take begins with what was held, and its receipt tells what came.
-use Rattle.std.proofs.Common.{◌≡◌, refl, ap, sym, subst, List, length, arith}
+use Rattle.std.proofs.Common.{◌≡◌, ◌∙◌, refl, ap, sym, subst, List, length, arith}
 use Rattle.std.specs.Arc.{arc_value}
 use Rattle.std.specs.Prelude.{IfErr, IfOk}
 use mathlib.Core.List.{IsPrefix}
 use Rattle.sct_delta.specs.Entries.{Placed}
 use Rattle.sct_history.proofs.Prefixes.{prefix_length}
 use Rattle.sct_site.specs.Cores.{Core, arrivals_taken}
-use Rattle.sct_desk.specs.Locked.{Fails, Locked, came_by_take}
-use Rattle.sct_desk.specs.Passes.{IsOf, before}
-use Rattle.sct_desk.proofs.Arrived.{before_if, fails_if_after, held_more, taken_length, taken_longer, taken_most}
+use Rattle.sct_desk.specs.Locked.{Fails, Locked, Publishes, came_by_take}
+use Rattle.sct_desk.specs.Passes.{before}
+use Rattle.sct_desk.proofs.Arrived.{before_if, fails_if_after, held_more, published_if, taken_length, taken_longer, taken_most}
 use Rattle.sct_desk.proofs.held.Held.take.Goals as goal
 
 pub invariant_of-self-2 : goal.invariant_of-self-2
@@ -32,16 +32,25 @@ publish_with-requires-clause-news g c =
       prefix_length _ _ c.self.invariant.published,
     )
 
-pub returns-clause-receipt : goal.returns-clause-receipt
-returns-clause-receipt g c =
+pub returns-clause-before_call : goal.returns-clause-before_call
+returns-clause-before_call g c =
     let core = c.self.inside.core in
-    let ok : c.take.new.self.arrivals ≡ arrivals_taken core (arc_value c.args.message) = c.in-Ok-take.ensures.ok in
-    subst (λ (l : Locked). IfOk c.publish_with.result (λ t. IsOf g.J.Site.book g.J.Site.number t.1 × (before t.1 ≡ l.core.arrivals) × (t.1.shown ≡ c.publish_with.new.self.core.arrivals))) c.self.view_is (
-    subst (λ (l : List Placed). IfOk c.publish_with.result (λ t. IsOf g.J.Site.book g.J.Site.number t.1 × (before t.1 ≡ core.arrivals) × (t.1.shown ≡ l))) (sym (ap (λ (x : Core). x.arrivals) c.publish_with.ensures.core))
-    (before_if c.publish_with.result g.J.Site.book g.J.Site.number core.arrivals c.take.new.self.arrivals c.came_by-news.result
-    c.publish_with.ensures.site c.publish_with.ensures.arrivals c.publish_with.ensures.news
-    (omega (arith, c.came_by-news.ensures, ap came_by_take c.in-Ok-take.ensures.answer, ap length ok, taken_length core (arc_value c.args.message)))
-    (subst (λ (l : List Placed). IsPrefix core.arrivals l) (sym ok) (taken_longer core (arc_value c.args.message)))))
+    let now : c.publish_with.new.self.core.arrivals ≡ arrivals_taken core (arc_value c.args.message) =
+    ap (λ (x : Core). x.arrivals) c.publish_with.ensures.core ∙ c.in-Ok-take.ensures.ok in
+    subst (λ (l : Locked). IfOk c.publish_with.result (λ t. before t.1 ≡ l.core.arrivals)) c.self.view_is (
+    before_if c.publish_with.result g.J.Site.book g.J.Site.number c.came_by-news.result
+    (record { core = c.take.new.self; published = c.self.inside.writer.desk.shown.value.track.log }) c.publish_with.new.self core.arrivals c.publish_with.ensures.published
+    (omega (arith, c.came_by-news.ensures, ap came_by_take c.in-Ok-take.ensures.answer, ap length now, taken_length core (arc_value c.args.message)))
+    (subst (λ (l : List Placed). IsPrefix core.arrivals l) (sym now) (taken_longer core (arc_value c.args.message))))
+
+pub returns-clause-published : goal.returns-clause-published
+returns-clause-published g c =
+    let core = c.self.inside.core in
+    let published = c.self.inside.writer.desk.shown.value.track.log in
+    subst (λ (l : Locked). IfOk c.publish_with.result (λ t. Publishes g.J.Site.book g.J.Site.number (came_by_take t.0) l c.publish_with.new.self t.1)) c.self.view_is (
+    published_if came_by_take c.publish_with.result g.J.Site.book g.J.Site.number c.came_by-news.result
+    (record { core = core; published = published }) (record { core = c.take.new.self; published = published }) c.publish_with.new.self c.in-Ok-take.took
+    refl c.publish_with.ensures.answer c.came_by-news.ensures c.publish_with.ensures.published)
 
 pub returns-clause-failed : goal.returns-clause-failed
 returns-clause-failed g c =
