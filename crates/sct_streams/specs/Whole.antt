@@ -1,6 +1,6 @@
--- How the reading of a whole input ends. Read by an auditor.
-use Rattle.std.specs.Prelude.{ℕ, ◌+◌, ◌≤◌, List, Option}
-use Rattle.sct_streams.specs.Stream.{HasTakenIfTold}
+-- How the reading of an input ends. Read by an auditor.
+use Rattle.std.specs.Prelude.{ℕ, ◌≡◌, ◌+◌, ◌++◌, ◌<◌, ◌≤◌, List, Option, length}
+use Rattle.sct_streams.specs.Stream.{HasReadIfTold, HasTakenIfTold}
 use Rattle.sct_streams.specs.declared.whole.ReadFault.{ReadFault}
 use Rattle.sct_streams.specs.declared.whole.ReadFault.TheVariants.{TooLong, Failed, Memory}
 
@@ -15,3 +15,19 @@ EndsReading Memory limit before after = Unit {0}
 abbrev pub failed_reads : ReadFault → ℕ
 failed_reads Failed = 1
 failed_reads _ = 0
+
+-- ---- some bytes more
+
+-- n bytes were appended to the old ones. If the bytes left before are known, these n are their front, and the other bytes
+-- are left now.
+pub record HasAppended (n : ℕ) (old new : List ℕ) (before after : Option (List ℕ)) : Type 0 where
+  pub more : List ℕ
+  pub bytes : new ≡ old ++ more
+  pub count : length more ≡ n
+  pub read : HasReadIfTold before after more
+
+-- The meaning of a fault that ended the reading of at most `most` bytes. Before a failed read, fewer bytes were taken.
+abbrev pub EndsAppending : ReadFault → ℕ → Option (List ℕ) → Option (List ℕ) → Type 0
+EndsAppending TooLong most before after = ⊥
+EndsAppending Failed most before after = (n : ℕ) × ((n < most) × HasTakenIfTold before after n)
+EndsAppending Memory most before after = Unit {0}

@@ -2,7 +2,8 @@
 //!
 //! Bytes are read from a [`Source`] and written to a [`Sink`]. [`Reading`] and [`Writing`] make these of any reader and
 //! writer of std. They keep what std knows of the bytes: those left to read, and those written. [`Failures`] is the
-//! count. [`read_all`] reads a whole input within a limit, and [`write_all`] writes a whole text.
+//! count. [`read_all`] reads a whole input within a limit, [`read_more`] reads on by some bytes, and [`write_all`] writes a
+//! whole text.
 #![tactic(auto)]
 
 mod failures;
@@ -15,4 +16,4 @@ pub use failures::Failures;
 pub use files::{Files, HostFiles};
 pub use sink::{Sink, Writing};
 pub use source::{Failed, Reading, Source};
-pub use whole::{ReadFault, read_all, write_all};
+pub use whole::{ReadFault, read_all, read_more, write_all};
