@@ -230,6 +230,12 @@ count_end found by so_far all number text none whole =
     let nothing : length (found (lines_left number text)) ≡ 0 = rw (lines_left_none number text none, by.none) refl in
     omega (arith, nothing, whole)
 
+-- the same of the lines themselves
+pub count_lines_end : (so_far all : ℕ) (text : List ℕ) → text ≡ [] → so_far + length (lines_of text) ≡ all → so_far ≡ all
+count_lines_end so_far all text none whole =
+    let nothing : length (lines_of text) ≡ 0 = rw (none, lines_of_none) refl in
+    omega (arith, nothing, whole)
+
 -- ---- the lines of a part, which count on from those before it
 
 pub next_line : {X : Type 0} (found : List (ℕ × List ℕ) → List X) → IsByLine found → (before after all : List X) (counted was lines : ℕ) (line rest text : List ℕ)

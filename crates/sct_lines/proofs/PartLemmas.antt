@@ -2,18 +2,19 @@
 use Rattle.std.proofs.Common.{ℕ, ◌≡◌, ◌+◌, ◌-◌, ◌<◌, ◌≤◌, suc, zero, ◌++◌, ◌∷◌, [], List, true, false, cond, ◌==◌, length, take, drop, get_or, filter, not, refl, sym, ap, subst, ◌∙◌, arith, add-one, append_assoc, length-append, length-drop, take-add, eqb-true}
 use Rattle.std.specs.List.{filter_map}
 use Rattle.std.specs.Result.{result_ok}
-use Rattle.std.proofs.lemmas.List.{drop-drop, drop-take, get_or-drop, take-take}
+use Rattle.std.proofs.lemmas.List.{drop-drop, drop-take, get_or-drop, length-take-le, take-take}
 use Rattle.std.proofs.lemmas.List.Elements.{filter-append}
 use Rattle.std.proofs.lemmas.List.Sums.{length-filter}
 use Rattle.memchr.specs.Find.{is_byte, places}
 use Rattle.memchr.proofs.lemmas.CallerLemmas.{length-places}
 use Rattle.sct_message.specs.Sets.{messages_in}
-use Rattle.sct_lines.specs.declared.intake.Intake.{Intake}
+use Rattle.sct_lines.specs.declared.intake.LinesRead.{LinesRead}
 use Rattle.sct_json.specs.Reading.{message_in}
-use Rattle.sct_lines.specs.LineLaws.{IsOfWholeLines, MessagesStay, WholeLinesStay}
-use Rattle.sct_lines.specs.Lines.{is_blank, lines_of, messages_among, messages_read, numbered_from, onto_first, refusals_among}
+use Rattle.sct_lines.specs.LineLaws.{IsOfWholeLines, MessagesStay, WholeLinesJoin, WholeLinesStay}
+use Rattle.sct_lines.specs.Blocks.{IsReadOf}
+use Rattle.sct_lines.specs.Lines.{is_blank, lines_of, messages_among, messages_read, numbered_from, onto_first, refusals_among, refusals_told}
 use Rattle.sct_lines.specs.Parts.{refusals_after, IsPartOf, IsReadAfter}
-use Rattle.sct_lines.proofs.LineLemmas.{is_feed, messages_by_line, numbered-cons, numbered_none, refusals_by_line, told_by_line}
+use Rattle.sct_lines.proofs.LineLemmas.{is_feed, messages_by_line, numbered-cons, numbered_none, refusals_by_line, told_by_line, told_plainly}
 
 -- as many places have a line feed as there are line feeds
 pub feeds_counted : (text found : List ℕ) → found ≡ places (is_byte 10) text → length found ≡ length (filter is_feed text)
@@ -25,6 +26,19 @@ few_feeds (byte ∷ bytes) =
     let few = few_feeds bytes in
     elim (byte == 10) as (λ feed. length (cond feed (byte ∷ filter is_feed bytes) (filter is_feed bytes)) ≤ length (byte ∷ bytes))
     [ true ↦ omega (arith, few) | false ↦ omega (arith, few) ]
+
+onto_few : (byte : ℕ) (lines : List (List ℕ)) → length (onto_first byte lines) ≤ length lines + 1
+onto_few byte [] = omega arith
+onto_few byte (line ∷ lines) = omega arith
+
+-- a text has no more lines than bytes
+pub few_lines : (text : List ℕ) → length (lines_of text) ≤ length text
+unfolding lines_of
+few_lines [] = omega arith
+few_lines (byte ∷ bytes) =
+    let few = few_lines bytes in
+    elim (byte == 10) as (λ feed. length (cond feed ([] ∷ lines_of bytes) (onto_first byte (lines_of bytes))) ≤ length (byte ∷ bytes))
+    [ true ↦ omega (arith, few) | false ↦ omega (arith, few, onto_few byte (lines_of bytes)) ]
 
 -- a text is cut in two behind a line feed
 pub record IsCutAt (text front back : List ℕ) : Type 0 where
@@ -107,6 +121,22 @@ unfolding lines_of
 lines_stay [] more whole = refl
 lines_stay (byte ∷ bytes) more whole = (whole_cut (byte ∷ bytes) more (omega arith) whole).lines
 
+pub lines_join : WholeLinesJoin
+lines_join [] more whole then = then
+lines_join (byte ∷ []) [] whole then = whole
+lines_join (byte ∷ []) (next ∷ more) whole then = ap (λ t. byte ∷ t) then
+lines_join (byte ∷ next ∷ bytes) more whole then =
+    let rest : IsOfWholeLines (next ∷ bytes) = cc in
+    ap (λ t. byte ∷ t) (lines_join (next ∷ bytes) more rest then)
+
+-- a text up to a line feed, with it
+pub whole_to_feed : (text : List ℕ) (at : ℕ) → at < length text → get_or text at 0 ≡ 10 → IsOfWholeLines (take (at + 1) text)
+whole_to_feed [] at within feed = absurd (omega arith)
+whole_to_feed (byte ∷ bytes) zero within feed = rw feed refl
+whole_to_feed (byte ∷ []) (suc at) within feed = absurd (omega arith)
+whole_to_feed (byte ∷ next ∷ bytes) (suc at) within feed =
+    simp add-one (ap (λ t. byte ∷ t) (simp add-one at (whole_to_feed (next ∷ bytes) at (omega arith) feed)))
+
 -- ---- what is read of both parts
 
 pub numbered-append : (first : ℕ) (some more : List (List ℕ)) → numbered_from first (some ++ more) ≡ numbered_from first some ++ numbered_from (first + length some) more
@@ -121,23 +151,25 @@ numbered-append first (line ∷ lines) more =
     ∙ ap (λ l. l ++ numbered_from (first + 1 + length lines) more) (sym (numbered-cons first line lines))
     ∙ ap (λ n. numbered_from first (line ∷ lines) ++ numbered_from n more) next
 
-pub read_in_two : (shown : List ℕ) (before : ℕ) (text front back : List ℕ) (first second both : Intake) → lines_of text ≡ lines_of front ++ lines_of back
+pub read_in_two : (shown : List ℕ) (before : ℕ) (text front back : List ℕ) (first second both : LinesRead) → lines_of text ≡ lines_of front ++ lines_of back
     → IsReadAfter shown before front first → IsReadAfter shown (before + length (lines_of front)) back second
-    → messages_in both.messages.items ≡ messages_in first.messages.items ++ messages_in second.messages.items
-    → both.refusals.text ≡ first.refusals.text ++ second.refusals.text
-    → both.refusals.count ≡ first.refusals.count + second.refusals.count
+    → messages_in both.intake.messages.items ≡ messages_in first.intake.messages.items ++ messages_in second.intake.messages.items
+    → both.intake.refusals.text ≡ first.intake.refusals.text ++ second.intake.refusals.text
+    → both.intake.refusals.count ≡ first.intake.refusals.count + second.intake.refusals.count
+    → both.lines ≡ first.lines + second.lines
     → IsReadAfter shown before text both
-read_in_two shown before text front back first second both lines one two messages told refused =
+read_in_two shown before text front back first second both lines one two messages told refused count =
     let some = numbered_from (before + 1) (lines_of front) in
     let more = numbered_from (before + length (lines_of front) + 1) (lines_of back) in
     let next : before + length (lines_of front) + 1 ≡ before + 1 + length (lines_of front) = omega arith in
     let numbered : numbered_from (before + 1) (lines_of text) ≡ some ++ more = rw (lines, next) (numbered-append (before + 1) (lines_of front) (lines_of back)) in
-    let count : length (refusals_after before text) ≡ length (refusals_among some) + length (refusals_among more) =
+    let refusals : length (refusals_after before text) ≡ length (refusals_among some) + length (refusals_among more) =
     rw (numbered, refusals_by_line.append some more) (length-append (refusals_among some) (refusals_among more)) in
     record {
       messages = messages ∙ rw (one.messages, two.messages, numbered) (sym (messages_by_line.append some more));
       told = told ∙ rw (one.told, two.told, numbered) (sym ((told_by_line shown).append some more));
-      refused = omega (arith, refused, one.refused, two.refused, count);
+      refused = omega (arith, refused, one.refused, two.refused, refusals);
+      lines = omega (arith, count, one.lines, two.lines, ap length lines, length-append (lines_of front) (lines_of back));
     }
 
 -- ---- a part of a text
@@ -149,12 +181,13 @@ feeds_in_two text from more =
     ∙ length-append (filter is_feed (take from text)) (filter is_feed (take more (drop from text)))
 
 -- the part of a text that begins at a place is read in two, cut behind a line feed
-pub halves_read : (shown : List ℕ) (counted : ℕ) (text : List ℕ) (from more : ℕ) (first second both : Intake) → from + more < length text → get_or text (from + more) 0 ≡ 10
-    → IsPartOf shown counted (take (from + more + 1) text) from first → IsPartOf shown counted text (from + more + 1) second → messages_in both.messages.items ≡ messages_in first.messages.items ++ messages_in second.messages.items
-    → both.refusals.text ≡ first.refusals.text ++ second.refusals.text
-    → both.refusals.count ≡ first.refusals.count + second.refusals.count
+pub halves_read : (shown : List ℕ) (counted : ℕ) (text : List ℕ) (from more : ℕ) (first second both : LinesRead) → from + more < length text → get_or text (from + more) 0 ≡ 10
+    → IsPartOf shown counted (take (from + more + 1) text) from first → IsPartOf shown counted text (from + more + 1) second → messages_in both.intake.messages.items ≡ messages_in first.intake.messages.items ++ messages_in second.intake.messages.items
+    → both.intake.refusals.text ≡ first.intake.refusals.text ++ second.intake.refusals.text
+    → both.intake.refusals.count ≡ first.intake.refusals.count + second.intake.refusals.count
+    → both.lines ≡ first.lines + second.lines
     → IsPartOf shown counted text from both
-halves_read shown counted text from more first second both within feed one two messages told refused =
+halves_read shown counted text from more first second both within feed one two messages told refused count =
     let part = drop from text in
     let size : length part ≡ length text - from = length-drop from text in
     let cut : IsCutAt part (take (more + 1) part) (drop (more + 1) part) =
@@ -171,19 +204,39 @@ halves_read shown counted text from more first second both within feed one two m
     (subst (λ h. IsReadAfter shown (counted + length (filter is_feed h)) (drop from (take (from + more + 1) text)) first) head one))
     (subst (λ b. IsReadAfter shown (counted + length (filter is_feed (take from text)) + length (lines_of (take (more + 1) part))) b second) back
     (subst (λ n. IsReadAfter shown n (drop (from + more + 1) text) second) feeds two))
-    messages told refused
+    messages told refused count
 
-pub halves_read_at : (shown : List ℕ) (counted : ℕ) (text : List ℕ) (from at : ℕ) (first second both : Intake) → from ≤ at → at < length text → get_or text at 0 ≡ 10
-    → IsPartOf shown counted (take (at + 1) text) from first → IsPartOf shown counted text (at + 1) second → messages_in both.messages.items ≡ messages_in first.messages.items ++ messages_in second.messages.items
-    → both.refusals.text ≡ first.refusals.text ++ second.refusals.text
-    → both.refusals.count ≡ first.refusals.count + second.refusals.count
+pub halves_read_at : (shown : List ℕ) (counted : ℕ) (text : List ℕ) (from at : ℕ) (first second both : LinesRead) → from ≤ at → at < length text → get_or text at 0 ≡ 10
+    → IsPartOf shown counted (take (at + 1) text) from first → IsPartOf shown counted text (at + 1) second → messages_in both.intake.messages.items ≡ messages_in first.intake.messages.items ++ messages_in second.intake.messages.items
+    → both.intake.refusals.text ≡ first.intake.refusals.text ++ second.intake.refusals.text
+    → both.intake.refusals.count ≡ first.intake.refusals.count + second.intake.refusals.count
+    → both.lines ≡ first.lines + second.lines
     → IsPartOf shown counted text from both
-halves_read_at shown counted text from at first second both behind within feed one two messages told refused =
+halves_read_at shown counted text from at first second both behind within feed one two messages told refused count =
     let more : ℕ = at - from in
     let same : from + more ≡ at = omega (arith, behind) in
     subst (λ n. n < length text → get_or text n 0 ≡ 10 → IsPartOf shown counted (take (n + 1) text) from first → IsPartOf shown counted text (n + 1) second
     → IsPartOf shown counted text from both) same
-    (λ w f o t. halves_read shown counted text from more first second both w f o t messages told refused) within feed one two
+    (λ w f o t. halves_read shown counted text from more first second both w f o t messages told refused count) within feed one two
+
+-- the lines of both parts are no more than the bytes of the text
+pub halves_few : (shown : List ℕ) (counted : ℕ) (text : List ℕ) (from at : ℕ) (first second : LinesRead) → from ≤ at → at < length text
+    → counted + length text < 18446744073709551616
+    → IsPartOf shown counted (take (at + 1) text) from first → IsPartOf shown counted text (at + 1) second → first.lines + second.lines < 18446744073709551616
+halves_few shown counted text from at first second behind within few one two =
+    omega (
+      arith,
+      few,
+      behind,
+      within,
+      one.lines,
+      two.lines,
+      few_lines (drop from (take (at + 1) text)),
+      few_lines (drop (at + 1) text),
+      length-drop from (take (at + 1) text),
+      length-drop (at + 1) text,
+      length-take-le (at + 1) text (omega (arith, within)),
+    )
 
 -- ---- messages do not depend on the numbers of their lines
 
@@ -209,3 +262,20 @@ messages_stay text more whole =
     ∙ ap messages_among (numbered-append 1 (lines_of text) (lines_of more))
     ∙ messages_by_line.append (numbered_from 1 (lines_of text)) (numbered_from (1 + length (lines_of text)) (lines_of more))
     ∙ ap (λ ms. messages_read text ++ ms) (renumbered (1 + length (lines_of text)) 1 (lines_of more))
+
+-- ---- a block more
+
+-- a block is read, behind a text of whole lines
+pub block_read : (text block : List ℕ) (old next new : LinesRead) (counted : ℕ) → IsOfWholeLines text → IsReadOf text old → counted ≡ old.lines → IsReadAfter [] counted block next
+    → messages_in new.intake.messages.items ≡ messages_in old.intake.messages.items ++ messages_in next.intake.messages.items
+    → new.intake.refusals.text ≡ old.intake.refusals.text ++ next.intake.refusals.text
+    → new.intake.refusals.count ≡ old.intake.refusals.count + next.intake.refusals.count
+    → new.lines ≡ old.lines + next.lines
+    → IsReadOf (text ++ block) new
+block_read text block old next new counted whole one same two messages told refused count =
+    let before : counted ≡ 0 + length (lines_of text) = omega (arith, same, one.lines) in
+    let both =
+    read_in_two [] 0 (text ++ block) text block old next new (lines_stay text block whole)
+    (record { messages = one.messages; told = one.told ∙ sym (told_plainly (refusals_told text)); refused = one.refused; lines = one.lines })
+    (subst (λ n. IsReadAfter [] n block next) before two) messages told refused count in
+    record { messages = both.messages; told = both.told ∙ told_plainly (refusals_told (text ++ block)); refused = both.refused; lines = both.lines }

@@ -29,3 +29,7 @@ WholeLinesStay = (text more : List ℕ) → IsOfWholeLines text → lines_of (te
 abbrev pub MessagesStay : Type 0
 MessagesStay =
     (text more : List ℕ) → IsOfWholeLines text → messages_read (text ++ more) ≡ messages_read text ++ messages_read more
+
+-- A text of whole lines after another makes a text of whole lines.
+abbrev pub WholeLinesJoin : Type 0
+WholeLinesJoin = (text more : List ℕ) → IsOfWholeLines text → IsOfWholeLines more → IsOfWholeLines (text ++ more)

@@ -9,6 +9,7 @@ ghost use Rattle.sct_lines.specs.Lines.{
   refusals_told,
   told_after,
 };
+ghost use Rattle.sct_lines.specs.Blocks.{IsReadOf};
 ghost use Rattle.sct_lines.specs.Parts.{IsReadAfter};
 ghost use Rattle.sct_message.specs.Sets.{messages_in};
 
@@ -130,6 +131,50 @@ fn ask_ahead(alloc: Global, number: u64) {
     }
 }
 
+/// What some lines of an input are, and how many they are.
+#[derive(Drop)]
+pub struct LinesRead {
+    pub(crate) intake: Intake,
+    pub(crate) lines: u64,
+}
+
+impl LinesRead {
+    /// No lines.
+    pub fn none(alloc: Global) -> LinesRead
+        ensures { IsReadOf [] result }
+    {
+        LinesRead {
+            intake: Intake::new(alloc),
+            lines: 0,
+        }
+    }
+
+    /// The messages that are read from the lines, and the refused lines.
+    pub fn into_intake(self) -> Intake
+        ensures { result ≡ self.intake }
+    {
+        let LinesRead { intake, .. } = self;
+        intake
+    }
+
+    // Adds the lines that follow.
+    pub(crate) fn append(&mut self, next: LinesRead) -> Result<(), AllocError>
+        requires { self.old.lines + next.lines < 2 ^ 64 }
+        ensures lines { OnOk result (self.new.lines ≡ self.old.lines + next.lines) }
+        ensures messages { OnOk result (messages_in self.new.intake.messages.items
+            ≡ messages_in self.old.intake.messages.items ++ messages_in next.intake.messages.items) }
+        ensures told { OnOk result (self.new.intake.refusals.text
+            ≡ self.old.intake.refusals.text ++ next.intake.refusals.text) }
+        ensures refused { OnOk result (self.new.intake.refusals.count
+            ≡ self.old.intake.refusals.count + next.intake.refusals.count) }
+    {
+        let LinesRead { intake, lines } = next;
+        self.intake.append(intake)?;
+        self.lines += lines;
+        Ok(())
+    }
+}
+
 // Reads a part of an input. `front` is written before each line that reports a refused one. The part ends early if another
 // part is out of memory.
 pub(crate) fn read_part(
@@ -138,7 +183,7 @@ pub(crate) fn read_part(
     before: &mut LinesBefore<'_>,
     part: &[u8],
     shortage: &Shortage,
-) -> Result<Intake, AllocError>
+) -> Result<LinesRead, AllocError>
     requires { before.old + length part.now < 2 ^ 64 }
     ensures { IfOk result (IsReadAfter front.now before.old part.now) }
 {
@@ -153,7 +198,7 @@ pub(crate) fn read_part(
         intake.take(alloc, &mut reader, front, before, lines, line)?;
         rest = after;
     }
-    Ok(intake)
+    Ok(LinesRead { intake, lines })
 }
 
 /// Reads the lines of an input, which count from 1, in one thread. `front` is written before each line that reports a refused
@@ -164,11 +209,12 @@ pub fn read_lines_after(alloc: Global, front: &str, input: &[u8]) -> Result<Inta
         ≡ told_after front.now (refusals_told input.now)) }
     ensures refused { IfOk result (λ intake. intake.refusals.count ≡ length (refusals_told input.now)) }
 {
-    read_part(
+    let read = read_part(
         alloc,
         front,
         &mut LinesBefore::none(),
         input,
         &Shortage::none(),
-    )
+    )?;
+    Ok(read.into_intake())
 }

@@ -4,6 +4,8 @@
 //! and the [`Refusals`]. [`read_lines_by_halves`] reads it in as many parts as the caller says. [`read_file_lines`] writes
 //! a text before each line of its report, such as `file 1 `. [`read_lines_after`] does so too, and reads in one thread.
 //!
+//! An input may come in blocks that end at line feeds: [`whole_lines`] finds where, and [`LinesRead`] reads one after another.
+//!
 //! [`first_line`], [`is_blank_line`] and [`read_line`] are the steps of it, for crates that read lines of another kind too.
 //! Such a crate says by [`Reason`] why it refuses a line. The only error is that a call is out of memory.
 #![tactic(auto)]
@@ -16,8 +18,8 @@ mod refusal_text;
 mod refusals;
 mod shortage;
 
-pub use intake::{Intake, read_line, read_lines_after};
-pub use lines::{first_line, is_blank_line, lines_tile_the_text, whole_lines_stay};
+pub use intake::{Intake, LinesRead, read_line, read_lines_after};
+pub use lines::{first_line, is_blank_line, lines_tile_the_text, whole_lines, whole_lines_stay};
 pub use parts::{read_file_lines, read_lines, read_lines_by_halves};
 pub use refusal_text::push_json_fault;
 pub use refusals::{Reason, Refusals};

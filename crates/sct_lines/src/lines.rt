@@ -1,10 +1,10 @@
 //! A text as its lines.
-ghost use Rattle.std.specs.Prelude.{◌≡◌, ◌<◌, ◌==◌, ◌∷◌, [], length, slice_index, IfSome, IfNone};
+ghost use Rattle.std.specs.Prelude.{◌≡◌, ◌≢◌, ◌<◌, ◌≤◌, ◌==◌, ◌∷◌, [], All, drop, length, slice_index, take, IfSome, IfNone};
 ghost use Rattle.std.specs.List.{position_from};
-ghost use Rattle.sct_lines.specs.LineLaws.{LinesMakeTheText, MessagesStay, NoLineHasAFeed, WholeLinesStay};
+ghost use Rattle.sct_lines.specs.LineLaws.{IsOfWholeLines, LinesMakeTheText, MessagesStay, NoLineHasAFeed, WholeLinesJoin, WholeLinesStay};
 ghost use Rattle.sct_lines.specs.Lines.{is_blank, lines_of};
 
-use memchr::memchr;
+use memchr::{memchr, memrchr};
 
 /// A law: the lines of a text are what is between its line feeds, and nothing of the text is lost.
 pub fn lines_tile_the_text()
@@ -12,10 +12,12 @@ pub fn lines_tile_the_text()
     ensures parted { NoLineHasAFeed }
 {}
 
-/// A law: if a text is empty or ends with a line feed, more text after it changes neither its lines nor its messages.
+/// A law: if a text is empty or ends with a line feed, more text after it changes neither its lines nor its messages. Two such
+/// texts make one.
 pub fn whole_lines_stay()
     ensures lines { WholeLinesStay }
     ensures messages { MessagesStay }
+    ensures join { WholeLinesJoin }
 {}
 
 // The place of the first line feed.
@@ -54,6 +56,19 @@ pub fn first_line(text: &[u8]) -> Option<(&[u8], &[u8])>
         return None;
     }
     Some(front_line(text))
+}
+
+/// How many bytes at the front of a text are lines with their line feeds: those up to its last line feed. 0 if it has no line
+/// feed. O(the bytes after it).
+pub fn whole_lines(text: &[u8]) -> usize
+    ensures within { result ≤ length text.now }
+    ensures lines { IsOfWholeLines (take result text.now) }
+    ensures rest { All (λ byte. byte ≢ 10) (drop result text.now) }
+{
+    match memrchr(b'\n', text) {
+        Some(at) => at + 1,
+        None => 0,
+    }
 }
 
 /// Whether a line has no bytes but spaces, tabs and carriage returns. An empty line is blank.

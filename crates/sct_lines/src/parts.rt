@@ -2,11 +2,12 @@
 ghost use Rattle.std.specs.Prelude.{◌≡◌, ◌+◌, ◌<◌, ◌≤◌, ◌^◌, length, slice_index, IfOk, IfSome};
 ghost use Rattle.std.specs.Thread.{IsSync};
 ghost use Rattle.sct_lines.specs.Lines.{messages_read, refusals_told, told_after, told_text_of};
+ghost use Rattle.sct_lines.specs.Blocks.{IsReadOn};
 ghost use Rattle.sct_lines.specs.Parts.{IsPartOf};
 ghost use Rattle.sct_message.specs.Sets.{messages_in};
 
 use crate::before::LinesBefore;
-use crate::intake::{Intake, read_part};
+use crate::intake::{Intake, LinesRead, read_part};
 use crate::lines::line_feed;
 use crate::shortage::Shortage;
 use std::alloc::{AllocError, Global};
@@ -37,7 +38,7 @@ fn read_rest(
     text: &[u8],
     from: usize,
     shortage: &Shortage,
-) -> Result<Intake, AllocError>
+) -> Result<LinesRead, AllocError>
     requires within { from ≤ length text.now }
     requires few { counted + length text.now < 2 ^ 64 }
     ensures { IfOk result (IsPartOf label.now counted text.now from) }
@@ -65,7 +66,7 @@ fn read_by_halves<R: Threads + Sync>(
     from: usize,
     halvings: u32,
     shortage: &Shortage,
-) -> Result<Intake, AllocError>
+) -> Result<LinesRead, AllocError>
     requires within { from ≤ length text.now }
     requires few { counted + length text.now < 2 ^ 64 }
     ensures { IfOk result (IsPartOf label.now counted text.now from) }
@@ -79,7 +80,7 @@ fn read_by_halves<R: Threads + Sync>(
     let (front, _) = text.split_at(at + 1);
     let (first, second) = join(
         rt,
-        || -> Result<Intake, AllocError>
+        || -> Result<LinesRead, AllocError>
             requires { IsSync R.row × (0 < halvings) × (from ≤ length front.now) × (counted + length front.now < 2 ^ 64) }
             ensures { IfOk result (IsPartOf label.entry.now counted front.entry.now from) }
         {
@@ -94,7 +95,7 @@ fn read_by_halves<R: Threads + Sync>(
                 shortage,
             ))
         },
-        || -> Result<Intake, AllocError>
+        || -> Result<LinesRead, AllocError>
             requires { IsSync R.row × (0 < halvings) × (at < length text.now) × (counted + length text.now < 2 ^ 64) }
             ensures { IfOk result (IsPartOf label.entry.now counted text.entry.now (at + 1)) }
         {
@@ -110,9 +111,9 @@ fn read_by_halves<R: Threads + Sync>(
             ))
         },
     );
-    let mut intake = first?;
-    intake.append(second?)?;
-    Ok(intake)
+    let mut read = first?;
+    read.append(second?)?;
+    Ok(read)
 }
 
 // How many halvings give two parts for each processor.
@@ -141,7 +142,8 @@ pub fn read_lines_by_halves<R: Threads + Sync>(
 {
     let halvings = halvings.min(MOST_HALVINGS);
     let shortage = Shortage::none();
-    read_by_halves(rt, alloc, "", 0, input, 0, halvings, &shortage)
+    let read = read_by_halves(rt, alloc, "", 0, input, 0, halvings, &shortage)?;
+    Ok(read.into_intake())
 }
 
 /// Reads the lines of an input, which count from 1, in as many threads as there are processors. The only error is that it
@@ -173,5 +175,27 @@ pub fn read_file_lines<R: Threads + Sync>(
 {
     let halvings = halvings(rt, input).min(MOST_HALVINGS);
     let shortage = Shortage::none();
-    read_by_halves(rt, alloc, label, 0, input, 0, halvings, &shortage)
+    let read = read_by_halves(rt, alloc, label, 0, input, 0, halvings, &shortage)?;
+    Ok(read.into_intake())
+}
+
+impl LinesRead {
+    /// Reads the block of lines that comes next in an input, in as many threads as there are processors. The lines count on
+    /// from those before. The only error is that it is out of memory. All that was read is lost then. O(block).
+    pub fn with_block<R: Threads + Sync>(
+        self,
+        rt: &R,
+        alloc: Global,
+        block: &[u8],
+    ) -> Result<LinesRead, AllocError>
+        requires few { self.lines + length block.now < 2 ^ 64 }
+        ensures read { IfOk result (IsReadOn block.now self) }
+    {
+        let mut read = self;
+        let halvings = halvings(rt, block).min(MOST_HALVINGS);
+        let shortage = Shortage::none();
+        let next = read_by_halves(rt, alloc, "", read.lines, block, 0, halvings, &shortage)?;
+        read.append(next)?;
+        Ok(read)
+    }
 }

@@ -1,7 +1,7 @@
 //! A flag that the parts of an input share: one of them is out of memory, so the others end.
 ghost use Rattle.std.specs.Prelude.{◌≡◌};
 
-use crate::intake::Intake;
+use crate::intake::LinesRead;
 use std::alloc::AllocError;
 use std::sync::atomic::{AtomicBool, Ordering};
 
@@ -28,7 +28,7 @@ impl Shortage {
     }
 
     // Hands on what a part comes to. After an error the other parts end.
-    pub(crate) fn noted(&self, read: Result<Intake, AllocError>) -> Result<Intake, AllocError>
+    pub(crate) fn noted(&self, read: Result<LinesRead, AllocError>) -> Result<LinesRead, AllocError>
         ensures { result ≡ read }
     {
         if read.is_err() {

@@ -1,13 +1,14 @@
 -- One line more, and the end of the part.
-use Rattle.std.proofs.Common.{arith, rules}
+use Rattle.std.proofs.Common.{ap, arith, length, rules}
 use Rattle.sct_lines.specs.Lines.{messages_among, refusals_among, told_after}
-use Rattle.sct_lines.proofs.LineLemmas.{count_end, end, messages_by_line, next_count, next_line, refusals_by_line, told_by_line}
+use Rattle.sct_lines.proofs.LineLemmas.{count_end, count_lines_end, end, messages_by_line, next_count, next_line, refusals_by_line, told_by_line}
 use Rattle.sct_lines.proofs.intake.read_part.Goals as goal
 
 pub loop-line-preserved : goal.loop-line-preserved
 loop-line-preserved c = record {
   before = search rules;
   counted = omega (arith, c.in-Some.ensures.shorter);
+  lines = omega (arith, ap length c.in-Some.ensures.lines, c.loop-line.invariant.lines);
   messages =
       next_line messages_among messages_by_line _ _ _ c.args.before.now c.loop-line.before c.loop-line.lines _ _ _ c.loop-line.invariant.before c.in-Some.ensures.lines
       c.loop-line.invariant.messages c.in_ok-take.ensures.messages;
@@ -26,4 +27,5 @@ returns c = record {
       end (λ lines. told_after c.args.front.now (refusals_among lines)) (told_by_line c.args.front.now) _ _ _ c.loop-line.rest.now c.in_default.ensures.none
       c.loop-line.invariant.told;
   refused = count_end refusals_among refusals_by_line _ _ _ c.loop-line.rest.now c.in_default.ensures.none c.loop-line.invariant.refused;
+  lines = count_lines_end _ _ c.loop-line.rest.now c.in_default.ensures.none c.loop-line.invariant.lines;
 }
