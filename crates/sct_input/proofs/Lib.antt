@@ -1,0 +1,2 @@
+-- The lemmas behind the blocks of an input.
+mod BlockLemmas

@@ -1,0 +1,2 @@
+-- The definitions of inputs.
+pub mod Inputs
