@@ -1,7 +1,6 @@
 //! The answer of a job about the messages of an input: the status text, the archive text,
 //! the totals text, or the report on a list.
-ghost use Rattle.std.specs.Prelude.{◌≡◌, length, IfErr, IfOk};
-ghost use Rattle.sct_lines.specs.Lines.{refusals_told, set_read, told_text_of};
+ghost use Rattle.std.specs.Prelude.{◌≡◌, IfErr, IfOk};
 ghost use Rattle.sct_message.specs.Sets.{messages_in};
 ghost use Rattle.sct_reconcile.specs.Reports.{report_of, report_text_of};
 ghost use Rattle.sct_set.specs.Contents.{contents_of};
@@ -15,7 +14,7 @@ use crate::fault::ProgramFault;
 use crate::holding::archive_pieces;
 use crate::release::Release;
 use sct_element::{Bic, Day};
-use sct_lines::{Intake, Refusals, read_lines};
+use sct_lines::{Intake, Refusals};
 use sct_message::Message;
 use sct_reconcile::{List, reconcile};
 use sct_view::View;
@@ -150,25 +149,21 @@ fn asked_pieces<T: Threads + Sync>(
     one_piece(alloc, text)
 }
 
-/// The answer to a question about the messages of an input. The bytes are read in as many
-/// threads as there are processors, and dropped before the text is made. `release` says what
-/// becomes of the messages and the view afterwards.
-/// Error: `Memory` (65).
+/// The answer to a question about the messages of an input, with the lines that are refused. `release` says what becomes of
+/// the messages and the view afterwards. Error: `Memory` (65).
 pub fn answer_of_messages<T: Threads + Sync>(
     rt: &T,
     alloc: Global,
     release: Release,
     question: Question<'_>,
-    input: Vec<u8>,
+    intake: Intake,
 ) -> Result<Answer, ProgramFault>
     ensures text { IfOk result (λ answer. joined answer.pieces.items
-        ≡ asked_text_of question.entry (set_read input.items)) }
-    ensures told { IfOk result (λ answer. answer.refusals.text ≡ told_text_of (refusals_told input.items)) }
-    ensures refused { IfOk result (λ answer. answer.refusals.count ≡ length (refusals_told input.items)) }
+        ≡ asked_text_of question.entry (contents_of (messages_in intake.messages.items))) }
+    ensures refusals { IfOk result (λ answer. answer.refusals ≡ intake.refusals) }
     ensures memory { IfErr result (λ e. e ≡ fault.Memory) }
 {
-    let Intake { messages, refusals } = read_lines(rt, alloc, &input)?;
-    drop(input);
+    let Intake { messages, refusals } = intake;
     let pieces = asked_pieces(rt, alloc, release, &question, messages)?;
     release.let_go(question);
     Ok(Answer { pieces, refusals })

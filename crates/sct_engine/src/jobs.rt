@@ -24,6 +24,7 @@ use crate::release::Release;
 use crate::replays::answer_of_script;
 use crate::transfer::{MOST_BYTES, write_pieces};
 use sct_element::{Bic, Day};
+use sct_input::read_messages;
 use sct_reconcile::List;
 use sct_streams::{Sink, Source, read_all, write_all};
 use std::alloc::Global;
@@ -51,7 +52,7 @@ pub struct Done {
     pub refused: u64,
 }
 
-/// Runs a job: reads its list, if it has one, then the whole input. It then writes the refused lines to `err` and the
+/// Runs a job: reads its list, if it has one, then the whole input. An input of messages is read in blocks. It then writes the refused lines to `err` and the
 /// job's text to `out`. `limit` is the greatest number of bytes of the input, 1 to 1,073,741,824.
 ///
 /// Errors, with nothing written unless the error is `Write`:
@@ -116,13 +117,19 @@ pub fn engine<T: Threads + Sync, R: Source, O: Sink, E: Sink>(
         // a replay asks nothing about messages: its input is a script
         Job::Replay => None,
     };
-    let input = read_all(alloc, reader, limit)?;
     let Answer { pieces, refusals } = match question {
-        Some(question) => answer_of_messages(rt, alloc, release, question, input)?,
-        None => answer_of_script(alloc, release, &input)?,
+        Some(question) => {
+            let intake = read_messages(rt, alloc, reader, limit)?;
+            answer_of_messages(rt, alloc, release, question, intake)?
+        }
+        None => {
+            let script = read_all(alloc, reader, limit)?;
+            answer_of_script(alloc, release, &script)?
+        }
     };
     write_all(err, refusals.text().as_bytes())?;
     write_pieces(out, &pieces)?;
+    release.let_go(pieces);
     Ok(Done {
         refused: refusals.count(),
     })
