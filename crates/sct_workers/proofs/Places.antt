@@ -1,5 +1,5 @@
 -- Lists by their places. Proof plumbing.
-use Rattle.std.proofs.Common.{◌≡◌, ◌∙◌, ◌⊎◌, refl, sym, ap, subst, inl, inr, ℕ, zero, suc, List, [], ◌∷◌, ◌++◌, map, length, arith}
+use Rattle.std.proofs.Common.{◌≡◌, ◌∙◌, ◌⊎◌, ◌<◌, refl, sym, ap, subst, inl, inr, ℕ, zero, suc, List, [], ◌∷◌, ◌++◌, map, length, length-append, arith}
 use Rattle.std.specs.Prelude.{Some}
 use Rattle.std.specs.List.{slice_get}
 use Rattle.std.proofs.lemmas.Option.{same_Some, slice_get_within}
@@ -38,6 +38,10 @@ get_middle (x ∷ xs) y ys = get_middle xs y ys
 -- what stands behind some elements
 pub get_behind : {X : Type 0} (xs : List X) (y : X) (ys all : List X) → xs ++ y ∷ ys ≡ all → slice_get all (length xs) ≡ Some y
 get_behind xs y ys all is = ap (λ (l : List _). slice_get l (length xs)) (sym is) ∙ get_middle xs y ys
+
+-- some elements with another one behind them are fewer than all
+pub fewer_than_all : {X : Type 0} (xs : List X) (y : X) (ys all : List X) → xs ++ y ∷ ys ≡ all → length xs < length all
+fewer_than_all xs y ys all is = omega (arith, ap length is, length-append xs (y ∷ ys))
 
 -- two lists are one where they are as long and have the same at each place
 pub same_by_places : {X Y : Type 0} (f : X → Y) (xs : List X) (ys : List Y) → length xs ≡ length ys

@@ -5,10 +5,11 @@ ghost use Rattle.sct_workers.specs.Exchanging.{accepted_by, IsHandedOver};
 ghost use Rattle.sct_workers.specs.Holds.{WorkerEndsWhere};
 
 use crate::fault::WorkFault;
-use crate::gate::{Gate, Point, pass};
+use crate::gate::{Gate, Point};
 use crate::kept::Kept;
 use crate::new_entry::NewEntry;
 use crate::receipts::accept_for_receipt;
+use crate::run::{Run, pass};
 use crate::takes::Takes;
 use crossbeam_channel::Receiver;
 use sct_delta::{Delta, DeltaFault};
@@ -54,9 +55,8 @@ fn accepted_if_kept(
 }
 
 // Hands an entry to the desk and keeps the receipt. Returns whether the entry was accepted.
-fn accept_entry<J: Site + Takes, H: Wait + Drop, R: Wait>(
-    rt: &R,
-    alloc: Global,
+fn accept_entry<J: Site + Takes, H: Wait + Drop, G, R: Wait>(
+    run: &Run<'_, G, R>,
     desk: &Desk<J, H>,
     entry: NewEntry,
     kept: &mut Kept<J>,
@@ -65,27 +65,25 @@ fn accept_entry<J: Site + Takes, H: Wait + Drop, R: Wait>(
         kept.old.receipts.items kept.new.receipts.items) }
     ensures ends { IfErr result (WorkerEndsWhere (λ point. ⊥)) }
 {
-    let delta = delta_of(alloc, entry)?;
-    let (answer, receipt) = accept_for_receipt(rt, alloc, desk, &delta)?;
+    let delta = delta_of(run.alloc, entry)?;
+    let (answer, receipt) = accept_for_receipt(run.rt, run.alloc, desk, &delta)?;
     accepted_if_kept(answer, kept.push(receipt))
 }
 
 /// Accepts the entries that arrive, until the intake workers of all other sites have ended. Returns the receipts.
 #[tactic(auto, using(crate::proofs::Holding::worker_no_gate))]
 pub(crate) fn accept_entries<J: Site + Takes, H: Wait + Drop, G: Gate, R: Wait>(
-    rt: &R,
-    alloc: Global,
-    gate: &G,
+    run: &Run<'_, G, R>,
     desk: &Desk<J, H>,
     site: u16,
     inbox: Receiver<NewEntry>,
 ) -> Result<Kept<J>, WorkFault>
-    ensures { IfErr result (WorkerEndsWhere (G.may_hold gate.now)) }
+    ensures { IfErr result (WorkerEndsWhere (G.may_hold run.now.gate.now)) }
 {
-    let mut kept = Kept::none(alloc);
-    for entry in inbox.iter(rt) {
-        if accept_entry(rt, alloc, desk, entry, &mut kept)? {
-            pass(rt, gate, Point::Accepted { site })?;
+    let mut kept = Kept::none(run.alloc);
+    for entry in inbox.iter(run.rt) {
+        if accept_entry(run, desk, entry, &mut kept)? {
+            pass(run, Point::Accepted { site })?;
         }
     }
     Ok(kept)

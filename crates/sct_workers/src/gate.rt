@@ -1,9 +1,7 @@
 //! Gates: they may hold workers at certain points.
 
 ghost use Rattle.std.specs.Prelude.{IfErr};
-ghost use Rattle.sct_workers.specs.Holds.{WorkerEndsWhere};
 
-use crate::fault::WorkFault;
 use std::sync::Wait;
 
 /// A point that a worker passes. Sites are numbered from 1.
@@ -42,15 +40,5 @@ impl Gate for FreeGate {
 
     fn pass<R: Wait>(&self, _rt: &R, _point: Point) -> Result<(), Held> {
         Ok(())
-    }
-}
-
-// Passes a point of a gate. Error: `Held` (61) if the gate holds the worker.
-pub(crate) fn pass<G: Gate, R: Wait>(rt: &R, gate: &G, point: Point) -> Result<(), WorkFault>
-    ensures { IfErr result (WorkerEndsWhere (G.may_hold gate.now)) }
-{
-    match gate.pass(rt, point) {
-        Ok(()) => Ok(()),
-        Err(Held) => Err(WorkFault::Held),
     }
 }

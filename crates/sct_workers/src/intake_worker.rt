@@ -14,22 +14,21 @@ ghost use Rattle.sct_workers.specs.Holds.{EndsWhere};
 ghost use Rattle.sct_workers.specs.Shown.{ShowsMore};
 
 use crate::fault::WorkFault;
-use crate::gate::{Gate, Point, pass};
+use crate::gate::{Gate, Point};
 use crate::kept::Kept;
 use crate::receipts::{publish_for_receipt, take_for_receipt};
+use crate::run::{Run, pass};
 use crate::senders::Senders;
 use crate::takes::Takes;
 use sct_desk::{Desk, Receipt, Site};
 use sct_message::{Message, TransferKey};
 use sct_site::Took;
-use std::alloc::Global;
 use std::sync::{Arc, Wait};
 
 // Takes one of the site's messages, and keeps the receipt.
 #[tactic(auto, using(crate::proofs::MoreKept::shown_last, crate::proofs::MoreKept::shows_more, crate::proofs::Refusing::takes_number))]
-fn take_message<J: Site + Takes, H: Wait + Drop, R: Wait>(
-    rt: &R,
-    alloc: Global,
+fn take_message<J: Site + Takes, H: Wait + Drop, G, R: Wait>(
+    run: &Run<'_, G, R>,
     desk: &Desk<J, H>,
     message: &Arc<Message>,
     kept: &mut Kept<J>,
@@ -40,7 +39,7 @@ fn take_message<J: Site + Takes, H: Wait + Drop, R: Wait>(
     ensures numbered { IfOk result IsNumbered }
     ensures memory { IfErr result (λ e. e ≡ fault.Memory) }
 {
-    let (took, receipt) = take_for_receipt(rt, alloc, desk, message.clone()?)?;
+    let (took, receipt) = take_for_receipt(run.rt, run.alloc, desk, message.clone()?)?;
     kept.push(receipt)?;
     Ok(took)
 }
@@ -73,9 +72,8 @@ fn send_first_transfer<J: Site + Takes, R: Wait>(
 // Publishes, and sends the query worker the receipt of that and the message's first transfer. A receipt that cannot be sent
 // is kept.
 #[tactic(auto, using(crate::proofs::MoreKept::shows_more))]
-fn publish_message<J: Site + Takes, H: Wait + Drop, R: Wait>(
-    rt: &R,
-    alloc: Global,
+fn publish_message<J: Site + Takes, H: Wait + Drop, G, R: Wait>(
+    run: &Run<'_, G, R>,
     desk: &Desk<J, H>,
     message: &Message,
     senders: &Senders<J>,
@@ -85,17 +83,16 @@ fn publish_message<J: Site + Takes, H: Wait + Drop, R: Wait>(
     ensures more { OnOk result (ShowsMore kept.old.receipts.items kept.new.receipts.items) }
     ensures memory { IfErr result (λ e. e ≡ fault.Memory) }
 {
-    let receipt = publish_for_receipt(rt, alloc, desk)?;
-    if let Some(back) = send_first_transfer(rt, senders, receipt, message) {
+    let receipt = publish_for_receipt(run.rt, run.alloc, desk)?;
+    if let Some(back) = send_first_transfer(run.rt, senders, receipt, message) {
         kept.push(back)?;
     }
     Ok(())
 }
 
 // Takes one of the site's messages, publishes it, and sends a new entry to the other sites.
-fn take_and_send<J: Site + Takes, H: Wait + Drop, R: Wait>(
-    rt: &R,
-    alloc: Global,
+fn take_and_send<J: Site + Takes, H: Wait + Drop, G, R: Wait>(
+    run: &Run<'_, G, R>,
     desk: &Desk<J, H>,
     site: u16,
     message: &Arc<Message>,
@@ -107,18 +104,16 @@ fn take_and_send<J: Site + Takes, H: Wait + Drop, R: Wait>(
     ensures more { OnOk result (ShowsMore kept.old.receipts.items kept.new.receipts.items) }
     ensures memory { IfErr result (λ e. e ≡ fault.Memory) }
 {
-    let took = take_message(rt, alloc, desk, message, kept)?;
-    publish_message(rt, alloc, desk, message, senders, kept)?;
-    senders.send_entry(rt, site, &took, message);
+    let took = take_message(run, desk, message, kept)?;
+    publish_message(run, desk, message, senders, kept)?;
+    senders.send_entry(run.rt, site, &took, message);
     Ok(())
 }
 
 /// Takes the messages of a site in their order. Returns the receipts, which show all of them.
 #[tactic(auto, using(crate::proofs::Holding::worker_ends, crate::proofs::MoreKept::all_shown))]
 pub(crate) fn take_messages<J: Site + Takes, H: Wait + Drop, G: Gate, R: Wait>(
-    rt: &R,
-    alloc: Global,
-    gate: &G,
+    run: &Run<'_, G, R>,
     desk: &Desk<J, H>,
     site: u16,
     messages: &[Arc<Message>],
@@ -126,14 +121,14 @@ pub(crate) fn take_messages<J: Site + Takes, H: Wait + Drop, G: Gate, R: Wait>(
 ) -> Result<Kept<J>, WorkFault>
     requires { J.messages ≡ contents_of (messages_in messages.now) }
     ensures shown { IfOk result (λ kept. AllShown J.messages kept.receipts.items) }
-    ensures ends { IfErr result (EndsWhere (G.may_hold gate.now)) }
+    ensures ends { IfErr result (EndsWhere (G.may_hold run.now.gate.now)) }
 {
-    let mut kept = Kept::none(alloc);
+    let mut kept = Kept::none(run.alloc);
     let mut k = 0;
     for message in messages {
         k += 1;
-        pass(rt, gate, Point::Take { site, k })?;
-        take_and_send(rt, alloc, desk, site, message, &senders, &mut kept)?;
+        pass(run, Point::Take { site, k })?;
+        take_and_send(run, desk, site, message, &senders, &mut kept)?;
     }
     Ok(kept)
 }

@@ -19,6 +19,7 @@ mod note;
 mod query_worker;
 mod receipts;
 mod reporting;
+mod run;
 mod senders;
 mod site;
 mod sites;

@@ -10,9 +10,10 @@ ghost use Rattle.sct_set.specs.Contents.{contents_of};
 ghost use Rattle.sct_workers.specs.Holds.{WorkerEndsWhere};
 
 use crate::fault::WorkFault;
-use crate::gate::{Gate, Point, pass};
+use crate::gate::{Gate, Point};
 use crate::kept::Kept;
 use crate::note::Note;
+use crate::run::{Run, pass};
 use crate::takes::Takes;
 use crossbeam_channel::Receiver;
 use sct_case::Status;
@@ -43,9 +44,7 @@ fn query_note<J: Site + Takes>(
 // Queries the transfer of a note, and passes the gate with the answer. Returns the answer and the receipt.
 #[tactic(auto, using(crate::proofs::Holding::worker_no_gate))]
 fn answer_note<J: Site + Takes, G: Gate, R: Wait>(
-    rt: &R,
-    alloc: Global,
-    gate: &G,
+    run: &Run<'_, G, R>,
     query: &mut Query,
     site: u16,
     note: Note<J>,
@@ -57,30 +56,28 @@ fn answer_note<J: Site + Takes, G: Gate, R: Wait>(
     ensures value { IfOk result (λ t. as_standing t.0.value ≡ status_of (messages_of query.new.seen) note.transfer) }
     ensures receipt { IfOk result (λ t. t.1 ≡ note.receipt) }
     ensures keeps { IfOk result (λ t. Keeps J.book J.number J.group (contents_of []) t.1) }
-    ensures ends { IfErr result (WorkerEndsWhere (G.may_hold gate.now)) }
+    ensures ends { IfErr result (WorkerEndsWhere (G.may_hold run.now.gate.now)) }
 {
-    let answer = query_note(alloc, query, &note)?;
-    pass(rt, gate, Point::Answered { site })?;
+    let answer = query_note(run.alloc, query, &note)?;
+    pass(run, Point::Answered { site })?;
     Ok((answer, note.into_receipt()))
 }
 
 /// Queries the transfers of the notes that arrive, until the site's intake worker has ended. Returns the receipts of the
 /// notes.
 pub(crate) fn answer_notes<J: Site + Takes, G: Gate, R: Wait>(
-    rt: &R,
-    alloc: Global,
-    gate: &G,
+    run: &Run<'_, G, R>,
     query: Query,
     site: u16,
     notes: Receiver<Note<J>>,
 ) -> Result<Kept<J>, WorkFault>
     requires { query.book ≡ J.book }
-    ensures { IfErr result (WorkerEndsWhere (G.may_hold gate.now)) }
+    ensures { IfErr result (WorkerEndsWhere (G.may_hold run.now.gate.now)) }
 {
     let mut query = query;
-    let mut kept = Kept::none(alloc);
-    for note in notes.iter(rt) {
-        let (_answer, receipt) = answer_note(rt, alloc, gate, &mut query, site, note)?;
+    let mut kept = Kept::none(run.alloc);
+    for note in notes.iter(run.rt) {
+        let (_answer, receipt) = answer_note(run, &mut query, site, note)?;
         kept.push(receipt)?;
     }
     Ok(kept)

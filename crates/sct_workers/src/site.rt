@@ -17,6 +17,7 @@ use crate::fault::{SiteFault, WorkFault};
 use crate::filled::Filled;
 use crate::gate::Gate;
 use crate::kept::Kept;
+use crate::run::{Member, Run};
 use crate::takes::Takes;
 use crate::workers::{Channels, run_workers};
 use sct_desk::{Desk, DeskFault, Query, Site};
@@ -39,21 +40,27 @@ fn pop_query<J: Site>(mut queries: Vec<Query>) -> Option<Query>
 
 // Opens the desk of a site with its one query.
 #[tactic(auto, using(crate::proofs::Holding::opening_ends))]
-fn open_desk<'a, J: Site, R: Wait>(
-    rt: &'a R,
-    alloc: Global,
+fn open_desk<'a, J: Site, G, R: Wait>(
+    run: &Run<'a, G, R>,
     history: History,
     track: Track,
-    number: u16,
-    group: u16,
+    member: Member,
 ) -> Result<(Desk<J, &'a R>, Query), WorkFault>
     requires history { history ≡ J.book }
     requires track { (track.book ≡ J.book) × (track.log ≡ []) }
-    requires site { (number ≡ J.number) × (group ≡ J.group) }
+    requires site { (member.number ≡ J.number) × (member.group ≡ J.group) }
     ensures query { IfOk result (λ d. d.1.book ≡ J.book) }
     ensures ends { IfErr result (EndsWhere (λ point. ⊥)) }
 {
-    let (desk, queries) = Desk::<J, &'a R>::open(rt, alloc, history, track, number, group, 1)?;
+    let (desk, queries) = Desk::<J, &'a R>::open(
+        run.rt,
+        run.alloc,
+        history,
+        track,
+        member.number,
+        member.group,
+        1,
+    )?;
     match pop_query::<J>(queries) {
         Some(query) => Ok((desk, query)),
         None => Err(WorkFault::from(DeskFault::NoPlace)),
@@ -79,25 +86,22 @@ fn close_desk<J: Site + Takes, H: Wait + Drop>(
 // Runs the workers of a site on its messages, and closes its desk.
 #[tactic(auto, using(crate::proofs::Holding::no_gate, crate::proofs::Holding::closed_ends))]
 fn run_site<J: Site + Takes + Send + Sync, G: Gate + Sync, R: Threads + Wait + Sync>(
-    rt: &R,
-    alloc: Global,
-    gate: &G,
+    run: &Run<'_, G, R>,
     history: History,
     track: Track,
-    number: u16,
-    group: u16,
+    member: Member,
     messages: &[Arc<Message>],
     channels: Channels,
 ) -> Result<SiteCore, SiteFault>
     requires history { history ≡ J.book }
     requires track { (track.book ≡ J.book) × (track.log ≡ []) }
-    requires site { (number ≡ J.number) × (group ≡ J.group) }
+    requires site { (member.number ≡ J.number) × (member.group ≡ J.group) }
     requires messages { J.messages ≡ contents_of (messages_in messages.now) }
     ensures core { IfOk result (Stands J.number J.group J.messages) }
-    ensures ends { IfErr result (SiteEndsWhere (G.may_hold gate.now)) }
+    ensures ends { IfErr result (SiteEndsWhere (G.may_hold run.now.gate.now)) }
 {
-    let (desk, query) = open_desk::<J, R>(rt, alloc, history, track, number, group)?;
-    let kept = run_workers(rt, alloc, gate, &desk, query, number, messages, channels);
+    let (desk, query) = open_desk::<J, G, R>(run, history, track, member)?;
+    let kept = run_workers(run, &desk, query, member.number, messages, channels);
     close_desk(desk, kept)
 }
 
@@ -118,27 +122,21 @@ fn read_input(alloc: Global, number: u16, input: &[u8]) -> Result<Intake, AllocE
     read_lines_after(alloc, front.as_str(), input)
 }
 
-/// Fills the site of this number in the group from its input. The input is read in this
-/// thread, before the desk is opened.
+/// Fills a site from its input. The input is read in this thread, before the desk is opened.
 pub(crate) fn fill_site<G: Gate + Sync, R: Threads + Wait + Sync>(
-    rt: &R,
-    alloc: Global,
-    gate: &G,
-    number: u16,
-    group: u16,
+    run: &Run<'_, G, R>,
+    member: Member,
     input: &[u8],
     channels: Channels,
 ) -> Result<Filled, SiteFault>
-    ensures filled { IfOk result (IsFilled number group input.now) }
-    ensures ends { IfErr result (SiteEndsWhere (G.may_hold gate.now)) }
+    ensures filled { IfOk result (IsFilled member.number member.group input.now) }
+    ensures ends { IfErr result (SiteEndsWhere (G.may_hold run.now.gate.now)) }
 {
-    let Ok(intake) = read_input(alloc, number, input) else {
+    let Ok(intake) = read_input(run.alloc, member.number, input) else {
         return Err(SiteFault::Working(WorkFault::Memory));
     };
     let Intake { messages, refusals } = intake;
     let (history, track) = History::open();
-    let core = run_site::<Brand, G, R>(
-        rt, alloc, gate, history, track, number, group, &messages, channels,
-    )?;
+    let core = run_site::<Brand, G, R>(run, history, track, member, &messages, channels)?;
     Ok(Filled { core, refusals })
 }

@@ -1,7 +1,8 @@
 //! All sites of a run.
 
-ghost use Rattle.std.specs.Prelude.{◌≡◌, ◌<◌, ◌≤◌, ◌+◌, ◌++◌, ◌∷◌, [], Some, IfErr, IfOk, length, vec_capacity, vec_len};
+ghost use Rattle.std.specs.Prelude.{◌≡◌, ◌<◌, ◌≤◌, ◌+◌, [], Err, Some, IfErr, IfOk, length, vec_capacity, vec_len};
 ghost use Rattle.std.specs.List.{slice_get};
+ghost use Rattle.sct_delta.specs.Sites.{most_sites};
 ghost use Rattle.sct_workers.specs.declared.fault.WorkFault.TheVariants as fault;
 ghost use Rattle.sct_workers.specs.Each.{AtEach};
 ghost use Rattle.sct_workers.specs.Files.{bytes_of};
@@ -14,9 +15,11 @@ use crate::filled::{Filled, Sites};
 use crate::gate::Gate;
 use crate::new_entry::NewEntry;
 use crate::reporting::collect_sites;
+use crate::run::{Member, Run};
 use crate::site::fill_site;
 use crate::workers::Channels;
 use crossbeam_channel::{Receiver, Sender};
+use sct_delta::{DeltaFault, MOST_SITES};
 use std::alloc::{AllocError, Global};
 use std::sync::Wait;
 use std::thread;
@@ -72,45 +75,44 @@ fn channels_of_sites(alloc: Global, count: usize) -> Result<Vec<Channels>, Alloc
 #[derive(Drop)]
 pub(crate) struct Fills<'a, G: Gate> {
     gate: &'a G,
-    number: u16,
-    group: u16,
+    member: Member,
     input: &'a [u8],
 }
 
 impl<'a, G: Gate> Promise<Result<Filled, SiteFault>> for Fills<'a, G> {
     ghost kept_by = { λ p r.
-        IfOk r (IsFilled p.number p.group p.input.now) × IfErr r (SiteEndsWhere (G.may_hold p.gate.now)) };
+        IfOk r (IsFilled p.member.number p.member.group p.input.now) × IfErr r (SiteEndsWhere (G.may_hold p.gate.now)) };
 }
 
 type Child<'a, G> = PromisedHandle<Result<Filled, SiteFault>, Fills<'a, G>>;
 
 // Starts a site. Error: `NoWorker` (67) if no thread can be started for it.
 fn start_site<'s, E, G: Gate + Sync, R: Threads + Wait + Sync>(
-    rt: &'s R,
-    alloc: Global,
-    gate: &'s G,
+    run: &Run<'s, G, R>,
     scope: &Scope<'s, E>,
-    number: u16,
-    group: u16,
+    member: Member,
     input: &'s [u8],
     channels: Channels,
 ) -> Result<Child<'s, G>, WorkFault>
-    ensures gate { IfOk result (λ child. child.promise.gate.now ≡ gate.now) }
-    ensures site { IfOk result (λ child. (child.promise.number ≡ number) × (child.promise.group ≡ group)) }
+    ensures gate { IfOk result (λ child. child.promise.gate.now ≡ run.now.gate.now) }
+    ensures site { IfOk result (λ child. (child.promise.member.number ≡ member.number)
+        × (child.promise.member.group ≡ member.group)) }
     ensures input { IfOk result (λ child. child.promise.input.now ≡ input.now) }
     ensures none { IfErr result (λ e. e ≡ fault.NoWorker) }
 {
+    let rt = run.rt;
+    let alloc = run.alloc;
+    let gate = run.gate;
     let started = scope.spawn_with(
         Fills {
             gate,
-            number,
-            group,
+            member,
             input,
         },
         move || -> Result<Filled, SiteFault>
-            ensures { IfOk result (IsFilled number group input.entry.now)
+            ensures { IfOk result (IsFilled member.number member.group input.entry.now)
                 × IfErr result (SiteEndsWhere (G.may_hold gate.entry.now)) }
-        { fill_site(rt, alloc, gate, number, group, input, channels) },
+        { fill_site(&Run { rt, alloc, gate }, member, input, channels) },
     );
     match started {
         Ok(child) => Ok(child),
@@ -118,81 +120,98 @@ fn start_site<'s, E, G: Gate + Sync, R: Threads + Wait + Sync>(
     }
 }
 
-// The list with one more element, for which there is room. It does not allocate.
-fn push_within_room<T: Drop>(list: Vec<T>, one: T) -> Vec<T>
-    requires { length list.items < vec_capacity list }
-    ensures items { result.items ≡ list.items ++ one ∷ [] }
-    ensures room { vec_capacity list ≤ vec_capacity result }
-{
-    let mut all = list;
-    let Ok(()) = all.push(one) else {
-        unreachable!()
-    };
-    all
-}
-
 // Starts one site for each input, numbered from 1. Error: `NoWorker` (67) if a thread cannot be started.
 fn start_sites<'s, E, G: Gate + Sync, R: Threads + Wait + Sync>(
-    rt: &'s R,
-    alloc: Global,
-    gate: &'s G,
+    run: &Run<'s, G, R>,
     scope: &Scope<'s, E>,
     inputs: &'s [Vec<u8>],
     channels: Vec<Channels>,
     room: Vec<Child<'s, G>>,
 ) -> Result<Vec<Child<'s, G>>, WorkFault>
-    requires few { length inputs.now ≤ 64 }
+    requires few { length inputs.now ≤ most_sites }
     requires channels { vec_len channels ≡ length inputs.now }
     requires room { (room.items ≡ []) × (length inputs.now ≤ vec_capacity room) }
     ensures len { IfOk result (λ children. length children.items ≡ length inputs.now) }
     ensures sites { IfOk result (λ children.
-        AtEach (λ at child. (child.promise.number ≡ at + 1)
-        × (child.promise.group ≡ length inputs.now)) children.items) }
+        AtEach (λ at child. (child.promise.member.number ≡ at + 1)
+        × (child.promise.member.group ≡ length inputs.now)) children.items) }
     ensures inputs { IfOk result (λ children.
         AtEach (λ at child. slice_get (bytes_of inputs.now) at ≡ Some child.promise.input.now) children.items) }
     ensures gate { IfOk result
-        (λ children. AtEach (λ at child. child.promise.gate.now ≡ gate.now) children.items) }
+        (λ children. AtEach (λ at child. child.promise.gate.now ≡ run.now.gate.now) children.items) }
     ensures none { IfErr result (λ e. e ≡ fault.NoWorker) }
 {
     let group = inputs.len() as u16;
-    let mut channels = channels;
     let mut children = room;
-    let mut number = 0;
-    for input in inputs {
-        let Some(own) = channels.pop() else {
-            unreachable!()
+    for own in channels {
+        let place = children.len();
+        let member = Member {
+            number: place as u16 + 1,
+            group,
         };
-        number += 1;
-        let child = start_site(rt, alloc, gate, scope, number, group, input, own)?;
-        children = push_within_room(children, child);
+        let child = start_site(run, scope, member, &inputs[place], own)?;
+        children.push_reserved(child);
     }
     Ok(children)
 }
 
 // Waits for all sites, in the order of their inputs, and collects their answers.
 fn join_sites<'s, G: Gate, R: Threads>(
-    rt: &R,
-    gate: &G,
+    run: &Run<'_, G, R>,
     inputs: &[Vec<u8>],
     children: Vec<Child<'s, G>>,
     room: Vec<Result<Filled, SiteFault>>,
 ) -> Vec<Result<Filled, SiteFault>>
     requires len { length children.items ≡ length inputs.now }
     requires sites { AtEach
-        (λ at child. (child.promise.number ≡ at + 1) × (child.promise.group ≡ length inputs.now)) children.items }
+        (λ at child. (child.promise.member.number ≡ at + 1)
+        × (child.promise.member.group ≡ length inputs.now)) children.items }
     requires inputs { AtEach
         (λ at child. slice_get (bytes_of inputs.now) at ≡ Some child.promise.input.now) children.items }
-    requires gate { AtEach (λ at child. child.promise.gate.now ≡ gate.now) children.items }
+    requires gate { AtEach (λ at child. child.promise.gate.now ≡ run.now.gate.now) children.items }
     requires room { (room.items ≡ []) × (length inputs.now ≤ vec_capacity room) }
     ensures len { length result.items ≡ length inputs.now }
     ensures filled { AtEach (AnswersTo (length inputs.now) (bytes_of inputs.now)) result.items }
-    ensures ends { AtEach (λ place answer. IfErr answer (SiteEndsWhere (G.may_hold gate.now))) result.items }
+    ensures ends { AtEach (λ place answer. IfErr answer (SiteEndsWhere (G.may_hold run.now.gate.now))) result.items }
 {
     let mut answers = room;
     for child in children {
-        answers = push_within_room(answers, child.join(rt));
+        answers.push_reserved(child.join(run.rt));
     }
     answers
+}
+
+// Fills one site from each input, numbered from 1. At most 1024 inputs make a group.
+#[tactic(auto, using(crate::proofs::Holding::no_gate, crate::proofs::ReportLemmas::reported_ends))]
+fn fill_each<G: Gate + Sync, R: Threads + Wait + Sync>(
+    run: &Run<'_, G, R>,
+    inputs: &[Vec<u8>],
+) -> Result<Sites, WorkFault>
+    requires { length inputs.now ≤ most_sites }
+    ensures filled { IfOk result (AreFilled (length inputs.now) (bytes_of inputs.now)) }
+    ensures ends { IfErr result (EndsWhere (G.may_hold run.now.gate.now)) }
+{
+    let rt = run.rt;
+    let alloc = run.alloc;
+    let gate = run.gate;
+    let channels = channels_of_sites(alloc, inputs.len())?;
+    let answers = Vec::with_capacity(alloc, inputs.len())?;
+    thread::scope(
+        thread::scope_env(),
+        rt,
+        move |scope| -> Result<Sites, WorkFault>
+            requires { (length inputs.now ≤ most_sites) × (vec_len channels ≡ length inputs.now)
+                × ((answers.items ≡ []) × (length inputs.now ≤ vec_capacity answers)) }
+            ensures { IfOk result (AreFilled (length inputs.entry.now) (bytes_of inputs.entry.now))
+                × IfErr result (EndsWhere (G.may_hold gate.entry.now)) }
+        {
+            let run = Run { rt, alloc, gate };
+            let children = Vec::with_capacity(alloc, inputs.len())?;
+            let children = start_sites(&run, scope, inputs, channels, children)?;
+            let answers = join_sites(&run, inputs, children, answers);
+            Ok(collect_sites(alloc, inputs, answers)?)
+        },
+    )
 }
 
 /// Fills one site from each input, numbered from 1, each on threads of its own. The workers of the sites
@@ -200,35 +219,23 @@ fn join_sites<'s, G: Gate, R: Threads>(
 /// input, and its own entries have only these.
 /// Each line that reports a refused line of an input begins with the number of the input, as in `file 2 line 1: 31`.
 ///
-/// The call returns after all workers have ended. Errors of workers come first, in this order: `NoWorker` (67),
+/// Error: `Refused` (66) with 44 if there are more than 1024 inputs, and then no thread is started.
+///
+/// Otherwise the call returns after all workers have ended. Errors of workers come first, in this order: `NoWorker` (67),
 /// `Memory` (65), `Held` (61), and `Refused` (66) with the least number. If no worker failed, the first site whose desk
 /// is not closed is reported: `Refused` (66) with 53 or 54.
-#[tactic(auto, using(crate::proofs::Holding::no_gate, crate::proofs::ReportLemmas::reported_ends))]
 pub fn fill_sites<G: Gate + Sync, R: Threads + Wait + Sync>(
     rt: &R,
     alloc: Global,
     gate: &G,
     inputs: &[Vec<u8>],
 ) -> Result<Sites, WorkFault>
-    requires { length inputs.now ≤ 64 }
     ensures filled { IfOk result (AreFilled (length inputs.now) (bytes_of inputs.now)) }
+    ensures many { most_sites < length inputs.now → result ≡ Err (fault.Refused 44) }
     ensures ends { IfErr result (EndsWhere (G.may_hold gate.now)) }
 {
-    let channels = channels_of_sites(alloc, inputs.len())?;
-    let answers = Vec::with_capacity(alloc, inputs.len())?;
-    thread::scope(
-        thread::scope_env(),
-        rt,
-        move |scope| -> Result<Sites, WorkFault>
-            requires { (length inputs.now ≤ 64) × (vec_len channels ≡ length inputs.now)
-                × ((answers.items ≡ []) × (length inputs.now ≤ vec_capacity answers)) }
-            ensures { IfOk result (AreFilled (length inputs.entry.now) (bytes_of inputs.entry.now))
-                × IfErr result (EndsWhere (G.may_hold gate.entry.now)) }
-        {
-            let children = Vec::with_capacity(alloc, inputs.len())?;
-            let children = start_sites(rt, alloc, gate, scope, inputs, channels, children)?;
-            let answers = join_sites(rt, gate, inputs, children, answers);
-            Ok(collect_sites(alloc, inputs, answers)?)
-        },
-    )
+    if inputs.len() > MOST_SITES as usize {
+        return Err(WorkFault::from(DeltaFault::BadSite));
+    }
+    fill_each(&Run { rt, alloc, gate }, inputs)
 }

@@ -14,12 +14,12 @@ use crate::intake_worker::take_messages;
 use crate::kept::Kept;
 use crate::new_entry::NewEntry;
 use crate::query_worker::answer_notes;
+use crate::run::Run;
 use crate::senders::Senders;
 use crate::takes::Takes;
 use crossbeam_channel::{Receiver, Sender};
 use sct_desk::{Desk, Query, Site};
 use sct_message::Message;
-use std::alloc::Global;
 use std::marker::PhantomData;
 use std::sync::{Arc, Wait};
 use std::thread;
@@ -47,20 +47,19 @@ impl<'a, J: Site + Takes, G: Gate> Promise<Result<Kept<J>, WorkFault>> for EndsA
 // Waits for a worker and returns its receipts. Error: `NoWorker` (67) only if no thread was started for it.
 #[tactic(auto, using(crate::proofs::Holding::worker_ends))]
 fn join_worker<'a, J: Site + Takes, G: Gate, F: Drop, R: Threads>(
-    rt: &R,
+    run: &Run<'_, G, R>,
     started: Result<
         PromisedHandle<Result<Kept<J>, WorkFault>, EndsAtGate<'a, J, G>>,
         SpawnError<F>,
     >,
-    gate: &G,
 ) -> Result<Kept<J>, WorkFault>
-    requires { IfOk started (λ child. child.promise.gate.now ≡ gate.now) }
-    ensures ends { IfErr result (EndsWhere (G.may_hold gate.now)) }
-    ensures started { OnOk started.entry (IfErr result (WorkerEndsWhere (G.may_hold gate.now))) }
+    requires { IfOk started (λ child. child.promise.gate.now ≡ run.now.gate.now) }
+    ensures ends { IfErr result (EndsWhere (G.may_hold run.now.gate.now)) }
+    ensures started { OnOk started.entry (IfErr result (WorkerEndsWhere (G.may_hold run.now.gate.now))) }
     ensures none { IfErr started.entry (λ none. result ≡ Err fault.NoWorker) }
 {
     match started {
-        Ok(child) => child.join(rt),
+        Ok(child) => child.join(run.rt),
         Err(_) => Err(WorkFault::NoWorker),
     }
 }
@@ -110,9 +109,7 @@ pub(crate) fn run_workers<
     G: Gate + Sync,
     R: Threads + Wait + Sync,
 >(
-    rt: &R,
-    alloc: Global,
-    gate: &G,
+    run: &Run<'_, G, R>,
     desk: &Desk<J, H>,
     query: Query,
     site: u16,
@@ -122,14 +119,17 @@ pub(crate) fn run_workers<
     requires query { query.book ≡ J.book }
     requires messages { J.messages ≡ contents_of (messages_in messages.now) }
     ensures shown { IfOk result (λ kept. AllShown J.messages kept.receipts.items) }
-    ensures ends { IfErr result (EndsWhere (G.may_hold gate.now)) }
+    ensures ends { IfErr result (EndsWhere (G.may_hold run.now.gate.now)) }
 {
-    let (note_sender, notes) = crossbeam_channel::unbounded(alloc)?;
+    let (note_sender, notes) = crossbeam_channel::unbounded(run.alloc)?;
     let Channels { inbox, others } = channels;
     let senders = Senders {
         notes: note_sender,
         entries: others,
     };
+    let rt = run.rt;
+    let alloc = run.alloc;
+    let gate = run.gate;
     thread::scope(
         thread::scope_env(),
         rt,
@@ -145,7 +145,7 @@ pub(crate) fn run_workers<
                 },
                 move || -> Result<Kept<J>, WorkFault>
                     ensures { IfErr result (WorkerEndsWhere (G.may_hold gate.entry.now)) }
-                { accept_entries(rt, alloc, gate, desk, site, inbox) },
+                { accept_entries(&Run { rt, alloc, gate }, desk, site, inbox) },
             );
             let asked = scope.spawn_with(
                 EndsAtGate {
@@ -155,16 +155,17 @@ pub(crate) fn run_workers<
                 move || -> Result<Kept<J>, WorkFault>
                     requires { query.book ≡ J.book }
                     ensures { IfErr result (WorkerEndsWhere (G.may_hold gate.entry.now)) }
-                { answer_notes::<J, G, R>(rt, alloc, gate, query, site, notes) },
+                { answer_notes::<J, G, R>(&Run { rt, alloc, gate }, query, site, notes) },
             );
+            let run = Run { rt, alloc, gate };
             let taken = if accepts.is_ok() && asked.is_ok() {
-                take_messages(rt, alloc, gate, desk, site, messages, senders)
+                take_messages(&run, desk, site, messages, senders)
             } else {
                 drop(senders);
                 Err(WorkFault::NoWorker)
             };
-            let accepted = join_worker(rt, accepts, gate);
-            let answered = join_worker(rt, asked, gate);
+            let accepted = join_worker(&run, accepts);
+            let answered = join_worker(&run, asked);
             combine_all::<J>(taken, accepted, answered)
         },
     )

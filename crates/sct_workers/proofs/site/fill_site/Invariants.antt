@@ -4,7 +4,7 @@ use Rattle.sct_set.specs.Contents.{contents_of}
 use Rattle.sct_workers.proofs.site.fill_site.Given as goal
 
 abbrev pub ghosts-run_site-J-Site : goal.ghosts-run_site-J-Site
-ghosts-run_site-J-Site g a = record { book = a.history; number = a.number; group = a.group }
+ghosts-run_site-J-Site g a = record { book = a.history; number = a.member.number; group = a.member.group }
 
 abbrev pub ghosts-run_site-J-Takes : goal.ghosts-run_site-J-Takes
 ghosts-run_site-J-Takes g a = record { messages = contents_of (messages_in a.messages.now) }

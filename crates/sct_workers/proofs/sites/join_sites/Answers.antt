@@ -9,14 +9,6 @@ use Rattle.sct_workers.proofs.Places.{each_pushed, get_behind}
 use Rattle.sct_workers.proofs.ReportLemmas.{answers_to}
 use Rattle.sct_workers.proofs.sites.join_sites.Goals as goal
 
-pub push_within_room-answers-requires : goal.push_within_room-answers-requires
-push_within_room-answers-requires g c =
-    let step : into_iter_items c.loop-child.child-iterator ≡ c.in-Some.child ∷ into_iter_items c.next.new.self = search rules in
-    let all = ap (λ rest. c.loop-child.yielded ++ rest) (sym step) ∙ c.loop-child.invariant.rest in
-    let counted = ap length all in
-    let longer = length-append c.loop-child.yielded (c.in-Some.child ∷ into_iter_items c.next.new.self) in
-    omega (arith, counted, longer, c.requires.len, c.loop-child.invariant.len, c.loop-child.invariant.room)
-
 pub loop-child-preserved : goal.loop-child-preserved
 loop-child-preserved g c =
     let step : into_iter_items c.loop-child.child-iterator ≡ c.in-Some.child ∷ into_iter_items c.next.new.self = search rules in
@@ -27,20 +19,20 @@ loop-child-preserved g c =
     let site = c.requires.sites (length c.loop-child.yielded) c.in-Some.child here in
     let size = length c.args.inputs.now in
     let filled =
-    answers_to size (bytes_of c.args.inputs.now) (length c.loop-child.yielded) c.in-Some.child.promise.number c.in-Some.child.promise.group
+    answers_to size (bytes_of c.args.inputs.now) (length c.loop-child.yielded) c.in-Some.child.promise.member.number c.in-Some.child.promise.member.group
     c.in-Some.child.promise.input.now c.join.result site.0 site.1 (c.requires.inputs (length c.loop-child.yielded) c.in-Some.child here) c.join.ensures.0 in
     let ends =
     subst (λ gate. IfErr c.join.result (SiteEndsWhere (g.G.Gate.may_hold gate))) (c.requires.gate (length c.loop-child.yielded) c.in-Some.child here) c.join.ensures.1 in
     let longer = length-append before (c.join.result ∷ []) in
-    let counted = ap length c.push_within_room-answers.ensures.items in
+    let counted = ap length c.push_reserved.ensures.items in
     let done = length-append c.loop-child.yielded (c.in-Some.child ∷ []) in
     record {
       rest = append_assoc c.loop-child.yielded (c.in-Some.child ∷ []) (into_iter_items c.next.new.self) ∙ all;
       count = omega (arith, c.in-Some.ensures.steps.1, ap length c.in-Some.ensures.steps.0, c.loop-child.invariant.count);
       len = omega (arith, many, longer, counted, done);
-      room = omega (arith, c.loop-child.invariant.room, c.push_within_room-answers.ensures.room);
+      room = omega (arith, c.loop-child.invariant.room, c.push_reserved.ensures.capacity);
       filled =
-          each_pushed (AnswersTo size (bytes_of c.args.inputs.now)) before c.push_within_room-answers.result.items c.join.result c.push_within_room-answers.ensures.items c.loop-child.invariant.filled
+          each_pushed (AnswersTo size (bytes_of c.args.inputs.now)) before c.push_reserved.new.self.items c.join.result c.push_reserved.ensures.items c.loop-child.invariant.filled
           (subst (λ place. AnswersTo size (bytes_of c.args.inputs.now) place c.join.result) (sym many) filled);
-      ends = each_pushed (λ place answer. IfErr answer (SiteEndsWhere (g.G.Gate.may_hold c.args.gate.now))) before c.push_within_room-answers.result.items c.join.result c.push_within_room-answers.ensures.items c.loop-child.invariant.ends ends;
+      ends = each_pushed (λ place answer. IfErr answer (SiteEndsWhere (g.G.Gate.may_hold c.args.run.now.gate.now))) before c.push_reserved.new.self.items c.join.result c.push_reserved.ensures.items c.loop-child.invariant.ends ends;
     }

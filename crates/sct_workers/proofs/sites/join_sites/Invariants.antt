@@ -15,5 +15,5 @@ invariant-loop-child g l = record {
   len : length l.answers.items ≡ length l.yielded;
   room : length l.inputs ≤ vec_capacity l.answers;
   filled : AtEach (AnswersTo (length l.inputs) (bytes_of l.inputs)) l.answers.items;
-  ends : AtEach (λ place answer. IfErr answer (SiteEndsWhere (g.G.Gate.may_hold l.gate))) l.answers.items;
+  ends : AtEach (λ place answer. IfErr answer (SiteEndsWhere (g.G.Gate.may_hold l.run.gate.now))) l.answers.items;
 }

@@ -1,7 +1,7 @@
 -- The fault that is reported of the sites ends the run.
 use Rattle.std.proofs.lemmas.Result.{err_from_is_err_and}
 use Rattle.sct_workers.proofs.ReportLemmas.{reported_ends}
-use Rattle.sct_workers.proofs.sites.fn.fill_sites.scope.Goals as goal
+use Rattle.sct_workers.proofs.sites.fn.fill_each.scope.Goals as goal
 
 pub returns-in_err-collect_sites : goal.returns-in_err-collect_sites
 returns-in_err-collect_sites g c =
