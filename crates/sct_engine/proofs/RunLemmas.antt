@@ -1,5 +1,5 @@
 -- How many sites a run has, and what ends it. Proof plumbing.
-use Rattle.std.proofs.Common.{◌≡◌, ◌≢◌, ◌<◌, ◌≤◌, refl, sym, subst, inl, inr, ℕ, ◌+◌, Bool, true, false, List, [], ◌∷◌, length, arith}
+use Rattle.std.proofs.Common.{◌≡◌, ◌≢◌, ◌<◌, refl, sym, subst, inl, inr, ℕ, ◌+◌, Bool, true, false, List, [], ◌∷◌, length, arith}
 use Rattle.std.specs.Prelude.{Result, Ok, Err, IfOk}
 use Rattle.std.proofs.lemmas.Bool.Decides.{nat_tests}
 use Rattle.sct_site.specs.Cores.{Core}
@@ -23,9 +23,6 @@ use Rattle.sct_engine.specs.declared.fault.ProgramFault.TheVariants as fault
 
 pub some_there : (count : ℕ) → are_sites count ≡ true → 0 < count
 some_there count e = grind (arith, nat_tests)
-
-pub few_enough : (count : ℕ) → are_sites count ≡ true → count ≤ 64
-few_enough count e = grind (arith, nat_tests)
 
 pub as_many : (number size : ℕ) (cores : List Core) (inputs : List (List ℕ)) → AllStand number size inputs cores → length cores ≡ length inputs
 as_many number size [] [] all = refl

@@ -42,7 +42,7 @@ pub fn are_sites(count: usize) -> bool
 }
 
 // Fills a site from each input, by workers of its own. At least one site is filled.
-#[tactic(auto, using(crate::proofs::RunLemmas::few_enough, crate::proofs::RunLemmas::some_cores))]
+#[tactic(auto, using(crate::proofs::RunLemmas::some_cores))]
 fn fill<G: Gate + Sync, R: Threads + Wait + Sync>(
     rt: &R,
     alloc: Global,

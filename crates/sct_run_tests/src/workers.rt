@@ -24,7 +24,7 @@ fn owned(alloc: Global, inputs: &[&[u8]]) -> Result<Vec<Vec<u8>>, AllocError> {
     Ok(texts)
 }
 
-// The sites of at most 64 inputs.
+// The sites of some inputs.
 fn filled<G: Gate + Sync, R: Threads + Wait + Sync>(
     rt: &R,
     alloc: Global,
@@ -32,9 +32,6 @@ fn filled<G: Gate + Sync, R: Threads + Wait + Sync>(
     inputs: &[&[u8]],
 ) -> Result<Sites, WorkFault> {
     let inputs = owned(alloc, inputs)?;
-    if inputs.len() > 64 {
-        return Err(WorkFault::NoWorker);
-    }
     fill_sites(rt, alloc, gate, &inputs)
 }
 

@@ -100,9 +100,7 @@ fn start_site<'s, E, G: Gate + Sync, R: Threads + Wait + Sync>(
     ensures input { IfOk result (λ child. child.promise.input.now ≡ input.now) }
     ensures none { IfErr result (λ e. e ≡ fault.NoWorker) }
 {
-    let rt = run.rt;
-    let alloc = run.alloc;
-    let gate = run.gate;
+    let Run { rt, alloc, gate } = *run;
     let started = scope.spawn_with(
         Fills {
             gate,
@@ -191,9 +189,7 @@ fn fill_each<G: Gate + Sync, R: Threads + Wait + Sync>(
     ensures filled { IfOk result (AreFilled (length inputs.now) (bytes_of inputs.now)) }
     ensures ends { IfErr result (EndsWhere (G.may_hold run.now.gate.now)) }
 {
-    let rt = run.rt;
-    let alloc = run.alloc;
-    let gate = run.gate;
+    let Run { rt, alloc, gate } = *run;
     let channels = channels_of_sites(alloc, inputs.len())?;
     let answers = Vec::with_capacity(alloc, inputs.len())?;
     thread::scope(

@@ -127,9 +127,7 @@ pub(crate) fn run_workers<
         notes: note_sender,
         entries: others,
     };
-    let rt = run.rt;
-    let alloc = run.alloc;
-    let gate = run.gate;
+    let Run { rt, alloc, gate } = *run;
     thread::scope(
         thread::scope_env(),
         rt,
