@@ -12,6 +12,7 @@ from tests.oracle import status as definitions
 
 LONG = 2000  # messages: about a megabyte, which is read in several parts
 FILES = 16
+BLOCK = 1 << 24  # bytes that the program reads at a time
 
 
 def long_cases():
@@ -20,6 +21,27 @@ def long_cases():
     for command in definitions.TEXT:
         text, refused, _ = definitions.answer(command, data)
         yield case(f"{LONG} messages {command}", [command], data, text.encode(), refused.encode())
+
+
+def blocks():
+    """An input of some blocks, and an input with the same lines but for their spaces."""
+    lines = long_input(LONG // 10).splitlines(keepends=True)
+    message = next(line for line in lines if line.startswith(b"{"))
+    half = len(lines) // 2
+    first = b" " * (BLOCK - 100) + b"\n"  # the next line begins in the first block and ends in the second
+    long = b"{" + b" " * (BLOCK + 1) + message[1:]
+    refused = b"nothing"
+    padded = [first, message, *lines[:half], long, first, *lines[half:], refused]
+    plain = [b"\n", message, *lines[:half], message, b"\n", *lines[half:], refused]
+    return b"".join(padded), b"".join(plain)
+
+
+def block_cases():
+    """The input of some blocks with each command."""
+    padded, plain = blocks()
+    for command in definitions.TEXT:
+        text, refused, _ = definitions.answer(command, plain)
+        yield case(f"some blocks {command}", [command], padded, text.encode(), refused.encode())
 
 
 def sixteen_files(folder):
@@ -38,7 +60,7 @@ def sixteen_files(folder):
 def main():
     program = harness.program()
     with tempfile.TemporaryDirectory() as folder:
-        long = [*long_cases(), sixteen_files(folder)]
+        long = [*long_cases(), *block_cases(), sixteen_files(folder)]
         harness.end_of([harness.fits(program, one, processors) for processors in PROCESSORS for one in long])
 
 

@@ -1,4 +1,4 @@
-//! Tests of desks, receipts, workers, runs, streams and the program's engine. They show what no clause says:
+//! Tests of desks, receipts, workers, runs, inputs, streams and the program's engine. They show what no clause says:
 //! that the calls succeed if there is memory.
 #![tactic(auto)]
 
@@ -8,6 +8,8 @@ mod desks;
 mod fakes;
 #[cfg(test)]
 mod gates;
+#[cfg(test)]
+mod inputs;
 #[cfg(test)]
 mod program;
 #[cfg(test)]

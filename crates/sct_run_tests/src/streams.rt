@@ -3,7 +3,7 @@
 ghost use Rattle.std.specs.Prelude.{◌≡◌};
 
 use crate::fakes::{Giving, Taking};
-use sct_streams::{Failed, ReadFault, Reading, Writing, read_all, write_all};
+use sct_streams::{Failed, ReadFault, Reading, Writing, read_all, read_more, write_all};
 use std::alloc::Global;
 use std::marker::Brand;
 use std::sync::ledger::{Blank, Ledger};
@@ -110,6 +110,35 @@ fn reads_up_to_a_limit(rt: HostRuntime) {
     for row in &LIMITED {
         assert!(rt; are_read(rt.alloc(), row));
     }
+}
+
+// The numbers of bytes that three reads append to `bytes`: of at most 4 bytes, of at most 10 more, and after the end.
+fn read_on<L: Ledger>(
+    giving: &mut Giving,
+    bytes: &mut Vec<u8>,
+    blank: Blank,
+) -> Result<[usize; 3], ReadFault>
+    requires name { blank.name ≡ L.name }
+    requires parts { blank.parts ≡ L.parts }
+    requires one_part { blank.parts ≡ 1 }
+{
+    let mut source = Reading::<_, L>::new(giving, blank);
+    let first = read_more(&mut source, bytes, 4)?;
+    let second = read_more(&mut source, bytes, 10)?;
+    let third = read_more(&mut source, bytes, 10)?;
+    Ok([first, second, third])
+}
+
+#[test]
+fn reads_on_to_the_end(rt: HostRuntime) {
+    let mut giving = Giving {
+        left: b"ten bytes.",
+        fails: false,
+    };
+    let mut bytes = Vec::new(rt.alloc());
+    let read = read_on::<Brand>(&mut giving, &mut bytes, Blank::new(1));
+    assert_eq!(rt; read, Ok([4, 6, 0]));
+    assert_eq!(rt; bytes.as_slice(), b"ten bytes.");
 }
 
 // The result of writing a text.
