@@ -6,8 +6,10 @@ use crate::fakes::Giving;
 use sct_input::read_messages;
 use sct_lines::Intake;
 use sct_streams::{ReadFault, Reading};
+use std::alloc::Global;
 use std::marker::Brand;
 use std::sync::ledger::{Blank, Ledger};
+use std::thread::Threads;
 
 // Two confirmations, a refused line and a blank one. No line feed ends the last line. They are 384 bytes.
 static LINES: &[u8] =
@@ -56,8 +58,9 @@ static ROWS: [Row; 5] = [
 ];
 
 // The result of reading these bytes.
-fn read_over<L: Ledger>(
-    rt: &HostRuntime,
+fn read_over<T: Threads + Sync, L: Ledger>(
+    rt: &T,
+    alloc: Global,
     giving: &mut Giving,
     limit: u64,
     blank: Blank,
@@ -67,16 +70,16 @@ fn read_over<L: Ledger>(
     requires one_part { blank.parts ≡ 1 }
 {
     let mut source = Reading::<_, L>::new(giving, blank);
-    read_messages(rt, rt.alloc(), &mut source, limit)
+    read_messages(rt, alloc, &mut source, limit)
 }
 
 // Whether the lines are read as a row says.
-fn are_read(rt: &HostRuntime, row: &Row) -> bool {
+fn are_read<T: Threads + Sync>(rt: &T, alloc: Global, row: &Row) -> bool {
     let mut giving = Giving {
         left: LINES,
         fails: row.fails,
     };
-    let read = read_over::<Brand>(rt, &mut giving, row.limit, Blank::new(1));
+    let read = read_over::<T, Brand>(rt, alloc, &mut giving, row.limit, Blank::new(1));
     let is_read = match (&read, &row.read) {
         (Ok(intake), Ok((messages, refused))) => {
             intake.messages.len() == *messages && intake.refusals.text() == *refused
@@ -90,6 +93,6 @@ fn are_read(rt: &HostRuntime, row: &Row) -> bool {
 #[test]
 fn reads_messages_up_to_a_limit(rt: HostRuntime) {
     for row in &ROWS {
-        assert!(rt; are_read(&rt, row));
+        assert!(rt; are_read(&rt, rt.alloc(), row));
     }
 }

@@ -138,7 +138,7 @@ fn reads_on_to_the_end(rt: HostRuntime) {
     let mut bytes = Vec::new(rt.alloc());
     let read = read_on::<Brand>(&mut giving, &mut bytes, Blank::new(1));
     assert_eq!(rt; read, Ok([4, 6, 0]));
-    assert_eq!(rt; bytes.as_slice(), b"ten bytes.");
+    assert_eq!(rt; bytes.as_slice(), b"ten bytes.".as_slice());
 }
 
 // The result of writing a text.
