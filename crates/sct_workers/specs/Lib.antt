@@ -6,6 +6,7 @@ pub mod Files
 pub mod Filling
 pub mod Holds
 pub mod Kept
+pub mod Points
 pub mod Reported
 pub mod Shown
 pub mod Stands

@@ -11,13 +11,14 @@ ghost use Rattle.sct_workers.specs.declared.fault.WorkFault.TheVariants as fault
 ghost use Rattle.sct_set.specs.Contents.{contents_of};
 ghost use Rattle.sct_workers.specs.Exchanging.{IsNumbered};
 ghost use Rattle.sct_workers.specs.Holds.{EndsWhere};
+ghost use Rattle.sct_workers.specs.Points.{IsTake};
 ghost use Rattle.sct_workers.specs.Shown.{ShowsMore};
 
 use crate::fault::WorkFault;
 use crate::gate::{Gate, Point};
 use crate::kept::Kept;
 use crate::receipts::{publish_for_receipt, take_for_receipt};
-use crate::run::{Run, pass};
+use crate::run::{Passed, Run, pass};
 use crate::senders::Senders;
 use crate::takes::Takes;
 use sct_desk::{Desk, Receipt, Site};
@@ -25,20 +26,24 @@ use sct_message::{Message, TransferKey};
 use sct_site::Took;
 use std::sync::{Arc, Wait};
 
-// Takes one of the site's messages, and keeps the receipt.
+// Takes one of the site's messages after its point was passed, and keeps the receipt.
 #[tactic(auto, using(crate::proofs::MoreKept::shown_last, crate::proofs::MoreKept::shows_more, crate::proofs::Refusing::takes_number))]
 fn take_message<J: Site + Takes, H: Wait + Drop, G, R: Wait>(
     run: &Run<'_, G, R>,
     desk: &Desk<J, H>,
+    passed: Passed,
     message: &Arc<Message>,
     kept: &mut Kept<J>,
 ) -> Result<Took, WorkFault>
-    requires { set.contains J.messages (arc_value message.now) ≡ true }
+    requires passed { IsTake passed.point }
+    requires taken { set.contains J.messages (arc_value message.now) ≡ true }
     ensures shown { OnOk result (is_shown kept.new.receipts.items (arc_value message.now) ≡ true) }
     ensures more { OnOk result (ShowsMore kept.old.receipts.items kept.new.receipts.items) }
     ensures numbered { IfOk result IsNumbered }
     ensures memory { IfErr result (λ e. e ≡ fault.Memory) }
 {
+    // The point is used up: it was passed for this take alone.
+    drop(passed);
     let (took, receipt) = take_for_receipt(run.rt, run.alloc, desk, message.clone()?)?;
     kept.push(receipt)?;
     Ok(took)
@@ -90,21 +95,23 @@ fn publish_message<J: Site + Takes, H: Wait + Drop, G, R: Wait>(
     Ok(())
 }
 
-// Takes one of the site's messages, publishes it, and sends a new entry to the other sites.
+// Takes one of the site's messages after its point was passed, publishes it, and sends a new entry to the other sites.
 fn take_and_send<J: Site + Takes, H: Wait + Drop, G, R: Wait>(
     run: &Run<'_, G, R>,
     desk: &Desk<J, H>,
-    site: u16,
+    passed: Passed,
     message: &Arc<Message>,
     senders: &Senders<J>,
     kept: &mut Kept<J>,
 ) -> Result<(), WorkFault>
-    requires { set.contains J.messages (arc_value message.now) ≡ true }
+    requires passed { IsTake passed.point }
+    requires taken { set.contains J.messages (arc_value message.now) ≡ true }
     ensures shown { OnOk result (is_shown kept.new.receipts.items (arc_value message.now) ≡ true) }
     ensures more { OnOk result (ShowsMore kept.old.receipts.items kept.new.receipts.items) }
     ensures memory { IfErr result (λ e. e ≡ fault.Memory) }
 {
-    let took = take_message(run, desk, message, kept)?;
+    let site = passed.site();
+    let took = take_message(run, desk, passed, message, kept)?;
     publish_message(run, desk, message, senders, kept)?;
     senders.send_entry(run.rt, site, &took, message);
     Ok(())
@@ -127,8 +134,8 @@ pub(crate) fn take_messages<J: Site + Takes, H: Wait + Drop, G: Gate, R: Wait>(
     let mut k = 0;
     for message in messages {
         k += 1;
-        pass(run, Point::Take { site, k })?;
-        take_and_send(run, desk, site, message, &senders, &mut kept)?;
+        let passed = pass(run, Point::Take { site, k })?;
+        take_and_send(run, desk, passed, message, &senders, &mut kept)?;
     }
     Ok(kept)
 }

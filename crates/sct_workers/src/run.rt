@@ -1,7 +1,8 @@
 //! What the sites of a run share, and what tells them apart.
 
-ghost use Rattle.std.specs.Prelude.{IfErr};
+ghost use Rattle.std.specs.Prelude.{◌≡◌, IfErr, IfOk};
 ghost use Rattle.sct_workers.specs.Holds.{WorkerEndsWhere};
+ghost use Rattle.sct_workers.specs.Points.{site_of};
 
 use crate::fault::WorkFault;
 use crate::gate::{Gate, Held, Point};
@@ -23,12 +24,32 @@ pub(crate) struct Member {
     pub(crate) group: u16,
 }
 
-// Passes a point of the run's gate. Error: `Held` (61) if the gate holds the worker.
-pub(crate) fn pass<G: Gate, R: Wait>(run: &Run<'_, G, R>, point: Point) -> Result<(), WorkFault>
-    ensures { IfErr result (WorkerEndsWhere (G.may_hold run.now.gate.now)) }
+/// A point that a worker has passed. Only [`pass`] makes one.
+#[derive(Drop)]
+pub(crate) struct Passed {
+    point: Point,
+}
+
+impl Passed {
+    /// The site of the worker.
+    pub(crate) fn site(&self) -> u16
+        ensures { result ≡ site_of self.now.point }
+    {
+        match self.point {
+            Point::Take { site, .. } => site,
+            Point::Accepted { site } => site,
+            Point::Answered { site } => site,
+        }
+    }
+}
+
+/// Passes a point of the run's gate. Error: `Held` (61) if the gate holds the worker.
+pub(crate) fn pass<G: Gate, R: Wait>(run: &Run<'_, G, R>, point: Point) -> Result<Passed, WorkFault>
+    ensures passed { IfOk result (λ passed. passed.point ≡ point) }
+    ensures ends { IfErr result (WorkerEndsWhere (G.may_hold run.now.gate.now)) }
 {
     match run.gate.pass(run.rt, point) {
-        Ok(()) => Ok(()),
+        Ok(()) => Ok(Passed { point }),
         Err(Held) => Err(WorkFault::Held),
     }
 }

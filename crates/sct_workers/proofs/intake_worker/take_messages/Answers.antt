@@ -5,8 +5,8 @@ use Rattle.std.proofs.lemmas.Option.{slice_get-get_or}
 use Rattle.sct_workers.proofs.MoreKept.{among, shown_to_next}
 use Rattle.sct_workers.proofs.intake_worker.take_messages.Goals as goal
 
-pub take_and_send-requires : goal.take_and_send-requires
-take_and_send-requires g c =
+pub take_and_send-requires-clause-taken : goal.take_and_send-requires-clause-taken
+take_and_send-requires-clause-taken g c =
     among g.J.Takes.messages c.args.messages.now c.loop-message.message-index c.message-item.result c.requires
     (slice_get-get_or c.args.messages.now c.loop-message.message-index c.message-item.result c.loop-message-test.true ∙ ap Some (sym c.message-item.is))
 
