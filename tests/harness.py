@@ -111,11 +111,16 @@ def refuser(folder):
 
 
 def run_refusing(number, library, words, data, also=0):
-    """A run in which the allocation with this number is refused, and one more. With 0 none is."""
-    with tempfile.NamedTemporaryFile() as counts:
+    """A run in which the allocation with this number is refused, and one more. With 0 none is.
+
+    The input is a file: a pipe gives pieces that differ from run to run, and so do then the allocations.
+    """
+    with tempfile.NamedTemporaryFile() as counts, tempfile.TemporaryFile() as given:
         os.truncate(counts.name, COUNTS.size)
+        given.write(data)
+        given.seek(0)
         variables = {"LD_PRELOAD": library, "REFUSE_NUMBER": str(number), "REFUSE_ALSO": str(also), "REFUSE_COUNTS": counts.name}
-        answer = run(words, data, seconds=SECONDS, env={**os.environ, **variables})
+        answer = run(words, seconds=SECONDS, stdin=given, env={**os.environ, **variables})
         return Refusing(number, answer, *COUNTS.unpack(counts.read()))
 
 

@@ -2,8 +2,7 @@
 
 The test driver opens the sites 1, 2 and 3. Each takes messages of its own, and then they settle. What is printed must be the same for
 both groups. The library refuse_nth.c counts the bytes that the driver asks for. The lines that open the sites have three characters
-more for the larger group, and a pipe gives the lines in pieces that differ from run to run. So a line may be put together from other
-pieces, which takes some hundred bytes. 8 bytes for each site that the group may have would be 8,160 more for each of the three sites.
+more for the larger group. So a few bytes more are right, and 8 bytes for each site that the group may have are not.
 """
 import tempfile
 from tests import harness
@@ -12,7 +11,7 @@ from tests.inputs import instruction
 SITES = [1, 2, 3]
 MESSAGES = 10
 GROUPS = [4, 1024]
-FEW = 2048  # bytes
+FEW = 256  # bytes
 
 
 def lines(group):
