@@ -106,6 +106,13 @@ impl EmbeddedSite {
         })
     }
 
+    /// How many entries the site holds, of all origins.
+    pub fn count(&self) -> usize
+        ensures { result ≡ length self.now.core.arrivals }
+    {
+        self.core.arrivals().len()
+    }
+
     /// The answer: the text that was asked for last.
     pub fn answer(&self) -> &[u8]
         ensures { result.now ≡ self.now.answer }

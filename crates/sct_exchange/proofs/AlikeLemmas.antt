@@ -74,7 +74,7 @@ write_alike sites runs honest one other first second same =
 -- ---- the order of the texts does not matter
 
 -- the second site has every entry of the first
-abbrev HasAll : List Placed → List Placed → Type 0
+abbrev pub HasAll : List Placed → List Placed → Type 0
 HasAll es fs = (e : Placed) → holds es e ≡ true → holds fs e ≡ true
 
 last_there : (n k : ℕ) → nat_lt k n ≡ false → n ≤ k
@@ -95,7 +95,7 @@ by_length (m ∷ log) k each =
     let size : ℕ = length (m ∷ log) in
     at_number (m ∷ log) size (not_none (length log)) (full_itself size) (size ≤ k) (λ x is. last_there size k (each size x is))
 
-length_within : (es fs : List Placed) → IsArrivals es → IsArrivals fs → HasAll es fs → (o : ℕ) → length (log_of o es) ≤ length (log_of o fs)
+pub length_within : (es fs : List Placed) → IsArrivals es → IsArrivals fs → HasAll es fs → (o : ℕ) → length (log_of o es) ≤ length (log_of o fs)
 length_within es fs first second has o = by_length (log_of o es) (length (log_of o fs)) (λ n m is.
     let e : Placed = record { origin = o; n = n; message = m } in
     within (log_of o fs) n m (one_place fs second e (has e (held_number es first o n m is))))
@@ -103,7 +103,7 @@ length_within es fs first second has o = by_length (log_of o es) (length (log_of
 module _ (owned : ℕ → List Draft) (core : Core) (of : IsOf owned core) (delta : List Placed) (text : IsTextOf owned core.group delta) (es : List Placed) (order : IsArrivals es) (has : HasAll es core.arrivals)
     (own : ℕ) (fits : refusal_by (record { number = own; group = core.group; arrivals = es }) delta ≡ None) where
   -- what an earlier site of the same own logs accepted this site accepts
-  fits_too : refusal_by core delta ≡ None
+  pub fits_too : refusal_by core delta ≡ None
   fits_too =
       unrefused core.number core.group (logs_of core.arrivals) delta (record {
         inside = passes_none (is_outside core.group) delta (λ e among. ap not (text.inside e among));
@@ -114,7 +114,7 @@ module _ (owned : ℕ → List Draft) (core : Core) (of : IsOf owned core) (delt
       })
 
 -- what is not new is held
-none_new : (es ds : List Placed) → IsArrivals es → fresh_of es ds ≡ [] → HasAll ds es
+pub none_new : (es ds : List Placed) → IsArrivals es → fresh_of es ds ≡ [] → HasAll ds es
 none_new es ds order none e among =
     elim (is_held (logs_of es) e) as (λ b. is_held (logs_of es) e ≡ b → holds es e ≡ true) [
       | true ↦ λ held. stands_held es order e held
@@ -139,7 +139,7 @@ all_along owned core of theirs mine complete texts among (delta ∷ deltas) befo
     ])
 
 -- a site keeps its entries along accepted deltas
-kept_along : (files : List File) (deltas : List (List Placed)) (before after : Core) → AreAccepted files before deltas after → HasAll before.arrivals after.arrivals
+pub kept_along : (files : List File) (deltas : List (List Placed)) (before after : Core) → AreAccepted files before deltas after → HasAll before.arrivals after.arrivals
 kept_along files [] before after is e held = ap (λ (c : Core). holds c.arrivals e) is ∙ held
 kept_along files (delta ∷ deltas) before after way e held =
     kept_along files deltas (core_joined before delta) after way.2 e (kept_first before.arrivals (fresh_of before.arrivals delta) e held)

@@ -107,7 +107,7 @@ module _ (owned : ℕ → List Draft) (core : Core) (of : IsOf owned core) (delt
     own = own_kept core delta text.shape fits ∙ of.own;
   }
 
-of_accepted : (owned : ℕ → List Draft) (files : List File) (group : ℕ) → ((delta : List Placed) → IsAmong files (Ok delta) → IsTextOf owned group delta)
+pub of_accepted : (owned : ℕ → List Draft) (files : List File) (group : ℕ) → ((delta : List Placed) → IsAmong files (Ok delta) → IsTextOf owned group delta)
     → (deltas : List (List Placed)) (before after : Core) → before.group ≡ group → AreAccepted files before deltas after → IsOf owned before → IsOf owned after
 of_accepted owned files group texts [] before after same is of = subst (λ (c : Core). IsOf owned c) (sym is) of
 of_accepted owned files group texts (delta ∷ deltas) before after same way of =
@@ -174,7 +174,7 @@ longer_in sites run runs honest site =
 owned_here : (run : Run) (runs : List Run) → owned_in (run ∷ runs) run.site ≡ own_log run.journal
 owned_here run runs = ap (λ (b : Bool). own_log (cond b run.journal (journal_at runs run.site))) (same_number run.site)
 
-own_site : (number group : ℕ) → is_open number group ≡ true → has_site group number ≡ true
+pub own_site : (number group : ℕ) → is_open number group ≡ true → has_site group number ≡ true
 own_site number group valid = grind (arith, nat_tests)
 
 pub start_of : (sites : ℕ) (run : Run) (runs : List Run) → IsRun sites runs run → IsOf (owned_in (run ∷ runs)) (core_of_journal run.site sites run.journal)
@@ -229,7 +229,7 @@ cut_of owned sites run runs is of same = record {
   known = λ e among. of.known e (among_above run.have (arrivals_of sites run) e among);
 }
 
-group_along : (files : List File) (deltas : List (List Placed)) (before after : Core) → AreAccepted files before deltas after → after.group ≡ before.group
+pub group_along : (files : List File) (deltas : List (List Placed)) (before after : Core) → AreAccepted files before deltas after → after.group ≡ before.group
 group_along files [] before after is = ap (λ (c : Core). c.group) is
 group_along files (delta ∷ deltas) before after way = group_along files deltas (core_joined before delta) after way.2
 

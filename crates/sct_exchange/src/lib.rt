@@ -15,6 +15,6 @@ mod site;
 mod texts;
 
 pub use files::{DeltaFile, read_file};
-pub use refused::{RefusedFile, write_refused_files};
+pub use refused::{RefusedFile, push_refusal, write_refused_files};
 pub use site::{Exchanged, exchange};
 pub use texts::{write_cut, write_held};

@@ -16,9 +16,10 @@ pub struct RefusedFile {
     pub fault: DeltaFault,
 }
 
-// Appends the number of a refusal and its fields.
+/// Appends the number of a refusal and its fields, with a space between each two: `41 1 0 2`. The error is that it is out of
+/// memory.
 #[tactic(auto, unfolding(crate::specs::RefusedFiles::refusal_text))]
-fn push_refusal(text: &mut String, fault: &DeltaFault) -> Result<(), AllocError>
+pub fn push_refusal(text: &mut String, fault: &DeltaFault) -> Result<(), AllocError>
     ensures { IfOk result (λ _. string_bytes text.new ≡ string_bytes text.old ++ refusal_text fault.now) }
 {
     match fault {
