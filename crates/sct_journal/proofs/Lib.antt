@@ -1,0 +1,7 @@
+pub mod LineLemmas
+pub mod DiskLemmas
+pub mod AppendLemmas
+pub mod RecoverLemmas
+pub mod FrontLemmas
+pub mod MakingLemmas
+pub mod OpeningLemmas
