@@ -1,0 +1,2 @@
+pub mod BringLemmas
+pub mod StepLemmas

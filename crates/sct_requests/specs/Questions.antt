@@ -1,0 +1,106 @@
+-- The questions of a keeper, each a line that begins with `? `, and their answers. Read by an auditor.
+use Rattle.std.specs.Prelude.{ℕ, ◌≡◌, ◌+◌, List, codes, drop, take, length, position, Option, None, Some, Result, Ok, Err, if◌then◌else◌, ⊤}
+use Rattle.sct_element.specs.Text.{is_text}
+use Rattle.sct_message.specs.Sets.{MessageSet}
+use Rattle.sct_set.specs.Archive.{archive_text_of}
+use Rattle.sct_view.specs.StatusText.{status_text_of}
+use Rattle.sct_view.specs.TotalsText.{totals_text_of}
+use Rattle.sct_delta.specs.Entries.{messages_of}
+use Rattle.sct_delta.specs.TextLines.{is_space}
+use Rattle.sct_exchange.specs.Sites.{held_text}
+use Rattle.sct_embed.specs.Calls.{cut_answer}
+use Rattle.sct_embed.specs.Questions.{bank_answer, changes_since, contradictions_text_of, messages_answer, report_answer, transfer_answer}
+use Rattle.sct_embed.specs.declared.faults.EmbedFault.{EmbedFault}
+use Rattle.sct_requests.specs.Standings.{Standing}
+use Rattle.sct_requests.specs.Steps.{core_given, is_question_line, with_feeds}
+use Rattle.sct_requests.specs.declared.questions.QuestionFault.{QuestionFault}
+use Rattle.sct_requests.specs.declared.questions.QuestionFault.TheVariants as fault
+
+-- ---- words
+
+-- the text, if it has no space
+abbrev pub one_word_at : List ℕ → Option ℕ → Option (List ℕ)
+one_word_at text None = Some text
+one_word_at text (Some place) = None
+
+abbrev pub one_word : List ℕ → Option (List ℕ)
+one_word text = one_word_at text (position is_space text)
+
+-- the text up to its first space, and what comes after that
+abbrev pub two_parts_at : List ℕ → Option ℕ → Option (List ℕ × List ℕ)
+two_parts_at text None = None
+two_parts_at text (Some place) = Some (take place text, drop (place + 1) text)
+
+abbrev pub two_parts : List ℕ → Option (List ℕ × List ℕ)
+two_parts text = two_parts_at text (position is_space text)
+
+-- ---- answers
+
+-- an answer of the site
+abbrev pub answered : Result (List ℕ) EmbedFault → Result (List ℕ) QuestionFault
+answered (Ok text) = Ok text
+answered (Err reason) = Err (fault.Refused reason)
+
+-- an answer about words, if they are there
+abbrev pub about : {X : Type 0} → Option X → (X → Result (List ℕ) EmbedFault) → Result (List ℕ) QuestionFault
+about None answer = Err fault.NoQuestion
+about (Some words) answer = answered (answer words)
+
+-- questions of one word
+abbrev pub answer_named : Standing → List ℕ → Result (List ℕ) QuestionFault
+answer_named standing name =
+    if is_text name (codes "vector") then Ok (held_text standing.core.arrivals)
+    else if is_text name (codes "status") then Ok (status_text_of (messages_of standing.core.arrivals))
+    else if is_text name (codes "totals") then Ok (totals_text_of (messages_of standing.core.arrivals))
+    else if is_text name (codes "archive") then Ok (archive_text_of (messages_of standing.core.arrivals))
+    else if is_text name (codes "contradictions") then Ok (contradictions_text_of (messages_of standing.core.arrivals))
+    else if is_text name (codes "changes") then Ok (changes_since standing.watched standing.core.arrivals)
+    else Err fault.NoQuestion
+
+-- the report on a list, in which tabs stand for line feeds
+abbrev pub report_about : MessageSet → List ℕ → Option (List ℕ × List ℕ) → Result (List ℕ) QuestionFault
+report_about held bank words = about words (λ parts. report_answer bank parts.0 (with_feeds parts.1) held)
+
+abbrev pub report_asked : MessageSet → Option (List ℕ × List ℕ) → Result (List ℕ) QuestionFault
+report_asked held None = Err fault.NoQuestion
+report_asked held (Some parts) = report_about held parts.0 (two_parts parts.1)
+
+-- questions about what comes after the first word
+abbrev pub answer_about : Standing → List ℕ → List ℕ → Result (List ℕ) QuestionFault
+answer_about standing name rest =
+    if is_text name (codes "cut") then about (one_word rest) (λ have. cut_answer have standing.core.arrivals)
+    else if is_text name (codes "transfer")
+    then about (two_parts rest) (λ parts. transfer_answer parts.0 parts.1 (messages_of standing.core.arrivals))
+    else if is_text name (codes "messages")
+    then about (two_parts rest) (λ parts. messages_answer parts.0 parts.1 (messages_of standing.core.arrivals))
+    else if is_text name (codes "bank") then about (one_word rest) (λ bank. bank_answer bank (messages_of standing.core.arrivals))
+    else if is_text name (codes "report") then report_asked (messages_of standing.core.arrivals) (two_parts rest)
+    else Err fault.NoQuestion
+
+abbrev pub answer_in : Standing → List ℕ → Option (List ℕ × List ℕ) → Result (List ℕ) QuestionFault
+answer_in standing text None = answer_named standing text
+answer_in standing text (Some parts) = answer_about standing parts.0 parts.1
+
+-- the answer to a question: `vector`, `cut HAVE`, `status`, `totals`, `archive`, `contradictions`, `changes`,
+-- `transfer BANK TX`, `messages BANK TX`, `bank BANK` or `report BANK DAY LIST`
+unfoldable pub answer_asked : Standing → List ℕ → Result (List ℕ) QuestionFault
+answer_asked standing question = answer_in standing question (two_parts question)
+
+-- ---- what follows
+
+-- how many entries the site had when its changes were asked for last, after a question
+abbrev pub watched_after : Standing → List ℕ → Option ℕ
+watched_after standing question = if is_text question (codes "changes") then Some (length standing.core.arrivals) else standing.watched
+
+-- the standing after a line: a question may begin to watch, and leaves the site; every other line leaves the watch
+unfoldable pub standing_given : Standing → List ℕ → Standing
+standing_given standing line = record {
+  core = core_given standing.core line;
+  watched = if is_question_line line then watched_after standing (drop 2 line) else standing.watched;
+}
+
+-- The site has the text that was asked for as its answer. Or the question is refused for the reason. Or it is out of memory.
+abbrev pub Says : {X E : Type 0} → Result (List ℕ) QuestionFault → Result (Result X QuestionFault) E → List ℕ → Type 0
+Says asked (Ok (Ok done)) answer = asked ≡ Ok answer
+Says asked (Ok (Err reason)) answer = asked ≡ Err reason
+Says asked (Err memory) answer = ⊤

@@ -1,0 +1,15 @@
+//! The requests to a site that lasts: lines that it is given, and questions about what it holds.
+//!
+//! A line is a message, a delta text with tabs for its line feeds, a question, or blank. [`give_all`] gives a site the lines of
+//! a text: it answers each, and collects those that brought the site an entry. [`ask`] answers a question.
+#![tactic(auto)]
+
+mod answers;
+mod questions;
+mod steps;
+mod words;
+
+pub use answers::Answer;
+pub use questions::{QuestionFault, Said, ask};
+pub use steps::{Given, give_all, give_kept, is_question_line};
+pub use words::first_ended;

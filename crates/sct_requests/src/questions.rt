@@ -1,0 +1,238 @@
+//! Questions about what a site holds.
+ghost use Rattle.std.specs.Prelude.{◌≡◌, ℕ, List, Ok, Result, Some, codes, length, OnOk, if◌then◌else◌};
+ghost use Rattle.sct_delta.specs.Entries.{messages_of};
+ghost use Rattle.sct_embed.specs.Calls.{cut_answer};
+ghost use Rattle.sct_embed.specs.Questions.{Answers, bank_answer, changes_since, contradictions_text_of, messages_answer, transfer_answer};
+ghost use Rattle.sct_exchange.specs.Sites.{held_text};
+ghost use Rattle.sct_set.specs.Archive.{archive_text_of};
+ghost use Rattle.sct_view.specs.StatusText.{status_text_of};
+ghost use Rattle.sct_view.specs.TotalsText.{totals_text_of};
+ghost use Rattle.sct_embed.specs.declared.faults.EmbedFault.{EmbedFault as Reason};
+ghost use Rattle.sct_requests.specs.Questions.{Says, about, answer_about, answer_asked, answer_named, answered, one_word, report_asked, two_parts, watched_after};
+ghost use Rattle.sct_requests.specs.Standings.{Standing};
+
+use crate::steps::with_feeds;
+use crate::words::{one_word, two_parts};
+use sct_embed::{EmbedFault, EmbeddedSite};
+use std::alloc::{AllocError, Global};
+
+/// Why a question is not answered.
+#[derive(Debug, Drop)]
+pub enum QuestionFault {
+    /// 64: it is not a question that a keeper answers, or a word is missing or too many.
+    NoQuestion,
+    /// The site refuses it: the text is not a version vector (72), a word is not valid (73), or a list is not (48).
+    Refused(EmbedFault),
+}
+
+/// What a question came to: the site has its answer, or refuses it.
+pub type Said = Result<(), QuestionFault>;
+
+// What a question to the site came to. The error is that it is out of memory.
+fn said(done: Result<(), EmbedFault>) -> Result<Said, AllocError>
+    ensures { (asked : Result (List ℕ) Reason) (answer : List ℕ) → Answers asked done answer → Says (answered asked) result answer }
+{
+    match done {
+        Ok(()) => Ok(Ok(())),
+        Err(EmbedFault::Memory) => Err(AllocError),
+        Err(reason) => Ok(Err(QuestionFault::Refused(reason))),
+    }
+}
+
+// Asks for the version vector.
+fn ask_vector(site: &mut EmbeddedSite) -> Result<Said, AllocError>
+    ensures says { Says (Ok (held_text site.old.core.arrivals)) result site.new.answer }
+    ensures core { site.new.core ≡ site.old.core }
+    ensures watched { site.new.watched ≡ site.old.watched }
+{
+    match site.vector_text() {
+        Ok(()) => Ok(Ok(())),
+        Err(_) => Err(AllocError),
+    }
+}
+
+// Asks for the status text.
+fn ask_status(site: &mut EmbeddedSite) -> Result<Said, AllocError>
+    ensures says { Says (Ok (status_text_of (messages_of site.old.core.arrivals))) result site.new.answer }
+    ensures core { site.new.core ≡ site.old.core }
+    ensures watched { site.new.watched ≡ site.old.watched }
+{
+    match site.status_text() {
+        Ok(()) => Ok(Ok(())),
+        Err(_) => Err(AllocError),
+    }
+}
+
+// Asks for the totals text.
+fn ask_totals(site: &mut EmbeddedSite) -> Result<Said, AllocError>
+    ensures says { Says (Ok (totals_text_of (messages_of site.old.core.arrivals))) result site.new.answer }
+    ensures core { site.new.core ≡ site.old.core }
+    ensures watched { site.new.watched ≡ site.old.watched }
+{
+    match site.totals_text() {
+        Ok(()) => Ok(Ok(())),
+        Err(_) => Err(AllocError),
+    }
+}
+
+// Asks for the archive text.
+fn ask_archive(site: &mut EmbeddedSite) -> Result<Said, AllocError>
+    ensures says { Says (Ok (archive_text_of (messages_of site.old.core.arrivals))) result site.new.answer }
+    ensures core { site.new.core ≡ site.old.core }
+    ensures watched { site.new.watched ≡ site.old.watched }
+{
+    match site.archive_text() {
+        Ok(()) => Ok(Ok(())),
+        Err(_) => Err(AllocError),
+    }
+}
+
+// Asks for the contradicted identities.
+fn ask_contradictions(site: &mut EmbeddedSite) -> Result<Said, AllocError>
+    ensures says { Says (Ok (contradictions_text_of (messages_of site.old.core.arrivals))) result site.new.answer }
+    ensures core { site.new.core ≡ site.old.core }
+    ensures watched { site.new.watched ≡ site.old.watched }
+{
+    match site.contradictions_text() {
+        Ok(()) => Ok(Ok(())),
+        Err(_) => Err(AllocError),
+    }
+}
+
+// Asks for what changed.
+fn ask_changes(site: &mut EmbeddedSite) -> Result<Said, AllocError>
+    ensures says { Says (Ok (changes_since site.old.watched site.old.core.arrivals)) result site.new.answer }
+    ensures core { site.new.core ≡ site.old.core }
+    ensures watched { OnOk result (site.new.watched ≡ Some (length site.old.core.arrivals)) }
+{
+    match site.changes_text() {
+        Ok(()) => Ok(Ok(())),
+        Err(_) => Err(AllocError),
+    }
+}
+
+// Asks a question of one word.
+fn ask_named(site: &mut EmbeddedSite, name: &[u8]) -> Result<Said, AllocError>
+    ensures says { Says (answer_named (record { core = site.old.core; watched = site.old.watched }) name.now) result site.new.answer }
+    ensures core { site.new.core ≡ site.old.core }
+    ensures watched { OnOk result (site.new.watched ≡ watched_after (record { core = site.old.core; watched = site.old.watched }) name.now) }
+{
+    if name == b"vector".as_slice() {
+        ask_vector(site)
+    } else if name == b"status".as_slice() {
+        ask_status(site)
+    } else if name == b"totals".as_slice() {
+        ask_totals(site)
+    } else if name == b"archive".as_slice() {
+        ask_archive(site)
+    } else if name == b"contradictions".as_slice() {
+        ask_contradictions(site)
+    } else if name == b"changes".as_slice() {
+        ask_changes(site)
+    } else {
+        Ok(Err(QuestionFault::NoQuestion))
+    }
+}
+
+// Asks for the report on the list at the end of the words, in which tabs stand for line feeds.
+fn ask_report(alloc: Global, site: &mut EmbeddedSite, words: &[u8]) -> Result<Said, AllocError>
+    ensures says { Says (report_asked (messages_of site.old.core.arrivals) (two_parts words.now)) result site.new.answer }
+    ensures core { site.new.core ≡ site.old.core }
+    ensures watched { site.new.watched ≡ site.old.watched }
+{
+    let Some((bank, words)) = two_parts(words) else {
+        return Ok(Err(QuestionFault::NoQuestion));
+    };
+    let Some((day, list)) = two_parts(words) else {
+        return Ok(Err(QuestionFault::NoQuestion));
+    };
+    let list = with_feeds(alloc, list)?;
+    said(site.report(bank, day, &list))
+}
+
+// Asks for the delta above a version vector.
+fn ask_cut(site: &mut EmbeddedSite, words: &[u8]) -> Result<Said, AllocError>
+    ensures says { Says (about (one_word words.now) (λ have. cut_answer have site.old.core.arrivals)) result site.new.answer }
+    ensures core { site.new.core ≡ site.old.core }
+    ensures watched { site.new.watched ≡ site.old.watched }
+{
+    let Some(have) = one_word(words) else {
+        return Ok(Err(QuestionFault::NoQuestion));
+    };
+    said(site.cut(have))
+}
+
+// Asks for the line of a bank.
+fn ask_bank(site: &mut EmbeddedSite, words: &[u8]) -> Result<Said, AllocError>
+    ensures says { Says (about (one_word words.now) (λ bank. bank_answer bank (messages_of site.old.core.arrivals))) result site.new.answer }
+    ensures core { site.new.core ≡ site.old.core }
+    ensures watched { site.new.watched ≡ site.old.watched }
+{
+    let Some(bank) = one_word(words) else {
+        return Ok(Err(QuestionFault::NoQuestion));
+    };
+    said(site.bank_totals(bank))
+}
+
+// Asks for the lines of a transfer.
+fn ask_transfer(site: &mut EmbeddedSite, words: &[u8]) -> Result<Said, AllocError>
+    ensures says { Says (about (two_parts words.now) (λ parts. transfer_answer parts.0 parts.1 (messages_of site.old.core.arrivals))) result site.new.answer }
+    ensures core { site.new.core ≡ site.old.core }
+    ensures watched { site.new.watched ≡ site.old.watched }
+{
+    let Some((bank, tx)) = two_parts(words) else {
+        return Ok(Err(QuestionFault::NoQuestion));
+    };
+    said(site.transfer_text(bank, tx))
+}
+
+// Asks for the messages on a transfer.
+fn ask_messages(site: &mut EmbeddedSite, words: &[u8]) -> Result<Said, AllocError>
+    ensures says { Says (about (two_parts words.now) (λ parts. messages_answer parts.0 parts.1 (messages_of site.old.core.arrivals))) result site.new.answer }
+    ensures core { site.new.core ≡ site.old.core }
+    ensures watched { site.new.watched ≡ site.old.watched }
+{
+    let Some((bank, tx)) = two_parts(words) else {
+        return Ok(Err(QuestionFault::NoQuestion));
+    };
+    said(site.messages_text(bank, tx))
+}
+
+// Asks a question about the words after its name.
+fn ask_about(
+    alloc: Global,
+    site: &mut EmbeddedSite,
+    name: &[u8],
+    words: &[u8],
+) -> Result<Said, AllocError>
+    ensures says { Says (answer_about (record { core = site.old.core; watched = site.old.watched }) name.now words.now) result site.new.answer }
+    ensures core { site.new.core ≡ site.old.core }
+    ensures watched { site.new.watched ≡ site.old.watched }
+{
+    if name == b"cut".as_slice() {
+        ask_cut(site, words)
+    } else if name == b"transfer".as_slice() {
+        ask_transfer(site, words)
+    } else if name == b"messages".as_slice() {
+        ask_messages(site, words)
+    } else if name == b"bank".as_slice() {
+        ask_bank(site, words)
+    } else if name == b"report".as_slice() {
+        ask_report(alloc, site, words)
+    } else {
+        Ok(Err(QuestionFault::NoQuestion))
+    }
+}
+
+/// Asks a question. The error is that it is out of memory.
+#[tactic(auto, unfolding(crate::specs::Questions::answer_asked))]
+pub fn ask(alloc: Global, site: &mut EmbeddedSite, question: &[u8]) -> Result<Said, AllocError>
+    ensures says { Says (answer_asked (record { core = site.old.core; watched = site.old.watched }) question.now) result site.new.answer }
+    ensures core { site.new.core ≡ site.old.core }
+    ensures watched { OnOk result (site.new.watched ≡ watched_after (record { core = site.old.core; watched = site.old.watched }) question.now) }
+{
+    match two_parts(question) {
+        None => ask_named(site, question),
+        Some((name, words)) => ask_about(alloc, site, name, words),
+    }
+}
