@@ -1,0 +1,2 @@
+-- The lemmas of a site whose journal is on a disk.
+pub mod KeeperLemmas
