@@ -1,0 +1,61 @@
+-- A round more, or what is left of it.
+use Rattle.std.proofs.Common.{◌∙◌, ◌++◌, sym, subst, IsTrue, arith, append_assoc}
+use Rattle.std.specs.Prelude.{option_map}
+use Rattle.sct_journal.specs.Kept.{ended_lines, recorded}
+use Rattle.sct_keeper.specs.Keepers.{keeper_disk, standing_of}
+use Rattle.sct_serve.specs.Serving.{asked}
+use Rattle.sct_serve.proofs.LeaveLemmas.{in_part_more, leaves_after, leaves_in_part, replied_under}
+use Rattle.sct_serve.proofs.answering.answer_text.Goals as goal
+
+pub returns-in_err-answer_lines-clause-crash : goal.returns-in_err-answer_lines-clause-crash
+returns-in_err-answer_lines-clause-crash g c clean f left =
+    let inv = c.loop-rest.invariant in
+    let here : IsTrue (g.D.Disk.is_clean (keeper_disk c.loop-rest.keeper)) = subst (λ b. IsTrue b) (sym inv.clean) clean in
+    let lines = ended_lines c.first_round-round.result.lines.now in
+    let question = asked (option_map (λ line. line.now) c.first_round-round.result.question) in
+    let rest = ended_lines c.first_round-round.result.rest.now in
+    leaves_in_part (standing_of c.args.keeper.now) (standing_of c.loop-rest.keeper) (IsTrue (g.D.Disk.is_clean (keeper_disk c.args.keeper.now)))
+    (recorded (g.D.Disk.seen (keeper_disk c.args.keeper.now))) (recorded (g.D.Disk.seen (keeper_disk c.loop-rest.keeper)))
+    (g.K.Sink.state c.args.sink.now).held (g.K.Sink.state c.loop-rest.sink).held (g.K.Sink.state c.answer_lines.new.sink).held
+    c.args.text.now c.loop-rest.rest.now lines (question ++ rest) f inv.part clean
+    (c.first_round-round.ensures.parts ∙ append_assoc lines question rest) (c.answer_lines.ensures.crash here f left)
+
+pub returns-in_err-answer_if_asked-clause-crash : goal.returns-in_err-answer_if_asked-clause-crash
+returns-in_err-answer_if_asked-clause-crash g c clean f left =
+    let inv = c.loop-rest.invariant in
+    let here : IsTrue (g.D.Disk.is_clean (keeper_disk c.loop-rest.keeper)) = subst (λ b. IsTrue b) (sym inv.clean) clean in
+    let next : IsTrue (g.D.Disk.is_clean (keeper_disk c.answer_lines.new.keeper)) = subst (λ b. IsTrue b) (sym c.answer_lines.ensures.clean) here in
+    let lines = ended_lines c.first_round-round.result.lines.now in
+    let question = asked (option_map (λ line. line.now) c.first_round-round.result.question) in
+    let rest = ended_lines c.first_round-round.result.rest.now in
+    leaves_in_part (standing_of c.args.keeper.now) (standing_of c.loop-rest.keeper) (IsTrue (g.D.Disk.is_clean (keeper_disk c.args.keeper.now)))
+    (recorded (g.D.Disk.seen (keeper_disk c.args.keeper.now))) (recorded (g.D.Disk.seen (keeper_disk c.loop-rest.keeper)))
+    (g.K.Sink.state c.args.sink.now).held (g.K.Sink.state c.loop-rest.sink).held (g.K.Sink.state c.answer_if_asked.new.sink).held
+    c.args.text.now c.loop-rest.rest.now (lines ++ question) rest f inv.part clean c.first_round-round.ensures.parts
+    (leaves_after (standing_of c.loop-rest.keeper) (standing_of c.answer_lines.new.keeper) (IsTrue (g.D.Disk.is_clean (keeper_disk c.loop-rest.keeper)))
+    (recorded (g.D.Disk.seen (keeper_disk c.loop-rest.keeper))) (recorded (g.D.Disk.seen (keeper_disk c.answer_lines.new.keeper)))
+    (g.K.Sink.state c.loop-rest.sink).held (g.K.Sink.state c.answer_lines.new.sink).held (g.K.Sink.state c.answer_if_asked.new.sink).held
+    lines question f c.in_ok-answer_lines.ensures.replied here (c.answer_if_asked.ensures.crash next f left))
+
+pub loop-rest-preserved : goal.loop-rest-preserved
+loop-rest-preserved g c =
+    let inv = c.loop-rest.invariant in
+    let first = IsTrue (g.D.Disk.is_clean (keeper_disk c.args.keeper.now)) in
+    let at_round : first → IsTrue (g.D.Disk.is_clean (keeper_disk c.loop-rest.keeper)) = λ clean. subst (λ b. IsTrue b) (sym inv.clean) clean in
+    let at_question : first → IsTrue (g.D.Disk.is_clean (keeper_disk c.answer_lines.new.keeper)) = λ clean. subst (λ b. IsTrue b) (sym c.answer_lines.ensures.clean) (at_round clean) in
+    record {
+      keeper = c.in_ok-answer_if_asked.ensures.keeper;
+      clean = c.answer_if_asked.ensures.clean ∙ c.answer_lines.ensures.clean ∙ inv.clean;
+      part =
+          in_part_more (standing_of c.args.keeper.now) (standing_of c.loop-rest.keeper) (standing_of c.answer_lines.new.keeper) (standing_of c.answer_if_asked.new.keeper) first
+          (recorded (g.D.Disk.seen (keeper_disk c.args.keeper.now))) (recorded (g.D.Disk.seen (keeper_disk c.loop-rest.keeper)))
+          (recorded (g.D.Disk.seen (keeper_disk c.answer_lines.new.keeper))) (recorded (g.D.Disk.seen (keeper_disk c.answer_if_asked.new.keeper)))
+          (g.K.Sink.state c.args.sink.now).held (g.K.Sink.state c.loop-rest.sink).held (g.K.Sink.state c.answer_lines.new.sink).held (g.K.Sink.state c.answer_if_asked.new.sink).held
+          c.args.text.now c.loop-rest.rest.now c.first_round-round.result.rest.now
+          (ended_lines c.first_round-round.result.lines.now) (asked (option_map (λ line. line.now) c.first_round-round.result.question))
+          inv.part c.first_round-round.ensures.parts
+          (replied_under _ _ _ first _ _ _ _ _ at_round c.in_ok-answer_lines.ensures.replied)
+          (replied_under _ _ _ first _ _ _ _ _ at_question c.in_ok-answer_if_asked.ensures.replied);
+      quiet = c.in_ok-answer_if_asked.ensures.quiet ∙ c.in_ok-answer_lines.ensures.quiet ∙ inv.quiet;
+      faults = omega (arith, inv.faults, c.answer_lines.ensures.faults, c.answer_if_asked.ensures.faults);
+    }

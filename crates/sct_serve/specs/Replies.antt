@@ -1,0 +1,66 @@
+-- The replies to requests. Read by an auditor.
+use Rattle.std.specs.Prelude.{ℕ, ◌==◌, List, [], ◌∷◌, ◌++◌, codes, drop, length, Result, Ok, Err, if◌then◌else◌}
+use Rattle.std.specs.Fmt.{decimal}
+use Rattle.sct_lines.specs.Lines.{json_fault_text}
+use Rattle.sct_exchange.specs.RefusedFiles.{refusal_text}
+use Rattle.sct_site.specs.declared.answers.Took.{Took}
+use Rattle.sct_site.specs.declared.answers.Took.TheVariants as took
+use Rattle.sct_embed.specs.Faults.{embed_fault_number, embed_fault_place}
+use Rattle.sct_requests.specs.Questions.{answer_asked, standing_given}
+use Rattle.sct_requests.specs.Standings.{Standing}
+use Rattle.sct_requests.specs.Steps.{answer_to, is_question_line}
+use Rattle.sct_requests.specs.declared.answers.Answer.{Answer}
+use Rattle.sct_requests.specs.declared.answers.Answer.TheVariants as answer
+use Rattle.sct_requests.specs.declared.questions.QuestionFault.{QuestionFault}
+use Rattle.sct_requests.specs.declared.questions.QuestionFault.TheVariants as fault
+
+-- ---- a line that is no question
+
+abbrev pub took_text : Took → List ℕ
+took_text (took.Taken n) = codes "TAKEN " ++ decimal n
+took_text took.Repeat = codes "REPEAT"
+
+-- the reply of an answer
+unfoldable pub reply_text : Answer → List ℕ
+reply_text answer.Blank = []
+reply_text answer.Asked = []
+reply_text (answer.Took taken) = took_text taken
+reply_text (answer.Unread reason) = codes "REFUSED " ++ json_fault_text reason
+reply_text (answer.Accepted fresh) = codes "ACCEPTED " ++ decimal fresh
+reply_text (answer.Refused reason) = codes "REFUSED " ++ refusal_text reason
+
+unfoldable pub reply_line : Answer → List ℕ
+reply_line answer = reply_text answer ++ codes "\n"
+
+-- ---- a question
+
+-- what follows the number of a refusal: its place, if it has one
+abbrev pub place_text : ℕ → List ℕ
+place_text place = if place == 0 then [] else codes " " ++ decimal place
+
+-- the number of a refused question, and the place of the fault: `64`, `72`, `73 1`, `48 2`
+unfoldable pub question_refusal : QuestionFault → List ℕ
+question_refusal fault.NoQuestion = codes "64"
+question_refusal (fault.Refused reason) = decimal (embed_fault_number reason) ++ place_text (embed_fault_place reason)
+
+-- the reply to a question: the length of the text, a line feed, the text and a line feed; or why the question is refused
+unfoldable pub question_reply : Result (List ℕ) QuestionFault → List ℕ
+question_reply (Ok text) = codes "TEXT " ++ decimal (length text) ++ codes "\n" ++ text ++ codes "\n"
+question_reply (Err reason) = codes "REFUSED " ++ question_refusal reason ++ codes "\n"
+
+-- ---- requests
+
+-- the reply to a line, with its line feed
+unfoldable pub reply_to : Standing → List ℕ → List ℕ
+reply_to standing line =
+    if is_question_line line then question_reply (answer_asked standing (drop 2 line)) else reply_line (answer_to standing.core line)
+
+-- the replies to lines, each on the standing as it is then
+abbrev pub replies_to : Standing → List (List ℕ) → List ℕ
+replies_to standing [] = []
+replies_to standing (line ∷ lines) = reply_to standing line ++ replies_to (standing_given standing line) lines
+
+-- the standing after lines
+abbrev pub standing_after : Standing → List (List ℕ) → Standing
+standing_after standing [] = standing
+standing_after standing (line ∷ lines) = standing_after (standing_given standing line) lines

@@ -1,0 +1,130 @@
+-- What a site reads, writes and leaves while it is served. Read by an auditor.
+use Rattle.std.specs.Prelude.{◌≡◌, ◌⊎◌, ℕ, ◌<◌, ◌++◌, List, [], ◌∷◌, Option, Some, None, Bool, true, false, length, nat_le, ⊤}
+use Rattle.std.specs.List.{list_all}
+use Rattle.sct_streams.specs.Stream.{AppendsIfTold, HasReadIfTold}
+use Rattle.sct_journal.specs.Kept.{ended_lines, recorded}
+use Rattle.sct_keeper.specs.Keepers.{EndsOpening, EndsRound, IsForeign}
+use Rattle.sct_requests.specs.Standings.{Standing}
+use Rattle.sct_requests.specs.Steps.{brought, is_question_line}
+use Rattle.sct_serve.specs.Replies.{replies_to, standing_after}
+use Rattle.sct_serve.specs.declared.fault.ServeFault.{ServeFault}
+use Rattle.sct_serve.specs.declared.fault.ServeFault.TheVariants as fault
+
+-- ---- bytes and lines
+
+abbrev pub IsFrontOf : List ℕ → List ℕ → Type 0
+IsFrontOf front text = (rest : List ℕ) × (text ≡ front ++ rest)
+
+-- what is behind the last line feed of a text: more text after it makes no other lines of the text
+pub record IsBehind (text rest : List ℕ) : Type 0 where
+  pub parts : (more : List ℕ) → ended_lines (text ++ more) ≡ ended_lines text ++ ended_lines (rest ++ more)
+  pub none : ended_lines rest ≡ []
+
+-- the most bytes of a request: 64 MiB
+abbrev pub most_request : ℕ
+most_request = 67108864
+
+-- no line of the text has more
+abbrev pub are_within : List ℕ → Bool
+are_within text = list_all (λ line. nat_le (length line) most_request) (ended_lines text)
+
+-- none of the lines is a question
+abbrev pub HasNoQuestion : List (List ℕ) → Type 0
+HasNoQuestion [] = Unit {0}
+HasNoQuestion (line ∷ lines) = (is_question_line line ≡ false) × HasNoQuestion lines
+
+-- a question, or nothing, as lines
+abbrev pub asked : Option (List ℕ) → List (List ℕ)
+asked None = []
+asked (Some line) = line ∷ []
+
+-- ---- requests and replies
+
+-- Each of the lines has its reply, the site is the one after them, and the journal records all that they brought.
+pub record Replied (standing now : Standing) (sound : Type 0) (before after : List (List ℕ)) (held held_now : Option (List ℕ)) (lines : List (List ℕ)) : Type 0 where
+  pub ends : now ≡ standing_after standing lines
+  pub replied : AppendsIfTold held held_now (replies_to standing lines)
+  pub keeps : sound → after ≡ before ++ brought standing.core lines
+
+-- Of the lines that were requested, a front lasts: all that it brought is recorded, and no more. All replies that were
+-- written are replies to it.
+pub record Leaves (standing : Standing) (before : List (List ℕ)) (held held_now : Option (List ℕ)) (lines : List (List ℕ)) (file : List ℕ) : Type 0 where
+  pub lasting : List (List ℕ)
+  pub others : List (List ℕ)
+  pub parts : lines ≡ lasting ++ others
+  pub written : List ℕ
+  pub appended : AppendsIfTold held held_now written
+  pub replied : IsFrontOf written (replies_to standing lasting)
+  pub keeps : recorded file ≡ before ++ brought standing.core lasting
+
+-- the same of the lines of what was read
+pub record LeavesOf (standing : Standing) (before : List (List ℕ)) (unread unread_now held held_now : Option (List ℕ)) (file : List ℕ) : Type 0 where
+  pub read : List ℕ
+  pub taken : HasReadIfTold unread unread_now read
+  pub leaves : Leaves standing before held held_now (ended_lines read) file
+
+-- Some bytes were read. Each line of them has its reply, and what is behind them waits.
+pub record Served (standing now : Standing) (sound : Type 0) (before after : List (List ℕ)) (unread unread_now held held_now : Option (List ℕ)) (pending : List ℕ) : Type 0 where
+  pub read : List ℕ
+  pub taken : HasReadIfTold unread unread_now read
+  pub behind : IsBehind read pending
+  pub within : are_within read ≡ true
+  pub replied : Replied standing now sound before after held held_now (ended_lines read)
+
+-- ---- faults
+
+-- how many reads have failed when this fault ended the service
+abbrev pub failed_reads : ServeFault → ℕ
+failed_reads fault.Read = 1
+failed_reads other = 0
+
+-- how many writes
+abbrev pub failed_writes : ServeFault → ℕ
+failed_writes fault.Write = 1
+failed_writes other = 0
+
+-- a request has too many bytes: a line of what was read, or what is behind the lines
+abbrev pub HasTooLong : List ℕ → List ℕ → Type 0
+HasTooLong read rest = (are_within read ≡ false) ⊎ (most_request < length rest)
+
+-- some bytes were read, and a request among them has too many bytes
+pub record HasReadTooLong (unread unread_now : Option (List ℕ)) : Type 0 where
+  pub read : List ℕ
+  pub taken : HasReadIfTold unread unread_now read
+  pub rest : List ℕ
+  pub behind : IsBehind read rest
+  pub long : HasTooLong read rest
+
+-- the file is not the journal of this site (75, 76)
+abbrev pub IsForeignFault : ServeFault → Type 0
+IsForeignFault (fault.Keeper reason) = IsForeign reason
+IsForeignFault other = ⊥
+
+-- the faults of the first line
+abbrev pub IsGreetingFault : ServeFault → Type 0
+IsGreetingFault fault.Memory = ⊤
+IsGreetingFault fault.Write = ⊤
+IsGreetingFault other = ⊥
+
+-- the faults of requests that are answered
+abbrev pub EndsAnswering : ServeFault → Type 0
+EndsAnswering fault.TooLong = ⊥
+EndsAnswering fault.Read = ⊥
+EndsAnswering (fault.Keeper reason) = EndsRound reason
+EndsAnswering other = ⊤
+
+-- the faults of what was read
+abbrev pub EndsTaking : ServeFault → Type 0
+EndsTaking fault.Read = ⊥
+EndsTaking (fault.Keeper reason) = EndsRound reason
+EndsTaking other = ⊤
+
+-- the faults that may end the service after the journal is open
+abbrev pub EndsServing : ServeFault → Type 0
+EndsServing (fault.Keeper reason) = EndsRound reason
+EndsServing other = ⊤
+
+-- the faults that may end a life
+abbrev pub EndsLife : ServeFault → Type 0
+EndsLife (fault.Keeper reason) = EndsOpening reason ⊎ EndsRound reason
+EndsLife other = ⊤

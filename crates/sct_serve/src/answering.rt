@@ -1,0 +1,173 @@
+//! Requests are answered, and when what they brought is on the disk, their replies are written.
+ghost use Rattle.std.specs.Prelude.{◌≡◌, ◌+◌, ◌≤◌, ◌++◌, ◌∷◌, [], List, ℕ, IfErr, IfSome, IsTrue, Ok, OnErr, OnOk, drop, option_map, true};
+ghost use Rattle.sqlite_disk.specs.Disk.{MoreFaults};
+ghost use Rattle.sct_streams.specs.Stream.{AppendsIfTold, AppendsPrefixIfTold};
+ghost use Rattle.sct_journal.specs.Kept.{ended_lines, recorded};
+ghost use Rattle.sct_keeper.specs.Keepers.{IsKeeper, keeper_disk, site_of, standing_of};
+ghost use Rattle.sct_requests.specs.Questions.{answer_asked, watched_after};
+ghost use Rattle.sct_requests.specs.Steps.{is_question_line};
+ghost use Rattle.sct_serve.specs.Replies.{question_reply};
+ghost use Rattle.sct_serve.specs.Serving.{EndsAnswering, HasNoQuestion, IsGreetingFault, Leaves, Replied, asked, failed_writes};
+ghost use Rattle.sct_journal.specs.declared.error.JournalError.TheVariants as journal;
+ghost use Rattle.sct_keeper.specs.declared.fault.KeeperError.TheVariants as error;
+ghost use Rattle.sct_serve.specs.declared.fault.ServeFault.TheVariants as fault;
+
+use crate::fault::ServeFault;
+use crate::replies::{write_head, write_refusal, write_replies};
+use crate::rounds::first_round;
+use sct_keeper::Keeper;
+use sct_streams::{Failed, Sink, write_all};
+use sqlite_disk::Disk;
+use std::alloc::Global;
+
+/// Writes bytes.
+pub(crate) fn write<K: Sink>(sink: &mut K, bytes: &[u8]) -> Result<(), ServeFault>
+    ensures written { OnOk result (AppendsIfTold (K.state sink.old).held (K.state sink.new).held bytes.now) }
+    ensures cut_off { OnErr result (AppendsPrefixIfTold (K.state sink.old).held (K.state sink.new).held bytes.now) }
+    ensures quiet { OnOk result ((K.state sink.new).failures ≡ (K.state sink.old).failures) }
+    ensures counted { IfErr result (λ e. (e ≡ fault.Write) × ((K.state sink.new).failures ≡ (K.state sink.old).failures + 1)) }
+{
+    match write_all(sink, bytes) {
+        Ok(()) => Ok(()),
+        Err(Failed) => Err(ServeFault::Write),
+    }
+}
+
+// The keeper is given lines, none of which is a question.
+fn answer_lines<D: Disk, K: Sink>(
+    alloc: Global,
+    keeper: &mut Keeper<D>,
+    lines: &[u8],
+    sink: &mut K,
+) -> Result<(), ServeFault>
+    requires keeper { IsKeeper D.Disk.seen D.Disk.may_leave D.Disk.is_usable D.Disk.is_clean keeper.old }
+    requires none { HasNoQuestion (ended_lines lines.now) }
+    ensures replied { OnOk result (Replied (standing_of keeper.old) (standing_of keeper.new) (IsTrue (D.Disk.is_clean (keeper_disk keeper.old)))
+        (recorded (D.Disk.seen (keeper_disk keeper.old))) (recorded (D.Disk.seen (keeper_disk keeper.new)))
+        (K.state sink.old).held (K.state sink.new).held (ended_lines lines.now)) }
+    ensures keeper { OnOk result (IsKeeper D.Disk.seen D.Disk.may_leave D.Disk.is_usable D.Disk.is_clean keeper.new) }
+    ensures crash { IsTrue (D.Disk.is_clean (keeper_disk keeper.old)) → (c : List ℕ) → D.Disk.may_leave (keeper_disk keeper.new) c
+        → Leaves (standing_of keeper.old) (recorded (D.Disk.seen (keeper_disk keeper.old))) (K.state sink.old).held (K.state sink.new).held (ended_lines lines.now) c }
+    ensures clean { D.Disk.is_clean (keeper_disk keeper.new) ≡ D.Disk.is_clean (keeper_disk keeper.old) }
+    ensures quiet { OnOk result ((K.state sink.new).failures ≡ (K.state sink.old).failures) }
+    ensures counted { IfErr result (λ e. (K.state sink.new).failures ≡ (K.state sink.old).failures + failed_writes e) }
+    ensures failed { IfErr result (λ e. e ≡ fault.Keeper (error.Journal journal.Disk) → MoreFaults (D.Disk.faults (keeper_disk keeper.old)) (D.Disk.faults (keeper_disk keeper.new))) }
+    ensures faults { D.Disk.faults (keeper_disk keeper.old) ≤ D.Disk.faults (keeper_disk keeper.new) }
+    ensures errors { IfErr result EndsAnswering }
+{
+    let answers = keeper.round(alloc, lines)?;
+    let text = write_replies(alloc, &answers)?;
+    write(sink, text.as_bytes())?;
+    Ok(())
+}
+
+// Writes a text that was asked for.
+fn write_text<K: Sink>(alloc: Global, text: &[u8], sink: &mut K) -> Result<(), ServeFault>
+    ensures written { OnOk result (AppendsIfTold (K.state sink.old).held (K.state sink.new).held (question_reply (Ok text.now))) }
+    ensures cut_off { OnErr result (AppendsPrefixIfTold (K.state sink.old).held (K.state sink.new).held (question_reply (Ok text.now))) }
+    ensures quiet { OnOk result ((K.state sink.new).failures ≡ (K.state sink.old).failures) }
+    ensures counted { IfErr result (λ e. (K.state sink.new).failures ≡ (K.state sink.old).failures + failed_writes e) }
+    ensures errors { IfErr result IsGreetingFault }
+{
+    let head = write_head(alloc, text.len())?;
+    if let Err(fault) = write(sink, head.as_bytes()) {
+        return Err(fault);
+    }
+    if let Err(fault) = write(sink, text) {
+        return Err(fault);
+    }
+    match write(sink, b"\n") {
+        Ok(()) => Ok(()),
+        Err(fault) => Err(fault),
+    }
+}
+
+// A question is asked, and its reply is written.
+fn answer_question<D: Disk, K: Sink>(
+    alloc: Global,
+    keeper: &mut Keeper<D>,
+    question: &[u8],
+    sink: &mut K,
+) -> Result<(), ServeFault>
+    requires keeper { IsKeeper D.Disk.seen D.Disk.may_leave D.Disk.is_usable D.Disk.is_clean keeper.old }
+    ensures written { OnOk result (AppendsIfTold (K.state sink.old).held (K.state sink.new).held (question_reply (answer_asked (standing_of keeper.old) question.now))) }
+    ensures cut_off { OnErr result (AppendsPrefixIfTold (K.state sink.old).held (K.state sink.new).held (question_reply (answer_asked (standing_of keeper.old) question.now))) }
+    ensures site { site_of keeper.new ≡ site_of keeper.old }
+    ensures watched { OnOk result (keeper.new.site.watched ≡ watched_after (standing_of keeper.old) question.now) }
+    ensures keeper { IsKeeper D.Disk.seen D.Disk.may_leave D.Disk.is_usable D.Disk.is_clean keeper.new }
+    ensures disk { keeper_disk keeper.new ≡ keeper_disk keeper.old }
+    ensures quiet { OnOk result ((K.state sink.new).failures ≡ (K.state sink.old).failures) }
+    ensures counted { IfErr result (λ e. (K.state sink.new).failures ≡ (K.state sink.old).failures + failed_writes e) }
+    ensures errors { IfErr result IsGreetingFault }
+{
+    match keeper.ask(alloc, question)? {
+        Ok(()) => write_text(alloc, keeper.text(), sink),
+        Err(fault) => {
+            let text = write_refusal(alloc, &fault)?;
+            write(sink, text.as_bytes())
+        }
+    }
+}
+
+// A question line is answered, if there is one.
+fn answer_if_asked<D: Disk, K: Sink>(
+    alloc: Global,
+    keeper: &mut Keeper<D>,
+    question: Option<&[u8]>,
+    sink: &mut K,
+) -> Result<(), ServeFault>
+    requires keeper { IsKeeper D.Disk.seen D.Disk.may_leave D.Disk.is_usable D.Disk.is_clean keeper.old }
+    requires question { IfSome question (λ line. is_question_line line.now ≡ true) }
+    ensures replied { OnOk result (Replied (standing_of keeper.old) (standing_of keeper.new) (IsTrue (D.Disk.is_clean (keeper_disk keeper.old)))
+        (recorded (D.Disk.seen (keeper_disk keeper.old))) (recorded (D.Disk.seen (keeper_disk keeper.new)))
+        (K.state sink.old).held (K.state sink.new).held (asked (option_map (λ line. line.now) question.entry))) }
+    ensures keeper { OnOk result (IsKeeper D.Disk.seen D.Disk.may_leave D.Disk.is_usable D.Disk.is_clean keeper.new) }
+    ensures crash { IsTrue (D.Disk.is_clean (keeper_disk keeper.old)) → (c : List ℕ) → D.Disk.may_leave (keeper_disk keeper.new) c
+        → Leaves (standing_of keeper.old) (recorded (D.Disk.seen (keeper_disk keeper.old))) (K.state sink.old).held (K.state sink.new).held
+        (asked (option_map (λ line. line.now) question.entry)) c }
+    ensures clean { D.Disk.is_clean (keeper_disk keeper.new) ≡ D.Disk.is_clean (keeper_disk keeper.old) }
+    ensures quiet { OnOk result ((K.state sink.new).failures ≡ (K.state sink.old).failures) }
+    ensures counted { IfErr result (λ e. (K.state sink.new).failures ≡ (K.state sink.old).failures + failed_writes e) }
+    ensures failed { IfErr result (λ e. e ≡ fault.Keeper (error.Journal journal.Disk) → MoreFaults (D.Disk.faults (keeper_disk keeper.old)) (D.Disk.faults (keeper_disk keeper.new))) }
+    ensures faults { D.Disk.faults (keeper_disk keeper.old) ≤ D.Disk.faults (keeper_disk keeper.new) }
+    ensures errors { IfErr result EndsAnswering }
+{
+    let Some(line) = question else {
+        return Ok(());
+    };
+    let (_, question) = line.split_at(2);
+    answer_question(alloc, keeper, question, sink)?;
+    Ok(())
+}
+
+/// The keeper is given the lines of a text that line feeds end. A question ends a round: the lines before it are on the disk
+/// and answered first.
+pub(crate) fn answer_text<D: Disk, K: Sink>(
+    alloc: Global,
+    keeper: &mut Keeper<D>,
+    text: &[u8],
+    sink: &mut K,
+) -> Result<(), ServeFault>
+    requires keeper { IsKeeper D.Disk.seen D.Disk.may_leave D.Disk.is_usable D.Disk.is_clean keeper.old }
+    ensures replied { OnOk result (Replied (standing_of keeper.old) (standing_of keeper.new) (IsTrue (D.Disk.is_clean (keeper_disk keeper.old)))
+        (recorded (D.Disk.seen (keeper_disk keeper.old))) (recorded (D.Disk.seen (keeper_disk keeper.new)))
+        (K.state sink.old).held (K.state sink.new).held (ended_lines text.now)) }
+    ensures keeper { OnOk result (IsKeeper D.Disk.seen D.Disk.may_leave D.Disk.is_usable D.Disk.is_clean keeper.new) }
+    ensures crash { IsTrue (D.Disk.is_clean (keeper_disk keeper.old)) → (c : List ℕ) → D.Disk.may_leave (keeper_disk keeper.new) c
+        → Leaves (standing_of keeper.old) (recorded (D.Disk.seen (keeper_disk keeper.old))) (K.state sink.old).held (K.state sink.new).held (ended_lines text.now) c }
+    ensures clean { D.Disk.is_clean (keeper_disk keeper.new) ≡ D.Disk.is_clean (keeper_disk keeper.old) }
+    ensures quiet { OnOk result ((K.state sink.new).failures ≡ (K.state sink.old).failures) }
+    ensures counted { IfErr result (λ e. (K.state sink.new).failures ≡ (K.state sink.old).failures + failed_writes e) }
+    ensures failed { IfErr result (λ e. e ≡ fault.Keeper (error.Journal journal.Disk) → MoreFaults (D.Disk.faults (keeper_disk keeper.old)) (D.Disk.faults (keeper_disk keeper.new))) }
+    ensures faults { D.Disk.faults (keeper_disk keeper.old) ≤ D.Disk.faults (keeper_disk keeper.new) }
+    ensures errors { IfErr result EndsAnswering }
+{
+    let mut rest = text;
+    while !rest.is_empty() {
+        let round = first_round(rest);
+        answer_lines(alloc, keeper, round.lines, sink)?;
+        answer_if_asked(alloc, keeper, round.question, sink)?;
+        rest = round.rest;
+    }
+    Ok(())
+}

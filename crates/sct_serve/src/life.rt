@@ -1,0 +1,162 @@
+//! A whole life of a site that is served.
+ghost use Rattle.std.specs.Prelude.{◌≡◌, ◌+◌, ◌≤◌, ◌++◌, [], Err, Some, List, ℕ, codes, false, length, true, IfErr, IfOk, IfSome, IsTrue, OnErr, OnOk};
+ghost use Rattle.sqlite_disk.specs.Disk.{MoreFaults, Only};
+ghost use Rattle.sct_journal.specs.Fronts.{front_in};
+ghost use Rattle.sct_journal.specs.Kept.{recorded};
+ghost use Rattle.sct_journal.specs.declared.error.JournalError.TheVariants as journal;
+ghost use Rattle.sct_journal.specs.declared.front.Front.TheVariants as front;
+ghost use Rattle.sct_keeper.specs.Keepers.{IsKeeper, IsUntouched, header, keeper_disk, site_of, standing_of};
+ghost use Rattle.sct_keeper.specs.declared.fault.KeeperError.TheVariants as error;
+ghost use Rattle.sct_site.specs.Cores.{is_open};
+ghost use Rattle.sct_streams.specs.Stream.{AppendsIfTold, AppendsPrefixIfTold};
+ghost use Rattle.sct_serve.specs.Lives.{LifeLeaves, output_of, ready_line, standing_kept};
+ghost use Rattle.sct_serve.specs.Serving.{EndsLife, EndsServing, HasReadTooLong, IsForeignFault, IsGreetingFault, failed_reads, failed_writes};
+ghost use Rattle.sct_serve.specs.declared.fault.ServeFault.TheVariants as fault;
+
+use crate::answering::write;
+use crate::fault::ServeFault;
+use crate::serving::serve_input;
+use sct_keeper::Keeper;
+use sct_streams::{Sink, Source};
+use sqlite_disk::Disk;
+use std::alloc::{AllocError, Global};
+
+// How many bytes one read gives at most.
+const PIECE: usize = 1_048_576;
+
+// Room for what one read gives.
+fn room_for(alloc: Global, count: usize) -> Result<Vec<u8>, AllocError>
+    ensures { IfOk result (λ piece. length piece.items ≡ count) }
+{
+    vec![in alloc; 0u8; count]
+}
+
+// The first line of the output.
+fn ready_text(alloc: Global, held: &[u8]) -> Result<Vec<u8>, AllocError>
+    ensures { IfOk result (λ text. text.items ≡ codes "READY " ++ held.now ++ codes "\n") }
+{
+    let mut text = Vec::new(alloc);
+    text.extend_from_slice(b"READY ")?;
+    text.extend_from_slice(held)?;
+    text.extend_from_slice(b"\n")?;
+    Ok(text)
+}
+
+// Writes the first line of the output.
+#[tactic(auto, unfolding(crate::specs::Lives::ready_line))]
+fn greet<D: Disk, K: Sink>(
+    alloc: Global,
+    keeper: &mut Keeper<D>,
+    sink: &mut K,
+) -> Result<(), ServeFault>
+    requires keeper { IsKeeper D.Disk.seen D.Disk.may_leave D.Disk.is_usable D.Disk.is_clean keeper.old }
+    ensures written { OnOk result (AppendsIfTold (K.state sink.old).held (K.state sink.new).held (ready_line (site_of keeper.old))) }
+    ensures cut_off { OnErr result (AppendsPrefixIfTold (K.state sink.old).held (K.state sink.new).held (ready_line (site_of keeper.old))) }
+    ensures standing { standing_of keeper.new ≡ standing_of keeper.old }
+    ensures keeper { IsKeeper D.Disk.seen D.Disk.may_leave D.Disk.is_usable D.Disk.is_clean keeper.new }
+    ensures disk { keeper_disk keeper.new ≡ keeper_disk keeper.old }
+    ensures quiet { OnOk result ((K.state sink.new).failures ≡ (K.state sink.old).failures) }
+    ensures counted { IfErr result (λ e. (K.state sink.new).failures ≡ (K.state sink.old).failures + failed_writes e) }
+    ensures errors { IfErr result IsGreetingFault }
+{
+    keeper.ask_vector()?;
+    let text = ready_text(alloc, keeper.text())?;
+    write(sink, &text)
+}
+
+// Writes the first line, and serves the input.
+fn greet_and_serve<D: Disk, R: Source, K: Sink>(
+    alloc: Global,
+    keeper: &mut Keeper<D>,
+    source: &mut R,
+    sink: &mut K,
+) -> Result<(), ServeFault>
+    requires keeper { IsKeeper D.Disk.seen D.Disk.may_leave D.Disk.is_usable D.Disk.is_clean keeper.old }
+    ensures replies { OnOk result (IfSome (R.state source.old).left (λ input.
+        AppendsIfTold (K.state sink.old).held (K.state sink.new).held (output_of (standing_of keeper.old) input))) }
+    ensures read { OnOk result (IfSome (R.state source.old).left (λ _. (R.state source.new).left ≡ Some [])) }
+    ensures crash { IsTrue (D.Disk.is_clean (keeper_disk keeper.old)) → (c : List ℕ) → D.Disk.may_leave (keeper_disk keeper.new) c
+        → LifeLeaves (standing_of keeper.old) (recorded (D.Disk.seen (keeper_disk keeper.old)))
+        (R.state source.old).left (R.state source.new).left (K.state sink.old).held (K.state sink.new).held c }
+    ensures clean { D.Disk.is_clean (keeper_disk keeper.new) ≡ D.Disk.is_clean (keeper_disk keeper.old) }
+    ensures too_long { result ≡ Err fault.TooLong → HasReadTooLong (R.state source.old).left (R.state source.new).left }
+    ensures reads { OnOk result ((R.state source.new).failures ≡ (R.state source.old).failures) }
+    ensures failed_reads { IfErr result (λ e. (R.state source.new).failures ≡ (R.state source.old).failures + failed_reads e) }
+    ensures writes { OnOk result ((K.state sink.new).failures ≡ (K.state sink.old).failures) }
+    ensures failed_writes { IfErr result (λ e. (K.state sink.new).failures ≡ (K.state sink.old).failures + failed_writes e) }
+    ensures failed { IfErr result (λ e. e ≡ fault.Keeper (error.Journal journal.Disk) → MoreFaults (D.Disk.faults (keeper_disk keeper.old)) (D.Disk.faults (keeper_disk keeper.new))) }
+    ensures faults { D.Disk.faults (keeper_disk keeper.old) ≤ D.Disk.faults (keeper_disk keeper.new) }
+    ensures errors { IfErr result EndsServing }
+{
+    greet(alloc, keeper, sink)?;
+    let mut piece = room_for(alloc, PIECE)?;
+    serve_input(alloc, keeper, source, sink, &mut piece)?;
+    Ok(())
+}
+
+/// A site lives: it opens its journal, says so, and serves its input to the end. Each line of the input that a line feed ends is
+/// a request, and has one reply, in order. A reply is written after the journal has what it rests on, so what has a reply lasts.
+/// A round is what one read of at most 1 MiB ended, up to a question. At the end of input the disk is handed back.
+///
+/// An `Err` hands it back too. None of the replies of the round under way was written then, unless a write failed:
+/// - `Keeper` with `NoJournal` (75) or `OtherSite` (76): the file is not the journal of this site. It is as it was;
+/// - `Keeper` with `Disk` or `Full` (78): a call of the disk failed;
+/// - `Keeper` with `BadSite` (64): the group does not have 1 to 1024 sites, or does not have this site;
+/// - `TooLong` (60): a request has more than 64 MiB;
+/// - `Read` (62), `Write` (63), `Memory` (65).
+///
+/// Each request costs what the call of [`EmbeddedSite`](sct_embed::EmbeddedSite) costs, and each round that brought an entry
+/// two writes and two syncs.
+pub fn serve<D: Disk, R: Source, K: Sink>(
+    alloc: Global,
+    number: u16,
+    group: u16,
+    disk: D,
+    source: &mut R,
+    sink: &mut K,
+) -> Result<D, (ServeFault, D)>
+    requires usable { IsTrue (D.Disk.is_usable disk) }
+    // After a restart, what is read is what is on the disk.
+    requires durable { Only (D.Disk.seen disk) (D.Disk.may_leave disk) }
+
+    // All that is written is a function of the bytes of the input and of what the journal recorded.
+    ensures replies { IfOk result (λ left. IsTrue (D.Disk.is_clean left) → IfSome (R.state source.old).left (λ input.
+        AppendsIfTold (K.state sink.old).held (K.state sink.new).held (output_of (standing_kept number group (recorded (D.Disk.seen disk))) input))) }
+    ensures read { OnOk result (IfSome (R.state source.old).left (λ _. (R.state source.new).left ≡ Some [])) }
+
+    // Whatever is left, a front of the requests lasts: all that it brought is recorded behind what was recorded, and no more. All
+    // replies that were written are replies to it.
+    ensures crash { IfOk result (λ left. IsTrue (D.Disk.is_clean left) → (c : List ℕ) → D.Disk.may_leave left c
+        → LifeLeaves (standing_kept number group (recorded (D.Disk.seen disk))) (recorded (D.Disk.seen disk))
+        (R.state source.old).left (R.state source.new).left (K.state sink.old).held (K.state sink.new).held c) }
+    ensures crash_err { IfErr result (λ left. IsTrue (D.Disk.is_clean left.1) → (c : List ℕ) → D.Disk.may_leave left.1 c
+        → LifeLeaves (standing_kept number group (recorded (D.Disk.seen disk))) (recorded (D.Disk.seen disk))
+        (R.state source.old).left (R.state source.new).left (K.state sink.old).held (K.state sink.new).held c) }
+
+    // A file that is not the journal of this site is left as it is, and nothing is read or written.
+    ensures untouched { IfErr result (λ left. IsForeignFault left.0 → IsUntouched D.Disk.seen D.Disk.may_leave disk left.1) }
+    ensures silent { IfErr result (λ left. IsForeignFault left.0 → (source.new ≡ source.old) × (sink.new ≡ sink.old)) }
+    ensures no_journal { IfErr result (λ left. left.0 ≡ fault.Keeper (error.Journal journal.NoJournal) → IsTrue (D.Disk.is_clean left.1)
+        → front_in (header number group) (D.Disk.seen disk) ≡ front.NoJournal) }
+    ensures other_site { IfErr result (λ left. left.0 ≡ fault.Keeper (error.Journal journal.OtherSite) → IsTrue (D.Disk.is_clean left.1)
+        → front_in (header number group) (D.Disk.seen disk) ≡ front.OtherSite) }
+    ensures bad_site { IfErr result (λ left. left.0 ≡ fault.Keeper error.BadSite → is_open number group ≡ false) }
+    ensures begun { OnOk result (is_open number group ≡ true) }
+
+    ensures too_long { IfErr result (λ left. left.0 ≡ fault.TooLong → HasReadTooLong (R.state source.old).left (R.state source.new).left) }
+    ensures reads { OnOk result ((R.state source.new).failures ≡ (R.state source.old).failures) }
+    ensures failed_reads { IfErr result (λ left. (R.state source.new).failures ≡ (R.state source.old).failures + failed_reads left.0) }
+    ensures writes { OnOk result ((K.state sink.new).failures ≡ (K.state sink.old).failures) }
+    ensures failed_writes { IfErr result (λ left. (K.state sink.new).failures ≡ (K.state sink.old).failures + failed_writes left.0) }
+    ensures failed { IfErr result (λ left. left.0 ≡ fault.Keeper (error.Journal journal.Disk) → MoreFaults (D.Disk.faults disk) (D.Disk.faults left.1)) }
+    ensures errors { IfErr result (λ left. EndsLife left.0) }
+{
+    let mut keeper = match Keeper::open(alloc, number, group, disk) {
+        Ok(keeper) => keeper,
+        Err((error, disk)) => return Err((ServeFault::Keeper(error), disk)),
+    };
+    match greet_and_serve(alloc, &mut keeper, source, sink) {
+        Ok(()) => Ok(keeper.into_disk()),
+        Err(fault) => Err((fault, keeper.into_disk())),
+    }
+}

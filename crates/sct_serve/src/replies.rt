@@ -1,0 +1,103 @@
+//! The texts of replies.
+ghost use Rattle.std.specs.Prelude.{◌≡◌, ◌++◌, IfOk, Err, codes, flat_map, string_bytes};
+ghost use Rattle.std.specs.Fmt.{decimal};
+ghost use Rattle.sct_serve.specs.Replies.{place_text, question_refusal, question_reply, reply_line, reply_text, took_text};
+
+use sct_exchange::push_refusal;
+use sct_lines::push_json_fault;
+use sct_requests::{Answer, QuestionFault};
+use sct_site::Took;
+use std::alloc::{AllocError, Global};
+use std::fmt::Write;
+
+fn push_took(text: &mut String, took: &Took) -> Result<(), AllocError>
+    ensures { IfOk result (λ _. string_bytes text.new ≡ string_bytes text.old ++ took_text took.now) }
+{
+    match took {
+        Took::Taken { n } => write!(text, "TAKEN {n}"),
+        Took::Repeat => text.push_str("REPEAT"),
+    }
+}
+
+// Appends the reply of an answer.
+#[tactic(auto, unfolding(crate::specs::Replies::reply_text))]
+fn push_reply(alloc: Global, text: &mut String, answer: &Answer) -> Result<(), AllocError>
+    ensures { IfOk result (λ _. string_bytes text.new ≡ string_bytes text.old ++ reply_text answer.now) }
+{
+    match answer {
+        Answer::Blank => Ok(()),
+        Answer::Asked => Ok(()),
+        Answer::Took(took) => push_took(text, took),
+        Answer::Unread(fault) => {
+            text.push_str("REFUSED ")?;
+            push_json_fault(alloc, text, fault)
+        }
+        Answer::Accepted(fresh) => write!(text, "ACCEPTED {fresh}"),
+        Answer::Refused(fault) => {
+            text.push_str("REFUSED ")?;
+            push_refusal(text, fault)
+        }
+    }
+}
+
+#[tactic(auto, unfolding(crate::specs::Replies::reply_line))]
+fn push_reply_line(alloc: Global, text: &mut String, answer: &Answer) -> Result<(), AllocError>
+    ensures { IfOk result (λ _. string_bytes text.new ≡ string_bytes text.old ++ reply_line answer.now) }
+{
+    push_reply(alloc, text, answer)?;
+    text.push_str("\n")
+}
+
+/// The replies of answers, a line for each. The error is that it is out of memory.
+pub(crate) fn write_replies(alloc: Global, answers: &[Answer]) -> Result<String, AllocError>
+    ensures { IfOk result (λ text. string_bytes text ≡ flat_map reply_line answers.now) }
+{
+    let mut text = String::new(alloc);
+    for answer in answers {
+        push_reply_line(alloc, &mut text, answer)?;
+    }
+    Ok(text)
+}
+
+fn push_place(text: &mut String, place: u64) -> Result<(), AllocError>
+    ensures { IfOk result (λ _. string_bytes text.new ≡ string_bytes text.old ++ place_text place) }
+{
+    if place == 0 {
+        return Ok(());
+    }
+    write!(text, " {place}")
+}
+
+// Appends the number of a refused question, and the place of the fault.
+#[tactic(auto, unfolding(crate::specs::Replies::question_refusal))]
+fn push_question_refusal(text: &mut String, fault: &QuestionFault) -> Result<(), AllocError>
+    ensures { IfOk result (λ _. string_bytes text.new ≡ string_bytes text.old ++ question_refusal fault.now) }
+{
+    match fault {
+        QuestionFault::NoQuestion => text.push_str("64"),
+        QuestionFault::Refused(reason) => {
+            let number = reason.number();
+            write!(text, "{number}")?;
+            push_place(text, reason.place())
+        }
+    }
+}
+
+/// The reply to a question that is refused. The error is that it is out of memory.
+#[tactic(auto, unfolding(crate::specs::Replies::question_reply))]
+pub(crate) fn write_refusal(alloc: Global, fault: &QuestionFault) -> Result<String, AllocError>
+    ensures { IfOk result (λ text. string_bytes text ≡ question_reply (Err fault.now)) }
+{
+    let mut text = String::new(alloc);
+    text.push_str("REFUSED ")?;
+    push_question_refusal(&mut text, fault)?;
+    text.push_str("\n")?;
+    Ok(text)
+}
+
+/// What comes before a text in its reply: `TEXT`, its length, and a line feed. The error is that it is out of memory.
+pub(crate) fn write_head(alloc: Global, length: usize) -> Result<String, AllocError>
+    ensures { IfOk result (λ text. string_bytes text ≡ codes "TEXT " ++ decimal length ++ codes "\n") }
+{
+    format!(in alloc; "TEXT {length}\n")
+}
