@@ -1,0 +1,9 @@
+pub mod AlikeLemmas
+pub mod AnswerLemmas
+pub mod AskLemmas
+pub mod EqualLemmas
+pub mod HonestLemmas
+pub mod LastLemmas
+pub mod LifeLemmas
+pub mod NumberLemmas
+pub mod OwnLogLemmas
