@@ -7,7 +7,7 @@ use Rattle.clap.proofs.OnLiterals.{clap_on_literals}
 use Rattle.sct_engine.specs.declared.fault.ProgramFault.{ProgramFault}
 use Rattle.sct_engine.specs.declared.fault.ProgramFault.TheVariants as fault
 use Rattle.sct_engine.specs.declared.request.Request.{Request}
-use Rattle.sct_engine.specs.declared.request.Request.TheVariants.{Run, Reconcile, Settle, Exchange, Help, Mistake}
+use Rattle.sct_engine.specs.declared.request.Request.TheVariants.{Run, Reconcile, Settle, Exchange, Serve, Help, Mistake}
 use Rattle.sct_engine.specs.CommandLine.{command_line, order_asked, AnswersKind, AsksFor, AreAsking}
 use Rattle.sct_engine.specs.Request.{IsOrdered, Order}
 
@@ -27,6 +27,7 @@ asked_in_place words e (Run job) has answers = absurd answers.0
 asked_in_place words e (Reconcile order) has answers = absurd answers.0
 asked_in_place words e (Settle files) has answers = absurd answers.0
 asked_in_place words e (Exchange request) has answers = absurd answers.0
+asked_in_place words e (Serve request) has answers = absurd answers.0
 asked_in_place words e (Help text) (inl same) answers = absurd (answers.1 same)
 asked_in_place words e (Help text) (inr among) answers = (kind_of e, (among, answers.0))
 asked_in_place words e (Mistake text) (inl same) answers = absurd (answers.1 same)
@@ -45,6 +46,7 @@ asked_in_order words (Some order) (Run job) clean is ordered = (clean, is ∙ sy
 asked_in_order words (Some order) (Reconcile with) clean is ordered = (clean, is ∙ sym ordered)
 asked_in_order words (Some order) (Settle files) clean is ordered = (clean, is ∙ sym ordered)
 asked_in_order words (Some order) (Exchange request) clean is ordered = (clean, is ∙ sym ordered)
+asked_in_order words (Some order) (Serve request) clean is ordered = (clean, is ∙ sym ordered)
 asked_in_order words (Some order) (Help text) clean is ordered = cc
 asked_in_order words (Some order) (Mistake text) clean is ordered = cc
 
@@ -68,3 +70,11 @@ asked_by_order words None (Err (fault.Refused number)) clean is ordered = absurd
 asked_by_order words (Some order) (Err (fault.Refused number)) clean is ordered = absurd ordered
 asked_by_order words None (Err fault.NoWorker) clean is ordered = absurd ordered
 asked_by_order words (Some order) (Err fault.NoWorker) clean is ordered = absurd ordered
+asked_by_order words None (Err fault.NoJournal) clean is ordered = absurd ordered
+asked_by_order words (Some order) (Err fault.NoJournal) clean is ordered = absurd ordered
+asked_by_order words None (Err fault.OtherSite) clean is ordered = absurd ordered
+asked_by_order words (Some order) (Err fault.OtherSite) clean is ordered = absurd ordered
+asked_by_order words None (Err fault.Busy) clean is ordered = absurd ordered
+asked_by_order words (Some order) (Err fault.Busy) clean is ordered = absurd ordered
+asked_by_order words None (Err fault.Disk) clean is ordered = absurd ordered
+asked_by_order words (Some order) (Err fault.Disk) clean is ordered = absurd ordered

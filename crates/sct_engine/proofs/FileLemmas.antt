@@ -54,6 +54,10 @@ file_ends given left (fault.BadList row) opened ends = absurd ends
 file_ends given left fault.Held opened ends = absurd ends
 file_ends given left (fault.Refused number) opened ends = absurd ends
 file_ends given left fault.NoWorker opened ends = absurd ends
+file_ends given left fault.NoJournal opened ends = absurd ends
+file_ends given left fault.OtherSite opened ends = absurd ends
+file_ends given left fault.Busy opened ends = absurd ends
+file_ends given left fault.Disk opened ends = absurd ends
 
 -- one input more that is within the limit
 pub within_more : (inputs : List (List ℕ)) (bytes : List ℕ) → AreWithin inputs → length bytes ≤ 1073741824 → AreWithin (inputs ++ bytes ∷ [])

@@ -8,6 +8,7 @@ mod PieceLemmas
 mod Prefixes
 mod RunFaults
 mod RunLemmas
+mod ServeLemmas
 mod Unasked
 mod UnionLemmas
 mod Values

@@ -15,3 +15,7 @@ ends_settling (fault.BadList row) ends = absurd ends
 ends_settling fault.TooLong ends = absurd ends
 ends_settling fault.Read ends = absurd ends
 ends_settling fault.Write ends = absurd ends
+ends_settling fault.NoJournal ends = absurd ends
+ends_settling fault.OtherSite ends = absurd ends
+ends_settling fault.Busy ends = absurd ends
+ends_settling fault.Disk ends = absurd ends

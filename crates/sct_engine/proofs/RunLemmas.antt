@@ -82,6 +82,10 @@ settling_ends may (fault.BadList row) is = absurd is
 settling_ends may fault.TooLong is = absurd is
 settling_ends may fault.Read is = absurd is
 settling_ends may fault.Write is = absurd is
+settling_ends may fault.NoJournal is = absurd is
+settling_ends may fault.OtherSite is = absurd is
+settling_ends may fault.Busy is = absurd is
+settling_ends may fault.Disk is = absurd is
 
 -- filled sites of a run are some
 pub some_cores : (size : ℕ) (inputs : List (List ℕ)) (filled : Result Sites WorkFault) → are_sites size ≡ true → size ≡ length inputs

@@ -13,7 +13,7 @@ use Rattle.sct_engine.specs.declared.fault.ProgramFault.TheVariants as fault
 use Rattle.sct_engine.specs.declared.request.Request.{Request}
 use Rattle.sct_engine.specs.declared.request.Request.TheVariants.{Help, Mistake}
 use Rattle.sct_engine.specs.Places.{counts_in, delta, messages, place_named, vector, Wanted}
-use Rattle.sct_engine.specs.Request.{exchange, is_mistake, job, order_named, order_of, report, sites, Order}
+use Rattle.sct_engine.specs.Request.{exchange, is_mistake, job, order_named, order_of, report, serve, sites, Order}
 
 -- a command that requires one of its subcommands, and has a version
 abbrev pub wanting_one : App → App
@@ -71,9 +71,17 @@ vector_command = files_of_a_site (place_command (codes "vector"))
 abbrev pub cut_command : App
 cut_command = files_of_a_site (with_rule (place_command (codes "cut")) (wanted_word (codes "HAVE")))
 
+-- the program with the commands `site`, `vector` and `cut` added
+abbrev pub exchanging_commands : App
+exchanging_commands = with_subcommand (with_subcommand (with_subcommand running_commands site_command.top) vector_command.top) cut_command.top
+
+-- a site is served with its journal alone
+abbrev pub serve_command : App
+serve_command = with_rule (place_command (codes "serve")) (wanted_word (codes "JOURNAL"))
+
 -- the program's command line as clap sees it: one command for each order, and one of them is required
 abbrev pub command_line : App
-command_line = with_subcommand (with_subcommand (with_subcommand running_commands site_command.top) vector_command.top) cut_command.top
+command_line = with_subcommand exchanging_commands serve_command.top
 
 -- the order of the command that clap finds in the words; the first word is the program's name
 abbrev pub order_asked : List Text → Option Order
@@ -125,6 +133,10 @@ abbrev pub exchange_at : Wanted → Text → Text → Text → List Text → Opt
 exchange_at wanted number group journal deltas =
     option_and_then (λ place. Some (exchange wanted place.0 place.1 journal deltas)) (place_named number group)
 
+-- the same for a site that is served
+abbrev pub serve_at : Text → Text → Text → Option Order
+serve_at number group journal = option_and_then (λ place. Some (serve place.0 place.1 journal)) (place_named number group)
+
 -- each command asks for its order, whatever the program is called; and, after `--`, whatever the arguments are
 pub record CommandsAskForTheirOrders : Type 0 where
   pub status : (program : Text) → AskFor (program ∷ codes "status" ∷ []) (Some (job Status))
@@ -149,6 +161,8 @@ pub record CommandsAskForTheirOrders : Type 0 where
   pub cut_all : (program : Text)
       → AskFor (program ∷ codes "cut" ∷ codes "1" ∷ codes "2" ∷ codes "-" ∷ codes "journal" ∷ [])
       (option_and_then (λ counts. exchange_at (delta counts) (codes "1") (codes "2") (codes "journal") []) (counts_in (codes "-")))
+  pub serve : (program number group journal : Text)
+      → AskFor (program ∷ codes "serve" ∷ codes "--" ∷ number ∷ group ∷ journal ∷ []) (serve_at number group journal)
 
 -- clap answers the words by an error of this kind alone, and they give no order
 pub record AskForText (words : List Text) (k : ErrorKind) : Type 0 where

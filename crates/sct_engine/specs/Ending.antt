@@ -9,10 +9,11 @@ use Rattle.sct_engine.specs.declared.ending.Ending.TheVariants as ending
 use Rattle.sct_engine.specs.declared.fault.ProgramFault.{ProgramFault}
 use Rattle.sct_engine.specs.declared.fault.ProgramFault.TheVariants as fault
 
--- the exit status: 0 if every line was taken or help was shown, 1 if some line was refused, 3 for out of memory, and 2
--- for any other fault, a mistake in the command line included
+-- the exit status: 0 if every line was taken, a site was served to the end of its requests or help was shown, 1 if some line was
+-- refused, 3 for out of memory, and 2 for any other fault, a mistake in the command line included
 abbrev pub exit_status_of : Result Ending ProgramFault → ℕ
 exit_status_of (Ok (ending.Done done)) = if done.refused == 0 then 0 else 1
+exit_status_of (Ok ending.Served) = 0
 exit_status_of (Ok ending.Helped) = 0
 exit_status_of (Ok (ending.Mistaken text)) = 2
 exit_status_of (Err fault.Memory) = 3
@@ -39,10 +40,11 @@ fault_arguments_of _ = []
 abbrev pub fault_line_of : ProgramFault → List ℕ
 fault_line_of fault = codes "fault " ++ decimal (program_fault_number fault) ++ fault_arguments_of fault ++ 10 ∷ []
 
--- what standard error gets at the end of a run, besides the refused lines: nothing for a finished job and for help,
+-- what standard error gets at the end of a run, besides the refused lines: nothing for a finished job, for a site that was served and for help,
 -- fault 64 and clap's text for a mistake in the command line, and the number of any other fault
 abbrev pub ending_text_of : Result Ending ProgramFault → List ℕ
 ending_text_of (Ok (ending.Done done)) = []
+ending_text_of (Ok ending.Served) = []
 ending_text_of (Ok ending.Helped) = []
 ending_text_of (Ok (ending.Mistaken text)) = fault_line_of fault.Usage ++ string_bytes text
 ending_text_of (Err fault) = fault_line_of fault

@@ -1,11 +1,17 @@
 -- The faults that end a run: their numbers, and how many calls of a stream failed at each. Read by an auditor.
 use Rattle.std.specs.Prelude.{ℕ}
 use Rattle.sct_engine.specs.declared.fault.ProgramFault.{ProgramFault}
-use Rattle.sct_engine.specs.declared.fault.ProgramFault.TheVariants.{BadList, TooLong, Held, Read, Write, Usage, Memory, Refused, NoWorker}
+use Rattle.sct_engine.specs.declared.fault.ProgramFault.TheVariants.{BadList, TooLong, Held, Read, Write, Usage, Memory, Refused, NoWorker, NoJournal, OtherSite, Busy, Disk}
+use Rattle.sct_journal.specs.declared.error.JournalError.{JournalError}
+use Rattle.sct_journal.specs.declared.error.JournalError.TheVariants as journal
+use Rattle.sct_keeper.specs.declared.fault.KeeperError.{KeeperError}
+use Rattle.sct_keeper.specs.declared.fault.KeeperError.TheVariants as keeper
 use Rattle.sct_reconcile.specs.declared.fault.ReconcileFault.{ReconcileFault}
 use Rattle.sct_reconcile.specs.declared.fault.ReconcileFault.TheVariants as list
 use Rattle.sct_script.specs.declared.fault.ScriptFault.{ScriptFault}
 use Rattle.sct_script.specs.declared.fault.ScriptFault.TheVariants as script
+use Rattle.sct_serve.specs.declared.fault.ServeFault.{ServeFault}
+use Rattle.sct_serve.specs.declared.fault.ServeFault.TheVariants as serve
 use Rattle.sct_streams.specs.declared.whole.ReadFault.{ReadFault}
 use Rattle.sct_streams.specs.declared.whole.ReadFault.TheVariants as read
 use Rattle.sct_workers.specs.declared.fault.WorkFault.{WorkFault}
@@ -22,6 +28,10 @@ program_fault_number Usage = 64
 program_fault_number Memory = 65
 program_fault_number (Refused number) = 66
 program_fault_number NoWorker = 67
+program_fault_number NoJournal = 75
+program_fault_number OtherSite = 76
+program_fault_number Busy = 77
+program_fault_number Disk = 78
 
 -- how many reads have failed in a run that ended with this fault
 abbrev pub failed_reads : ProgramFault → ℕ
@@ -50,3 +60,26 @@ fault_of_work work.Held = Held
 fault_of_work work.Memory = Memory
 fault_of_work (work.Refused number) = Refused number
 fault_of_work work.NoWorker = NoWorker
+
+-- the fault of the program, by the error of a journal: a journal that cannot grow counts as a failed disk
+abbrev pub fault_of_journal : JournalError → ProgramFault
+fault_of_journal journal.Memory = Memory
+fault_of_journal journal.Disk = Disk
+fault_of_journal journal.Full = Disk
+fault_of_journal journal.NoJournal = NoJournal
+fault_of_journal journal.OtherSite = OtherSite
+fault_of_journal journal.Busy = Busy
+
+-- by the error of a site with a journal
+abbrev pub fault_of_keeper : KeeperError → ProgramFault
+fault_of_keeper keeper.Memory = Memory
+fault_of_keeper keeper.BadSite = Usage
+fault_of_keeper (keeper.Journal error) = fault_of_journal error
+
+-- by the fault that ended the serving of a site
+abbrev pub fault_of_serve : ServeFault → ProgramFault
+fault_of_serve serve.Memory = Memory
+fault_of_serve serve.TooLong = TooLong
+fault_of_serve serve.Read = Read
+fault_of_serve serve.Write = Write
+fault_of_serve (serve.Keeper error) = fault_of_keeper error

@@ -9,5 +9,6 @@ pub mod Places
 pub mod Request
 pub mod Run
 pub mod Runs
+pub mod Serves
 pub mod Stream
 pub mod Tasks

@@ -10,10 +10,11 @@ use Rattle.sct_engine.specs.declared.fault.ProgramFault.{ProgramFault}
 use Rattle.sct_engine.specs.declared.fault.ProgramFault.TheVariants as fault
 use Rattle.sct_engine.specs.Places.{Wanted, messages, vector, delta, deltas_ordered, have_ordered, place_ordered, wanted_of}
 use Rattle.sct_engine.specs.Runs.{are_sites}
+use Rattle.sct_engine.specs.declared.places.ServeCommand.{ServeCommand}
 use Rattle.sct_engine.specs.declared.places.SiteCommand.{SiteCommand}
 use Rattle.sct_engine.specs.declared.request.Reconciliation.{Reconciliation}
 use Rattle.sct_engine.specs.declared.request.Request.{Request}
-use Rattle.sct_engine.specs.declared.request.Request.TheVariants.{Run, Reconcile, Settle, Exchange, Help, Mistake}
+use Rattle.sct_engine.specs.declared.request.Request.TheVariants.{Run, Reconcile, Settle, Exchange, Serve, Help, Mistake}
 
 -- the job that a word of the command line asks for
 abbrev pub job_named : List ℕ → Option Job
@@ -25,13 +26,15 @@ job_named word =
     else None
 
 -- The order of a command: a job on standard input; to compare standard input with a bank's list for a day, in the file
--- at a path; to settle the sites that are filled from the files at some paths; or what is wanted of a site, with its
--- number, the number of sites, the path of its journal and the paths of deltas.
+-- at a path; to settle the sites that are filled from the files at some paths; what is wanted of a site, with its
+-- number, the number of sites, the path of its journal and the paths of deltas; or to serve the site with a number, of a
+-- group with a number of sites, whose journal is the file at a path.
 pub data Order : Type 0 where
   job : Job → Order
   report : Text → Text → Text → Order
   sites : List Text → Order
   exchange : Wanted → ℕ → ℕ → Text → List Text → Order
+  serve : ℕ → ℕ → Text → Order
 
 -- the order with a bank, a day and a list
 abbrev pub report_with : Reconciliation → Order
@@ -41,12 +44,17 @@ report_with reconciliation = report reconciliation.bank reconciliation.day recon
 abbrev pub exchange_with : SiteCommand → Order
 exchange_with request = exchange (wanted_of request.wanting) request.site request.sites request.journal.now (map (λ path. path.now) request.deltas.items)
 
+-- the order to serve a site
+abbrev pub serve_with : ServeCommand → Order
+serve_with command = serve command.site command.sites command.journal.now
+
 -- the order of a request, if it is neither help nor a mistake
 abbrev pub order_of : Request → Option Order
 order_of (Run work) = Some (job work)
 order_of (Reconcile reconciliation) = Some (report_with reconciliation)
 order_of (Settle files) = Some (sites (map (λ path. path.now) files.items))
 order_of (Exchange request) = Some (exchange_with request)
+order_of (Serve command) = Some (serve_with command)
 order_of (Help text) = None
 order_of (Mistake text) = None
 
@@ -77,6 +85,11 @@ exchange_from wanted given =
 abbrev pub cut_ordered : List Row → Option Order
 cut_ordered given = option_and_then (λ have. exchange_from (delta have) given) (have_ordered given)
 
+-- the order of `serve` from the values of its arguments, if the site is one of a group
+abbrev pub serve_from : List Row → Option Order
+serve_from given =
+    option_and_then (λ place. option_map (λ journal. serve place.0 place.1 journal) (first_of (codes "JOURNAL") given)) (place_ordered given)
+
 -- the order of the command with this name, from the values of its arguments
 abbrev pub order_named : Text → List Row → Option Order
 order_named name given =
@@ -85,6 +98,7 @@ order_named name given =
     else if is_text name (codes "site") then exchange_from messages given
     else if is_text name (codes "vector") then exchange_from vector given
     else if is_text name (codes "cut") then cut_ordered given
+    else if is_text name (codes "serve") then serve_from given
     else option_map (λ work. job work) (job_named name)
 
 -- the request is the order; if there is no order, or the call is out of memory, there is no request

@@ -1,6 +1,7 @@
 -- One run of the program: its request, its answer and its report. Read by an auditor.
-use Rattle.std.specs.Prelude.{ℕ, ◌≡◌, ◌≢◌, ◌+◌, ◌≤◌, false, List, length, map, Option, Some, Result, Ok, Err, IfOk, IfErr, IfSome, OnOk, Vec, String, string_bytes}
+use Rattle.std.specs.Prelude.{ℕ, ◌≡◌, ◌≢◌, ◌+◌, ◌≤◌, Bool, false, List, length, map, Option, Some, Result, Ok, Err, IfOk, IfErr, IfSome, OnOk, Vec, String, string_bytes}
 use Rattle.std.specs.declared.alloc.Global.{Global}
+use Rattle.sct_journal.specs.declared.error.JournalError.{JournalError}
 use Rattle.sct_engine.specs.declared.ending.Ending.{Ending}
 use Rattle.sct_engine.specs.declared.fault.ProgramFault.{ProgramFault}
 use Rattle.sct_engine.specs.declared.fault.ProgramFault.TheVariants as fault
@@ -10,6 +11,7 @@ use Rattle.sct_engine.specs.Ending.{ending_text_of, exit_status_of}
 use Rattle.sct_engine.specs.Engine.{AreCutOff, EndsWork, IsRefusedInput, StandsOnList}
 use Rattle.sct_engine.specs.Exchanging.{is_possible, EndsExchange}
 use Rattle.sct_engine.specs.Fault.{failed_reads}
+use Rattle.sct_engine.specs.Serves.{IsServed}
 use Rattle.sct_engine.specs.Stream.{Streams}
 use Rattle.sct_engine.specs.Tasks.{bad_row_in, out_text_of, refusals_text_of, EndsSettling, IsEndingOf, IsPrepared, LeavesInput, ReadsInput, TakesInput}
 use Rattle.sct_engine.specs.declared.task.Task.{Task}
@@ -72,10 +74,17 @@ abbrev pub IsPreparedIfAsked : (List ℕ → Option (List ℕ)) → Result Reque
 IsPreparedIfAsked gives (Ok request) prepared = IsPrepared gives request prepared
 IsPreparedIfAsked gives (Err fault) prepared = prepared ≡ Err fault
 
+-- a task is performed: a site is served, and each other task is answered. The first six words are of disks: what a file holds,
+-- what a crash may leave of it, whether no read of it was wrong, how many of its calls failed, what the file at a path holds, and how
+-- the opening of a path fails.
+abbrev pub IsPerformed : {D : Type 0} → (D → List ℕ) → (D → List ℕ → Type 0) → (D → Bool) → (D → ℕ) → (List ℕ → List ℕ) → (List ℕ → JournalError → Type 0) → Task → Streams → Streams → Result Ending ProgramFault → Type 0
+IsPerformed seen may_leave is_clean faults holds fails (task.Serve command) before after ended = IsServed seen may_leave is_clean faults holds fails command before after ended
+IsPerformed seen may_leave is_clean faults holds fails task before after ended = IsAnswered task before after ended
+
 -- the answer to that task; files that could not be read end the run at once
-abbrev pub IsAnsweredIfPrepared : Result Task ProgramFault → Streams → Streams → Result Ending ProgramFault → Type 0
-IsAnsweredIfPrepared (Ok task) before after ended = IsAnswered task before after ended
-IsAnsweredIfPrepared (Err fault) before after ended = (ended ≡ Err fault) × (after ≡ before)
+abbrev pub IsAnsweredIfPrepared : {D : Type 0} → (D → List ℕ) → (D → List ℕ → Type 0) → (D → Bool) → (D → ℕ) → (List ℕ → List ℕ) → (List ℕ → JournalError → Type 0) → Result Task ProgramFault → Streams → Streams → Result Ending ProgramFault → Type 0
+IsAnsweredIfPrepared seen may_leave is_clean faults holds fails (Ok task) before after ended = IsPerformed seen may_leave is_clean faults holds fails task before after ended
+IsAnsweredIfPrepared seen may_leave is_clean faults holds fails (Err fault) before after ended = (ended ≡ Err fault) × (after ≡ before)
 
 -- the request of the words of a command line, if these could be read
 abbrev pub IsAskedBy : Result (List (List ℕ)) ProgramFault → Result Request ProgramFault → Type 0
@@ -83,23 +92,24 @@ IsAskedBy (Err fault) asked = asked ≡ Err fault
 IsAskedBy (Ok words) asked = AreAsking words asked
 
 -- the answer to the words of a command line: that to the task of their request
-pub record IsAnsweredTo (gives : List ℕ → Option (List ℕ)) (words : Result (List (List ℕ)) ProgramFault) (before after : Streams) (ended : Result Ending ProgramFault) : Type 0 where
+pub record IsAnsweredTo {D : Type 0} (seen : D → List ℕ) (may_leave : D → List ℕ → Type 0) (is_clean : D → Bool) (faults : D → ℕ) (holds : List ℕ → List ℕ) (fails : List ℕ → JournalError → Type 0) (gives : List ℕ → Option (List ℕ)) (words : Result (List (List ℕ)) ProgramFault) (before after : Streams) (ended : Result Ending ProgramFault) : Type 0 where
   pub asked : Result Request ProgramFault
   pub prepared : Result Task ProgramFault
   pub is_asked : IsAskedBy words asked
   pub is_prepared : IsPreparedIfAsked gives asked prepared
-  pub is_answered : IsAnsweredIfPrepared prepared before after ended
+  pub is_answered : IsAnsweredIfPrepared seen may_leave is_clean faults holds fails prepared before after ended
 
 -- One run. It reads the request of the words and the files that the request names, which have these bytes. It answers
--- the request, reports its end on standard error, and returns the exit status of its end.
-pub record IsRun (gives : List ℕ → Option (List ℕ)) (words : Result (List (List ℕ)) ProgramFault) (before after : Streams) (status : ℕ) : Type 0 where
+-- the request, reports its end on standard error, and returns the exit status of its end. A site that is served has its journal
+-- on a disk, of which the first six words speak.
+pub record IsRun {D : Type 0} (seen : D → List ℕ) (may_leave : D → List ℕ → Type 0) (is_clean : D → Bool) (faults : D → ℕ) (holds : List ℕ → List ℕ) (fails : List ℕ → JournalError → Type 0) (gives : List ℕ → Option (List ℕ)) (words : Result (List (List ℕ)) ProgramFault) (before after : Streams) (status : ℕ) : Type 0 where
   pub asked : Result Request ProgramFault
   pub prepared : Result Task ProgramFault
   pub answered : Streams
   pub ended : Result Ending ProgramFault
   pub is_asked : IsAskedBy words asked
   pub is_prepared : IsPreparedIfAsked gives asked prepared
-  pub is_answered : IsAnsweredIfPrepared prepared before answered ended
+  pub is_answered : IsAnsweredIfPrepared seen may_leave is_clean faults holds fails prepared before answered ended
   pub is_told : IsWrittenOrCutOff answered.err after.err (Some (ending_text_of ended))
   pub others : (after.input ≡ answered.input) × (after.out ≡ answered.out)
   pub status_is : status ≡ exit_status_of ended

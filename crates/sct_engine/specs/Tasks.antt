@@ -16,7 +16,7 @@ use Rattle.sct_engine.specs.declared.request.Request.{Request}
 use Rattle.sct_engine.specs.declared.request.Request.TheVariants as request
 use Rattle.sct_engine.specs.Exchanging.{count_by_exchange, text_by_exchange, told_by_exchange, IsGathered}
 use Rattle.sct_engine.specs.declared.task.Task.{Task}
-use Rattle.sct_engine.specs.declared.task.Task.TheVariants.{Work, Settle, Exchange, Help, Mistake}
+use Rattle.sct_engine.specs.declared.task.Task.TheVariants.{Work, Settle, Exchange, Serve, Help, Mistake}
 use Rattle.sct_engine.specs.Engine.{bad_row_of, job_text_if_told, refused_of, told_text_if_told, IsInputOf, IsReadWhole}
 use Rattle.sct_engine.specs.Stream.{EndsFile, EndsFiles}
 use Rattle.sct_streams.specs.Files.{AreGiven, IsGiven}
@@ -31,11 +31,13 @@ IsReportWith gives with _ = ⊥
 
 -- The task of a request with the bytes of its files. The list of `report` has the bytes of its file. The inputs of
 -- `run` have the bytes of the files, in the order of the paths. So have the journal and the deltas of a command on one site.
+-- The journal of `serve` is opened later.
 abbrev pub IsTaskOf : (List ℕ → Option (List ℕ)) → Request → Task → Type 0
 IsTaskOf gives (request.Run job) (Work work) = work ≡ job
 IsTaskOf gives (request.Reconcile with) (Work work) = IsReportWith gives with work
 IsTaskOf gives (request.Settle files) (Settle inputs) = AreGiven gives (map (λ path. path.now) files.items) (bytes_of inputs.items)
 IsTaskOf gives (request.Exchange command) (Exchange gathered) = IsGathered gives command gathered
+IsTaskOf gives (request.Serve command) (Serve served) = served ≡ command
 IsTaskOf gives (request.Help text) (Help told) = told ≡ text
 IsTaskOf gives (request.Mistake text) (Mistake told) = told ≡ text
 IsTaskOf gives _ _ = ⊥
@@ -55,11 +57,13 @@ IsPrepared gives request (Err fault) = EndsFilesOf gives request fault
 -- ---- the texts that are written
 
 -- the text on standard output: the text of the job, if standard input is known; the status text of the union of the
--- sets that are read from the inputs; what is wanted of a site; or the help
+-- sets that are read from the inputs; what is wanted of a site; or the help. What `serve` writes is no text of the task
+-- and standard input alone.
 abbrev pub out_text_of : Task → Option (List ℕ) → Option (List ℕ)
 out_text_of (Work job) input = job_text_if_told job input
 out_text_of (Settle inputs) input = Some (status_text_of (set_of_all (bytes_of inputs.items)))
 out_text_of (Exchange gathered) input = Some (text_by_exchange gathered)
+out_text_of (Serve command) input = None
 out_text_of (Help text) input = Some (string_bytes text)
 out_text_of (Mistake text) input = Some []
 
@@ -69,6 +73,7 @@ abbrev pub refusals_text_of : Task → Option (List ℕ) → Option (List ℕ)
 refusals_text_of (Work job) input = told_text_if_told job input
 refusals_text_of (Settle inputs) input = Some (told_from 1 (bytes_of inputs.items))
 refusals_text_of (Exchange gathered) input = Some (told_by_exchange gathered)
+refusals_text_of (Serve command) input = Some []
 refusals_text_of (Help text) input = Some []
 refusals_text_of (Mistake text) input = Some []
 

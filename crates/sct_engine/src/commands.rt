@@ -2,7 +2,7 @@
 ghost use Rattle.std.specs.Prelude.{◌≡◌, IfOk, false, string_bytes};
 ghost use Rattle.clap.specs.Words.{app_of};
 ghost use Rattle.clap.specs.declared.builder.command.Command.TheViews.{out-Command};
-ghost use Rattle.sct_engine.specs.CommandLine.{command_line, comparing_commands, cut_command, files_of_a_site, listing_commands, place_command, report_command, run_command, running_commands, site_command, vector_command, version_line};
+ghost use Rattle.sct_engine.specs.CommandLine.{command_line, comparing_commands, cut_command, exchanging_commands, files_of_a_site, listing_commands, place_command, report_command, run_command, running_commands, serve_command, site_command, vector_command, version_line};
 
 use clap::{Arg, ArgAction, Command};
 use sct_version::VERSION;
@@ -21,7 +21,7 @@ const END_OF_HELP: &str = "Arguments of the commands:
   DELTA    The path of a delta. There may be none
 
 Exit status:
-  0  Every line was taken, or a help or the version was printed
+  0  Every line was taken, serve came to the end of its requests, or a help or the version was printed
   1  Some line or file was refused
   2  A fault ended the run
   3  The program was out of memory
@@ -175,9 +175,9 @@ fn cut_command<'a>(alloc: Global) -> Result<Command<'a>, AllocError>
     with_files_of_a_site(alloc, place.arg(have)?)
 }
 
-/// The program's command line.
-pub fn command<'a>(alloc: Global) -> Result<Command<'a>, AllocError>
-    ensures { IfOk result (λ c. app_of c ≡ command_line) }
+// The program with the commands `site`, `vector` and `cut` added.
+fn exchanging_commands<'a>(alloc: Global) -> Result<Command<'a>, AllocError>
+    ensures { IfOk result (λ c. app_of c ≡ exchanging_commands) }
 {
     let site = site_command(alloc)?;
     let vector = vector_command(alloc)?;
@@ -186,4 +186,26 @@ pub fn command<'a>(alloc: Global) -> Result<Command<'a>, AllocError>
         .subcommand(site)?
         .subcommand(vector)?
         .subcommand(cut)
+}
+
+// The command `serve SITE SITES JOURNAL`.
+fn serve_command<'a>(alloc: Global) -> Result<Command<'a>, AllocError>
+    ensures app { IfOk result (λ c. app_of c ≡ serve_command) }
+    ensures own { IfOk result (λ c. (out-Command c).has_globals ≡ false) }
+{
+    let journal = Arg::new(alloc, "JOURNAL").required(true);
+    let place = place_command(
+        alloc,
+        "serve",
+        "Replies to the requests on standard input, as a site that keeps its journal on the disk",
+    )?;
+    place.arg(journal)
+}
+
+/// The program's command line.
+pub fn command<'a>(alloc: Global) -> Result<Command<'a>, AllocError>
+    ensures { IfOk result (λ c. app_of c ≡ command_line) }
+{
+    let serve = serve_command(alloc)?;
+    exchanging_commands(alloc)?.subcommand(serve)
 }

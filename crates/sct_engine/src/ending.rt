@@ -14,6 +14,8 @@ use sct_streams::{Failed, Sink, write_all};
 pub enum Ending {
     /// The job was done.
     Done(Done),
+    /// The requests to a site that is served came to their end.
+    Served,
     /// The help was shown.
     Helped,
     /// The command line was a mistake: clap's text says why.
@@ -62,18 +64,18 @@ fn write_ending<E: Sink>(ended: &Result<Ending, ProgramFault>, err: &mut E) -> R
         (Some (ending_text_of ended.now))) }
 {
     match ended {
-        Ok(Ending::Done(_)) | Ok(Ending::Helped) => Ok(()),
+        Ok(Ending::Done(_)) | Ok(Ending::Served) | Ok(Ending::Helped) => Ok(()),
         Ok(Ending::Mistaken(text)) => write_fault(&ProgramFault::Usage, text.as_str(), err),
         Err(fault) => write_fault(fault, "", err),
     }
 }
 
-// The exit status: 0 if all lines were taken, 1 if some line was refused, 3 for out of memory, 2 for any other fault.
+// The exit status: 0 if all lines were taken, a site was served or help was shown, 1 if some line was refused, 3 for out of memory, 2 for any other fault.
 fn exit_status(ended: &Result<Ending, ProgramFault>) -> u8
     ensures { result ≡ exit_status_of ended.now }
 {
     match ended {
-        Ok(Ending::Done(Done { refused: 0 })) | Ok(Ending::Helped) => 0,
+        Ok(Ending::Done(Done { refused: 0 })) | Ok(Ending::Served) | Ok(Ending::Helped) => 0,
         Ok(Ending::Done(_)) => 1,
         Err(ProgramFault::Memory) => 3,
         Ok(Ending::Mistaken(_)) | Err(_) => 2,

@@ -1,11 +1,14 @@
 //! The faults that end a run, each with its number.
 ghost use Rattle.std.specs.Prelude.{◌≡◌};
 ghost use Rattle.sct_engine.specs.declared.fault.ProgramFault.TheVariants as fault;
-ghost use Rattle.sct_engine.specs.Fault.{fault_of_list, fault_of_read, fault_of_script, fault_of_work, program_fault_number};
+ghost use Rattle.sct_engine.specs.Fault.{fault_of_journal, fault_of_keeper, fault_of_list, fault_of_read, fault_of_script, fault_of_serve, fault_of_work, program_fault_number};
 
 use sct_case::CaseFault;
+use sct_journal::JournalError;
+use sct_keeper::KeeperError;
 use sct_reconcile::ReconcileFault;
 use sct_script::ScriptFault;
+use sct_serve::ServeFault;
 use sct_set::SetFault;
 use sct_streams::{Failed, ReadFault};
 use sct_workers::WorkFault;
@@ -37,10 +40,18 @@ pub enum ProgramFault {
     Refused(u8),
     /// 67: a thread for the work at a site could not be started.
     NoWorker,
+    /// 75: the file of the journal is no journal of a site.
+    NoJournal,
+    /// 76: the journal is that of another site, or of a site of another group.
+    OtherSite,
+    /// 77: another process has the journal.
+    Busy,
+    /// 78: a call of the disk failed, or the journal cannot grow.
+    Disk,
 }
 
 impl ProgramFault {
-    /// The fault's number: 48, or 60 to 67.
+    /// The fault's number: 48, 60 to 67, or 75 to 78.
     pub fn number(&self) -> u8
         ensures { result ≡ program_fault_number self.now }
     {
@@ -54,6 +65,10 @@ impl ProgramFault {
             ProgramFault::Memory => 65,
             ProgramFault::Refused(_) => 66,
             ProgramFault::NoWorker => 67,
+            ProgramFault::NoJournal => 75,
+            ProgramFault::OtherSite => 76,
+            ProgramFault::Busy => 77,
+            ProgramFault::Disk => 78,
         }
     }
 }
@@ -142,6 +157,46 @@ impl From<WorkFault> for ProgramFault {
             WorkFault::Memory => ProgramFault::Memory,
             WorkFault::Refused { number } => ProgramFault::Refused(number),
             WorkFault::NoWorker => ProgramFault::NoWorker,
+        }
+    }
+}
+
+impl From<JournalError> for ProgramFault {
+    ghost from_gives = { λ error e. e ≡ fault_of_journal error };
+
+    fn from(error: JournalError) -> ProgramFault {
+        match error {
+            JournalError::Memory => ProgramFault::Memory,
+            JournalError::Disk | JournalError::Full => ProgramFault::Disk,
+            JournalError::NoJournal => ProgramFault::NoJournal,
+            JournalError::OtherSite => ProgramFault::OtherSite,
+            JournalError::Busy => ProgramFault::Busy,
+        }
+    }
+}
+
+impl From<KeeperError> for ProgramFault {
+    ghost from_gives = { λ error e. e ≡ fault_of_keeper error };
+
+    fn from(error: KeeperError) -> ProgramFault {
+        match error {
+            KeeperError::Memory => ProgramFault::Memory,
+            KeeperError::BadSite => ProgramFault::Usage,
+            KeeperError::Journal(error) => ProgramFault::from(error),
+        }
+    }
+}
+
+impl From<ServeFault> for ProgramFault {
+    ghost from_gives = { λ fault e. e ≡ fault_of_serve fault };
+
+    fn from(fault: ServeFault) -> ProgramFault {
+        match fault {
+            ServeFault::Memory => ProgramFault::Memory,
+            ServeFault::TooLong => ProgramFault::TooLong,
+            ServeFault::Read => ProgramFault::Read,
+            ServeFault::Write => ProgramFault::Write,
+            ServeFault::Keeper(error) => ProgramFault::from(error),
         }
     }
 }

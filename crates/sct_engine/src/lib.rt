@@ -19,13 +19,14 @@ mod release;
 mod replays;
 mod request;
 mod runs;
+mod serving;
 mod settling;
 mod task;
 mod transfer;
 
 pub use fault::ProgramFault;
 pub use jobs::{Done, Job, engine};
-pub use program::{run, run_over_std};
+pub use program::{Storage, run, run_over_std};
 pub use release::Release;
 pub use request::read_words;
 pub use runs::{RunAnswer, run_sites};

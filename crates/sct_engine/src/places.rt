@@ -3,7 +3,7 @@ ghost use Rattle.std.specs.Prelude.{◌≡◌, codes, map, option_map, IfErr, If
 ghost use Rattle.clap.specs.Words.{first_of, found_of, rows_of};
 ghost use Rattle.sct_delta.specs.Vectors.{count_in};
 ghost use Rattle.sct_engine.specs.Places.{deltas_ordered, have_ordered, number_ordered, place_ordered, wanted_of};
-ghost use Rattle.sct_engine.specs.Request.{cut_ordered, exchange_from, IsOrdered};
+ghost use Rattle.sct_engine.specs.Request.{cut_ordered, exchange_from, serve_from, IsOrdered};
 ghost use Rattle.sct_engine.specs.declared.fault.ProgramFault.TheVariants as fault;
 ghost use Rattle.sct_site.specs.Cores.{is_open};
 
@@ -38,6 +38,17 @@ pub struct SiteCommand<'a> {
     pub journal: &'a str,
     /// The paths of the deltas, in the order given.
     pub deltas: Vec<&'a str>,
+}
+
+/// The command that serves a site.
+#[derive(Drop)]
+pub struct ServeCommand<'a> {
+    /// The number of the site, from 1.
+    pub site: u16,
+    /// How many sites the group has.
+    pub sites: u16,
+    /// The path of the journal.
+    pub journal: &'a str,
 }
 
 // The number that an argument writes.
@@ -139,4 +150,22 @@ pub fn request_of_cut<'a>(
         Some(vector) => request_on_site(alloc, Wanting::Delta(vector), given),
         None => Err(ProgramFault::Usage),
     }
+}
+
+/// The request of `serve` from its arguments. Error: `Usage` (64) if the group cannot have this number of sites or does not
+/// have the site.
+pub fn request_to_serve<'a>(given: &ArgMatches<'a>) -> Result<Request<'a>, ProgramFault>
+    ensures { IsOrdered (serve_from (rows_of (found_of given.now))) result }
+{
+    let Some((site, sites)) = place_given(given) else {
+        return Err(ProgramFault::Usage);
+    };
+    let Some(journal) = journal_given(given) else {
+        return Err(ProgramFault::Usage);
+    };
+    Ok(Request::Serve(ServeCommand {
+        site,
+        sites,
+        journal,
+    }))
 }

@@ -1,6 +1,6 @@
 //! The whole program over streams of any kind: from the words of the command line to the exit status.
 ghost use Rattle.std.specs.Prelude.{◌≡◌};
-ghost use Rattle.sct_engine.specs.Run.{words_told, IsAnswered, IsAnsweredTo, IsRun};
+ghost use Rattle.sct_engine.specs.Run.{words_told, IsAnsweredTo, IsPerformed, IsRun};
 ghost use Rattle.sct_engine.specs.Stream.{streams, Streams};
 
 use crate::ending::{Ending, conclude};
@@ -9,9 +9,11 @@ use crate::fault::ProgramFault;
 use crate::jobs::engine;
 use crate::release::Release;
 use crate::request::read_request;
+use crate::serving::serve_site;
 use crate::settling::settle_inputs;
 use crate::task::{Task, prepare};
 use crate::transfer::MOST_BYTES;
+use sct_journal::Disks;
 use sct_streams::{Files, Reading, Sink, Source, Writing, write_all};
 use std::alloc::Global;
 use std::io;
@@ -19,17 +21,28 @@ use std::sync::Wait;
 use std::sync::ledger::{Blank, Ledger};
 use std::thread::Threads;
 
+/// What a run may open: files by their paths, and the file of one journal.
+#[derive(Drop)]
+pub struct Storage<'a, F: Files, K: Disks + Drop> {
+    /// The files that are read.
+    pub files: &'a F,
+    /// Where the file of a journal is found.
+    pub disks: K,
+}
+
 // Performs a task. A mistake in the command line is reported later, at the end of the run.
-fn perform<T: Threads + Wait + Sync, R: Source, O: Sink, E: Sink>(
+fn perform<T: Threads + Wait + Sync, K: Disks + Drop, R: Source, O: Sink, E: Sink>(
     rt: &T,
     alloc: Global,
     release: Release,
-    task: Task,
+    disks: K,
+    task: Task<'_>,
     reader: &mut R,
     out: &mut O,
     err: &mut E,
 ) -> Result<Ending, ProgramFault>
-    ensures { IsAnswered task
+    ensures { IsPerformed K.File.Disk.seen K.File.Disk.may_leave K.File.Disk.is_clean K.File.Disk.faults
+        (K.holds disks) (K.fails disks) task.entry
         (streams (R.state reader.old) (O.state out.old) (E.state err.old))
         (streams (R.state reader.new) (O.state out.new) (E.state err.new))
         result }
@@ -44,6 +57,7 @@ fn perform<T: Threads + Wait + Sync, R: Source, O: Sink, E: Sink>(
             let done = write_site(rt, alloc, release, gathered, out, err)?;
             Ok(Ending::Done(done))
         }
+        Task::Serve(command) => serve_site(alloc, disks, command, reader, out),
         Task::Help(text) => {
             write_all(out, text.as_bytes())?;
             Ok(Ending::Helped)
@@ -53,47 +67,50 @@ fn perform<T: Threads + Wait + Sync, R: Source, O: Sink, E: Sink>(
 }
 
 // Performs what the words ask for.
-fn answer_words<T: Threads + Wait + Sync, F: Files, R: Source, O: Sink, E: Sink>(
+fn answer_words<T: Threads + Wait + Sync, F: Files, K: Disks + Drop, R: Source, O: Sink, E: Sink>(
     rt: &T,
     alloc: Global,
     release: Release,
-    files: &F,
+    storage: Storage<'_, F, K>,
     words: Result<Vec<String>, ProgramFault>,
     reader: &mut R,
     out: &mut O,
     err: &mut E,
 ) -> Result<Ending, ProgramFault>
-    ensures { IsAnsweredTo (F.gives files.now) (words_told words)
+    ensures { IsAnsweredTo K.File.Disk.seen K.File.Disk.may_leave K.File.Disk.is_clean K.File.Disk.faults
+        (K.holds storage.entry.disks) (K.fails storage.entry.disks) (F.gives storage.entry.files.now) (words_told words)
         (streams (R.state reader.old) (O.state out.old) (E.state err.old))
         (streams (R.state reader.new) (O.state out.new) (E.state err.new))
         result }
 {
     let words = words?;
+    let Storage { files, disks } = storage;
     let request = read_request(alloc, &words)?;
     let task = prepare(rt, alloc, files, request)?;
-    perform(rt, alloc, release, task, reader, out, err)
+    perform(rt, alloc, release, disks, task, reader, out, err)
 }
 
 /// Runs the program: reads the words of the command line and the files that they name, and performs what they ask for.
 /// It reports the end of the run on `err`, and returns the exit status.
-/// The status is 0 if all lines were taken or help was shown, and 1 if some line was refused. It is 3 for out of memory
-/// (65), and 2 for any other fault. `release` says when the memory of a job is given back.
-pub fn run<T: Threads + Wait + Sync, F: Files, R: Source, O: Sink, E: Sink>(
+/// The status is 0 if all lines were taken, a site was served to the end of its requests or help was shown, and 1 if some line
+/// was refused. It is 3 for out of memory (65), and 2 for any other fault. `release` says when the memory of a job is given back.
+pub fn run<T: Threads + Wait + Sync, F: Files, K: Disks + Drop, R: Source, O: Sink, E: Sink>(
     rt: &T,
     alloc: Global,
     release: Release,
-    files: &F,
+    storage: Storage<'_, F, K>,
     words: Result<Vec<String>, ProgramFault>,
     reader: &mut R,
     out: &mut O,
     err: &mut E,
 ) -> u8
-    ensures { IsRun (F.gives files.now) (words_told words)
+    ensures { IsRun K.File.Disk.seen K.File.Disk.may_leave K.File.Disk.is_clean K.File.Disk.faults
+        (K.holds storage.entry.disks) (K.fails storage.entry.disks) (F.gives storage.entry.files.now) (words_told words)
         (streams (R.state reader.old) (O.state out.old) (E.state err.old))
         (streams (R.state reader.new) (O.state out.new) (E.state err.new))
         result }
 {
-    let ended = answer_words(rt, alloc, release, files, words, reader, out, err);
+    let ended = answer_words(rt, alloc, release, storage, words, reader, out, err);
     conclude(&ended, err)
 }
 
@@ -102,6 +119,7 @@ pub fn run<T: Threads + Wait + Sync, F: Files, R: Source, O: Sink, E: Sink>(
 pub fn run_over_std<
     T: Threads + Wait + Sync,
     F: Files,
+    K: Disks + Drop,
     R: io::Read + Drop,
     O: io::Write + Drop,
     E: io::Write + Drop,
@@ -112,7 +130,7 @@ pub fn run_over_std<
     rt: &T,
     alloc: Global,
     release: Release,
-    files: &F,
+    storage: Storage<'_, F, K>,
     words: Result<Vec<String>, ProgramFault>,
     stdin: (R, Blank),
     stdout: (O, Blank),
@@ -127,7 +145,8 @@ pub fn run_over_std<
     requires stderr_name { stderr.1.name ≡ C.name }
     requires stderr_parts { stderr.1.parts ≡ C.parts }
     requires stderr_part { stderr.1.parts ≡ 1 }
-    ensures { (after : Streams) × IsRun (F.gives files.now) (words_told words)
+    ensures { (after : Streams) × IsRun K.File.Disk.seen K.File.Disk.may_leave K.File.Disk.is_clean K.File.Disk.faults
+        (K.holds storage.entry.disks) (K.fails storage.entry.disks) (F.gives storage.entry.files.now) (words_told words)
         (streams (record { left = R.remaining stdin.0; failures = 0 }) (record { held = O.contents stdout.0; failures = 0 })
         (record { held = E.contents stderr.0; failures = 0 })) after result }
 {
@@ -138,7 +157,7 @@ pub fn run_over_std<
         rt,
         alloc,
         release,
-        files,
+        storage,
         words,
         &mut reader,
         &mut out,

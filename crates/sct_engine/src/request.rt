@@ -12,7 +12,9 @@ ghost use Rattle.sct_engine.specs.Request.{job_named, is_mistake, order_named, r
 use crate::commands::{command, version_line};
 use crate::fault::ProgramFault;
 use crate::jobs::Job;
-use crate::places::{SiteCommand, Wanting, request_of_cut, request_on_site};
+use crate::places::{
+    ServeCommand, SiteCommand, Wanting, request_of_cut, request_on_site, request_to_serve,
+};
 use crate::runs::are_sites;
 use clap::error::ErrorKind;
 use clap::{ArgMatches, Error};
@@ -43,6 +45,8 @@ pub enum Request<'a> {
     Settle(Vec<&'a str>),
     /// Make a site of its journal and deltas, and write what is wanted of it.
     Exchange(SiteCommand<'a>),
+    /// Serve a site whose journal is a file: reply to the requests on standard input.
+    Serve(ServeCommand<'a>),
     /// Show this help, or this line with the version.
     Help(String),
     /// A mistake in the command line: the text of clap says why.
@@ -157,6 +161,7 @@ fn request_of_command<'a>(
         "site" => request_on_site(alloc, Wanting::Messages, given),
         "vector" => request_on_site(alloc, Wanting::Vector, given),
         "cut" => request_of_cut(alloc, given),
+        "serve" => request_to_serve(given),
         _ => match job_named(name) {
             Some(job) => Ok(Request::Run(job)),
             None => Err(ProgramFault::Usage),

@@ -6,6 +6,7 @@ use crate::exchanging::{Gathered, gather};
 use crate::fault::ProgramFault;
 use crate::files::{read_file, read_files};
 use crate::jobs::Job;
+use crate::places::ServeCommand;
 use crate::request::Request;
 use sct_streams::Files;
 use std::alloc::Global;
@@ -13,13 +14,15 @@ use std::thread::Threads;
 
 /// A request, with the bytes of the files that it names.
 #[derive(Drop)]
-pub enum Task {
+pub enum Task<'a> {
     /// Run the job on standard input.
     Work(Job),
     /// Settle sites, each filled from one of the inputs.
     Settle(Vec<Vec<u8>>),
     /// Make a site of what was read of its files, and write what is wanted of it.
     Exchange(Gathered),
+    /// Serve a site. Its journal is not read yet.
+    Serve(ServeCommand<'a>),
     /// Show this help.
     Help(String),
     /// A mistake in the command line: the text of clap says why.
@@ -28,12 +31,12 @@ pub enum Task {
 
 /// Reads the files that a request names, each at its own path. A file that cannot be read ends the program before
 /// standard input is read: `Read` (62), `TooLong` (60) or `Memory` (65).
-pub fn prepare<T: Threads + Sync, R: Files>(
+pub fn prepare<'a, T: Threads + Sync, R: Files>(
     rt: &T,
     alloc: Global,
     files: &R,
-    request: Request<'_>,
-) -> Result<Task, ProgramFault>
+    request: Request<'a>,
+) -> Result<Task<'a>, ProgramFault>
     ensures { IsPrepared (R.gives files.now) request.entry result }
 {
     match request {
@@ -48,6 +51,7 @@ pub fn prepare<T: Threads + Sync, R: Files>(
         }
         Request::Settle(paths) => Ok(Task::Settle(read_files(alloc, files, &paths)?)),
         Request::Exchange(command) => Ok(Task::Exchange(gather(rt, alloc, files, command)?)),
+        Request::Serve(command) => Ok(Task::Serve(command)),
         Request::Help(text) => Ok(Task::Help(text)),
         Request::Mistake(text) => Ok(Task::Mistake(text)),
     }

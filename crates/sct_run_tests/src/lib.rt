@@ -5,6 +5,8 @@
 #[cfg(test)]
 mod desks;
 #[cfg(test)]
+mod disks;
+#[cfg(test)]
 mod fakes;
 #[cfg(test)]
 mod gates;

@@ -5,7 +5,7 @@ mod files;
 mod hostile;
 mod runs;
 
-use commands::{BOTH, Command, JOBS, WORDS};
+use commands::{BOTH, Command, JOBS, SERVED, WORDS};
 use runs::{answer_within, run_program};
 use sct_engine::{Done, MOST_BYTES, ProgramFault};
 use sct_streams::HostFiles;
@@ -27,7 +27,14 @@ fn words(alloc: Global, words: &[&str]) -> Result<Vec<String>, AllocError> {
 // Whether a run writes what the command says, and ends with its status.
 fn does(rt: &(impl Threads + Wait + Files + Sync), alloc: Global, command: &Command) -> bool {
     let asked = words(alloc, command.words).map_err(ProgramFault::from);
-    let ran = run_program(rt, alloc, &HostFiles::new(rt), asked, command.input);
+    let ran = run_program(
+        rt,
+        alloc,
+        &HostFiles::new(rt),
+        command.is_busy,
+        asked,
+        command.input,
+    );
     ran.status == command.status
         && ran.out.as_slice() == command.out
         && ran.err.as_slice() == command.err
@@ -53,6 +60,11 @@ fn does_what_the_words_ask(rt: HostRuntime) {
     expect_commands(&rt, rt.alloc(), &WORDS);
 }
 
+#[test]
+fn serves_a_site(rt: HostRuntime) {
+    expect_commands(&rt, rt.alloc(), &SERVED);
+}
+
 // The status of a run whose words could not be read, if it reports only this.
 fn status_unasked(
     rt: &(impl Threads + Wait + Files + Sync),
@@ -60,7 +72,7 @@ fn status_unasked(
     fault: ProgramFault,
     err: &[u8],
 ) -> Option<u8> {
-    let ran = run_program(rt, alloc, &HostFiles::new(rt), Err(fault), BOTH);
+    let ran = run_program(rt, alloc, &HostFiles::new(rt), false, Err(fault), BOTH);
     (ran.out.is_empty() && ran.err.as_slice() == err).then_some(ran.status)
 }
 
@@ -71,7 +83,7 @@ struct Unasked {
     status: u8,
 }
 
-static UNASKED: [Unasked; 8] = [
+static UNASKED: [Unasked; 12] = [
     Unasked {
         fault: ProgramFault::TooLong,
         err: b"fault 60\n",
@@ -110,6 +122,26 @@ static UNASKED: [Unasked; 8] = [
     Unasked {
         fault: ProgramFault::NoWorker,
         err: b"fault 67\n",
+        status: 2,
+    },
+    Unasked {
+        fault: ProgramFault::NoJournal,
+        err: b"fault 75\n",
+        status: 2,
+    },
+    Unasked {
+        fault: ProgramFault::OtherSite,
+        err: b"fault 76\n",
+        status: 2,
+    },
+    Unasked {
+        fault: ProgramFault::Busy,
+        err: b"fault 77\n",
+        status: 2,
+    },
+    Unasked {
+        fault: ProgramFault::Disk,
+        err: b"fault 78\n",
         status: 2,
     },
 ];

@@ -2,19 +2,24 @@
 //! after one run, so its memory is given back only when it ends.
 #![tactic(auto)]
 
-use sct_engine::{Release, read_words, run_over_std};
+use sct_engine::{Release, Storage, read_words, run_over_std};
+use sct_journal::HostDisks;
 use sct_streams::HostFiles;
+use sqlite_disk::Wary;
 use std::env;
 use std::marker::Brand;
 use std::process::ExitCode;
 use std::sync::ledger::Blank;
 
 fn main(rt: HostRuntime) -> ExitCode {
-    ExitCode::from(run_over_std::<_, _, _, _, _, Brand, Brand, Brand>(
+    ExitCode::from(run_over_std::<_, _, _, _, _, _, Brand, Brand, Brand>(
         &rt,
         rt.alloc(),
         Release::AtExit,
-        &HostFiles::new(&rt),
+        Storage {
+            files: &HostFiles::new(&rt),
+            disks: HostDisks::new(&rt, Wary),
+        },
         read_words(rt.alloc(), env::args(&rt)),
         (rt.stdin(), Blank::new(1)),
         (rt.stdout(), Blank::new(1)),

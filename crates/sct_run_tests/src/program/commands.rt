@@ -3,6 +3,8 @@
 
 pub struct Command {
     pub words: &'static [&'static str],
+    // another process has the journal
+    pub is_busy: bool,
     pub input: &'static [u8],
     pub status: u8,
     pub out: &'static [u8],
@@ -17,6 +19,7 @@ pub const BOTH: &[u8] =
 pub static JOBS: [Command; 2] = [
     Command {
         words: &["sct_sites", "totals"],
+        is_busy: false,
         input: BOTH,
         status: 0,
         out: b"BANKDEFFXXX|1|0.01|0.00|0|0|0|0|0|0.00|0.00\nBANQFRPPXXX|0|0.00|0.00|0|0|0|0|1|0.01|0.00\n",
@@ -24,6 +27,7 @@ pub static JOBS: [Command; 2] = [
     },
     Command {
         words: &["sct_sites", "status"],
+        is_busy: false,
         input: b"foo\n",
         status: 1,
         out: b"",
@@ -35,6 +39,7 @@ pub static JOBS: [Command; 2] = [
 pub static WORDS: [Command; 3] = [
     Command {
         words: &["sct_sites", "status", "archive"],
+        is_busy: false,
         input: BOTH,
         status: 2,
         out: b"",
@@ -42,6 +47,7 @@ pub static WORDS: [Command; 3] = [
     },
     Command {
         words: &["sct_sites", "help", "status"],
+        is_busy: false,
         input: BOTH,
         status: 0,
         out: b"Writes the status of each transfer in the messages on standard input\n\nUsage: sct_sites status\n\nOptions:\n  -h, --help  Print help\n",
@@ -49,9 +55,39 @@ pub static WORDS: [Command; 3] = [
     },
     Command {
         words: &["sct_sites", "--version"],
+        is_busy: false,
         input: BOTH,
         status: 0,
         out: b"sct_sites 0.2.0\n",
         err: b"",
+    },
+];
+
+/// A site that is served: its requests, one of them refused, have replies, and the rest of the input is no request. Places that a
+/// group does not have, and a journal that another process has.
+pub static SERVED: [Command; 3] = [
+    Command {
+        words: &["sct_sites", "serve", "1", "2", "journal"],
+        is_busy: false,
+        input: b"{\"MsgNmId\":\"pacs.008\",\"MsgId\":\"M1\",\"CreDtTm\":\"2024-05-02T10:00:00Z\",\"InstgAgt\":\"BANKDEFF\",\"IntrBkSttlmDt\":\"2024-05-02\",\"SvcLvl\":\"SEPA\",\"LclInstrm\":\"INST\",\"EndToEndId\":\"E1\",\"TxId\":\"T1\",\"IntrBkSttlmAmt\":\"0.01\",\"Ccy\":\"EUR\",\"ChrgBr\":\"SLEV\",\"Dbtr\":\"Anna Weber\",\"DbtrAcct\":\"DE89370400440532013000\",\"DbtrAgt\":\"BANKDEFF\",\"CdtrAgt\":\"BANQFRPP\",\"Cdtr\":\"Bo Maes\",\"CdtrAcct\":\"BE68539007547034\"}\n{}\n? vector\n\n? status",
+        status: 0,
+        out: b"READY -\nTAKEN 1\nREFUSED 33\nTEXT 3\n1:1\n\n",
+        err: b"",
+    },
+    Command {
+        words: &["sct_sites", "serve", "3", "2", "journal"],
+        is_busy: true,
+        input: b"",
+        status: 2,
+        out: b"",
+        err: b"fault 64\n",
+    },
+    Command {
+        words: &["sct_sites", "serve", "1", "2", "journal"],
+        is_busy: true,
+        input: b"",
+        status: 2,
+        out: b"",
+        err: b"fault 77\n",
     },
 ];

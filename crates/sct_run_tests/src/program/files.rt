@@ -68,7 +68,7 @@ static WANTED: [Wanted; 3] = [
 // Whether a run over the files writes the expected texts, and ends with the expected status.
 fn does(rt: &(impl Threads + Wait + Sync), alloc: Global, wanted: &Wanted) -> bool {
     let asked = words(alloc, wanted.words).map_err(ProgramFault::from);
-    let ran = run_program(rt, alloc, &FILES, asked, BOTH);
+    let ran = run_program(rt, alloc, &FILES, false, asked, BOTH);
     ran.status == wanted.status
         && ran.out.as_slice() == wanted.out
         && ran.err.as_slice() == wanted.err

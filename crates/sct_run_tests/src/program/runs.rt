@@ -1,7 +1,8 @@
 //! Runs of the program over known words and bytes.
 ghost use Rattle.std.specs.Prelude.{◌≡◌};
 
-use sct_engine::{Done, Job, ProgramFault, Release, engine, run_over_std};
+use crate::disks::InMemory;
+use sct_engine::{Done, Job, ProgramFault, Release, Storage, engine, run_over_std};
 use sct_streams::{Files, Reading, Writing};
 use std::alloc::Global;
 use std::io;
@@ -18,21 +19,25 @@ pub struct Ran {
     pub err: Vec<u8>,
 }
 
-// A run of the program on this input and these files.
+// A run of the program on this input and these files. Another process may have its journal.
 pub(super) fn run_program(
     rt: &(impl Threads + Wait + Sync),
     alloc: Global,
     files: &impl Files,
+    is_busy: bool,
     words: Result<Vec<String>, ProgramFault>,
     input: &[u8],
 ) -> Ran {
     let mut out = Vec::new(alloc);
     let mut err = Vec::new(alloc);
-    let status = run_over_std::<_, _, _, _, _, Brand, Brand, Brand>(
+    let status = run_over_std::<_, _, _, _, _, _, Brand, Brand, Brand>(
         rt,
         alloc,
         Release::AtOnce,
-        files,
+        Storage {
+            files,
+            disks: InMemory { alloc, is_busy },
+        },
         words,
         (input, Blank::new(1)),
         (&mut out, Blank::new(1)),

@@ -17,5 +17,6 @@ returns c = record {
   vector = λ program number group journal. record { no_error = refl; found = refl };
   cut = λ program number group have journal one. record { no_error = refl; found = refl };
   cut_all = λ program. record { no_error = refl; found = refl };
+  serve = λ program number group journal. record { no_error = refl; found = refl };
   two_files = λ program file other. record { no_error = refl; found = refl };
 }
