@@ -1,0 +1,266 @@
+"""What `serve` must do, by the definitions alone: its replies, its journal to the byte, and how it ends.
+
+Usage: tests/oracle/serve.py serve SITE SITES JOURNAL
+
+It takes the words of the program, reads requests on standard input, and can stand in for the program. It has no help, and after
+`fault 64` no text of clap. `? changes` names the transfers that have to be named, and a right answer may name more. The site is a handle
+of tests/embed/model.py, so a question answers what the library's call of that name answers.
+"""
+import contextlib, fcntl, itertools, os, pathlib, stat, sys
+sys.path.insert(0, str(pathlib.Path(__file__).resolve().parents[2]))
+from tests.embed.model import Handle
+from tests.oracle import exchange
+from tests.oracle.exchange import BadDelta, Fault
+
+MOST_READ, MOST_REQUEST = 1 << 20, 64 << 20
+OPEN, SHUT = b" ", b"\t"
+LOCK_AT, LOCKED = 1 << 30, 512  # the bytes that SQLite locks of a database
+# the call of each question, and how many words it has; the last one of MORE is the rest of the line
+CALLS = {b"vector": ("vector_text", 0), b"cut": ("cut", 1), b"status": ("status_text", 0), b"totals": ("totals_text", 0),
+         b"archive": ("archive_text", 0), b"contradictions": ("contradictions_text", 0), b"changes": ("changes", 0),
+         b"transfer": ("transfer_text", 2), b"messages": ("messages_text", 2), b"bank": ("bank_totals", 1), b"report": ("report", 3)}
+MORE = [b"transfer", b"messages", b"report"]
+
+
+# ---- requests and replies
+
+class Serving:
+    """A site that replies to requests."""
+
+    def __init__(self, own, group):
+        self.handle = Handle()
+        self.handle.open(own, group)
+        self.site = self.handle.site
+
+    def ready(self):
+        return f"READY {self.site.vector_text()}\n".encode()
+
+    def reply(self, line):
+        """The reply to a request, with its line feed, and whether the request brought the site an entry."""
+        before = self.handle.many()
+        text = self.text(line)
+        return text + b"\n", self.handle.many() > before
+
+    def text(self, line):
+        if line.startswith(b"delta "):
+            return self.delta(line.replace(b"\t", b"\n") + b"\n").encode()
+        if line.startswith(b"? "):
+            return self.question(line[2:])
+        return self.message(line).encode() if line.strip(b" \t\r") else b""
+
+    def message(self, line):
+        message, refused = exchange.message_in(line)
+        if refused:
+            return f"REFUSED {refused}"
+        if message in self.site.messages:
+            return "REPEAT"
+        self.site.take(message)
+        return f"TAKEN {self.site.have(self.site.own)}"
+
+    def delta(self, text):
+        try:
+            runs = exchange.delta_in(text)
+        except BadDelta as bad:
+            return f"REFUSED 45 {bad.args[0]}"
+        refused, before = self.site.refusal(runs), self.handle.many()
+        if refused:
+            return "REFUSED " + " ".join(map(str, refused))
+        self.site.accept(runs)
+        return f"ACCEPTED {self.handle.many() - before}"
+
+    def question(self, asked):
+        name, _, rest = asked.partition(b" ")
+        call, many = CALLS.get(name, (None, 0))
+        words = asked.split(b" ", many if name in MORE else -1)[1:]
+        if call is None or len(words) != many:
+            return b"REFUSED 64"
+        if name == b"report":
+            words[-1] = words[-1].replace(b"\t", b"\n")
+        fields, text = self.handle.call(call, *words)
+        if fields["ok"]:
+            return b"TEXT %d\n%s" % (len(text), text)
+        return f"REFUSED {fields['code']}{' %d' % fields['place'] * (fields['place'] > 0)}".encode()
+
+
+def is_question(line):
+    return line.startswith(b"? ")
+
+
+def rounds_of(lines):
+    """The lines in rounds: a question is a round of its own."""
+    for asks, this in itertools.groupby(lines, is_question):
+        yield from ([line] for line in this) if asks else [list(this)]
+
+
+# ---- the journal
+
+def header(own, group):
+    return b"site %d %d" % (own, group)
+
+
+def gated(lines):
+    """The bytes of a batch of lines, and the shut gate behind them."""
+    return b"".join(OPEN + line + b"\n" for line in lines) + SHUT
+
+
+def kept_in(file):
+    """The lines that a file keeps, and where they end."""
+    lines, end = [], 0
+    while file[end:end + 1] == OPEN:
+        feed = file.find(b"\n", end)
+        if feed < 0:
+            break
+        lines.append(file[end + 1:feed])
+        end = feed + 1
+    return lines, end
+
+
+def is_new(file, head):
+    """Whether a journal with this header begins anew in place of a file. Fails unless it is new or has that header."""
+    if file.startswith(OPEN + head + b"\n"):
+        return False
+    if len(file) <= 1 or file.startswith(SHUT) and len(file) <= len(head) + 3 or file[1:] == head + b"\n" + SHUT:
+        return True
+    raise Fault(76 if file.startswith(b" site ") else 75)
+
+
+class Journal:
+    """A journal that this process has."""
+
+    def __init__(self, path, head):
+        self.file = opened(os.path.realpath(path))
+        found = self.read()
+        if is_new(found, head):
+            self.begin(found)
+            self.append([head])
+            found = self.read()
+        lines, self.end = kept_in(found)
+        self.lines = lines[1:]
+        self.shut(found)
+
+    def read(self):
+        return os.pread(self.file, os.fstat(self.file).st_size, 0)
+
+    def write(self, data, at):
+        while data:
+            wrote = os.pwrite(self.file, data, at)
+            data, at = data[wrote:], at + wrote
+        os.fsync(self.file)
+
+    def cut(self, length):
+        os.ftruncate(self.file, length)
+        os.fsync(self.file)
+
+    def begin(self, found):
+        """Makes the file one shut gate."""
+        if found[:1] != SHUT:
+            self.write(SHUT, 0)
+        if len(found) > 1:
+            self.cut(1)
+        self.end = 0
+
+    def shut(self, found):
+        """Shuts the gate at the end if it is open or not there, and cuts off what is behind it."""
+        if found[self.end:self.end + 1] in (b"", OPEN):
+            self.write(SHUT, self.end)
+        if len(found) > self.end + 1:
+            self.cut(self.end + 1)
+
+    def append(self, lines):
+        if lines:
+            batch = gated(lines)
+            self.write(batch[1:], self.end + 1)
+            self.write(batch[:1], self.end)
+            self.end += len(batch) - 1
+
+
+def opened(path):
+    """A file that is there or is made, and that no other process has."""
+    file = os.open(path, os.O_RDWR | os.O_CREAT, 0o644)
+    found = os.fstat(file)
+    if not stat.S_ISREG(found.st_mode) or found.st_nlink != 1:
+        raise Fault(78)
+    try:
+        fcntl.lockf(file, fcntl.LOCK_EX | fcntl.LOCK_NB, LOCKED, LOCK_AT)
+    except BlockingIOError:
+        raise Fault(77)
+    folder = os.open(os.path.dirname(path), os.O_RDONLY)
+    os.fsync(file)
+    os.fsync(folder)
+    os.close(folder)
+    return file
+
+
+# ---- a life
+
+@contextlib.contextmanager
+def failing_by(number):
+    """What fails in here is the fault of this number."""
+    try:
+        yield
+    except OSError:
+        raise Fault(number)
+
+
+def written(text):
+    with failing_by(63):
+        while text:
+            text = text[os.write(1, text):]
+
+
+def requests():
+    """The whole lines that one read ended, again and again until the input ends."""
+    pending = bytearray()
+    while True:
+        with failing_by(62):
+            piece = os.read(0, MOST_READ)
+        *ended, rest = piece.split(b"\n")
+        if ended:
+            ended[0] = bytes(pending) + ended[0]
+            pending.clear()
+        pending += rest
+        if len(pending) > MOST_REQUEST or any(len(line) > MOST_REQUEST for line in ended):
+            raise Fault(60)
+        if not piece:
+            return
+        yield from rounds_of(ended)
+
+
+def replied(serving, journal, lines):
+    """The replies of a round, once its lines are on the disk."""
+    both = [serving.reply(line) for line in lines]
+    with failing_by(78):
+        journal.append([line for line, (_, brings) in zip(lines, both) if brings])
+    return b"".join(reply for reply, _ in both)
+
+
+def life(words):
+    """Serves a site until the input ends."""
+    command, *words = words or [""]
+    words = exchange.plain(words)
+    if command != "serve" or len(words) != 3:
+        raise Fault(64)
+    group = exchange.site_in(words[1])
+    own = exchange.site_in(words[0], group)
+    with failing_by(78):
+        journal = Journal(words[2], header(own, group))
+    serving = Serving(own, group)
+    for line in journal.lines:
+        if not is_question(line):
+            serving.reply(line)
+    written(serving.ready())
+    for lines in requests():
+        written(replied(serving, journal, lines))
+
+
+def main():
+    try:
+        life(sys.argv[1:])
+    except Fault as fault:
+        with contextlib.suppress(OSError):
+            exchange.write(2, f"fault {fault}\n")
+        sys.exit(2)
+
+
+if __name__ == "__main__":
+    main()

@@ -1,0 +1,171 @@
+"""serve_streams.py: made-up streams of requests get the replies that the definitions say, and leave the journal that they say.
+
+Each of 200 streams goes to one site of a small group, in writes that are cut anywhere. There are messages that confirm, recall and
+contradict each other, in any form, refused lines and lists, blank lines, repeats, deltas of peers, of the site itself and of nobody, and
+all questions, also wrong ones. After a stream the site starts again on its journal, and gets another stream. tests/oracle/serve.py has
+each reply to the byte, but for `? changes`, which tests/embed/model.py judges, and the bytes of the journal.
+"""
+import collections, concurrent.futures, os, pathlib, random, re, tempfile
+from tests import harness
+from tests.embed import model
+from tests.oracle import exchange, serve
+from tests.oracle.status import read_message
+from tests.property import cases
+from tests.property.messages import BANKS, Pool, shuffled
+from tests.property.worlds import refused_list, refused_text
+from tests.serve.serving import Ended, Process, delta_line, replies_in, restored
+from tests.serve.streams import Requests
+
+MANY, LIVES, MOST_REQUESTS = 200, 3, 80
+DAYS = ["2024-05-02", "2024-05-03", "2024-5-2"]
+BANKS_ASKED, TRANSFERS_ASKED = [*BANKS, "NOBODYXX", "bankdeff"], ["T1", "T2", "T9", "T 1", "/T"]
+SHARES = {"message": 40, "repeat": 6, "refused_line": 5, "refused_recall": 2, "blank": 3, "delta": 8, "any_delta": 6, "damaged": 2,
+          "question": 8, "one_question": 8, "report": 3, "changes": 4, "wrong_question": 3}
+QUESTIONS = [name.decode() for name in serve.CALLS]
+TO_MEET = ["TAKEN", "REPEAT", "blank", "ACCEPTED 0", "ACCEPTED", "form 1", *(f"REFUSED {number}" for number in [
+    31, 32, 33, 34, 35, 36, 37, 38, 41, 42, 43, 44, 45, 46, 48, 56, 64, 72, "73 1", "73 2"]), *(f"? {name}" for name in QUESTIONS),
+    "changes after changes"]
+
+
+class Stream(Requests):
+    """Requests of all kinds to one site."""
+
+    def __init__(self, r, own, group):
+        super().__init__(r, own, group, SHARES)
+        self.own, self.pool, self.lines = own, Pool(r), []
+        self.messages = [self.pool.message() for _ in range(r.randint(5, 50))]
+
+    def text(self):
+        return shuffled(self.r, self.r.choice(self.messages))
+
+    def message(self):
+        return self.around(self.text())
+
+    def refused_line(self):
+        draw = self.r.random()
+        return super().refused() if draw < 0.4 else refused_text(self.r, self.r.choice(self.messages)) or b"foo"
+
+    def refused_recall(self):
+        return shuffled(self.r, refused_list(self.r, self.messages))
+
+    def delta(self):
+        return super().delta() if self.peers else self.any_delta()
+
+    def any_delta(self):
+        """A delta of any origins, the site itself and one above the group too."""
+        r, runs = self.r, []
+        for origin in sorted(r.sample(range(1, self.group + 2), r.randint(0, 2))):
+            messages = [read_message(self.text()) for _ in range(r.randint(1, 3))]
+            runs.append(exchange.Run(origin, r.choice([1, 1, 2, 3, 5]), messages))
+        return delta_line(exchange.delta_text(runs).encode())
+
+    def damaged(self):
+        line = self.any_delta() if self.r.random() < 0.5 else self.delta()
+        place = self.r.randrange(6, len(line))
+        return line[:place] + self.r.choice([b"", b"0", b"1", b"\t", b"\r", b"\xff"]) + line[place + self.r.choice([0, 1]):]
+
+    def one_question(self):
+        r = self.r
+        bank, transfer = r.choice(BANKS_ASKED), r.choice([*self.pool.transfers, *TRANSFERS_ASKED])
+        return r.choice([f"? transfer {bank} {transfer}", f"? messages {bank} {transfer}", f"? bank {bank}"]).encode()
+
+    def report(self):
+        r = self.r
+        rows = [[r.choice(BANKS), r.choice(self.pool.transfers), r.choice([*self.pool.amounts, "7"]), r.choice(model.WORDS)]
+                for _ in range(r.randint(0, 5))]
+        if rows and r.random() < 0.2:
+            r.choice(rows)[r.randrange(4)] = r.choice(["", "x"])
+        header = [model.HEADER] if r.random() < 0.9 else []
+        text = "\t".join(",".join(row) for row in header + rows) + r.choice(["", "\t"])
+        return f"? report {r.choice(BANKS_ASKED)} {r.choice(DAYS)} {text}".encode()
+
+    def changes(self):
+        return b"? changes"
+
+
+class Differs(Exception):
+    """The program did not reply as it must."""
+
+
+def kind_of(line, reply):
+    """What a reply meets."""
+    if line.startswith(b"? ") and reply.startswith(b"TEXT"):
+        return line.split(b" ")[0].decode() + " " + line.split(b" ")[1].decode()
+    text = reply[:-1].decode(errors="replace")
+    if text in ("", "ACCEPTED 0"):
+        return text or "blank"
+    number = re.match(r"REFUSED (73 \d|\d+)", text)
+    return number.group() if number else text.partition(" ")[0]
+
+
+def is_right(line, wanted, found, before, now):
+    """Whether a reply is right: to the byte, or as the changes between what was held when they were asked for before, and now."""
+    if line != b"? changes":
+        return found == wanted
+    head, _, text = found.partition(b"\n")
+    return head == b"TEXT %d" % (len(text) - 1) and model.is_right_about_changes(before, now, text[:-1])
+
+
+def life(r, program, path, stream, site, met):
+    """One life of a site, with a stream of requests."""
+    own, group = site
+    lines = serve.kept_in(path.read_bytes())[0] if path.exists() else [serve.header(own, group)]
+    serving = restored(own, group, lines[1:])
+    requests = [stream.made() for _ in range(r.randint(1, MOST_REQUESTS))]
+    data = b"".join(line + b"\n" for line in requests) + r.choice([b"", b"", b"? vector", b"{", b" "])
+    most = r.choice([3, 40, 400, 4000, 1 << 16])
+    with Process(program, own, group, path) as process:
+        process.send(data)
+        while process.unsent and process.is_open:
+            process.step(0.1, r.randint(1, most))
+        answer = process.end()
+    replies, rest = replies_in(answer.text)
+    if (replies[:1], rest, answer.errors, answer.status, len(replies)) != ([serving.ready()], b"", b"", 0, len(requests) + 1):
+        raise Differs(f"{len(requests)} requests, {len(replies)} replies, {replies[:1]}, {rest!r}, {answer.errors}, {answer.status}")
+    for line, found in zip(requests, replies[1:]):
+        before = serving.handle.watched
+        wanted, brings = serving.reply(line)
+        if not is_right(line, wanted, found, before, frozenset(serving.site.messages)):
+            raise Differs(f"{line!r}\n wanted {wanted!r}\n found {found!r}")
+        lines += [line] if brings else []
+        met[kind_of(line, wanted)] += 1
+        met["form 1"] += line.startswith(b"delta 1") and wanted.startswith(b"ACCEPTED")
+        met["changes after changes"] += line == b"? changes" and before is not None and wanted != b"TEXT 0\n\n"
+    if path.read_bytes() != serve.gated(lines):
+        raise Differs("the journal has other bytes")
+
+
+def tried(program, seed, number):
+    """What a stream met, and what differs in it or None."""
+    r, met = random.Random(f"serve {seed} {number}"), collections.Counter()
+    group = r.randint(1, 4)
+    site = r.randint(1, group), group
+    with tempfile.TemporaryDirectory() as folder:
+        try:
+            stream = Stream(r, *site)
+            for _ in range(LIVES):
+                life(r, program, pathlib.Path(folder, "journal"), stream, site, met)
+        except (Differs, Ended) as differs:
+            return met, f"stream {number}: DIFFERS: {differs}"[:3000]
+    return met, None
+
+
+def main():
+    asked, program = cases.asked(__doc__), harness.program()
+    met, failed, many = dict.fromkeys(TO_MEET, 0), 0, 0
+    with concurrent.futures.ProcessPoolExecutor(len(os.sched_getaffinity(0))) as pool:
+        numbers = range(1, asked.many(MANY) + 1)
+        for found, differs in pool.map(tried, [program] * len(numbers), [asked.seed] * len(numbers), numbers):
+            many += 1
+            failed += differs is not None
+            for thing, times in found.items():
+                met[thing] = met.get(thing, 0) + times
+            if differs:
+                print(differs, flush=True)
+    print(f"{many} streams: " + ", ".join(f"{thing} {met[thing]}" for thing in TO_MEET))
+    missed = [thing for thing in TO_MEET if not met[thing]] if many >= MANY else []
+    harness.end(many - failed, failed + len(missed))
+
+
+if __name__ == "__main__":
+    main()

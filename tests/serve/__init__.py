@@ -1,0 +1,1 @@
+"""A site that lasts: the command `serve`, its journal and its crashes."""

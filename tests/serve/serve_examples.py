@@ -1,0 +1,133 @@
+"""serve_examples.py: `serve` does what its page says of seven short lives, and what examples/serve says of two, byte for byte.
+
+The messages of the seven are an instruction of one euro and its confirmation. What has to come is written here by hand. A file that a
+crash leaves between its two syncs is made by hand too. In examples/serve the lives of a morning and of an evening are on one journal.
+NAME.requests is standard input, NAME.replies what must be written, and `journal` the file after both.
+"""
+import pathlib, tempfile
+from tests import harness
+from tests.golden.made_inputs import REPORT_WRITTEN, TRANSFER_WRITTEN
+from tests.harness import EXAMPLES, reported
+from tests.inputs import confirmation, instruction
+from tests.serve.serving import Process, session
+
+A8, A2 = instruction(1).rstrip("\n").encode(), confirmation(1).rstrip("\n").encode()
+WRITTEN = (TRANSFER_WRITTEN + REPORT_WRITTEN).encode()
+HEAD = b" site 1 2\n"
+WHOLE = HEAD + b" " + A8 + b"\n " + A2 + b"\n\t"
+CUT = b"delta 2\norigin 1 1 2\n" + WRITTEN + b"end 2\n"
+CUT_LINE = CUT[:-1].replace(b"\n", b"\t")
+KILLS = 10
+
+
+def served(program, path, data, text, journal=None, site=(1, 2)):
+    """Whether a life on a journal writes this text, ends well and leaves this journal."""
+    found = session(program, *site, path, data)
+    return found == (text, b"", 0) and journal in (None, path.read_bytes())
+
+
+def first(program, folder):
+    """A new journal, and each kind of reply."""
+    path = folder / "first"
+    data = b"\n".join([A8, A8, b"{}", A2, b"? vector", b"", b""])
+    text = b"READY -\nTAKEN 1\nREPEAT\nREFUSED 33\nTAKEN 2\nTEXT 3\n1:2\n\n"
+    yield "1: a new journal", served(program, path, data, text, WHOLE)
+    yield "1: the same journal again", served(program, path, b"? vector\n", b"READY 1:2\nTEXT 3\n1:2\n", WHOLE)
+
+
+def second(program, folder):
+    """The process is killed after each reply, and again before a reply."""
+    for replied in range(5):
+        path = folder / f"second{replied}"
+        with Process(program, 1, 2, path) as process:
+            process.reply()
+            for line in [A8, A8, b"{}", A2][:replied]:
+                process.ask(line)
+            process.kill()
+        ready = [b"READY -\n", *[b"READY 1:1\n"] * 3, b"READY 1:2\n"][replied]
+        yield f"2: killed after {replied} replies", served(program, path, b"", ready)
+    found = set()
+    for number in range(KILLS):
+        path = folder / f"killed{number}"
+        with Process(program, 1, 2, path) as process:
+            process.reply()
+            process.ask(A8)
+            process.send(A2 + b"\n")
+            process.step(0.1)
+            replies = process.kill()
+        ready = session(program, 1, 2, path).text
+        found.add(ready == b"READY 1:2\n" or ready == b"READY 1:1\n" and not replies)
+    yield "2: killed before the reply", found == {True}
+
+
+def third(program, folder):
+    """What site 1 cuts is given to site 2, again, and site 2 is asked."""
+    one, two = folder / "third1", folder / "third2"
+    one.write_bytes(WHOLE)
+    yield "3: a cut", served(program, one, b"? cut -\n", b"READY 1:2\nTEXT %d\n%s\n" % (len(CUT), CUT), WHOLE)
+    kept = b" site 2 2\n " + CUT_LINE + b"\n\t"
+    yield "3: it is accepted", served(program, two, CUT_LINE + b"\n", b"READY -\nACCEPTED 2\n", kept, (2, 2))
+    status = b"T|BANKDEFFXXX|T1|ACCEPTED\n"
+    data, text = CUT_LINE + b"\n? status\n", b"READY 1:2\nACCEPTED 0\nTEXT %d\n%s\n" % (len(status), status)
+    yield "3: again, and the status", served(program, two, data, text, kept, (2, 2))
+
+
+def fourth(program, folder):
+    """Deltas that a new site refuses."""
+    early = b"delta 2\torigin 1 2 1\t" + REPORT_WRITTEN.encode()[:-1] + b"\tend 1"
+    text = b"READY -\nREFUSED 41 1 0 2\nREFUSED 45 2\n"
+    yield "4: deltas that are refused", served(program, folder / "fourth", early + b"\ndelta 2\tend 1\n", text, b" site 2 2\n\t", (2, 2))
+
+
+def fifth(program, folder):
+    """Another site's journal, a file of messages, and a journal that another process has."""
+    one, other = folder / "fifth", folder / "lines"
+    one.write_bytes(WHOLE)
+    other.write_bytes(A8 + b"\n" + A2 + b"\n")
+    yield "5: the journal of another site", session(program, 2, 2, one) == (b"", b"fault 76\n", 2) and one.read_bytes() == WHOLE
+    yield "5: the journal of another group", session(program, 1, 3, one) == (b"", b"fault 76\n", 2) and one.read_bytes() == WHOLE
+    yield "5: a file of messages", (
+        session(program, 1, 2, other) == (b"", b"fault 75\n", 2) and other.read_bytes() == A8 + b"\n" + A2 + b"\n")
+    with Process(program, 1, 2, one) as process:
+        ready = process.reply()
+        yield "5: a journal that a process has", (
+            session(program, 1, 2, one) == (b"", b"fault 77\n", 2) and ready == b"READY 1:2\n" and process.ask(A8) == b"REPEAT\n")
+        right = process.end() == (b"", b"", 0)
+    yield "5: it is as it was", right and one.read_bytes() == WHOLE
+
+
+def sixth(program, folder):
+    """A journal that lost its last line, at a hub whose site 2 has it."""
+    path, short = folder / "sixth", HEAD + b" " + A8 + b"\n\t"
+    path.write_bytes(short)
+    yield "6: a journal that lost a line", served(
+        program, path, CUT_LINE + b"\n? vector\n", b"READY 1:1\nREFUSED 43 2\nTEXT 3\n1:1\n", short)
+
+
+def seventh(program, folder):
+    """Two messages in one write, and a crash between the first and the second sync, and after it."""
+    path, batch = folder / "seventh", A8 + b"\n " + A2 + b"\n\t"
+    path.write_bytes(HEAD + b"\t" + batch)
+    yield "7: before the second sync", served(program, path, b"", b"READY -\n", HEAD + b"\t")
+    path.write_bytes(HEAD + b" " + batch)
+    yield "7: after the second sync", served(program, path, b"", b"READY 1:2\n", WHOLE)
+
+
+def shown(program, folder):
+    """The lives of examples/serve: a morning of site 2 of three, and its evening."""
+    path, place = folder / "shown", EXAMPLES / "serve"
+    for name in "morning", "evening":
+        replies = (place / f"{name}.replies").read_bytes()
+        yield f"examples/serve, {name}", served(program, path, (place / f"{name}.requests").read_bytes(), replies, site=(2, 3))
+    yield "examples/serve, the journal", path.read_bytes() == (place / "journal").read_bytes()
+
+
+def main():
+    program = harness.program()
+    with tempfile.TemporaryDirectory() as folder:
+        harness.end_of([reported(name, right) for example in (first, second, third, fourth, fifth, sixth, seventh, shown)
+                        for name, right in example(program, pathlib.Path(folder))])
+
+
+if __name__ == "__main__":
+    main()

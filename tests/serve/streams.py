@@ -1,0 +1,89 @@
+"""streams.py: made-up requests to a site that lasts: messages that meet, repeats, refused lines, deltas of peers, questions."""
+from bench.generate import samples
+from tests import inputs
+from tests.oracle import exchange
+from tests.oracle.status import read_message
+from tests.serve.serving import delta_line
+
+REFUSED = [b"{}", b"foo", b"[]", b'{"MsgNmId":"pacs.008"}', b"\xff", b"delta 3", b"delta 2\tend 1", b"delta ", b"delta", b"site 1 3", b"?"]
+BLANK = [b"", b" ", b"\t", b"\r", b" \t\r"]
+WRONG_QUESTIONS = [b"? ", b"?  ", b"? foo", b"? status now", b"? cut", b"? cut - -", b"? cut 1:x", b"? transfer BANKDEFF", b"? bank",
+                   b"? Vector", b"? vector ", b"? bank x", b"? transfer BANKDEFF /", b"? messages x T1", b"? report BANKDEFF 2024-05-02",
+                   b"? report BANKDEFF 2024-05-02 DbtrAgt", b"? report BANKDEFF 2024-5-2 DbtrAgt", b"? bank BANKDEFF BANKDEFF"]
+REPORT = b"? report BANKDEFF 2024-05-02 DbtrAgt,TxId,Amt,Sts\tBANKDEFF,T1,1.00,ACCEPTED\tBANKDEFF,T2,2.00,PENDING\t"
+SHARES = {"instruction": 50, "confirmation": 22, "contradiction": 3, "repeat": 9, "refused": 6, "blank": 3, "delta": 8, "question": 4,
+          "wrong_question": 1}
+
+
+class Peer:
+    """A peer of the site, with messages of its own, that cuts deltas."""
+
+    def __init__(self, own, group):
+        self.site = exchange.Site(own, group)
+
+    def delta(self, r):
+        """A delta of some of its entries as a line: above a vector, or of a part of them."""
+        for _ in range(r.randint(0, 2)):
+            number = self.site.own * 100_000 + self.site.have(self.site.own) + 1
+            self.site.take(read_message(inputs.instruction(number).encode()))
+        have = self.site.have(self.site.own)
+        runs = self.site.above({self.site.own: r.choice([0, max(0, have - 3), max(0, have - 1), have])})
+        if r.random() < 0.2:
+            entries = [b"entry %d %d %s" % (run.origin, n, exchange.written(message).encode())
+                       for run in runs for n, message in enumerate(run.messages, run.first)]
+            return b"\t".join([b"delta 1", *entries, b"end %d" % len(entries)])
+        return delta_line(exchange.delta_text(runs).encode())
+
+
+class Requests:
+    """Requests, made up one after another. The peers are all other sites of the group."""
+
+    def __init__(self, r, own, group, shares=None):
+        self.r, self.group, self.next, self.sent = r, group, 1, [b"foo"]
+        self.peers = [Peer(site, group) for site in range(1, group + 1) if site != own]
+        self.shares = shares or SHARES
+
+    def made(self):
+        """A request, without its line feed."""
+        line = getattr(self, self.r.choices(list(self.shares), self.shares.values())[0])()
+        self.sent.append(line)
+        return line
+
+    def around(self, line):
+        """The line with blanks around it, sometimes."""
+        before, after = self.r.choices([(b"", b""), (b" ", b"\r"), (b"\t", b"")], [8, 1, 1])[0]
+        return before + line + after
+
+    def instruction(self):
+        self.next += 1
+        return self.around(inputs.instruction(self.next - 1).rstrip("\n").encode())
+
+    def confirmation(self):
+        return self.around(inputs.confirmation(self.r.randint(max(1, self.next - 20), self.next)).rstrip("\n").encode())
+
+    def contradiction(self):
+        number = self.r.randint(1, self.next)
+        amount = f"{self.r.randint(2, 9)}.00"
+        return samples.line(samples.instruction(MsgId=f"M{number}", TxId=f"T{number}", IntrBkSttlmAmt=amount)).rstrip("\n").encode()
+
+    def repeat(self):
+        return self.r.choice(self.sent[-200:])
+
+    def refused(self):
+        return self.r.choice(REFUSED)
+
+    def blank(self):
+        return self.r.choice(BLANK)
+
+    def delta(self):
+        return self.r.choice(self.peers).delta(self.r)
+
+    def wrong_question(self):
+        return self.r.choice(WRONG_QUESTIONS)
+
+    def question(self):
+        number = self.r.randint(1, self.next)
+        origins = sorted(self.r.sample(range(1, self.group + 2), self.r.randint(0, 2)))
+        have = ",".join(f"{origin}:{self.r.randint(0, self.next)}" for origin in origins) or "-"
+        return self.r.choice([b"? vector", b"? cut %s" % have.encode(), b"? status", b"? totals", b"? archive", b"? contradictions",
+                              b"? transfer BANKDEFF T%d" % number, b"? messages BANKDEFFXXX T%d" % number, b"? bank BANQFRPP", REPORT])
