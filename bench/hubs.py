@@ -1,21 +1,18 @@
-"""bench/hubs.py [--postgres] [--messages N] [--large N]: measures sites of examples/hub on this machine, clients and all.
+"""bench/hubs.py [--messages N] [--large N]: measures sites of services/hub on this machine, clients and all.
 
 - messages a second that are acknowledged at one site, and at three sites that exchange, for posts of 1, 10 and 100 messages by 4 clients;
 - how long it takes until a peer shows a message: the median and the 99th of 100, without load and under load;
 - a site with a journal of a million messages: its start, its memory, and its first answer.
 
-With 0 messages, or a journal of 0, that part is left out. NILUPPANG_LIBRARY names the library.
+With 0 messages, or a journal of 0, that part is left out. The program is that of the gate, or the one that SCT_SITES names.
 """
-import argparse, contextlib, http.client, itertools, multiprocessing, os, pathlib, sqlite3, statistics, subprocess, sys, tempfile
-import threading, time
+import argparse, http.client, itertools, multiprocessing, os, pathlib, statistics, sys, tempfile, threading, time
 sys.path.insert(0, str(pathlib.Path(__file__).resolve().parents[1]))
 from bench.generate import messages
-from tests import inputs
+from tests import harness, inputs
 from tests.hub import sites
 
 CLIENTS, SAMPLES = 4, 300
-TABLES = ("CREATE TABLE site (number INTEGER NOT NULL, sites INTEGER NOT NULL);"
-          "CREATE TABLE own (number INTEGER PRIMARY KEY, line BLOB NOT NULL)")
 
 
 def posted(port, posts):
@@ -64,17 +61,18 @@ def delays(port, peer, first):
 
 
 def memory(process):
-    """The resident memory of a process, in megabytes."""
-    return next(int(line.split()[1]) for line in open(f"/proc/{process}/status") if line.startswith("VmRSS")) / 1000
+    """The resident memory of a site and its process, in megabytes."""
+    return sum(next(int(line.split()[1]) for line in open(f"/proc/{one}/status") if line.startswith("VmRSS"))
+               for one in [process, *(its for its, _ in sites.below(process))]) / 1000
 
 
-def three_sites(python, library, more, many):
+def three_sites(python, program, many):
     lines = [line.encode() for line in messages.lines(many)]
     for running in 1, 3:
         for size, share in (1, 20), (10, 4), (100, 1):
             port = sites.free_ports(3)
-            with tempfile.TemporaryDirectory() as folder, sites.Hub(python, library, f"{folder}/hub", f"--port={port}", "--group=64",
-                                                                    f"--sites={running}", *more()):
+            with tempfile.TemporaryDirectory() as folder, sites.Hub(python, program, f"{folder}/hub", f"--port={port}", "--group=64",
+                                                                    f"--sites={running}"):
                 ports = [port + site for site in range(running)]
                 sites.until(lambda: all(map(sites.is_well, ports)))
                 a_second, rest = rate(ports, lines[:many // share], size)
@@ -106,25 +104,13 @@ def background(ports, lines, ends):
         posted(port, [b"".join(post)])
 
 
-def large_sqlite(folder, many):
+def large_journal(folder, many):
     """Makes a journal of a number of messages."""
     pathlib.Path(folder).mkdir()
-    with contextlib.closing(sqlite3.connect(f"{folder}/site1.db")) as journal:
-        journal.execute("PRAGMA journal_mode = WAL")
-        journal.executescript(TABLES)
-        journal.execute("INSERT INTO site VALUES (1, 64)")
-        rows = ((number, line[:-1].encode()) for number, line in enumerate(messages.lines(many), 1))
-        journal.executemany("INSERT INTO own VALUES (?, ?)", rows)
-        journal.commit()
-
-
-def large_postgres(words, many):
-    """Fills the journal in a schema that a site has made."""
-    connection = "import psycopg2, sys\nc = psycopg2.connect(sys.argv[1])\n"
-    program = connection + "c.cursor().copy_expert('COPY niluppang_site_1.own FROM STDIN', sys.stdin.buffer)\nc.commit()"
-    with subprocess.Popen([sites.interpreter(), "-c", program, words], stdin=subprocess.PIPE) as copy:
-        for number, line in enumerate(messages.lines(many), 1):
-            copy.stdin.write(f"{number}\t\\\\x{line[:-1].encode().hex()}\n".encode())
+    with open(f"{folder}/site1.journal", "wb") as journal:
+        journal.write(b" site 1 64\n")
+        journal.writelines(b" " + line.encode() for line in messages.lines(many))
+        journal.write(b"\t")
 
 
 def large_site(hub, port, many):
@@ -143,41 +129,26 @@ def large_site(hub, port, many):
           f" {1000 * (time.monotonic() - began):.1f} ms; it has {memory(hub.process.pid):.0f} MB", flush=True)
 
 
-def large(python, library, words, many):
+def large(python, program, many):
     with tempfile.TemporaryDirectory() as folder:
         port = sites.free_ports(1)
-        postgres = [f"--postgres={words}"] if words else []
-        if not words:
-            large_sqlite(f"{folder}/hub", many)
-        with sites.Hub(python, library, f"{folder}/hub", "--site=1", f"--port={port}", *postgres) as hub:
-            if words:
-                sites.until(lambda: sites.is_well(port))
+        large_journal(f"{folder}/hub", many)
+        with sites.Hub(python, program, f"{folder}/hub", "--site=1", f"--port={port}") as hub:
             hub.kill()
-            if words:
-                large_postgres(words, many)
             large_site(hub, port, many)
-
-
-def new_database(stack):
-    """The word for a PostgreSQL database of its own."""
-    return [f"--postgres={stack.enter_context(sites.postgres())[0]}"]
 
 
 def main():
     it = argparse.ArgumentParser(description=__doc__, formatter_class=argparse.RawDescriptionHelpFormatter)
-    it.add_argument("--postgres", action="store_true")
     it.add_argument("--messages", type=int, default=40_000)
     it.add_argument("--large", type=int, default=1_000_000)
     asked = it.parse_args()
-    python = sites.interpreter()
+    python, program = sites.interpreter(), harness.program()
     print("load averages of the machine before:", *os.getloadavg(), flush=True)
-    with sites.library() as library:
-        if asked.messages:
-            with contextlib.ExitStack() as stack:
-                three_sites(python, library, lambda: new_database(stack) if asked.postgres else [], asked.messages)
-        if asked.large:
-            with sites.postgres() if asked.postgres else contextlib.nullcontext((None, None)) as (words, _):
-                large(python, library, words, asked.large)
+    if asked.messages:
+        three_sites(python, program, asked.messages)
+    if asked.large:
+        large(python, program, asked.large)
 
 
 if __name__ == "__main__":

@@ -1,7 +1,8 @@
 """harness.py: what the checks share: the paths of programs, a run and its answer, the comparison with the right one, the last line.
 
 The program is the one that `rt run` and the gate leave in crates/sct_sites, and the test driver the one in crates/sct_test_driver.
-The variables SCT_SITES and SCT_TEST_DRIVER may name other programs. A run may be limited: in processors, in memory, in the bytes that
+The variables SCT_SITES and SCT_TEST_DRIVER may name other programs. Checks of what stands around the program use a stand-in of the
+definitions where the program is not there, and a line says so. A run may be limited: in processors, in memory, in the bytes that
 it writes to a file, and in seconds. One of its allocations may be refused.
 """
 import collections, os, pathlib, resource, shutil, struct, subprocess, sys, tempfile
@@ -10,6 +11,8 @@ from concurrent.futures import ThreadPoolExecutor
 TOP = pathlib.Path(__file__).resolve().parents[1]
 CRATES = TOP / "crates"
 EXAMPLES = TOP / "examples"
+SERVICES = TOP / "services"
+STAND_IN = TOP / "tests" / "standin" / "sct_sites"
 PROCESSORS = [1, 2, 4, 8]
 COUNTS = struct.Struct("@LLL")
 SECONDS = 20  # a run with an allocation refused that lasts longer is stopped, and has failed
@@ -44,6 +47,17 @@ def program(crate="sct_sites"):
     """The program of a crate: the one that a variable names, else the one that `rt run` and the gate leave."""
     path = os.environ.get(crate.upper()) or CRATES / crate / "out" / crate
     return there(path, "program", f"`rt run` in crates/{crate}")
+
+
+def program_or_stand_in():
+    """The program, or its stand-in of the definitions where nobody named one and none is built. A line says which it is."""
+    path = os.environ.get("SCT_SITES") or CRATES / "sct_sites" / "out" / "sct_sites"
+    if os.environ.get("SCT_SITES") or os.path.isfile(path):
+        path = program()
+        print(f"program: {path}", flush=True)
+        return path
+    print(f"program: the stand-in tests/standin/sct_sites of the definitions, since {path} is not built", flush=True)
+    return str(STAND_IN)
 
 
 def crate_tests(crate):

@@ -6,11 +6,15 @@ status that it ended with. A check that ends with another status than 0, or prin
 is 'N passed, M failed' of all checks. The exit status is 0 if none has failed. harness.py has the variables that name other programs
 than those of the gate.
 
---seed, --cases and --long are handed to the property checks (tests/property/cases.py) and to c_calls. A check is skipped, and has not
-passed, if the machine lacks a Debian package that it needs. Some skip a part, or all if the library or the page is not made: a line that
-begins with 'skipped' says so. --install installs all such packages first.
+--seed, --cases and --long are handed to the property checks (tests/property/cases.py), and to c_calls, serve_lives and serve_hub. A check
+is skipped, and has not passed, if the machine lacks a Debian package that it needs. Some skip a part, or all if the library or the page
+is not made: a line that begins with 'skipped' says so. --install installs all such packages first. With --no-skips what is skipped has
+failed.
+
+A line that begins with 'program' says on what a check of the hub, of parts or of the desk ran: on the program, or where that is not built on
+a stand-in of the definitions. These checks never begin a proof. A check that runs for an hour is stopped, and has failed.
 """
-import argparse, os, pathlib, re, shutil, subprocess, sys, time
+import argparse, contextlib, os, pathlib, re, shutil, signal, subprocess, sys, time
 if sys.version_info < (3, 8):
     sys.exit("run: this needs Python 3.8 or later")
 sys.path.insert(0, str(pathlib.Path(__file__).resolve().parents[1]))
@@ -51,11 +55,21 @@ CHECKS = {
         "memory": "runs the program in too little memory",
         "allocations": "refuses each allocation of the program",
         "group_memory": "compares what sites allocate in a small group and in a large one",
+        "serve_allocations": "refuses each allocation of a site that lasts",
+    },
+    "serve": {
+        "serve_examples": "runs the worked examples of a site that lasts",
+        "serve_lives": "kills a site 200 times on one journal, cuts its last batch after each byte, and stops it at each call",
+        "serve_troubles": "brings a site that lasts into trouble: files, disks, readers, requests",
+        "serve_hub": "kills three sites that last, while deltas are late, lost, repeated and in any order",
     },
     "hub": {
-        "kills": "kills three sites of examples/hub while clients post",
-        "troubles": "brings sites of examples/hub into trouble",
-        "postgres": "does both with journals in PostgreSQL",
+        "units": "tries parts of services/hub by themselves",
+        "kills": "kills three sites of services/hub, and their processes, while clients post",
+        "troubles": "posts examples at sites of services/hub, and fills their disks",
+        "journals": "takes lines from journals of sites, copies them, and makes them of older ones",
+        "limits": "asks sites without a right, without an end, and more than they take",
+        "peers": "gives sites peers that are odd, slow, or an hour ahead",
         "page": "uses the page of a site in a browser",
         "java": "runs the Java package on the examples",
     },
@@ -66,6 +80,7 @@ CHECKS = {
     "property": {
         "made_up": "compares made-up sets, worlds and groups with the definitions",
         "hubs": "compares made-up hubs of sites that exchange files with the definitions",
+        "serve_streams": "compares made-up streams of requests to a site that lasts with the definitions",
     },
     "embed": {
         "c_answers": "calls the library from C on the examples, for each refusal, at sites 1 to 1024 and in 256 KB of stack",
@@ -78,23 +93,29 @@ CHECKS = {
     },
     "page": {
         "browser": "compares the page in Chromium with the program, by its files and by its keys, and looks for connections",
+        "worker": "has the page's worker read rows of the texts in Node.js",
         "shipped": "looks for the page and its sum in the release",
     },
 }
 # the Debian packages that a check needs beside Python and the toolchain
 PACKAGES = {name: ["gcc"] for name in ["archive_growths", "view_growths", "desk_growths", "desk_pending", "forms", "allocations",
-                                       "group_memory"]}
+                                       "group_memory", "serve_allocations", "serve_lives"]}
 PACKAGES.update({name: ["gcc"] for name in CHECKS["embed"]})
-PACKAGES["kills"] = PACKAGES["troubles"] = ["python3-aiohttp"]
-PACKAGES["java"] = ["libjna-java", "openjdk-17-jdk-headless"]
-PACKAGES["postgres"], PACKAGES["page"] = ["python3-aiohttp", "python3-psycopg2", "postgresql"], ["python3-aiohttp", "chromium"]
-PACKAGES["parts"] = ["python3-dask", "python3-distributed"]
-PACKAGES["browser"], PACKAGES["shipped"] = ["chromium"], ["gcc"]
+PACKAGES.update({name: ["python3-aiohttp"] for name in ["kills", "troubles", "journals", "peers"]})
+PACKAGES["release"] = ["gcc", "python3-aiohttp"]
+PACKAGES["limits"] = ["python3-aiohttp", "curl", "openssl"]
+PACKAGES["java"] = ["libjna-java", "openjdk-17-jdk-headless", "gcc"]
+PACKAGES["page"] = ["python3-aiohttp", "chromium"]
+PACKAGES["parts"] = ["python3-dask", "python3-distributed", "python3-cryptography", "openssl"]
+PACKAGES["browser"], PACKAGES["shipped"], PACKAGES["worker"] = ["chromium"], ["gcc"], ["nodejs"]
 # what makes what a check needs, if it can in some minutes: it returns why it cannot
 MAKES = {"browser": page.make, "shipped": page.make}
 # the Debian packages without which a part of a check is skipped, which the check says by itself
-HELPFUL = {"c_calls": ["valgrind"], "c_threads": ["valgrind"], "python_package": ["python3-pytest"], "release": ["pkg-config"]}
-SEEDED = ["c_calls"]  # checks that make up cases as the property checks do
+HELPFUL = {"c_calls": ["valgrind"], "c_threads": ["valgrind"], "c_examples": ["cargo", "clang", "g++"], "release": ["pkg-config"],
+           "python_package": ["mypy", "python3-pip", "python3-pytest", "python3-setuptools", "python3-wheel"]}
+SECONDS = 3600  # a check that runs for longer is stopped
+SKIPPED = "skipped: "
+SEEDED = ["c_calls", "serve_lives", "serve_hub"]  # checks that make up cases as the property checks do
 VARIABLES = ["SCT_SITES", "SCT_TEST_DRIVER", "SCT_C", "NILUPPANG_LIBRARY"]
 
 
@@ -103,6 +124,7 @@ def options():
     parser = argparse.ArgumentParser(description=__doc__, formatter_class=argparse.RawDescriptionHelpFormatter)
     cases.add_options(parser)
     parser.add_argument("--install", action="store_true", help="install the Debian packages that the checks need")
+    parser.add_argument("--no-skips", action="store_true", help="what is skipped has failed")
     parser.add_argument("words", nargs="*", metavar="WORD")
     return parser.parse_intermixed_args()
 
@@ -133,35 +155,55 @@ def install(packages):
             harness.stop(f"apt-get {' '.join(words)} failed")
 
 
+def end_all(group):
+    """Ends a check and all that it started."""
+    with contextlib.suppress(ProcessLookupError):
+        os.killpg(group, signal.SIGKILL)
+
+
 def ran(module, words):
     """How much of a check passed, how much failed, and the lines that it printed, with how it ended."""
     paths = {name: os.path.abspath(os.environ[name]) for name in VARIABLES if os.environ.get(name)}
-    done = subprocess.run([sys.executable, "-u", "-m", module, *words], cwd=harness.TOP, env={**os.environ, **paths},
-                          stdout=subprocess.PIPE, stderr=subprocess.STDOUT)
-    text = done.stdout.decode(errors="replace")
+    with subprocess.Popen([sys.executable, "-u", "-m", module, *words], cwd=harness.TOP, env={**os.environ, **paths}, start_new_session=True,
+                          stdout=subprocess.PIPE, stderr=subprocess.STDOUT) as process:
+        try:
+            text, status = process.communicate(timeout=SECONDS)[0], process.returncode
+        except subprocess.TimeoutExpired:
+            end_all(process.pid)
+            text, status = process.communicate()[0], f"none in {SECONDS} seconds"
+        finally:
+            end_all(process.pid)
+    text = text.decode(errors="replace")
     numbers = re.search(r"^(\d+) passed, (\d+) failed\n\Z", text, re.M)
     passed, failed = map(int, numbers.groups()) if numbers else (0, 0)
-    if done.returncode or not numbers:
+    if status or not numbers:
         failed = max(failed, 1)
-    return passed, failed, text.splitlines() + [f"ended with status {done.returncode}"]
+    return passed, failed, text.splitlines() + [f"ended with status {status}"]
 
 
-def checked(name, kind, does, made_up):
+def skipped(why, is_failed):
+    """Prints why a check is skipped. What it comes to is a failure if nothing may be skipped."""
+    print(f"{SKIPPED}{why}", flush=True)
+    return 0, int(is_failed)
+
+
+def checked(name, kind, does, made_up, no_skips):
     """How much of a check passed and how much failed, which is printed too."""
     words = made_up.words() if kind == "property" or name in SEEDED else []
     print(f"{name} {does}" + (f", with {' '.join(words)}: " if words else ": "), end="", flush=True)
     missing = lacking(PACKAGES.get(name, []))
     if missing:
-        print(f"skipped: the machine lacks packages: apt-get install {' '.join(missing)}", flush=True)
-        return 0, 0
+        return skipped(f"the machine lacks packages: apt-get install {' '.join(missing)}", no_skips)
     began = time.monotonic()
     why = MAKES[name]() if name in MAKES else None
     if why:
-        print(f"skipped: the page is not made: {why}", flush=True)
-        return 0, 0
+        return skipped(f"the page is not made: {why}", no_skips)
     passed, failed, lines = ran(f"tests.{kind}.{name}", words)
+    many = sum(line.startswith(SKIPPED) for line in lines)
+    if no_skips and many:
+        failed += many
     print(f"{passed} passed, {failed} failed, {time.monotonic() - began:.0f} seconds", flush=True)
-    for line in lines if failed else [line for line in lines if line.startswith("skipped: ")]:
+    for line in lines if failed else [line for line in lines if line.startswith((SKIPPED, "program: "))]:
         print(f"  {line}", flush=True)
     return passed, failed
 
@@ -172,7 +214,7 @@ def main():
     packages = lacking(sorted({package for name, _, _ in chosen for package in PACKAGES.get(name, []) + HELPFUL.get(name, [])}))
     if asked.install and packages:
         install(packages)
-    harness.end_with([checked(*one, cases.chosen(asked)) for one in chosen])
+    harness.end_with([checked(*one, cases.chosen(asked), asked.no_skips) for one in chosen])
 
 
 if __name__ == "__main__":

@@ -22,12 +22,12 @@ class Missing(Exception):
     """Something is not there that the libraries are made of."""
 
 
-def static_library():
-    """The static library of sct_c."""
+def static_library(proves=True):
+    """The static library of sct_c. If it may not prove anything, it is there or is made of what `rt ci` kept."""
     named = os.environ.get("SCT_C")
     if named and not pathlib.Path(named).is_file():
         raise Missing(f"there is no static library {named}, which SCT_C names")
-    why = None if named else kept.make()
+    why = None if named else kept.make(proves)
     if why:
         raise Missing(f"the static library is not made: {why}")
     return pathlib.Path(named or kept.BUILT)
@@ -49,21 +49,21 @@ def allocation():
     return path
 
 
-def check_there():
+def check_there(proves=True):
     """Fails with what is missing."""
     for name in NEEDED:
         if shutil.which(name) is None:
             raise Missing(f"there is no command {name} on this machine: apt-get install gcc")
-    return static_library(), allocation()
+    return static_library(proves), allocation()
 
 
 def run(*words, folder):
     subprocess.run(list(map(str, words)), check=True, cwd=folder)
 
 
-def make_archive(folder):
+def make_archive(folder, proves=True):
     """Makes libniluppang.a in a folder."""
-    library, heap = check_there()
+    library, heap = check_there(proves)
     with tempfile.TemporaryDirectory() as place:
         run("ld", "-r", "-z", "noexecstack", "-o", "niluppang.o", "--whole-archive", library.resolve(), heap, folder=place)
         run("objcopy", "--enable-deterministic-archives", "--strip-debug", "--wildcard", "--keep-global-symbol=sct_*", "niluppang.o",

@@ -9,6 +9,8 @@ the list of the release. The archive has one folder of its name:
     lib/, include/                   the libraries, the C header, and niluppang.pc for pkg-config
     share/man/, share/doc/           the manual page; all pages and examples, as they are in the repository; and BUILD
     share/niluppang/python/          the Python package
+    share/niluppang/java/            the Java package
+    share/niluppang/services/        the sites of a hub as a service, and answers on parts of an input
     share/niluppang/niluppang.html   the page
     SHA256SUMS                       the sums of all other files: `sha256sum -c SHA256SUMS`
 
@@ -109,6 +111,10 @@ def files(folder, html):
         found[path.replace("bindings/python/", python)] = read(path)
     for path in below("examples"):
         found[doc + path] = read(path)
+    for path in below("bindings/java"):
+        found[path.replace("bindings/", "share/niluppang/")] = read(path)
+    for path in below("services"):
+        found["share/niluppang/" + path] = read(path)
     return {**found, SUMS: sums_of(found)}
 
 

@@ -95,7 +95,7 @@ const FIELDS = {
   findings: (line) => { const [, bank, transfer, finding, ...more] = line.split("|"); return [bank, transfer, finding, more.join(" ")]; },
   recalls: (line) => line.split("|").slice(1),
   totals: (line) => line.split("|"),
-  refused: (line) => { const [, number, code, rest] = /^line (\d+): (\d+) ?(.*)$/.exec(line); return [number, code, rest]; },
+  refused: (line) => { const [, number, code, rest] = /^line (\d+): (\d+) ?(.*)$/s.exec(line); return [number, code, rest]; },
   report: record_of,
 };
 // the field of each table by which its rows are counted and chosen

@@ -3,10 +3,11 @@
 A report answers each row of a list, whatever its banks and its day are. So a bank could ask for transfers of others, and a list
 that belongs to another BANK or DAY gets a report that looks right. Standard error gets a line for each row
 
-- of which all instructions in the archive are between other banks; the exit status is then 1, and
+- of which all instructions in the archive are between other banks; the exit status is then 1,
+- of which the archive has no instruction, but messages of other banks alone; the exit status is then 1, and
 - whose instruction has another settlement day: the report compares it all the same.
 
-A row without an instruction in the archive, or with too few fields, is not judged. Rows count as in `fault 48 N`: from 1, with
+A row of which the archive has no message, or with too few fields, is not judged: its report says no more than the list. Rows count as in `fault 48 N`: from 1, with
 the header and without blank lines.
 
 Usage: check_list.py BANK DAY LIST ARCHIVE   (ARCHIVE: what `sct_sites archive` wrote)
@@ -18,15 +19,18 @@ from fields import bank, is_day
 Instruction = collections.namedtuple("Instruction", "beneficiary day")
 
 
-def instructions(archive):
-    """The instructions of an archive, by originator bank and identification."""
-    found = collections.defaultdict(list)
+def held_in(archive):
+    """The instructions of an archive, by originator bank and identification, and in the same way the banks of all other messages."""
+    found, banks = collections.defaultdict(list), collections.defaultdict(set)
     for line in archive:
         message = json.loads(line)
         if message["MsgNmId"].startswith("pacs.008"):
             one = Instruction(bank(message["CdtrAgt"]), message["IntrBkSttlmDt"])
             found[bank(message["DbtrAgt"]), message["TxId"]].append(one)
-    return found
+            continue
+        for part in message.get("TxInf", [message]):
+            banks[bank(part["DbtrAgt"]), part["OrgnlTxId"]].update(bank(message[name]) for name in ("InstgAgt", "InstdAgt") if name in message)
+    return found, banks
 
 
 def rows(file):
@@ -39,11 +43,15 @@ def rows(file):
 
 def faults(asking, day, listed, held):
     """What is to be said of the rows, each with whether it forbids the report."""
+    instructions, banks = held
     for number, originator, transfer in listed:
-        ones = held.get((originator, transfer), [])
+        ones = instructions.get((originator, transfer), [])
+        others = banks.get((originator, transfer), set())
         name = f"row {number}: {originator} {transfer}"
         if ones and asking not in [originator, *(one.beneficiary for one in ones)]:
             yield True, f"{name} is a transfer to {ones[0].beneficiary}, and not of {asking}"
+        elif not ones and others and asking not in {originator, *others}:
+            yield True, f"{name} has no instruction, and {asking} is not one of its banks"
         elif ones and day not in [one.day for one in ones]:
             yield False, f"{name} is of {ones[0].day}, and not of {day}; the report compares it all the same"
 
@@ -56,7 +64,7 @@ def main():
         sys.exit(f"check_list: {day} is not a day such as 2025-03-10")
     try:
         with open(archive_path, encoding="utf-8") as archive:
-            held = instructions(archive)
+            held = held_in(archive)
         with open(list_path, encoding="utf-8-sig", errors="replace", newline="") as file:
             found = list(faults(bank(asking), day, rows(file), held))
     except (OSError, ValueError, KeyError, csv.Error) as why:

@@ -22,6 +22,7 @@
 # Lines with WARNING on standard error do not change the exit status. They say that a file has no message, that the day is empty,
 # or that the archive of yesterday lost messages.
 set -u
+umask 077  # what it writes are payments of customers: nobody else of this machine reads them
 LC_ALL=C
 export LC_ALL
 program=${SCT_SITES:-sct_sites}

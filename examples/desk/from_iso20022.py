@@ -2,27 +2,32 @@
 it: it is outside the proofs, and a wrong converter makes wrong answers. Check it against the messages of your own hub before
 you use it.
 
-It reads files of pacs.002, pacs.004, pacs.008, pacs.028, camt.029 and camt.056 messages, each with one Document or several, and
-writes the lines to standard output. It keeps the elements that docs/users/formats.md names, and drops all others. Texts are kept as
+It reads files of pacs.002, pacs.004, pacs.008, pacs.028, camt.029 and camt.056 messages, each with one Document or several, or with
+the messages of a bulk file of a clearing system without a Document, and writes the lines to standard output. It keeps the elements that docs/users/formats.md names, and drops all others. Texts are kept as
 they are: sct_sites judges them. A bank is its BICFI, or its BIC as in pacs.008.001.02 and other old versions.
 
 - A camt.056 of several transactions becomes one line with TxInf. Of more than 100 it has no line: the sender has to cut it.
 - A message of another kind with several transactions becomes a line for each. Lines that were cut out of one message need a
   MsgId each, else they all contradict one another. They get the MsgId of the message, a point and the place of the transaction:
-  M1.1, M1.2 and so on. If such a text is longer than 35 characters, no line of the message is written. If the sender also uses
-  M1.1 itself for a message of that kind, the two contradict each other, and so do their transfers: give the lines other MsgIds.
+  M1.1, M1.2 and so on. If such a text is longer than 35 characters, a part of a hash of the MsgId takes the place of its end. If the
+  sender also uses M1.1 itself for a message of that kind, the two contradict each other, and so do their transfers: give the lines other
+  MsgIds.
 - A message without a MsgId (in a camt kind: the Id of its Assgnmt) has no line.
 - OrgnlCxlId of a pacs.004, a camt.029, and a pacs.028 about a recall is in no XML message. It is the CxlId of the one recall of
   that transfer, in the files or in the archive. Of several recalls it is the one that the message names: by the OrgnlMsgId of a
   camt.056, or by a RslvdCase whose Id is the Case, the CxlId or the MsgId of the recall. An archive has no Case. If no recall is
   left, or more than one, the line is written without the key, and sct_sites refuses it.
+- A message that does not name the originator bank, as a positive pacs.002 may, gets it from the one instruction or recall with its
+  OrgnlMsgId and OrgnlTxId, in the files or in the archive. If there is none, or several of different banks, it has no line.
+- Several texts of remittance become one, with a blank between them. If it is longer than 140 characters, the key Ustrd is left out.
 - The number of transactions is compared with NbOfTxs. If they differ, no line of the message is written.
 
-Standard error gets a line for each message or key that is left out. The exit status is 0 if nothing was left out, else 1.
+Standard error gets a line for each message or key that is left out. A file that cannot be read takes no line of another one. The exit status
+is 0 if nothing was left out, else 1. It is 2 if the archive cannot be read, or after an error that nobody foresaw: then lines may lack.
 
 Usage: from_iso20022.py [--archive ARCHIVE] FILE..   (ARCHIVE: the archive of the days before, for their recalls)
 """
-import collections, json, sys
+import collections, hashlib, json, re, sys
 from xml.etree import ElementTree
 
 # the elements of each kind: the message, and below it the head, each transaction, and the number of transactions if it has one
@@ -35,14 +40,20 @@ KINDS = {
     "camt.029": ("RsltnOfInvstgtn", "Assgnmt", "CxlDtls/TxInfAndSts", None),
 }
 MOST = 100  # transactions of a recall
+MOST_TEXT, MOST_REMITTANCE = 35, 140  # characters of an identification, and of a text of remittance
 
 # where a message is, the object of its line, and names of recalls. Those of a recall are the cases of its transactions, or None.
-# Those of another message are how it names the recall that it is about.
-Line = collections.namedtuple("Line", "place keys names")
+# Those of another message are how it names the recall that it is about. `message` is the MsgId that the XML message has.
+Line = collections.namedtuple("Line", "place keys names message")
 
 
 class Wrong(Exception):
     """Why a message has no line."""
+
+
+def is_number(text, number):
+    """Whether a text is a number, which may have zeros before it."""
+    return re.fullmatch("[0-9]{1,15}", text.strip()) is not None and int(text) == number
 
 
 class NoDoctype(ElementTree.TreeBuilder):
@@ -74,6 +85,11 @@ def kept(pairs):
     return {key: text for key, text in pairs if text is not None}
 
 
+def names_recall(group):
+    """Whether the original that a group names is a recall."""
+    return (found([(group, "OrgnlMsgNmId")]) or "").startswith("camt.056")
+
+
 def bank_at(element, path):
     """Where the BIC of a bank is, by its name in the newer versions and in the older ones."""
     return [(element, f"{path}/FinInstnId/{name}") for name in ("BICFI", "BIC")]
@@ -84,36 +100,52 @@ def reason(element, name):
     return [(element, f"{name}/Rsn/Cd"), (element, f"{name}/Rsn/Prtry")]
 
 
+ELEMENTS = {element: kind for kind, (element, *_) in KINDS.items()}
+
+
 def documents(file):
-    """The Documents of a file, each with what it is called in a message to people."""
+    """The messages of a file, each with what it is called in a message to people: its Documents, or without any the messages themselves."""
     root = ElementTree.parse(file, ElementTree.XMLParser(target=NoDoctype())).getroot()
-    ones = [part for part in root.iter() if part.tag.rpartition("}")[2] == "Document"]
-    if not ones:
-        raise Wrong("it has no Document")
-    return [(file if len(ones) == 1 else f"{file}: Document {place}", one) for place, one in enumerate(ones, 1)]
+    name = lambda part: part.tag.rpartition("}")[2]
+    for what, ones in (("Document", [part for part in root.iter() if name(part) == "Document"]),
+                       ("message", [part for part in root.iter() if name(part) in ELEMENTS])):
+        if ones:
+            return [(file if len(ones) == 1 else f"{file}: {what} {place}", one) for place, one in enumerate(ones, 1)]
+    raise Wrong("it has no Document")
+
+
+def cut_name(identification, number):
+    """The MsgId of a line that was cut out of a message. The same message always gets the same ones, and no two messages one."""
+    plain = f"{identification}.{number}"
+    if len(plain) <= MOST_TEXT:
+        return plain
+    end = f"-{hashlib.sha256(identification.encode()).hexdigest()[:10].upper()}.{number}"
+    return identification[:MOST_TEXT - len(end)] + end
 
 
 class Message:
-    """One XML message, in its Document."""
+    """One XML message, in its Document or in a bulk file."""
 
     def __init__(self, document):
-        space = document.tag.rpartition("}")[0]
+        space, _, tag = document.tag.rpartition("}")
         self.name = space.rpartition(":")[2]  # {urn:iso:std:iso:20022:tech:xsd:pacs.008.001.08
         self.kind = self.name[:8]
         if self.kind not in KINDS:
             raise Wrong(f"{self.name or 'its name space'} is not one of the six kinds")
         element, head, transactions, number = KINDS[self.kind]
-        self.body = bare(document).find(element)
+        bare(document)
+        self.body = document.find(element) if tag == "Document" else document if tag == element else None
         if self.body is None:
             raise Wrong(f"it has no {element}")
         self.head = self.body.find(head)
         if self.head is None:
             raise Wrong(f"it has no {head}")
         self.transactions = self.body.findall(transactions)
+        self.notes = []  # what is left out of its lines
         if self.kind == "pacs.002" and not self.transactions and self.body.find("OrgnlGrpInfAndSts") is not None:
             raise Wrong("it confirms a whole message and names no transaction")
         stated = found([(self.body, number)]) if number else None
-        if stated is not None and stated.strip() != str(len(self.transactions)):
+        if stated is not None and not is_number(stated, len(self.transactions)):
             raise Wrong(f"NbOfTxs is {stated}, and it has {len(self.transactions)} transactions")
         if not self.transactions:
             raise Wrong("it has no transaction")
@@ -133,12 +165,28 @@ class Message:
 
     def original(self, transaction):
         """The keys that name the transfer which a message other than an instruction is about."""
-        groups = [transaction.find("OrgnlGrpInf"), self.body.find("OrgnlGrpInfAndSts"), self.body.find("OrgnlGrpInf")]
+        places = [transaction, *self.details(transaction), self.body]
+        groups = [group for place in places for name in ("OrgnlGrpInf", "OrgnlGrpInfAndSts") for group in place.findall(name)]
+        if self.kind == "camt.029":  # of two groups that it names, one may be the recall: that is no transfer
+            groups = [group for group in groups if not names_recall(group)] or groups
         at = lambda name: found([(group, name) for group in groups])
         return kept([("OrgnlMsgId", at("OrgnlMsgId")), ("OrgnlMsgNmId", at("OrgnlMsgNmId")),
                      ("OrgnlEndToEndId", found([(transaction, "OrgnlEndToEndId")])),
                      ("OrgnlTxId", found([(transaction, "OrgnlTxId")])),
                      ("DbtrAgt", found(bank_at(transaction, "OrgnlTxRef/DbtrAgt")))])
+
+    def details(self, transaction):
+        """The details of a camt.029 that have a transaction."""
+        return [part for part in self.body.findall("CxlDtls") if transaction in part.findall("TxInfAndSts")]
+
+    def remittance(self, transaction):
+        """The texts of remittance as one, unless that is too long."""
+        texts = [part.text for part in transaction.findall("RmtInf/Ustrd") if part.text]
+        text = " ".join(texts)
+        if len(texts) > 1 and len(text) > MOST_REMITTANCE:
+            self.notes.append(f"Ustrd is left out: its {len(texts)} texts have {len(text)} characters together")
+            return None
+        return text or None
 
     def instruction(self, transaction):
         info = [transaction.find("PmtTpInf"), self.head.find("PmtTpInf")]
@@ -151,7 +199,7 @@ class Message:
             ("IntrBkSttlmAmt", at("IntrBkSttlmAmt")), ("Ccy", at("IntrBkSttlmAmt@Ccy")), ("ChrgBr", at("ChrgBr")),
             ("AccptncDtTm", at("AccptncDtTm")), ("Dbtr", at("Dbtr/Nm")), ("DbtrAcct", at("DbtrAcct/Id/IBAN")),
             ("DbtrAgt", found(bank_at(transaction, "DbtrAgt"))), ("CdtrAgt", found(bank_at(transaction, "CdtrAgt"))),
-            ("Cdtr", at("Cdtr/Nm")), ("CdtrAcct", at("CdtrAcct/Id/IBAN")), ("Ustrd", at("RmtInf/Ustrd"))])
+            ("Cdtr", at("Cdtr/Nm")), ("CdtrAcct", at("CdtrAcct/Id/IBAN")), ("Ustrd", self.remittance(transaction))])
 
     def confirmation(self, transaction):
         group = self.body.find("OrgnlGrpInfAndSts")
@@ -188,11 +236,9 @@ class Message:
 
     def names(self, transaction):
         """How a transaction names the recall that it is about: by the message that made it, or by its case."""
-        details = [part for part in self.body.findall("CxlDtls") if transaction in part.findall("TxInfAndSts")]
-        places = [transaction, *details, self.body]
+        places = [transaction, *self.details(transaction), self.body]
         groups = [group for place in places for name in ("OrgnlGrpInf", "OrgnlGrpInfAndSts") for group in place.findall(name)]
-        messages = [found([(group, "OrgnlMsgId")]) for group in groups
-                    if (found([(group, "OrgnlMsgNmId")]) or "").startswith("camt.056")]
+        messages = [found([(group, "OrgnlMsgId")]) for group in groups if names_recall(group)]
         cases = [found([(place, "RslvdCase/Id")]) for place in places + groups]
         return [name for name in messages + cases if name is not None]
 
@@ -202,17 +248,17 @@ class Message:
             raise Wrong(f"it has {len(self.transactions)} transactions, and a recall has at most {MOST}")
         keys = [self.keys(transaction) for transaction in self.transactions]
         cases = [found([(transaction, "Case/Id"), (self.body, "Case/Id")]) for transaction in self.transactions]
-        return Line(place, {**self.head_of(None), **(keys[0] if len(keys) == 1 else {"TxInf": keys})}, cases)
+        head = self.head_of(None)
+        return Line(place, {**head, **(keys[0] if len(keys) == 1 else {"TxInf": keys})}, cases, head["MsgId"])
 
     def lines(self, place):
         """The lines of the message, which is at a place."""
         if self.kind == "camt.056":
             return [self.recalls(place)]
-        lines = [Line(place, {**self.head_of(one), **self.keys(one)}, self.names(one)) for one in self.transactions]
+        heads = [self.head_of(one) for one in self.transactions]
+        lines = [Line(place, {**head, **self.keys(one)}, self.names(one), head["MsgId"]) for head, one in zip(heads, self.transactions)]
         for number, line in enumerate(lines if len(lines) > 1 else [], 1):
-            line.keys["MsgId"] += f".{number}"
-            if len(line.keys["MsgId"]) > 35:
-                raise Wrong(f"its MsgId is too long to be cut: {line.keys['MsgId']}")
+            line.keys["MsgId"] = cut_name(line.message, number)
         return lines
 
 
@@ -237,6 +283,23 @@ def recalls_of(lines):
     return recalls
 
 
+def banks_of(lines):
+    """The originator banks of each transfer that a message makes or recalls, by the MsgId of the message and the TxId."""
+    banks = {}
+    for line in lines:
+        kind = line.keys["MsgNmId"][:8]
+        if kind in ("pacs.008", "camt.056"):
+            for part in parts_of(line.keys):
+                transfer = part.get("TxId" if kind == "pacs.008" else "OrgnlTxId")
+                for message in (line.message, re.sub(r"\.[0-9]+\Z", "", line.message)):  # a line of an archive may have been cut out of one
+                    banks.setdefault((message, transfer), set()).add(bank(part.get("DbtrAgt")))
+    return banks
+
+
+def lacks_bank(keys):
+    return not keys["MsgNmId"].startswith(("pacs.008", "camt.056")) and "DbtrAgt" not in keys
+
+
 def wants_recall(keys):
     kind = keys["MsgNmId"][:8]
     return kind in ("pacs.004", "camt.029") or kind == "pacs.028" and keys.get("OrgnlMsgNmId", "").startswith("camt.056")
@@ -248,15 +311,16 @@ def correlated(line, recalls):
     return [recall for recall, names in made.items() if names.intersection(line.names)] or list(made)
 
 
-def recalls_held(path):
-    """The lines of the recalls in an archive."""
+def held_in(path):
+    """The lines of the instructions and the recalls in an archive."""
     try:
         with open(path, encoding="utf-8") as archive:
             messages = (json.loads(line) for line in archive if line.strip())
-            recalls = [keys for keys in messages if keys["MsgNmId"].startswith("camt.056")]
+            held = [keys for keys in messages if keys["MsgNmId"].startswith(("pacs.008", "camt.056")) and keys["MsgId"]]
     except (OSError, ValueError, KeyError, TypeError) as why:
-        sys.exit(f"from_iso20022: {path} is not an archive that can be read: {why!r}")
-    return [Line(path, keys, [None] * len(parts_of(keys))) for keys in recalls]
+        print(f"from_iso20022: {path} is not an archive that can be read: {why!r}", file=sys.stderr)
+        sys.exit(2)
+    return [Line(path, keys, [None] * len(parts_of(keys)), keys["MsgId"]) for keys in held]
 
 
 def converted(files):
@@ -266,35 +330,56 @@ def converted(files):
         try:
             for place, document in documents(file):
                 try:
-                    lines += Message(document).lines(place)
+                    message = Message(document)
+                    lines += message.lines(place)
+                    left_out += [f"{place}: {note}" for note in message.notes]
                 except Wrong as why:
                     left_out.append(f"{place}: {why}")
-        except (OSError, ElementTree.ParseError, Wrong) as why:
-            left_out.append(f"{file}: {why}")
+        except (OSError, ElementTree.ParseError, LookupError, ValueError, RecursionError, Wrong) as why:
+            left_out.append(f"{file}: {why}")  # LookupError and ValueError: an encoding that Python does not have, or does not read so
     return lines, left_out
+
+
+def completed(line, banks, recalls):
+    """What is left out of a line: its bank and its recall are looked up. The result is None if there is no line."""
+    if lacks_bank(line.keys):
+        known = banks.get((line.keys.get("OrgnlMsgId"), line.keys.get("OrgnlTxId")), set()) - {None}
+        if len(known) != 1:
+            said = ", ".join(sorted(known)) or "none"
+            return None, f"it names no DbtrAgt; originator banks of {line.keys.get('OrgnlTxId')} in {line.keys.get('OrgnlMsgId')}: {said}"
+        line.keys["DbtrAgt"], = known
+    if wants_recall(line.keys):
+        about = correlated(line, recalls)
+        if len(about) != 1:
+            known = ", ".join(map(str, about)) or "none"
+            return line, f"OrgnlCxlId is left out; recalls of {line.keys.get('OrgnlTxId')}: {known}"
+        line.keys["OrgnlCxlId"] = about[0]
+    return line, None
 
 
 def main():
     files, held = sys.argv[1:], []
     if files[:1] == ["--archive"] and len(files) > 1:
-        held, files = recalls_held(files[1]), files[2:]
+        held, files = held_in(files[1]), files[2:]
     if not files:
         sys.exit(__doc__)
     lines, left_out = converted(files)
-    recalls = recalls_of(held + lines)
+    banks, recalls = banks_of(held + lines), recalls_of(held + lines)
     for line in lines:
-        if wants_recall(line.keys):
-            about = correlated(line, recalls)
-            if len(about) == 1:
-                line.keys["OrgnlCxlId"] = about[0]
-            else:
-                known = ", ".join(map(str, about)) or "none"
-                left_out.append(f"{line.place}: OrgnlCxlId is left out; recalls of {line.keys.get('OrgnlTxId')}: {known}")
-        sys.stdout.buffer.write((json.dumps(line.keys, ensure_ascii=False, separators=(",", ":")) + "\n").encode())
+        done, why = completed(line, banks, recalls)
+        if why:
+            left_out.append(f"{line.place}: {why}")
+        if done:
+            sys.stdout.buffer.write((json.dumps(line.keys, ensure_ascii=False, separators=(",", ":")) + "\n").encode())
     for text in left_out:
         print(f"from_iso20022: {text}", file=sys.stderr)
+    sys.stdout.buffer.flush()
     sys.exit(1 if left_out else 0)
 
 
 if __name__ == "__main__":
-    main()
+    try:
+        main()
+    except Exception as why:
+        print(f"from_iso20022: an error that nobody foresaw, so that lines may lack: {why!r}", file=sys.stderr)
+        sys.exit(2)

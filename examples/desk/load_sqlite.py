@@ -6,7 +6,7 @@ texts. Amounts are in cents. The SELECTs of queries.sql ask the database, by ask
 
 Usage: load_sqlite.py FOLDER DATABASE   (FOLDER is what desk.sh made; DATABASE is a new file)
 """
-import json, pathlib, sqlite3, sys
+import json, os, pathlib, sqlite3, sys
 
 TABLES = """
 CREATE TABLE message (sender TEXT, kind TEXT, message_id TEXT, created TEXT, bank TEXT, transfer_id TEXT, recall_id TEXT,
@@ -81,6 +81,7 @@ def main():
         sys.exit(f"load_sqlite: {folder} is not a folder of desk.sh")
     if database.exists():
         sys.exit(f"load_sqlite: {database} is there already")
+    os.umask(0o077)  # the database has payments of customers: nobody else of this machine reads it
     load(folder, database)
 
 

@@ -2,12 +2,13 @@
 
 tools/package.py makes it twice. It is unpacked into a temporary folder. Its sums hold, BUILD names the version and the toolchain, and the
 program answers an example. By pkg-config and the release alone, the C example is built with each library and answers. Python imports the
-package from its place in the release, and finds the library there.
+package from its place in the release, and finds the library there. The service of sites there runs on the program of the release.
 """
 import os, pathlib, re, shutil, tarfile, tempfile
 from tests import harness
 from tests.embed import driving
 from tests.harness import EXAMPLES, reported
+from tests.hub import sites
 from tools import library, package
 
 ASK = "import niluppang; site = niluppang.Site(1, 1); site.take_lines(open(0, 'rb').read()); print(site.status_text(), end='')"
@@ -76,13 +77,23 @@ def python(place, folder):
     return reported("the Python package", right, answer.errors.decode(errors="replace"))
 
 
+def service(place, folder):
+    """The service of sites at its place in the release: it reads a journal with the program of the release."""
+    line = (EXAMPLES / "bank-day.archive").read_bytes().splitlines()[0]
+    sites.write_journal(folder / "site1.journal", 1, 64, [line])
+    main = place / "share" / "niluppang" / "services" / "hub" / "main.py"
+    variables = {name: it for name, it in without_repository().items() if name != "PYTHONPATH"}
+    answer = harness.run([sites.interpreter(), main, folder, "--site=1", "--check"], cwd=folder, env=variables)
+    return reported("the service of sites", (answer.text, answer.status) == (b"1:1\n", 0), answer.errors.decode(errors="replace"))
+
+
 def main():
     driving.end_if_missing()
     with tempfile.TemporaryDirectory() as name:
         folder = pathlib.Path(name)
         path, is_same = made(folder)
         place = unpacked(path, folder)
-        harness.end_of([is_same, *contents(place), *built(place, folder), python(place, folder)])
+        harness.end_of([is_same, *contents(place), *built(place, folder), python(place, folder), service(place, folder)])
 
 
 if __name__ == "__main__":

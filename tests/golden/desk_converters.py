@@ -4,7 +4,7 @@
   it is said what its line is, or why there is none.
 - list_from_csv.py makes lists of what spreadsheets save, and refuses those that the program refuses.
 """
-import json, re
+import hashlib, json, re
 from tests.golden import lists
 from tests.golden.desk_tools import answers, tried
 from tests.golden.shown import shell
@@ -28,6 +28,9 @@ def converted(folder, commands):
         (folder / "changed.xml").write_text(file, encoding="utf-8")
         right = f"from_iso20022: changed.xml: {why}\n"
         yield answers(f"from_iso20022 leaves out {name}", convert + "changed.xml", (right, 1), folder, commands)
+    yield from other_files(folder, commands, convert)
+    yield from chosen(folder, commands, convert)
+    yield from looked_up(folder, commands, convert)
     yield from converted_alike(folder, commands, convert)
     yield from correlations(folder, commands, convert)
 
@@ -54,6 +57,127 @@ def left_out():
     long = recall.replace(first, first + more).replace("<NbOfTxs>2<", "<NbOfTxs>101<")
     yield "a recall of 101", long, "it has 101 transactions, and a recall has at most 100"
     yield "a file without Document", "<Batch/>\n", "it has no Document"
+    declared = xml("pacs.008.xml").replace("<Document ", '<!DOCTYPE Document [<!ENTITY who "Jonas Petersen">]>\n<Document ', 1)
+    yield "a document type, and so entities", declared.replace("Jonas Petersen</Nm>", "&who;</Nm>"), "it has a document type"
+    yield "a recall that lacks a transaction", recall.replace("<NbOfTxs>2<", "<NbOfTxs>3<"), "NbOfTxs is 3, and it has 2 transactions"
+    yield "a NbOfTxs that is none", recall.replace("<NbOfTxs>2<", "<NbOfTxs>two<"), "NbOfTxs is two, and it has 2 transactions"
+    amounts = xml("pacs.004.xml").replace('<RtrdIntrBkSttlmAmt Ccy="EUR">', '<RtrdIntrBkSttlmAmt Ccy="USD">')
+    yield "a return in another currency", amounts, "its two amounts are in different currencies"
+    elsewhere = xml("pacs.008.xml").replace("urn:iso:std:iso:20022:tech:xsd:pacs.008.001.08", "urn:bank:own")
+    yield "a message of another name space", elsewhere, "own is not one of the six kinds"
+
+
+# a declaration that no XML reader here has, one that it has and cannot use, and texts that are none
+ENCODINGS = {"foo": b"", "euc-jp": b"", "utf-7": b"", "utf-8": b"\xff\xfe\xfa", "utf-16": b""}
+
+
+def other_files(folder, commands, convert):
+    """Whether a file that cannot be read takes no line of another one, and a message in another encoding is read."""
+    right, _ = shell(convert + "desk/iso20022/pacs.008.xml", folder, commands)
+    for encoding, more in ENCODINGS.items():
+        text = xml("camt.056.xml").replace('encoding="UTF-8"', f'encoding="{encoding}"').encode() + more
+        (folder / "changed.xml").write_bytes(text)
+        text, status = shell(convert + "changed.xml desk/iso20022/pacs.008.xml", folder, commands)
+        lines, said = text.splitlines(True)[:3], text.splitlines()[3:]
+        yield reported(f"from_iso20022 reads the other file after one in {encoding}", "".join(lines) == right and status == 1 and len(said) == 1
+                       and said[0].startswith("from_iso20022: changed.xml: "), text)
+    for encoding in ("utf-16", "iso-8859-1"):
+        (folder / "changed.xml").write_bytes(xml("pacs.008.xml").replace("UTF-8", encoding).encode(encoding))
+        yield answers(f"from_iso20022 reads {encoding}", convert + "changed.xml", (right, 0), folder, commands)
+    (folder / "half.archive").write_text("{")
+    text, status = shell(convert + "--archive half.archive desk/iso20022/pacs.008.xml", folder, commands)
+    yield reported("from_iso20022 ends with 2 without its archive", status == 2 and "half.archive is not an archive" in text, text)
+
+
+AGENT = "<{0}><FinInstnId><BICFI>{1}</BICFI></FinInstnId></{0}>"
+GROUP = "<OrgnlMsgId>{}</OrgnlMsgId><OrgnlMsgNmId>{}</OrgnlMsgNmId>"
+LONG = "A" * 90
+
+# a message, what is put in place of what, which key of which of its lines is looked at, and what it must be
+CHOSEN = [
+    ("a status of its own in a group", "pacs.002.xml", [("<TxSts>ACCP</TxSts>", "<TxSts>RJCT</TxSts>")], 1, {"TxSts": "RJCT"}),
+    ("the status of the group without one", "pacs.002.xml", [("<GrpSts>ACCP<", "<GrpSts>RJCT<")], 0, {"TxSts": "RJCT"}),
+    ("a reason of its own in a group with one", "pacs.002.xml", [
+        ("<GrpSts>ACCP</GrpSts>", "<GrpSts>RJCT</GrpSts><StsRsnInf><Rsn><Cd>AC01</Cd></Rsn></StsRsnInf>"),
+        ("<TxSts>ACCP</TxSts>", "<TxSts>RJCT</TxSts><StsRsnInf><Rsn><Cd>AM04</Cd></Rsn></StsRsnInf>")], 1, {"Rsn": "AM04"}),
+    ("the reason of the group without one", "pacs.002.xml", [
+        ("<GrpSts>ACCP</GrpSts>", "<GrpSts>RJCT</GrpSts><StsRsnInf><Rsn><Cd>AC01</Cd></Rsn></StsRsnInf>")], 0, {"Rsn": "AC01"}),
+    ("agents of a transaction before those of the head", "pacs.008.xml", [
+        ("<IntrBkSttlmAmt Ccy", AGENT.format("InstgAgt", "LUTEFRPP") + AGENT.format("InstdAgt", "ARNOITFF") + "<IntrBkSttlmAmt Ccy")], 0,
+     {"InstgAgt": "LUTEFRPP", "InstdAgt": "ARNOITFF"}),
+    ("agents of the head without others", "pacs.008.xml", [], 0, {"InstgAgt": "HANSDEHH", "InstdAgt": "SCALBEBB"}),
+    ("agents of a transaction alone", "pacs.002-late.xml", [
+        (AGENT.format("InstgAgt", "ALPEATWW"), ""), ("<OrgnlTxId>", AGENT.format("InstgAgt", "SUOMFIHH") + "<OrgnlTxId>")], 0,
+     {"InstgAgt": "SUOMFIHH"}),
+    ("a day of a transaction before that of the head", "pacs.008.xml", [
+        ("<IntrBkSttlmAmt Ccy", "<IntrBkSttlmDt>2025-03-09</IntrBkSttlmDt><IntrBkSttlmAmt Ccy")], 0, {"IntrBkSttlmDt": "2025-03-09"}),
+    ("a day of a return before that of its head", "pacs.004.xml", [
+        ("<RtrRsnInf>", "<IntrBkSttlmDt>2025-03-11</IntrBkSttlmDt><RtrRsnInf>")], 0, {"IntrBkSttlmDt": "2025-03-11"}),
+    ("an original of a transaction before that of the group", "pacs.002.xml", [
+        ("<StsId>SC-S-72</StsId>", "<OrgnlGrpInf>" + GROUP.format("HH-OTHER", "pacs.008.001.07") + "</OrgnlGrpInf>")], 1,
+     {"OrgnlMsgId": "HH-OTHER", "OrgnlMsgNmId": "pacs.008.001.07"}),
+    ("the answer of a transaction before that of the case", "camt.029.xml", [("<Conf>RJCR<", "<Conf>PDCR<")], 0, {"Conf": "RJCR"}),
+    ("the answer of the case without one", "camt.029.xml", [("<TxCxlSts>RJCR</TxCxlSts>", "")], 0, {"Conf": "RJCR"}),
+    ("an original beside the transactions of an answer", "camt.029.xml", [
+        ("<OrgnlGrpInf>" + GROUP.format("HH0310-20", "pacs.008.001.08") + "</OrgnlGrpInf>", ""),
+        ("<CxlDtls>", "<CxlDtls><OrgnlGrpInfAndSts>" + GROUP.format("HH-DETAILS", "pacs.008.001.08") + "</OrgnlGrpInfAndSts>")], 0,
+     {"OrgnlMsgId": "HH-DETAILS", "OrgnlMsgNmId": "pacs.008.001.08"}),
+    ("a recall beside the transactions of an answer is no original", "camt.029.xml", [
+        ("<CxlDtls>", "<CxlDtls><OrgnlGrpInfAndSts>" + GROUP.format("HH0311-K5", "camt.056.001.08") + "</OrgnlGrpInfAndSts>")], 0,
+     {"OrgnlMsgId": "HH0310-20"}),
+    ("a number of transactions with zeros", "pacs.008.xml", [("<NbOfTxs>3<", "<NbOfTxs>003<")], 2, {"MsgId": "HH0310-20.3"}),
+    ("several texts of remittance", "pacs.008.xml", [("April</Ustrd>", "April</Ustrd><Ustrd>and May</Ustrd>")], 0,
+     {"Ustrd": "Rent for March & April and May"}),
+    ("texts of remittance that are too long together", "pacs.008.xml", [
+        ("April</Ustrd>", f"April</Ustrd><Ustrd>{LONG}</Ustrd><Ustrd>{LONG}</Ustrd>")], 0, {"Ustrd": None}),
+    ("a MsgId that is cut as it is", "pacs.008.xml", [("<MsgId>HH0310-20<", f"<MsgId>{'M' * 33}<")], 2, {"MsgId": "M" * 33 + ".3"}),
+    ("a MsgId that is too long to be cut so", "pacs.008.xml", [("<MsgId>HH0310-20<", f"<MsgId>{'M' * 35}<")], 2, {"MsgId": "{sum}"}),
+    ("a reason of the scheme", "pacs.004.xml", [("<Cd>FOCR</Cd>", "<Prtry>FRAD</Prtry>")], 0, {"Rsn": "FRAD"}),
+    ("a comment in a text's place", "pacs.004.xml", [("<RtrId>", "<!-- RtrId --><RtrId>")], 0, {"RtrId": "SC-RT-501"}),
+]
+
+
+def chosen(folder, commands, convert):
+    """Whether a key is that of the place which comes first."""
+    for name, file, changes, number, keys in CHOSEN:
+        text = xml(file)
+        for old, new in changes:
+            assert old in text, f"{file} has no {old}"
+            text = text.replace(old, new)
+        (folder / "changed.xml").write_text(text, encoding="utf-8")
+        made, _ = shell(f"{convert} --archive bank-day.archive changed.xml desk/iso20022/camt.056.xml 2>/dev/null", folder, commands)
+        line = json.loads(made.splitlines()[number])
+        end = f"-{hashlib.sha256(b'M' * 35).hexdigest()[:10].upper()}.3"
+        right = {key: value.replace("{sum}", "M" * (35 - len(end)) + end) if value else value for key, value in keys.items()}
+        yield reported(f"from_iso20022 takes {name}", {key: line.get(key) for key in keys} == right, made)
+
+
+REFERENCE = "<OrgnlTxRef><DbtrAgt><FinInstnId><BICFI>HANSDEHH</BICFI></FinInstnId></DbtrAgt></OrgnlTxRef>"
+
+
+def looked_up(folder, commands, convert):
+    """Whether a message that names no originator bank gets it from its original, in the files or in the archive, and the recalls of an
+    archive are known."""
+    (folder / "changed.xml").write_text(xml("pacs.002.xml").replace(REFERENCE, ""), encoding="utf-8")
+    right, _ = shell(convert + "desk/iso20022/pacs.002.xml", folder, commands)
+    banks = lambda text: [json.loads(line).get("DbtrAgt") for line in text.splitlines() if line.startswith("{") and "pacs.002" in line]
+    shell("python3 desk/from_iso20022.py desk/iso20022/pacs.008.xml > made.jsonl; sct_sites archive < made.jsonl > one.archive", folder, commands)
+    for name, words in ("in the files", "changed.xml desk/iso20022/pacs.008.xml"), ("in the archive", "--archive one.archive changed.xml"):
+        text, status = shell(convert + words, folder, commands)
+        made = banks(text)
+        yield reported(f"from_iso20022 finds the bank {name}", made in (["HANSDEHH"] * 2, ["HANSDEHHXXX"] * 2) and status == 0, text)
+    answer, status = shell(convert + "changed.xml", folder, commands)
+    lacks = "from_iso20022: changed.xml: it names no DbtrAgt; originator banks of HH-050{} in HH0310-20: none\n"
+    yield reported("from_iso20022 leaves out what names no bank", (answer, status) == (lacks.format(1) + lacks.format(2), 1), answer)
+    other = xml("pacs.008.xml").replace(AGENT.format("DbtrAgt", "HANSDEHH"), AGENT.format("DbtrAgt", "LUTEFRPP"))
+    (folder / "second.xml").write_text(other, encoding="utf-8")
+    answer, status = shell(convert + "changed.xml second.xml desk/iso20022/pacs.008.xml", folder, commands)
+    yield reported("from_iso20022 chooses none of two banks", banks(answer) == [] and status == 1 and "HANSDEHHXXX, LUTEFRPPXXX" in answer, answer)
+    shell("python3 desk/from_iso20022.py desk/iso20022/camt.056.xml > made.jsonl; sct_sites archive < made.jsonl > recalls.archive", folder, commands)
+    text, status = shell(convert + "--archive recalls.archive desk/iso20022/camt.029.xml", folder, commands)
+    yield reported("from_iso20022 finds a recall in the archive", status == 0 and json.loads(text)["OrgnlCxlId"] == "HH-R502", text)
+    text, status = shell(convert + "desk/iso20022/camt.029.xml", folder, commands)
+    yield reported("and says so without it", status == 1 and "recalls of HH-0502: none" in text, text)
 
 
 def converted_alike(folder, commands, convert):
@@ -63,7 +187,12 @@ def converted_alike(folder, commands, convert):
     yield reported("three messages", status == 0 and right.count("\n") == 6, right)
     ones = list(map(xml, names))
     batch = "<Batch>" + "".join(map(document, ones)) + "</Batch>\n"
-    for name, text in [("several Documents", batch), ("BIC of the old versions", batch.replace("BICFI>", "BIC>"))]:
+    bulk = re.sub("</?Document[^>]*>", "", batch)
+    for space, element in ((f"{kind}.001.{version}", element) for kind, version, element in BULK):
+        bulk = bulk.replace(f"<{element}>", f'<x:{element} xmlns:x="urn:iso:std:iso:20022:tech:xsd:{space}" xmlns="urn:iso:std:iso:20022:tech:xsd:{space}">')
+        bulk = bulk.replace(f"</{element}>", f"</x:{element}>")
+    for name, text in [("several Documents", batch), ("BIC of the old versions", batch.replace("BICFI>", "BIC>")),
+                       ("a bulk file without Documents", bulk)]:
         (folder / "changed.xml").write_text(text, encoding="utf-8")
         yield answers(f"from_iso20022 reads {name}", convert + "changed.xml", (right, 0), folder, commands)
     unnamed = document(ones[0]).replace("<MsgId>HH0310-20</MsgId>", "")
@@ -71,6 +200,8 @@ def converted_alike(folder, commands, convert):
     right = "".join(right.splitlines(True)[3:]) + "from_iso20022: changed.xml: Document 1: it has no MsgId in its GrpHdr\n"
     yield answers("from_iso20022 goes on after a wrong Document", convert + "changed.xml", (right, 1), folder, commands)
 
+
+BULK = [("pacs.008", "08", "FIToFICstmrCdtTrf"), ("camt.056", "08", "FIToFIPmtCxlReq"), ("pacs.028", "03", "FIToFIPmtStsReq")]
 
 # What makes a second recall of HH-0502 of the first, and how the answer names its recall: what is put before a mark, and the key that
 # the line gets.

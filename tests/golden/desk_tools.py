@@ -8,6 +8,7 @@
 desk_converters.py has the two tools that convert.
 """
 import contextlib, re, shutil, sqlite3, tempfile
+from bench.generate import samples
 from tests import harness
 from tests.golden.shown import copied, place, shell
 from tests.harness import EXAMPLES, reported
@@ -24,7 +25,7 @@ def answers(name, command, right, folder, commands, **variables):
 
 def tried(tools):
     """Whether each thing is right that some functions look at, each in a copy of examples/ of its own. It ends the check."""
-    program, right = harness.program(), []
+    program, right = harness.program_or_stand_in(), []
     for tool in tools:
         with tempfile.TemporaryDirectory() as folder:
             right += tool(copied(folder), place(folder, program))
@@ -125,6 +126,28 @@ def reports(folder, commands):
     yield answers("desk.sh leaves it to the program what a list is", command, right, folder, commands)
 
 
+def lists(folder, commands):
+    """Which rows check_list.py takes: of transfers that are contradicted, that have no instruction, and that the archive does not know."""
+    one, other = samples.instruction(), samples.instruction(MsgId="M2", CdtrAgt="ARNOITFF")
+    alone = samples.confirmation(MsgId="C9", OrgnlTxId="T9", InstgAgt="ARNOITFF")
+    (folder / "lines").write_text("".join(map(samples.line, [one, other, alone])))
+    shell("sct_sites archive < lines > two.archive", folder, commands)
+    banks = {"BANKDEFF": (0, 0), "BANQFRPP": (0, 1), "ARNOITFF": (0, 0), "SUOMFIHH": (1, 1)}
+    for bank, statuses in banks.items():
+        for row, right in zip(("T1", "T9"), statuses):
+            (folder / "rows").write_text(f"DbtrAgt,TxId,Amt,Sts\nBANKDEFF,{row},1,ACCEPTED\nBANKDEFF,T77,1,ACCEPTED\n")
+            text, status = shell(f"python3 desk/check_list.py {bank} 2024-05-02 rows two.archive", folder, commands)
+            yield reported(f"check_list on {row} of {bank}", status == right and text.count("row 2") == right and "row 3" not in text, text)
+
+
+def private(folder, commands):
+    """Whether nobody else may read what the desk's tools write."""
+    shell("umask 022; sh desk/desk.sh day bank-day.archive; python3 desk/load_sqlite.py day day.db", folder, commands)
+    paths = [folder / "day", *(folder / "day").iterdir(), folder / "day.db"]
+    yield reported("desk.sh and load_sqlite write for their owner alone", len(paths) > 5 and not any(
+        path.stat().st_mode & 0o077 for path in paths))
+
+
 # ---- ask_sqlite.py
 
 # questions with a wrong value, and what a value is
@@ -215,7 +238,7 @@ def explained(folder, commands):
 
 
 def main():
-    tried([days, warnings, reports, asked, explained])
+    tried([days, warnings, reports, lists, private, asked, explained])
 
 
 if __name__ == "__main__":

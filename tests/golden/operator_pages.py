@@ -20,7 +20,7 @@ def page_runs(name, program):
 
 
 def main():
-    program = harness.program()
+    program = harness.program_or_stand_in()
     harness.end_of([right for name in PAGES for right in page_runs(name, program)])
 
 

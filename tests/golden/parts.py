@@ -1,28 +1,33 @@
-"""parts.py: the program of examples/parts/, which asks `sct_sites` on parts of an input, answers as `sct_sites` alone does.
+"""parts.py: the program of services/parts/, which asks `sct_sites` on parts of an input, answers as `sct_sites` alone does.
 
 - The examples, with their own texts.
 - 20,000 messages in 7 files, in any order: repeated, refused and blank lines, identities that are contradicted across files, recalls
   of up to 100 transfers. It is cut into parts of a given number, and into smaller ones than fit. Then a worker is killed.
 - Made-up small inputs, on the workers of a cluster that has an address. `tests/golden/parts.py N` tries N of them.
-- A full disk, a run that goes on where another one stopped, a run on other files in its folder, and messages that are tied together
-  and too large for a part.
+- A full disk, a run that goes on where another one stopped, a run on other files in its folder, one with other code, and messages that are
+  tied together and too large for a part.
+- A folder with what the program did not make, errors that nobody foresaw, who listens while it works, a cluster over TLS, and texts of more
+  parts than a process may have files.
 - A program that names one transfer or one identity in each part, and one that takes what is not a message: the check finds that.
 - The commands of docs/users/parts.md.
 
-It needs the Debian packages python3-dask and python3-distributed. Without them nothing passes and nothing fails, and a line says so.
+On the stand-in of the program the large input is smaller. It needs the Debian packages python3-dask and python3-distributed. Without them nothing passes and nothing fails, and a line says so.
 """
-import collections, contextlib, json, os, pathlib, random, re, shutil, subprocess, sys, tempfile
+import collections, contextlib, fcntl, glob, json, os, pathlib, random, re, shutil, subprocess, sys, tempfile, time
 from concurrent.futures import ThreadPoolExecutor
 from bench.generate import messages, samples
 from tests import harness, inputs
 from tests.golden.shown import is_printed, place, shell, shown
-from tests.harness import EXAMPLES, TOP, reported
+from tests.hub.limits import certificate
+from tests.harness import EXAMPLES, SERVICES, TOP, reported
 from tests.oracle.status import Refused, read_message
 from tests.property.messages import Pool, shuffled, written_out
 from tests.property.worlds import refused_list, refused_text
 
-MAIN = EXAMPLES / "parts" / "main.py"
-PACKAGES = "python3-dask python3-distributed"
+MAIN = SERVICES / "parts" / "main.py"
+PACKAGES = "python3-dask python3-distributed python3-cryptography"
+MANY, MOST = 20000, 500000  # messages of the large input, and bytes of a part that is cut again
+FEW, LESS, FEWER_MADE_UP = 4000, 200000, 4  # on the stand-in
 MADE_UP, SEED = 12, 20261127
 COMMANDS = ["status", "totals", "archive"]
 REPORT = ["HANSDEHH", "2025-03-10"]
@@ -32,7 +37,6 @@ NOT_MESSAGES = ["foo", "{}", "[]", "\x0c", '{"MsgNmId":"pacs.008"}', '{"MsgNmId"
 ONCE_KILLED = '#!/bin/sh\n[ "$1" = status ] && mkdir "$0.killed" 2> /dev/null && kill -9 $PPID\nexec {} "$@"\n'
 # a program that ends with status 2 from its seventh call on, as long as a file is there; each call adds a line to another file
 STOPS = '#!/bin/sh\necho "$1" >> "$0.calls"\n[ -e "$0.stop" ] && [ $(wc -l < "$0.calls") -gt 6 ] && exit 2\nexec {} "$@"\n'
-ALL_CALLS = 17  # four commands on each of four parts, and a report on nothing before
 
 # programs that answer what they must not: each part has one transfer, or one identity, or refuses nothing
 LIES = {
@@ -46,7 +50,7 @@ LIES = {
 def interpreter():
     """A Python that has Dask, or None. Debian's packages are those of /usr/bin/python3."""
     for path in (sys.executable, "/usr/bin/python3"):
-        if os.path.isfile(path) and harness.run([path, "-c", "import dask, distributed"]).status == 0:
+        if os.path.isfile(path) and harness.run([path, "-c", "import dask, distributed, cryptography"]).status == 0:
             return path
     return None
 
@@ -71,8 +75,8 @@ def large_input(r, many):
     lines = [line[:-1] for line in messages.lines(many * 9 // 10)]
     instructed = [line for line in lines if '"TxId"' in line]
     more = [inputs.recall(number, instructed[at:at + r.choice([2, 10, 100])])[:-1]
-            for number in range(60) for at in [r.randrange(len(instructed) - 100)]]
-    more += [contradicting(r, lines) for _ in range(100)] + r.choices(NOT_MESSAGES, k=100)
+            for number in range(many * 3 // 1000) for at in [r.randrange(len(instructed) - 100)]]
+    more += [contradicting(r, lines) for _ in range(many // 200)] + r.choices(NOT_MESSAGES, k=100)
     more += [line.replace('"Ccy":"EUR"', '"Ccy":"USD"') + "\r" for line in r.sample(lines, 50)]
     more += [SHORT_BIC.sub(r'\1XXX"', line) for line in r.sample(lines, many - len(lines) - len(more))]
     whole = lines + more
@@ -139,6 +143,7 @@ Right = collections.namedtuple("Right", "texts status")
 
 class Tried:
     """The program in parts on some files with a list, and what it must write."""
+    main = MAIN
 
     def __init__(self, python, program, files, report):
         self.python, self.program, self.files, self.report = python, program, files, report
@@ -147,7 +152,7 @@ class Tried:
     def run(self, folder, *words, program=None, **more):
         """The answer of the program in parts, which writes to the folder."""
         words = ["--program", program or self.program, *words, "--report", *self.report]
-        return harness.run([self.python, MAIN, *words, folder, *self.files], **more)
+        return harness.run([self.python, self.main, *words, folder, *self.files], **more)
 
     def is_right(self, name, folder, *words, **more):
         """Whether it writes the right texts and ends as it must, which is printed."""
@@ -178,21 +183,32 @@ def script(folder, name, text, program):
 
 def large(r, python, program, folder):
     """The large input: as it is, in smaller parts than fit, and with a worker that is killed."""
-    lines = large_input(r, 20000)
+    many, most = (FEW, LESS) if program == str(harness.STAND_IN) else (MANY, MOST)
+    lines = large_input(r, many)
     *report, text = list_of(r, lines)
     path = pathlib.Path(folder, "rows.list")
     path.write_bytes(text)
     tried = Tried(python, program, files_of(r, folder, lines, 7), [*report, str(path)])
     out = pathlib.Path(folder, "out")
-    yield tried.is_right("20,000 messages in 7 files", out, "--workers", "2", "--parts", "7", "--block", "300000")
-    yield tried.is_right("the same in parts of 500,000 bytes at most", out, "--workers", "2", "--most", "500000")
-    yield reported("some of these parts were cut again", tried.parts() > sum(map(os.path.getsize, tried.files)) // 375000 + 1)
+    yield tried.is_right(f"{many} messages in 7 files", out, "--workers", "2", "--parts", "7", "--block", "300000")
+    yield tried.is_right(f"the same in parts of {most} bytes at most", out, "--workers", "2", "--most", str(most))
+    yield reported("some of these parts were cut again", tried.parts() > sum(map(os.path.getsize, tried.files)) // (most * 3 // 4) + 1)
     killing = script(folder, "killing", ONCE_KILLED, program)
     yield tried.is_right("the same with a worker that is killed", out, "--workers", "2", "--parts", "4", program=killing)
     yield reported("a worker was killed", os.path.isdir(killing + ".killed"))
     shutil.rmtree(out)
     yield tried.stops("a full disk", "File too large", out, "--workers", "2", room=200000)
     yield tried.is_right("the same folder with room again", out, "--workers", "2")
+
+
+def asks(tried, calls, name, everything, out, *asked, program):
+    """Whether a run asked as often as one in a new folder does, or less often."""
+    count = len(calls.read_text().split())
+    calls.unlink()
+    yield tried.is_right(f"{name}, in a new folder", out, *asked, program=program)
+    right = count == len(calls.read_text().split()) if everything else count < len(calls.read_text().split())
+    calls.unlink()
+    yield reported(f"{name} asks {'everything' if everything else 'what was not asked'}", right)
 
 
 def going_on(r, python, program, folder):
@@ -212,9 +228,7 @@ def going_on(r, python, program, folder):
             file.write(change)
         tried = Tried(python, program, files, [*REPORT, str(path)])
         yield tried.is_right(name, out, *asked, program=stopping)
-        asks_all = len(calls.read_text().split()) == ALL_CALLS
-        yield reported(f"{name} asks {'everything' if change else 'what was not asked'}", asks_all == bool(change))
-        calls.unlink()
+        yield from asks(tried, calls, name, bool(change), pathlib.Path(folder, f"{name} at once"), *asked, program=stopping)
 
 
 def refusing(r, python, program, folder):
@@ -242,23 +256,209 @@ def examples(python, program, folder):
         yield reported(name, (texts_in(out), answer.status) == (right, 1 if right["whole.refused"] else 0), f"{answer}")
 
 
+# ---- what is not its own, errors, and who listens
+
+def keeping(r, python, program, folder):
+    """Folders with what the program did not make: it ends, and leaves all of it. Errors that nobody foresaw: status 2."""
+    lines, path = small_input(r), pathlib.Path(folder, "rows.list")
+    path.write_bytes(list_of(r, lines)[2])
+    tried = Tried(python, program, files_of(r, folder, lines, 2), [*REPORT, str(path)])
+    asked = ["--workers", "1", "--parts", "2"]
+    for name in ("work/thesis.txt", "work/plan.json", "whole.status"):
+        out = pathlib.Path(folder, f"mine-{name.partition('/')[0]}-{name[-4:]}")
+        (out / name).parent.mkdir(parents=True)
+        (out / name).write_text('{"mine": 1}')
+        (out / "whole.truth").write_text("mine")
+        answer = tried.run(out, *asked)
+        left = [(out / one).read_text() for one in (name, "whole.truth")]
+        yield reported(f"{name} of somebody else stays, and the run ends", answer.status == 2 and b"did not make it" in answer.errors
+                       and left == ['{"mine": 1}', "mine"], f"{answer}")
+    out = pathlib.Path(folder, "out")
+    yield tried.is_right("a folder of its own", out, *asked, "--progress")
+    yield reported("it says how far it is", b"parts: answer 2 of 2\n" in tried.answer.errors, f"{tried.answer}")
+    modes = {path.stat().st_mode & 0o077 for path in [out, *out.iterdir()]}
+    yield reported("nobody else reads the answers", modes == {0})
+    yield tried.is_right("the same folder again", out, *asked)
+    (out / "whole.status").write_text("mine")
+    answer = tried.run(out, *asked)
+    yield reported("a text that somebody changed stays", answer.status == 2 and (out / "whole.status").read_text() == "mine", f"{answer}")
+    shutil.rmtree(out)
+    odd = script(folder, "odd", '#!/bin/sh\n[ "$1" = totals ] || exec {0} "$@"\n{0} "$@" > /dev/null\ns=$?\necho "BANK|x"\nexit $s\n', program)
+    answer = tried.run(out, *asked, program=odd)
+    yield reported("an error that nobody foresaw is no answer", answer.status == 2 and answer.errors.startswith(b"parts: ") and not texts_in(out),
+                   f"{answer}")
+    for words in (["--scheduler", "tcp://10.255.255.1:8786"], ["--scheduler", "tls://10.255.255.1:8786"]):
+        answer = tried.run(pathlib.Path(folder, "far"), *words)
+        yield reported(f"{words[1][:3]} to another machine needs its words", answer.status == 2 and b"--" in answer.errors, f"{answer}")
+
+
+def noticing(r, python, program, folder):
+    """A file that changes while it is read, a second run in the folder, and a cut that loses a line: the run ends without an answer."""
+    lines, path, out = small_input(r) + small_input(r), pathlib.Path(folder, "rows.list"), pathlib.Path(folder, "out")
+    path.write_bytes(list_of(r, lines)[2])
+    files = files_of(r, folder, lines, 2)
+    tried, asked = Tried(python, program, files, [*REPORT, str(path)]), ["--workers", "1", "--parts", "2"]
+    changing = script(folder, "changing", f'#!/bin/sh\n[ "$1" = status ] && echo >> {files[1]}\nexec {{}} "$@"\n', program)
+    yield tried.stops("a file that changes while it is read", "a file changed", out, *asked, program=changing)
+    with open(out / "lock", "rb") as lock:
+        fcntl.flock(lock, fcntl.LOCK_EX)
+        yield tried.stops("a second run in the folder", "another run is at work", out, *asked)
+    code = shutil.copytree(SERVICES / "parts", pathlib.Path(folder, "code", "parts"), ignore=shutil.ignore_patterns("__pycache__"))
+    source = (code / "parts.py").read_text()
+    lossy = source.replace("        if transfer != BLANK:\n", "        if transfer != BLANK and number % 2:\n")
+    (code / "parts.py").write_text(lossy)
+    tried.main = code / "main.py"
+    yield reported("the cut can be changed", lossy != source)
+    yield tried.stops("a cut that loses a line", "the parts have other lines than the files", pathlib.Path(folder, "lossy"), *asked)
+
+
+def beginning_anew(r, python, program, folder):
+    """A run that was cut off, with a result that a power cut emptied, and then one of other code, which begins anew."""
+    lines, path, out = small_input(r) + small_input(r), pathlib.Path(folder, "rows.list"), pathlib.Path(folder, "out")
+    path.write_bytes(list_of(r, lines)[2])
+    stopping = script(folder, "stopping", STOPS, program)
+    stop, calls = pathlib.Path(stopping + ".stop"), pathlib.Path(stopping + ".calls")
+    tried = Tried(python, program, files_of(r, folder, lines, 2), [*REPORT, str(path)])
+    code = shutil.copytree(SERVICES / "parts", pathlib.Path(folder, "code", "parts"), ignore=shutil.ignore_patterns("__pycache__"))
+    tried.main, asked = code / "main.py", ["--workers", "1", "--parts", "4"]
+    for name, changes in ("the same code", False), ("other code", True):
+        stop.touch()
+        yield tried.stops("a program that fails", "ended with status 2", out, *asked, program=stopping)
+        stop.unlink()
+        calls.unlink()
+        (out / "work" / "done" / "read.0").write_bytes(b"")
+        if changes:
+            with open(code / "keys.py", "a") as file:
+                file.write("# changed\n")
+        yield tried.is_right(f"a run that goes on with {name}", out, *asked, program=stopping)
+        yield from asks(tried, calls, name, changes, pathlib.Path(folder, f"{name} at once"), *asked, program=stopping)
+
+
+def listening(processes):
+    """The addresses and ports at which some processes listen."""
+    inodes = set()
+    for process in processes:
+        for entry in glob.glob(f"/proc/{process}/fd/*"):
+            with contextlib.suppress(OSError):
+                inodes.update(re.findall(r"socket:\[(\d+)\]", os.readlink(entry)))
+    for name in ("tcp", "tcp6"):
+        for line in pathlib.Path(f"/proc/net/{name}").read_text().splitlines()[1:]:
+            fields = line.split()
+            if fields[3] == "0A" and fields[9] in inodes:
+                yield fields[1].partition(":")[0]
+
+
+def below(process):
+    """A process and all that it started."""
+    found = [process]
+    for path in glob.glob("/proc/[0-9]*/stat"):
+        with contextlib.suppress(OSError):
+            if int(pathlib.Path(path).read_text().rsplit(")", 1)[1].split()[1]) == process:
+                found += below(int(path.split("/")[2]))
+    return found
+
+
+def private(r, python, program, folder):
+    """Who listens while the program works: on 127.0.0.1 alone, and nobody without its certificate sends a task."""
+    lines = small_input(r)
+    waiting = script(folder, "waiting", '#!/bin/sh\nif [ "$1" = status ]; then touch "$0.is"; sleep 4; fi\nexec {} "$@"\n', program)
+    words = [python, MAIN, "--program", waiting, "--workers", "2", f"{folder}/out", *files_of(r, folder, lines, 1)]
+    with subprocess.Popen(words, stdout=subprocess.DEVNULL, stderr=subprocess.DEVNULL) as process:
+        for _ in range(300):
+            if os.path.exists(waiting + ".is"):
+                break
+            time.sleep(0.1)
+        found = list(listening(below(process.pid)))
+        plain = {port for port in ports_of(process.pid) if answers_plainly(python, port)}
+    yield reported("it listens on 127.0.0.1 alone", len(found) > 2 and set(found) == {"0100007F"}, f"{found}")
+    yield reported("nobody without its certificate sends tasks", not plain, f"{plain}")
+
+
+def ports_of(process):
+    """The ports at which the processes below one listen. Empty after it ended."""
+    inodes = {number for one in below(process) for entry in glob.glob(f"/proc/{one}/fd/*") for number in inode_of(entry)}
+    lines = [line.split() for line in pathlib.Path("/proc/net/tcp").read_text().splitlines()[1:]]
+    return {int(fields[1].partition(":")[2], 16) for fields in lines if fields[3] == "0A" and fields[9] in inodes}
+
+
+def inode_of(entry):
+    with contextlib.suppress(OSError):
+        return re.findall(r"socket:\[(\d+)\]", os.readlink(entry))
+    return []
+
+
+PLAIN = "import sys\nfrom distributed import Client\nClient('tcp://127.0.0.1:' + sys.argv[1], timeout=2).submit(int).result(timeout=2)\n"
+
+
+def answers_plainly(python, port):
+    """Whether a port does what somebody without a certificate asks."""
+    return harness.run([python, "-c", PLAIN, str(port)], seconds=20).status == 0
+
+
+LEVELS = """
+import pathlib, resource, sys
+sys.path.insert(0, sys.argv[1])
+from parts import answers, merge
+from parts.files import Stop
+work, many = sys.argv[2], int(sys.argv[3])
+resource.setrlimit(resource.RLIMIT_NOFILE, (256, 256))
+names, wrong = [f"{part}" for part in range(many)], sys.argv[4:]
+pathlib.Path(work, "answers").mkdir(parents=True)
+for name in names:
+    bank, other = f"BANK{int(name) % 7}", "1" if wrong == ["status"] and name in ("3", "906") else name
+    texts = {"status": f"T|{bank}|{other}|PENDING\\nF|{bank}|{other}|Identity\\n", "refused": f"1 {int(name) + 1} 31\\n",
+             "archive": f'{{"InstgAgt":"{bank}","MsgId":"{1 if wrong == ["archive"] and name in ("3", "906") else name}","MsgNmId":"pacs.008.001.08","Part":"{name}"}}\\n',
+             "report": f"HEADER\\nAA,9,UNKNOWN\\n{bank},{name},x\\n", "totals": f"{bank}|1|0.10\\n"}
+    for word, text in texts.items():
+        pathlib.Path(answers.answer_file(work, name, word)).write_text(text)
+try:
+    for word in merge.MERGED:
+        merge.merge(work, names, word, 1, True)
+except Stop as stop:
+    sys.exit(stop.why)
+"""
+
+
+def levels(python, folder):
+    """Texts of 1,100 parts, merged by a process that may have 256 files."""
+    ran = lambda place, *words: harness.run([python, "-c", LEVELS, str(SERVICES), f"{folder}/{place}", "1100", *words])
+    done, texts = ran("work"), {}
+    for path in pathlib.Path(folder, "work", "merged").glob("*"):
+        texts[path.name] = path.read_text().splitlines()
+    keys = sorted((f"BANK{part % 7}", f"{part}") for part in range(1100))
+    right = {"status": [line for bank, tx in keys for line in (f"T|{bank}|{tx}|PENDING", f"F|{bank}|{tx}|Identity")],
+             "archive": [f'{{"InstgAgt":"{bank}","MsgId":"{tx}","MsgNmId":"pacs.008.001.08","Part":"{tx}"}}' for bank, tx in keys],
+             "report": ["HEADER", "AA,9,UNKNOWN", *(f"{bank},{tx},x" for bank, tx in keys)],
+             "totals": [f"BANK{n}|{len(range(n, 1100, 7))}|{len(range(n, 1100, 7)) / 10:.2f}" for n in range(7)],
+             "refused": [f"line {part + 1}: 31" for part in range(1100)]}
+    yield reported("texts of 1,100 parts", done.status == 0 and texts == right, f"{done}, {[word for word in right if texts.get(word) != right[word]]}")
+    shared = ran("shared", "status")
+    yield reported("a transfer in two of them", shared.status == 1 and b"the parts 3 and 906 share the transfer" in shared.errors, f"{shared}")
+    shared = ran("both", "archive")
+    yield reported("an identity in two of them", shared.status == 1 and b"share the identity" in shared.errors, f"{shared}")
+
+
 CLUSTER = """
 import sys
-from distributed import LocalCluster
+from distributed import LocalCluster, Security
 if __name__ == "__main__":
-    with LocalCluster(n_workers=2, threads_per_worker=1, dashboard_address=":0", local_directory=sys.argv[1]) as cluster:
+    files = sys.argv[2:]
+    security = Security(tls_ca_file=files[0], tls_scheduler_cert=files[1], tls_scheduler_key=files[2], tls_worker_cert=files[1],
+                        tls_worker_key=files[2], tls_client_cert=files[1], tls_client_key=files[2], require_encryption=True) if files else None
+    with LocalCluster(n_workers=2, threads_per_worker=1, host="127.0.0.1", dashboard_address="127.0.0.1:0", security=security,
+                      local_directory=sys.argv[1]) as cluster:
         print(cluster.scheduler_address, flush=True)
         sys.stdin.read()
 """
 
 
 @contextlib.contextmanager
-def cluster(python, folder):
-    """The address of a scheduler with two workers."""
+def cluster(python, folder, *certificates):
+    """The address of a scheduler with two workers, which may speak over TLS alone."""
     path = pathlib.Path(folder, "cluster.py")
     path.write_text(CLUSTER)
     streams = {"stdin": subprocess.PIPE, "stdout": subprocess.PIPE, "stderr": subprocess.DEVNULL}
-    with subprocess.Popen([python, path, f"{folder}/workers"], cwd=folder, **streams) as process:
+    with subprocess.Popen([python, path, f"{folder}/workers", *certificates], cwd=folder, **streams) as process:
         yield process.stdout.readline().decode().strip()
         process.stdin.close()
 
@@ -280,24 +480,42 @@ def all_made_up(many, python, program, folder):
         yield from pool.map(lambda number: made_up(number, python, program, folder, address), range(many))
 
 
+def over_tls(r, python, program, folder):
+    """A cluster that speaks over TLS alone."""
+    place = pathlib.Path(folder)
+    authority = certificate(place, "authority")
+    mine = [authority[0], *certificate(place, "mine", authority)]
+    path = place / "rows.list"
+    lines = small_input(r)
+    path.write_bytes(list_of(r, lines)[2])
+    tried = Tried(python, program, files_of(r, folder, lines, 2), [*REPORT, str(path)])
+    with cluster(python, folder, *mine) as address:
+        words = [word for kind, its in zip(("ca", "cert", "key"), mine) for word in (f"--tls-{kind}", its)]
+        yield tried.is_right("a cluster over TLS", place / "out", "--scheduler", address, "--parts", "2", *words)
+        yield reported("its address says so", address.startswith("tls://127.0.0.1:"), address)
+
+
 def page(python, program, folder):
-    """The commands of docs/users/parts.md, in a copy of examples/."""
+    """The commands of docs/users/parts.md, in a copy of examples/ with services/ beside it."""
     commands, copy = place(folder, program), shutil.copytree(EXAMPLES, f"{folder}/examples")
+    pathlib.Path(folder, "services").symlink_to(SERVICES)
     for number, command, lines in shown((TOP / "docs" / "users" / "parts.md").read_text(encoding="utf-8")):
         text, _ = shell(command.replace("/usr/bin/python3", python), copy, commands)
         yield reported(f"parts.md, line {number}", is_printed(lines, text), text)
 
 
 def main():
-    python, program, r = interpreter(), harness.program(), random.Random(SEED)
+    python, program, r = interpreter(), harness.program_or_stand_in(), random.Random(SEED)
     if python is None:
         print(f"skipped: no Python here has Dask; `apt-get install {PACKAGES}` installs it for /usr/bin/python3")
         harness.end(0, 0)
-    many = int(sys.argv[1]) if len(sys.argv) > 1 else MADE_UP
+    many = int(sys.argv[1]) if len(sys.argv) > 1 else FEWER_MADE_UP if program == str(harness.STAND_IN) else MADE_UP
     right = []
     for tried in (lambda folder: examples(python, program, folder), lambda folder: large(r, python, program, folder),
                   lambda folder: going_on(r, python, program, folder), lambda folder: refusing(r, python, program, folder),
-                  lambda folder: all_made_up(many, python, program, folder), lambda folder: page(python, program, folder)):
+                  lambda folder: keeping(r, python, program, folder), lambda folder: noticing(r, python, program, folder), lambda folder: beginning_anew(r, python, program, folder),
+                  lambda folder: private(r, python, program, folder), lambda folder: levels(python, folder),
+                  lambda folder: over_tls(r, python, program, folder), lambda folder: all_made_up(many, python, program, folder), lambda folder: page(python, program, folder)):
         with tempfile.TemporaryDirectory() as folder:
             right += tried(folder)
     harness.end_of(right)

@@ -2,14 +2,14 @@
 
 Usage: tests/hub/chromium.py URL STEPS [PICTURE]
 
-STEPS is a JSON list. Each step is a script, whose value must become true within some seconds, or {"key": KEY}, or {"text": TEXT}, or
-{"size": [WIDTH, HEIGHT]}, or {"dark": true}. A line is printed for each script. The exit status is 0 if all became true and the page
+STEPS is a JSON list. Each step is a script, whose value must become true within some seconds, or {"do": SCRIPT}, or {"ask": [URL, PATTERN]}, or
+{"key": KEY}, or {"text": TEXT}, or {"size": [WIDTH, HEIGHT]}, or {"dark": true}. After {"quiet": true} answers that fail are no errors. A line is printed for each script. The exit status is 0 if all became true and the page
 reported no error. PICTURE gets a picture of the page in the end.
 """
 import asyncio, base64, contextlib, json, re, shutil, subprocess, sys, tempfile, time
 import aiohttp
 
-SECONDS = 10
+SECONDS = 15
 KEYS = {"Enter": "\r", "Escape": ""}
 
 
@@ -17,7 +17,7 @@ class Page:
     """An open page. `faults` has what it reported as errors."""
 
     def __init__(self, socket):
-        self.socket, self.number, self.faults = socket, 0, []
+        self.socket, self.number, self.faults, self.is_quiet = socket, 0, [], False
 
     async def call(self, method, **words):
         self.number += 1
@@ -33,7 +33,7 @@ class Page:
 
     def noted(self, found):
         entry = found.get("entry", {})
-        if "exceptionDetails" in found or entry.get("level") == "error" and "favicon" not in entry.get("url", ""):
+        if "exceptionDetails" in found or not self.is_quiet and entry.get("level") == "error" and "favicon" not in entry.get("url", ""):
             self.faults.append(json.dumps(found)[:300])
 
     async def becomes(self, script):
@@ -47,6 +47,17 @@ class Page:
         print("  its value is", value)
         return False
 
+    async def asked(self, url, pattern):
+        """Whether an address answers something in some seconds, which the page does not see."""
+        end = time.monotonic() + SECONDS
+        while time.monotonic() < end:
+            async with aiohttp.ClientSession() as session, session.get(url) as answer:
+                if re.fullmatch(pattern, await answer.text()):
+                    return True
+            await asyncio.sleep(0.05)
+        print(f"{url}: DIFFERS", flush=True)
+        return False
+
     async def key(self, name):
         text = KEYS.get(name, name)
         for kind in "keyDown", "keyUp":
@@ -58,7 +69,15 @@ class Page:
             right = await self.becomes(one)
             print(f"{one[:150]}: {'ok' if right else 'DIFFERS'}", flush=True)
             return right
-        if "key" in one:
+        if "quiet" in one:
+            self.is_quiet = one["quiet"]
+        elif "ask" in one:
+            return await self.asked(*one["ask"])
+        elif "do" in one:
+            done = await self.call("Runtime.evaluate", expression=f"{{{one['do']}}}; 0")
+            if "exceptionDetails" in done:
+                self.faults.append(json.dumps(done)[:300])
+        elif "key" in one:
             await self.key(one["key"])
         elif "text" in one:
             await self.call("Input.insertText", text=one["text"])

@@ -8,7 +8,8 @@ SOURCES = TOP / "bindings" / "java"
 JNA = pathlib.Path("/usr/share/java/jna.jar")
 
 
-def check(_, library):
+def tested(library):
+    """Whether each test passes on a library."""
     if not JNA.is_file() or shutil.which("javac") is None:
         raise sites.Skipped("there is no JNA, or no JDK: apt-get install libjna-java openjdk-17-jdk-headless")
     with tempfile.TemporaryDirectory(prefix="hub-java-") as folder:
@@ -27,5 +28,15 @@ def check(_, library):
     return [True] * int(passed)
 
 
+def main():
+    try:
+        with sites.library() as library:
+            right = tested(library)
+    except sites.Skipped as why:
+        print(f"skipped: {why}")
+        harness.end(0, 0)
+    harness.end_of(right)
+
+
 if __name__ == "__main__":
-    sites.checked(check)
+    main()

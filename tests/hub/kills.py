@@ -1,18 +1,19 @@
 """kills.py: sites that are killed at any moment lose nothing and make nothing up.
 
-Three sites run after one command. Several clients post lines to any of them: messages, some of them twice and at two sites, messages that
+Three sites run after one command, each with a process `serve` below it. Several clients post lines to any of them: messages, some of them twice and at two sites, messages that
 contradict each other, refused lines and blank ones. A client sends a post again, to any site, until it is acknowledged; some posts it
-gives up after the first failure. Meanwhile sites are killed by signal 9, and start again. In the end:
+gives up after the first failure. Meanwhile sites are killed by signal 9, and every second time the process of one, and start again. In the
+end:
 
 - each outcome is the right one, and each acknowledged number has its line in that site's journal;
 - each acknowledged message is held, and each message that is held was sent;
 - no site ever refused a delta by 42 or 43;
-- all sites answer equal archive, status and totals texts, and these are the right ones by tests/oracle, and by the program if it is built.
+- all sites answer equal archive, status and totals texts, and these are the right ones by tests/oracle and by the program;
+- lines were acknowledged, and a kill met posts under way.
 
-`python3 -m tests.hub.kills --kills 100 --messages 20000` is the long form. The gate runs the short one. --postgres keeps the journals in
-a PostgreSQL database that the check makes.
+`python3 -m tests.hub.kills --kills 100 --messages 20000` is the long form. The gate runs the short one. It ends after --seconds in any case.
 """
-import argparse, collections, contextlib, http.client, json, os, pathlib, random, re, signal, sqlite3, subprocess, tempfile, threading, time
+import argparse, collections, contextlib, http.client, json, os, pathlib, random, re, signal, tempfile, threading, time
 from tests import harness, inputs
 from tests.harness import reported
 from tests.hub import sites
@@ -20,7 +21,7 @@ from tests.oracle import status as oracle
 from tests.oracle.exchange import message_in
 
 SITES, CLIENTS = 3, 5
-WRONG = re.compile(r".*(?:\b4[23] (?:Fork|OwnAhead)|Traceback|takes no more messages|cannot start).*")
+WRONG = re.compile(r".*(?:\b(?:Fork|OwnAhead)\b|Traceback|takes no more messages|cannot start|must not start).*")
 FAILURES = (OSError, http.client.HTTPException)
 Sent = collections.namedtuple("Sent", "site line outcome")
 
@@ -36,9 +37,10 @@ def made_lines(r, many):
 
 
 class Lines:
-    """The lines as posts that the clients fetch, and what is known of each."""
+    """The lines as posts that the clients fetch, and what is known of each. After some seconds no client goes on."""
 
-    def __init__(self, r, lines):
+    def __init__(self, r, lines, seconds):
+        self.until = time.monotonic() + seconds
         self.lock, self.posts, self.all, self.left = threading.Lock(), collections.deque(), len(lines), len(lines)
         while lines:
             size = r.choice([1, 3, 10, 40])
@@ -46,7 +48,10 @@ class Lines:
             lines = lines[size:]
         self.given_up, self.acknowledged, self.failures = [], [], collections.Counter()
         self.share = 0.0  # of the lines, how much may be sent by now
-        self.posted, self.posted_to = threading.Event(), 0
+        self.posted, self.posted_to, self.kills = threading.Event(), 0, 0
+
+    def is_over(self):
+        return time.monotonic() > self.until
 
     def sent(self):
         """The share of the lines that clients have fetched."""
@@ -54,7 +59,7 @@ class Lines:
 
     def next(self):
         """The next post, when it is time for it. None if all are sent."""
-        while True:
+        while not self.is_over():
             with self.lock:
                 if not self.posts:
                     return None
@@ -69,7 +74,7 @@ def client(r, port, lines):
     for post in iter(lines.next, None):
         again = r.choices([1, 2], [9, 1])[0]
         gives_up = r.random() < 0.2
-        while again:
+        while again and not lines.is_over():
             site = r.randint(1, SITES)
             lines.posted_to = site
             lines.posted.set()
@@ -90,10 +95,10 @@ def client(r, port, lines):
             again -= 1
 
 
-def victim(r, hub, lines):
-    """The process of a site. Half of the times it is one that a client posts to just now."""
-    while True:
-        running = hub.children()
+def victim(r, hub, lines, number):
+    """A process to kill: of a site, or the process `serve` of one. Half of the times it is one that a client posts to just now."""
+    while not lines.is_over():
+        running = hub.served() if number % 2 else hub.children()
         if running and r.random() < 0.5:
             return r.choice(sorted(running.values()))
         lines.posted.clear()
@@ -109,9 +114,12 @@ def killed(r, hub, lines, kills):
         lines.share = (number + 2) / (kills + 1)
         sites.until(lambda: lines.sent() >= number / (kills + 1), 20)  # on a slow machine sites need their time to start
         time.sleep(r.uniform(0, 0.1))
-        process = victim(r, hub, lines)
+        process = victim(r, hub, lines, number)
+        if process is None:
+            return print(f"only {number - 1} kills in the time that there was")
         with contextlib.suppress(ProcessLookupError):
             os.kill(process, signal.SIGKILL)
+        lines.kills += 1
         if number % 10 == 0 or number == kills:
             print(f"{number} kills, {len(lines.acknowledged)} lines acknowledged", flush=True)
     lines.share = 1.0
@@ -127,19 +135,10 @@ def is_right(sent):
     return sent.outcome["outcome"] == "REFUSED" and sent.outcome["why"] == refusal
 
 
-def journals(folder, words, python):
+def journals(folder):
     """The lines of each site's journal, by site and number, once nobody has it."""
-    if words is None:
-        for site in range(1, SITES + 1):
-            with contextlib.closing(sqlite3.connect(folder / f"site{site}.db")) as journal:
-                yield from (((site, number), line) for number, line in journal.execute("SELECT number, line FROM own"))
-        return
-    program = ("import psycopg2, sys, json\nfor site in range(1, int(sys.argv[2]) + 1):\n    c = psycopg2.connect(sys.argv[1]).cursor()\n"
-               "    c.execute(f'SELECT number, line FROM niluppang_site_{site}.own')\n"
-               "    for number, line in c: print(json.dumps([site, number, bytes(line).hex()]))")
-    for line in subprocess.run([python, "-c", program, words, str(SITES)], check=True, stdout=subprocess.PIPE).stdout.splitlines():
-        site, number, text = json.loads(line)
-        yield (site, number), bytes.fromhex(text)
+    return {(site, number): line for site in range(1, SITES + 1)
+            for number, line in enumerate(sites.own_lines(folder / f"site{site}.journal"), 1)}
 
 
 def is_kept(lines, kept):
@@ -164,20 +163,16 @@ def are_right(texts, held):
     return all(texts.get(name) == text_of(held).encode() for name, text_of in oracle.TEXT.items())
 
 
-def program_texts(texts):
-    """Whether the program answers the same texts on the archive. None if it is not built."""
-    path = os.environ.get("SCT_SITES") or harness.CRATES / "sct_sites" / "out" / "sct_sites"
-    if not os.path.isfile(path):
-        print(f"the program {path} is not built, so only tests/oracle is compared with")
-        return None
-    return all(harness.run([path, name], texts["archive"]).text == texts[name] for name in oracle.TEXT)
+def program_texts(program, texts):
+    """Whether the program answers the same texts on the archive."""
+    return all(harness.run([program, name], texts["archive"]).text == texts[name] for name in oracle.TEXT)
 
 
 def vectors(port):
     return {sites.asked(port + site, "/vector").body for site in range(SITES)}
 
 
-def judged(lines, texts, kept, log):
+def judged(program, asked, lines, texts, kept, log):
     """What must be in the end, by what it says."""
     held = messages_of(texts.get("archive", b"").splitlines())
     sure, sent = (messages_of(them) for them in ([it.line for it in lines.acknowledged],
@@ -190,49 +185,44 @@ def judged(lines, texts, kept, log):
     yield f"each of {len(held)} messages that are held was sent", held <= sent, f"{len(held - sent)} are made up"
     yield "no site refused a delta by 42 or 43, or ended by itself", not wrong, "\n".join(wrong[:5])
     yield "the texts are those of tests/oracle", are_right(texts, held), ""
-    by_program = program_texts(texts) if len(texts) == len(oracle.TEXT) else False
-    if by_program is not None:
-        yield "the texts are those of the program", by_program, ""
+    yield "the texts are those of the program", len(texts) == len(oracle.TEXT) and program_texts(program, texts), ""
+    yield f"all {asked.kills} kills were made, and all lines were sent in time", lines.kills == asked.kills and not lines.posts, ""
+    yield "half of the lines at least were acknowledged", 2 * len(lines.acknowledged) >= asked.messages, ""
+    yield "kills met posts under way", sum(lines.failures.values()) > 0, ""
 
 
-def tried(python, library, asked, words):
-    """Lets clients post and sites be killed, and judges what is there in the end."""
+def check(python, program):
+    """Lets clients post and sites be killed, and checks what is there in the end."""
+    asked = options()
     r = random.Random(asked.seed)
     with tempfile.TemporaryDirectory(prefix="hub-kills-") as folder:
         port, data = sites.free_ports(SITES), pathlib.Path(folder, "hub")
-        lines = Lines(r, made_lines(r, asked.messages))
-        more = [f"--postgres={words}"] if words else []
-        with sites.Hub(python, library, data, f"--port={port}", *more) as hub:
+        lines = Lines(r, made_lines(r, asked.messages), asked.seconds or 120 + asked.kills * 5 + asked.messages / 20)
+        with sites.Hub(python, program, data, f"--port={port}") as hub:
             sites.until(lambda: all(sites.is_well(port + site) for site in range(SITES)))
             clients = [threading.Thread(target=client, args=(random.Random(r.random()), port, lines), daemon=True) for _ in range(CLIENTS)]
             for one in clients:
                 one.start()
             killed(r, hub, lines, asked.kills)
             for one in clients:
-                one.join()
+                one.join(max(1, lines.until + 30 - time.monotonic()))
             print(f"failures that the clients saw: {dict(lines.failures)}; lines given up: {len(lines.given_up)}")
             sites.until(lambda: len(vectors(port)) == 1, 60)
             print("vectors:", *sorted(vectors(port)))
             texts = same_texts(port)
-        kept = dict(journals(data, words, python))
-        return [reported(*one) for one in judged(lines, texts, kept, hub.text())]
+        right = [reported(*one) for one in judged(program, asked, lines, texts, journals(data), hub.text())]
+        if not all(right):
+            print(*hub.text().splitlines()[-30:], sep="\n")
+        return right
 
 
 def options():
     it = argparse.ArgumentParser(description=__doc__, formatter_class=argparse.RawDescriptionHelpFormatter)
-    it.add_argument("--kills", type=int, default=5)
+    it.add_argument("--kills", type=int, default=6)
     it.add_argument("--messages", type=int, default=1000)
     it.add_argument("--seed", type=int, default=20261127)
-    it.add_argument("--postgres", action="store_true")
+    it.add_argument("--seconds", type=float, help="after which the clients end")
     return it.parse_args()
-
-
-def check(python, library):
-    asked = options()
-    if not asked.postgres:
-        return tried(python, library, asked, None)
-    with sites.postgres() as (words, _):
-        return tried(python, library, asked, words)
 
 
 if __name__ == "__main__":

@@ -1,11 +1,10 @@
-"""sites.py: starts sites of examples/hub for a check, and asks them over HTTP."""
-import collections, contextlib, glob, http.client, json, os, pathlib, resource, shutil, socket, subprocess, sys, tempfile, time
+"""sites.py: starts sites of services/hub for a check, and asks them over HTTP. They run on the program, or on its stand-in."""
+import collections, contextlib, glob, http.client, itertools, json, os, pathlib, resource, socket, subprocess, sys, tempfile, threading, time
 from tests import harness
-from tests.harness import EXAMPLES, TOP
+from tests.harness import SERVICES, TOP
 from tools import library as libraries
 
-MAIN = EXAMPLES / "hub" / "main.py"
-BINDING = TOP / "bindings" / "python"
+MAIN = SERVICES / "hub" / "main.py"
 PACKAGES = "python3-aiohttp"
 LATEST = 30  # seconds in which something must come about
 
@@ -26,23 +25,35 @@ def interpreter():
 
 @contextlib.contextmanager
 def library():
-    """The path of the library: the one that a variable names, else one that is made of what the gate leaves."""
+    """The path of the library: the one that a variable names, else one that is made of what the gate leaves, else a stand-in of the
+    definitions. Nothing is proved for it. A line says which it is."""
     named = os.environ.get("NILUPPANG_LIBRARY")
     if named and not os.path.isfile(named):
         raise Skipped(f"there is no library {named}, which NILUPPANG_LIBRARY names")
     with tempfile.TemporaryDirectory(prefix="hub-library-") as folder:
         try:
-            made = named or libraries.make_shared(libraries.make_archive(folder).parent)
+            made = named or libraries.make_shared(libraries.make_archive(folder, proves=False).parent)
+            print(f"program: the library {made}", flush=True)
         except libraries.Missing as missing:
-            raise Skipped(missing) from None
+            made = stand_in(folder)
+            print(f"program: the stand-in tests/standin/library.c of the definitions, since {missing}", flush=True)
         yield os.path.abspath(made)
 
 
+def stand_in(folder):
+    """A stand-in for the library, made in a folder."""
+    path, source = pathlib.Path(folder, "libniluppang.so"), harness.STAND_IN.parent
+    words = ["-std=gnu11", "-Wall", "-Wextra", "-Werror", "-shared", "-fPIC", f"-I{TOP / 'include'}", f'-DSERVER="{source / "library.py"}"']
+    done = harness.run(["gcc", *words, source / "library.c", "-o", path, "-lpthread"])
+    if done.status:
+        raise Skipped(f"the stand-in of the library is not built: {done.errors.decode(errors='replace')[:300]}")
+    return path
+
+
 def checked(check):
-    """Runs a check, and ends with its last line. A machine without the parts skips it, and a line says why."""
+    """Runs a check on the program or its stand-in, and ends with its last line. A machine without the parts skips it, and a line says why."""
     try:
-        with library() as path:
-            right = check(interpreter(), path)
+        right = check(interpreter(), harness.program_or_stand_in())
     except Skipped as why:
         print(f"skipped: {why}")
         harness.end(0, 0)
@@ -52,14 +63,18 @@ def checked(check):
 handed_out = [21000 + os.getpid() % 4000 * 4]  # the port after those that this check was given
 
 
+one_at_a_time = threading.Lock()
+
+
 def free_ports(many):
     """Ports in a row that nobody listens at, and that this check was not given before: a site that is killed comes back to its own."""
-    for first in range(handed_out[-1], 60000, many):
-        with contextlib.ExitStack() as stack, contextlib.suppress(OSError):
-            for port in range(first, first + many):
-                stack.enter_context(socket.socket()).bind(("127.0.0.1", port))
-            handed_out.append(first + many)
-            return first
+    with one_at_a_time:
+        for first in range(handed_out[-1], 60000, many):
+            with contextlib.ExitStack() as stack, contextlib.suppress(OSError):
+                for port in range(first, first + many):
+                    stack.enter_context(socket.socket()).bind(("127.0.0.1", port))
+                handed_out.append(first + many)
+                return first
     raise Skipped("no port is free")
 
 
@@ -74,7 +89,7 @@ def until(is_so, seconds=LATEST):
     return False
 
 
-def asked(port, path, body=None, timeout=10, **headers):
+def asked(port, path, body=None, timeout=60, **headers):
     """The answer of a site to a request."""
     connection = http.client.HTTPConnection("127.0.0.1", port, timeout=timeout)
     try:
@@ -90,15 +105,17 @@ def outcomes(answer):
     return [json.loads(line) for line in answer.body.splitlines()]
 
 
+TOKENS = ("NILUPPANG_TOKEN", "NILUPPANG_READ_TOKEN", "NILUPPANG_PEER_TOKEN")
+
+
 class Hub:
     """A process of main.py with these words, in a folder, whose output goes to a file."""
 
-    def __init__(self, python, library, folder, *words, room=None, **variables):
+    def __init__(self, python, program, folder, *words, room=None, **variables):
         self.folder, self.log = pathlib.Path(folder), pathlib.Path(f"{folder}.log")
-        path = os.pathsep.join(filter(None, [str(BINDING) if BINDING.is_dir() else "", os.environ.get("PYTHONPATH", "")]))
-        clean = {name: it for name, it in os.environ.items() if name not in ("NILUPPANG_TOKEN", "PYTHONHOME")}
+        clean = {name: it for name, it in os.environ.items() if name not in (*TOKENS, "PYTHONHOME", "PYTHONPATH")}
         self.command = [python, "-u", str(MAIN), str(folder), *map(str, words)]
-        self.variables = {**clean, "NILUPPANG_LIBRARY": library, "PYTHONPATH": path, **variables}
+        self.variables = {**clean, "SCT_SITES": program, **variables}
         self.room = room
         self.start()
 
@@ -128,14 +145,13 @@ class Hub:
 
     def children(self):
         """The processes of the sites that it runs, by number."""
-        found = {}
-        for path in glob.glob("/proc/[0-9]*/stat"):
-            with contextlib.suppress(OSError, IndexError, StopIteration):
-                state, parent = pathlib.Path(path).read_text().rsplit(")", 1)[1].split()[:2]
-                if int(parent) == self.process.pid and state != "Z":
-                    words = pathlib.Path(path).with_name("cmdline").read_text().split("\0")
-                    found[int(next(word for word in words if word.startswith("--site=")).split("=")[1])] = int(path.split("/")[2])
-        return found
+        return {int(next(word for word in words if word.startswith("--site=")).split("=")[1]): process
+                for process, words in below(self.process.pid) if any(word.startswith("--site=") for word in words)}
+
+    def served(self):
+        """The processes `serve`, each below a site, by number."""
+        sites = list(self.children().values()) or [self.process.pid]
+        return {int(words[words.index("serve") + 1]): process for site in sites for process, words in below(site) if "serve" in words}
 
     def __enter__(self):
         return self
@@ -144,35 +160,34 @@ class Hub:
         self.end()
 
 
+def below(parent):
+    """The processes that a process started and that run, each with its words."""
+    for path in glob.glob("/proc/[0-9]*/stat"):
+        with contextlib.suppress(OSError, IndexError, ValueError):
+            state, its = pathlib.Path(path).read_text().rsplit(")", 1)[1].split()[:2]
+            if int(its) == parent and state != "Z":
+                yield int(path.split("/")[2]), pathlib.Path(path).with_name("cmdline").read_text().split("\0")
+
+
 def is_well(port):
     """Whether a site serves and takes messages."""
     return asked(port, "/health").status == 200
 
 
-# ---- a database server of the check's own
+# ---- journals
 
-@contextlib.contextmanager
-def postgres():
-    """The words of a new PostgreSQL database, which ends with the check, and a function that stops its server or starts it. Skipped if
-    the machine has no server, or nobody to run it."""
-    folders = sorted(glob.glob("/usr/lib/postgresql/*/bin"))
-    if not folders or harness.run([interpreter(), "-c", "import psycopg2"]).status:
-        raise Skipped("there is no PostgreSQL: apt-get install postgresql python3-psycopg2")
-    user = [] if os.getuid() else ["setpriv", "--reuid=postgres", "--regid=postgres", "--clear-groups"]
-    if user and not shutil.which("setpriv"):
-        raise Skipped("there is no setpriv")
-    with tempfile.TemporaryDirectory(prefix="hub-postgres-") as folder:
-        if user:
-            shutil.chown(folder, "postgres", "postgres")
-        data = f"{folder}/data"
-        run = lambda *words: subprocess.run([*user, *words], check=True, stdout=subprocess.DEVNULL, cwd=folder)
-        run(f"{folders[-1]}/initdb", "--auth=trust", "--username=hub", "--no-locale", "--encoding=UTF8", data)
+def kept(path):
+    """The lines that a journal keeps, without the first. A space before a line says that it counts."""
+    lines = pathlib.Path(path).read_bytes().split(b"\n")[:-1]
+    counted = list(itertools.takewhile(lambda line: line.startswith(b" "), lines))
+    return [line[1:] for line in counted[1:]]
 
-        def control(word):
-            run(f"{folders[-1]}/pg_ctl", "-w", "-m", "immediate", "-D", data, "-l", f"{folder}/log",
-                "-o", f"-c listen_addresses= -k {folder}", word)
-        control("start")
-        try:
-            yield f"host={folder} user=hub dbname=postgres", control
-        finally:
-            control("stop")
+
+def own_lines(path):
+    """The messages of a journal, in the order of their numbers."""
+    return [line for line in kept(path) if not line.startswith(b"delta ")]
+
+
+def write_journal(path, site, group, lines):
+    """Makes a journal that keeps these lines."""
+    pathlib.Path(path).write_bytes(b"".join(b" " + line + b"\n" for line in [b"site %d %d" % (site, group), *lines]) + b"\t")

@@ -51,20 +51,40 @@ public final class SiteTest {
         return found;
     }
 
+    /** Refused lines without what follows the number of each fault. */
+    private static String shortened(byte[] refused) {
+        return string(refused).replaceAll("(?m)^(line \\d+: \\d+).*$", "$1");
+    }
+
     private static void example(Path folder, String name) throws IOException {
         byte[] text = Files.readAllBytes(folder.resolve(name + ".jsonl"));
         try (Site whole = new Site(1, 3); Site single = new Site(2, 3)) {
             Site.LinesTaken taken = whole.takeLines(text);
             same(name + ", refused lines", taken.refusedText(), Files.readAllBytes(folder.resolve(name + ".refused")));
             long fresh = 0;
-            for (byte[] line : lines(text)) {
+            long repeats = 0;
+            long refused = 0;
+            boolean numbered = true;
+            StringBuilder codes = new StringBuilder();
+            List<byte[]> all = lines(text);
+            for (int at = 0; at < all.size(); at++) {
+                if (string(all.get(at)).isBlank()) {
+                    continue;
+                }
                 try {
-                    fresh += single.take(line).isRepeat() ? 0 : 1;
+                    Site.Taken one = single.take(all.get(at));
+                    fresh += one.isRepeat() ? 0 : 1;
+                    repeats += one.isRepeat() ? 1 : 0;
+                    numbered &= one.number() == (one.isRepeat() ? 0 : fresh);
                 } catch (NiluppangException fault) {
-                    is(name + ", a refused line", fault.number() >= 31 && fault.number() <= 56);
+                    refused++;
+                    codes.append("line ").append(at + 1).append(": ").append(fault.number()).append('\n');
                 }
             }
-            is(name + ", counts", taken.fresh() == fresh && whole.counts()[0] == fresh && single.counts()[1] == fresh);
+            is(name + ", the numbers of takes", numbered && fresh > 0);
+            is(name + ", the refused lines one by one", codes.toString().equals(shortened(taken.refusedText())));
+            is(name + ", counts", taken.fresh() == fresh && whole.counts()[0] == fresh && single.counts()[1] == fresh
+                    && taken.repeats() == repeats && taken.refused() == refused && whole.takeLines(text).repeats() == fresh + repeats);
             for (Site site : new Site[] {whole, single}) {
                 same(name + ", status", site.statusText(), Files.readAllBytes(folder.resolve(name + ".status")));
                 same(name + ", archive", site.archiveText(), Files.readAllBytes(folder.resolve(name + ".archive")));

@@ -1,11 +1,16 @@
 """merge.py: the answers of all parts as one, and the check that the parts share nothing.
 
+More parts than a process may have files are merged in levels: first some of them into one text each, with the part of each piece beside it.
+
 The check reads what `sct_sites` wrote of each part: the transfers of its status text, which names each transfer that a message of
 the part names, and the identities of its archive text, which has each message of the part. None may be in two parts.
 """
-import heapq, re
+import heapq, itertools, re
 from parts.answers import answer_file
 from parts.files import Stop, whole
+
+MOST_OPEN = 200  # files that are merged at once
+HEADED = "report"  # the text whose first line is a header
 
 # in a written form no text has an unescaped quote, so these keys are found nowhere else
 IDENTITY = re.compile(rb'"InstgAgt":"([^"]*)".*"MsgId":"([^"]*)","MsgNmId":"(.{8})')
@@ -55,7 +60,29 @@ def refused_in(path, part):
 
 def sorted_from(work, names, word, read):
     """What the texts of all parts have, in one order."""
-    return heapq.merge(*(read(answer_file(work, name, word), name) for name in names))
+    sources = [read(answer_file(work, name, word), name) for name in names]
+    for level in itertools.count():
+        if len(sources) <= MOST_OPEN:
+            return heapq.merge(*sources)
+        groups = [sources[at:at + MOST_OPEN] for at in range(0, len(sources), MOST_OPEN)]
+        sources = [merged_source(f"{work}/merging/{word}.{level}.{place}", word, read, group) for place, group in enumerate(groups)]
+
+
+def merged_source(path, word, read, sources):
+    """Some texts as one, in a file. It is read as each of them is."""
+    with whole(path) as text, whole(f"{path}.parts") as parts:
+        text.write(b"header\n" if word == HEADED else b"")
+        for key, part, its in heapq.merge(*sources):
+            text.write(b"%d %d %b" % (*key, its) if word == "refused" else its)
+            parts.write(f"{part}\n".encode())
+    return with_parts(path, read)
+
+
+def with_parts(path, read):
+    """What a merged text has, each with its own part."""
+    with open(f"{path}.parts") as parts:
+        for (key, _, its), part in zip(read(path, None), parts):
+            yield key, part.rstrip("\n"), its
 
 
 def apart(found, width, what):

@@ -4,21 +4,25 @@ The answers are those of `sct_sites` on all lines together. FOLDER gets whole.st
 as they are asked for, and whole.refused. All workers must see FOLDER, the files, the program and this package under the same paths.
 docs/users/parts.md has more.
 """
-import argparse, contextlib, fcntl, importlib, json, logging, os, pathlib, shutil, subprocess, sys, warnings
+import argparse, concurrent.futures, contextlib, fcntl, hashlib, importlib, ipaddress, json, logging, os, pathlib, resource, shutil, subprocess
+import sys, urllib.parse, warnings
 
 sys.path.insert(0, str(pathlib.Path(__file__).resolve().parents[1]))
 try:
-    from distributed import Client, LocalCluster
-    from distributed.scheduler import KilledWorker
+    from distributed import Client, LocalCluster, Security, as_completed
 except ImportError as missing:
     print(f"parts: {sys.executable} has no {missing.name}. Debian's packages python3-dask and python3-distributed belong to"
           " /usr/bin/python3: start this program with it", file=sys.stderr)
     sys.exit(2)
 from parts import parts, ties
-from parts.files import Stop, whole
+from parts.files import Stop, read_json, whole
 
 PACKAGE = pathlib.Path(__file__).resolve().parent
 CHECKED = ["status", "archive"]  # what the check reads
+TEXTS = ["status", "totals", "archive", "report", "refused"]
+OURS = "niluppang parts"  # the mark of a plan that this program wrote
+WORK = ["keys", "cuts", "parts", "answers", "merged", "merging", "done", "dask"]  # the folders of the work
+HERE = "127.0.0.1"
 FILL = 0.75  # a part is meant to have so much of the bytes that it may have, since parts are not all of one size
 
 
@@ -44,11 +48,16 @@ def words():
     it.add_argument("--ask", metavar="WORDS", default="status,totals,archive", help="which of these three, with commas (all)")
     it.add_argument("--report", metavar=("BANK", "DAY", "LIST"), nargs=3, help="a report on a bank's list too")
     it.add_argument("--scheduler", metavar="ADDRESS", help="the scheduler of a cluster (workers on this machine)")
+    it.add_argument("--tls-ca", metavar="FILE", help="who signs the certificates of a cluster at tls://")
+    it.add_argument("--tls-cert", metavar="FILE", help="the certificate that is shown to it")
+    it.add_argument("--tls-key", metavar="FILE", help="the key of that certificate")
+    it.add_argument("--plain", action="store_true", help="use a cluster on other machines without TLS: whoever reaches it runs programs there")
+    it.add_argument("--progress", action="store_true", help="say how far the work is, on standard error (on a terminal it is said always)")
     it.add_argument("--workers", metavar="N", type=size, default=len(os.sched_getaffinity(0)), help="workers on this machine")
     it.add_argument("--parts", metavar="N", type=size, default=1, help="cut into so many parts at least")
     it.add_argument("--most", metavar="BYTES", type=part_size, default=128 << 20, help="bytes of a part at most (128 MiB)")
     it.add_argument("--block", metavar="BYTES", type=size, default=64 << 20, help="bytes of a file that are read at once (64 MiB)")
-    it.add_argument("--program", metavar="PATH", help="sct_sites (the variable SCT_SITES, then the search path)")
+    it.add_argument("--program", metavar="PATH", help="sct_sites (the variable SCT_SITES, the search path, then that of the release)")
     it.add_argument("--unchecked", action="store_true", help="do not check that the parts share nothing")
     it.add_argument("--keep", action="store_true", help="keep the parts and their answers in FOLDER/work")
     return it
@@ -56,7 +65,8 @@ def words():
 
 def program_of(given):
     """The path of the program."""
-    path = shutil.which(given or os.environ.get("SCT_SITES") or "sct_sites")
+    release = PACKAGE / "../../../../bin/sct_sites"
+    path = shutil.which(given or os.environ.get("SCT_SITES") or "sct_sites") or (str(release.resolve()) if release.is_file() and not given else None)
     if path is None:
         raise Stop("there is no program sct_sites: name it by --program or by the variable SCT_SITES")
     return os.path.abspath(path)
@@ -87,8 +97,16 @@ def plan_of(asked):
     wanted, more = commands_of(asked)
     program = program_of(asked.program)
     list_of_bank = [mark(asked.report[2])] if asked.report else []
-    return {"files": [mark(path) for path in asked.files], "program": mark(program), "wanted": wanted, "more": more,
-            "list": list_of_bank, "parts": asked.parts, "most": asked.most, "block": asked.block}
+    return {"made by": OURS, "code": code_sum(), "files": [mark(path) for path in asked.files], "program": mark(program), "wanted": wanted,
+            "more": more, "list": list_of_bank, "parts": asked.parts, "most": asked.most, "block": asked.block}
+
+
+def code_sum():
+    """A sum of the code of this program: work that other code began is not gone on with."""
+    sums = hashlib.sha256()
+    for path in sorted(PACKAGE.glob("*.py")):
+        sums.update(path.name.encode() + path.read_bytes())
+    return sums.hexdigest()
 
 
 # ---- the folder
@@ -97,7 +115,7 @@ def plan_of(asked):
 def alone_in(folder):
     """The folder, in which no other run is at work."""
     folder.mkdir(parents=True, exist_ok=True)
-    with open(folder / "lock", "wb") as lock:
+    with open(folder / "lock", "ab") as lock:
         try:
             fcntl.flock(lock, fcntl.LOCK_EX | fcntl.LOCK_NB)
         except BlockingIOError:
@@ -105,14 +123,55 @@ def alone_in(folder):
         yield
 
 
+def is_ours(file):
+    """Whether a plan is one that this program wrote."""
+    plan = read_json(file)
+    return isinstance(plan, dict) and plan.get("made by") == OURS
+
+
+def remove_work(work):
+    """Removes what a run left in the folder of the work, and the folder if nothing else is in it."""
+    for name in WORK:
+        shutil.rmtree(work / name, ignore_errors=True)
+    for name in ("roots", "plan.json"):
+        with contextlib.suppress(FileNotFoundError):
+            (work / name).unlink()
+    with contextlib.suppress(OSError):
+        work.rmdir()
+
+
+def made_before(folder):
+    """The texts that runs have put into a folder, each with its size and the time of its last change. They are in the file of the lock."""
+    found = read_json(folder / "lock")
+    return found if isinstance(found, dict) else {}
+
+
+def note_made(folder, found):
+    """Notes texts by their names and files as made by this program, so that a later run may remove them."""
+    (folder / "lock").write_text(json.dumps({name: mark(path)[1:] for name, path in found.items()}))
+
+
+def remove_texts(folder):
+    """Removes the texts of an earlier run. One that this program did not make, or that changed since, stays, and the run ends."""
+    made = made_before(folder)
+    there = [f"whole.{word}" for word in TEXTS if (folder / f"whole.{word}").exists()]
+    for name in there:
+        if made.get(name) != mark(folder / name)[1:]:
+            raise Stop(f"{folder / name} is there, and this program did not make it so: move it away, or name another folder")
+    for name in there:
+        (folder / name).unlink()
+    note_made(folder, {})
+
+
 def prepared(folder, plan):
     """The folder of the work. What an earlier run left there stays if it had the same plan."""
     work = folder / "work"
     file = work / "plan.json"
-    if not file.is_file() or json.loads(file.read_bytes()) != plan:
-        shutil.rmtree(work, ignore_errors=True)
-        for old in folder.glob("whole.*"):
-            old.unlink()
+    if work.exists() and not is_ours(file) and any(work.iterdir()):
+        raise Stop(f"{work} is there, and this program did not make it: move it away, or name another folder")
+    if read_json(file) != plan:
+        remove_texts(folder)
+        remove_work(work)
         with whole(file) as target:
             target.write(json.dumps(plan).encode())
     return work
@@ -123,13 +182,16 @@ def prepared(folder, plan):
 class Steps:
     """The steps of the work on the workers. The result of each call is kept in the folder, for a run that goes on."""
 
-    def __init__(self, client, work, is_kept):
-        self.client, self.work, self.is_kept = client, str(work), is_kept
+    def __init__(self, client, work, is_kept, says_all):
+        self.client, self.work, self.is_kept, self.says_all = client, str(work), is_kept, says_all
 
     def each(self, name, function, calls):
         """The results of a function of a module on the folder of the work, for each list of its other arguments."""
         asked = [[str(PACKAGE.parent), self.work, name, number, function, its] for number, its in enumerate(calls)]
-        return self.client.gather(self.client.map(kept_call, asked, pure=False))
+        calls = self.client.map(kept_call, asked, pure=False)
+        for done, _ in enumerate(as_completed(calls) if self.says_all else [], 1):
+            print(f"parts: {name} {done} of {len(calls)}", file=sys.stderr, flush=True)
+        return self.client.gather(calls)
 
     def drop(self, folder):
         """Removes files that no later step reads."""
@@ -205,16 +267,43 @@ def answered(steps, plan):
 
 @contextlib.contextmanager
 def workers(asked, work):
-    """The workers: those of a cluster, or some on this machine."""
+    """The workers: those of a cluster, or some on this machine, which nobody else reaches."""
     if asked.scheduler:
-        with Client(asked.scheduler) as client:
+        with Client(asked.scheduler, security=security_of(asked)) as client:
             yield client
         return
     logging.getLogger("asyncio").setLevel(logging.CRITICAL)  # what Dask leaves undone when it ends is no part of the answer
     warnings.simplefilter("ignore", RuntimeWarning)
-    how = {"threads_per_worker": 1, "dashboard_address": ":0", "local_directory": f"{work}/dask", "silence_logs": logging.CRITICAL}
+    try:
+        security = Security.temporary()
+    except ImportError:
+        raise Stop("there is no python3-cryptography: without it every user of this machine could run programs in the workers") from None
+    how = {"threads_per_worker": 1, "local_directory": f"{work}/dask", "silence_logs": logging.CRITICAL, "security": security, "host": HERE,
+           "dashboard_address": f"{HERE}:0", "worker_dashboard_address": f"{HERE}:0"}
     with LocalCluster(n_workers=asked.workers, **how) as cluster, Client(cluster) as client:
         yield client
+
+
+def security_of(asked):
+    """How the scheduler of a cluster is spoken to."""
+    address = urllib.parse.urlsplit(asked.scheduler)
+    files = [asked.tls_ca, asked.tls_cert, asked.tls_key]
+    if address.scheme == "tls" or any(files):
+        if address.scheme != "tls" or not all(files):
+            raise Stop("a cluster at tls:// needs --tls-ca, --tls-cert and --tls-key")
+        return Security(tls_ca_file=files[0], tls_client_cert=files[1], tls_client_key=files[2], require_encryption=True)
+    if not asked.plain and not is_here(address.hostname or ""):
+        raise Stop(f"{asked.scheduler} is spoken to without TLS: whoever reaches that network runs programs on all workers. Use tls://, or say"
+                   " by --plain that nobody else reaches it")
+    return None
+
+
+def is_here(host):
+    """Whether a host is this machine."""
+    try:
+        return ipaddress.ip_address(host).is_loopback
+    except ValueError:
+        return host == "localhost"
 
 
 def is_taken(plan):
@@ -233,25 +322,31 @@ def run(asked):
     with alone_in(folder):
         work = prepared(folder, plan)
         with workers(asked, work) as client:
-            wanted, done, refused = answered(Steps(client, work, asked.keep), plan)
+            says_all = asked.progress or sys.stderr.isatty()
+            wanted, done, refused = answered(Steps(client, work, asked.keep, says_all), plan)
         if plan_of(asked) != plan:
             raise Stop("a file changed while it was read")
+        remove_texts(folder)
+        note_made(folder, {f"whole.{word}": work / "merged" / word for word in wanted})  # a file that is moved keeps its time
         for word in wanted:
             os.replace(work / "merged" / word, folder / f"whole.{word}")
         if not asked.keep:
-            shutil.rmtree(work, ignore_errors=True)
+            remove_work(work)
     print(done)
     return 1 if refused else 0
 
 
 def main():
+    os.umask(0o077)  # parts and answers are payments of customers: nobody else of this machine reads them
+    _, most = resource.getrlimit(resource.RLIMIT_NOFILE)
+    resource.setrlimit(resource.RLIMIT_NOFILE, (min(most, 1 << 16) if most != resource.RLIM_INFINITY else 1 << 16, most))
     try:
         sys.exit(run(words().parse_args()))
     except Stop as stop:
         print(f"parts: {stop.why}", file=sys.stderr)
         sys.exit(stop.status)
-    except (OSError, KilledWorker) as error:
-        print(f"parts: {error}", file=sys.stderr)
+    except (Exception, concurrent.futures.CancelledError, KeyboardInterrupt) as error:
+        print(f"parts: {str(error) or type(error).__name__}", file=sys.stderr)
         sys.exit(2)
 
 

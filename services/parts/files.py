@@ -1,4 +1,4 @@
-"""files.py: files that are there whole or not at all, numbers in files, and results that are kept for a later run."""
+"""files.py: files that are there whole or not at all, also after a power cut, numbers in files, and results that are kept for a later run."""
 import array, contextlib, json, os, pathlib, threading
 
 
@@ -19,21 +19,41 @@ def whole(path):
     try:
         with open(made, "wb") as file:
             yield file
+            file.flush()
+            os.fsync(file.fileno())
         os.replace(made, path)
+        synced(path.parent)
     finally:
         with contextlib.suppress(FileNotFoundError):
             made.unlink()
 
 
+def synced(folder):
+    """Puts the names of a folder on the disk."""
+    there = os.open(folder, os.O_RDONLY)
+    try:
+        os.fsync(there)
+    finally:
+        os.close(there)
+
+
+def read_json(path):
+    """What a file has, or None if it is not there or is not whole."""
+    try:
+        return json.loads(pathlib.Path(path).read_bytes())
+    except (FileNotFoundError, ValueError):
+        return None
+
+
 def kept(path, make):
-    """What was made before and is kept in a file, else what is made now, which is kept then. It is made of lists, texts and
-    numbers."""
-    path = pathlib.Path(path)
-    if not path.is_file():
-        made = make()
+    """What was made before and is kept in a file, else what is made now, which is kept then, in a list of its own. It is made of lists,
+    texts and numbers."""
+    found = read_json(path)
+    if found is None:
         with whole(path) as file:
-            file.write(json.dumps(made).encode())
-    return json.loads(path.read_bytes())
+            file.write(json.dumps([make()]).encode())
+        found = read_json(path)
+    return found[0]
 
 
 def numbers(path, begin=0, end=None):

@@ -1,0 +1,1 @@
+"""Sites of a hub as services: the proved process `serve` of each site behind HTTP. docs/users/hub.md says how."""

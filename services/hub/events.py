@@ -1,0 +1,51 @@
+"""events.py: what changed, for the pages that watch: the last events, and a queue for each page."""
+import asyncio, collections, json, secrets
+
+MOST_EVENTS, MOST_BYTES = 1000, 8 << 20  # events, and their bytes, that are kept for a page that comes back
+MOST_EVENT = 1 << 20  # bytes of an event: after a longer one a page loads again
+MOST_BEHIND, MOST_BEHIND_BYTES = 200, 4 << 20  # events, and their bytes, that may wait for a slow page
+MOST_NAMES = 2000  # changed transfers that an event names; after more of them a page loads again
+MOST_DIGITS = 18
+
+
+class Queue(asyncio.Queue):
+    """The events that wait for a page. None ends it."""
+    bytes = 0
+
+
+class Events:
+    def __init__(self):
+        self.began = secrets.token_hex(8)  # no two runs of a site have one, however fast they follow
+        self.number, self.last, self.size, self.queues = 0, collections.deque(), 0, set()
+
+    def add(self, changes):
+        """Publishes changed transfers, or with None that a page has to load again."""
+        self.number += 1
+        found = [{"bank": bank, "tx": tx, **({} if lines is None else {"lines": lines.splitlines()})} for bank, tx, lines in changes or []]
+        event = self.text("transfers", found) if changes is not None and len(found) <= MOST_NAMES else self.text("reset", [])
+        if len(event) > MOST_EVENT:
+            event = self.text("reset", [])
+        self.last.append((self.number, event))
+        self.size += len(event)
+        while len(self.last) > MOST_EVENTS or self.size > MOST_BYTES:
+            self.size -= len(self.last.popleft()[1])
+        for queue in list(self.queues):
+            queue.bytes += len(event)
+            if queue.qsize() >= MOST_BEHIND or queue.bytes > MOST_BEHIND_BYTES:
+                self.queues.discard(queue)  # the page is too slow: it is cut off, and comes back
+                queue.put_nowait(None)
+            else:
+                queue.put_nowait(event)
+
+    def text(self, word, found):
+        return f"id: {self.began}-{self.number}\nevent: {word}\ndata: {json.dumps(found)}\n\n".encode()
+
+    def since(self, last):
+        """The events after the one that a page had last. If they are not all here, it must load again."""
+        if not last:
+            return [self.text("begin", [])]
+        began, _, number = last.partition("-")
+        is_number = number.isascii() and number.isdigit() and len(number) <= MOST_DIGITS
+        if began != self.began or not is_number or not self.number - len(self.last) <= int(number) <= self.number:
+            return [self.text("reset", [])]
+        return [event for count, event in self.last if count > int(number)]

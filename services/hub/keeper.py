@@ -1,0 +1,408 @@
+"""keeper.py: the queue before the process `serve` of a site, and its restarts.
+
+Requests go to the process in rounds: the lines and deltas that wait, up to a number of bytes, and then the questions. A reply is handed on
+when it has come, and what has a reply is on the disk. If the process ends, it is started again, and what has no reply is sent again. A
+request with which the process ended several times is given up.
+
+If the disk fails, the process ends, and all who wait to write get an error. It is started again, and answers questions. Before the next
+lines go to it, the disk is tried with as many bytes.
+"""
+import asyncio, collections, json, logging, time
+from . import process
+from .files import Wrong
+from .process import Ended, Process
+from .vectors import listed, vector_text
+
+MOST_ROUND = 4 << 20  # bytes of lines and deltas in a round, unless one request alone has more
+MOST_WAITING = {"take": 64 << 20, "accept": 32 << 20}  # bytes that wait at most: of clients, and of peers
+MOST_QUESTIONS = 2000  # questions that wait at most
+MOST_PUBLISHED = 200  # changed transfers of a round whose lines are published; of the others only the names are
+MOST_UNSEEN = 10_000  # new entries after which a question is asked, so that no client has to wait for a question on more of them
+MOST_TEXT = 1 << 40
+MOST_ENDS = 3  # times that the process may end with a request before the request is given up
+FIRST_PAUSE, MOST_PAUSE, HELD_SECONDS = 0.05, 2.0, 3.0  # HELD_SECONDS: a process that ended may have the journal a moment longer
+GAP, FORK, OWN_AHEAD, BAD_DELTA = 41, 42, 43, 45
+A_QUESTION = b"? transfer AAAADEAA A"
+
+Answer = collections.namedtuple("Answer", "text is_cut vector")
+Outcome = collections.namedtuple("Outcome", "word number why")  # TAKEN with its number, REPEAT, or REFUSED by a number and a text
+
+log = logging.getLogger("hub")
+
+
+class Busy(Exception):
+    """Too much waits for the site."""
+
+
+class Unable(Exception):
+    """The site cannot do it at the moment, and why. `is_full`: its disk fails."""
+
+    def __init__(self, why, is_full=False):
+        super().__init__(why)
+        self.is_full = is_full
+
+
+class Halted(Exception):
+    """The site takes no more messages, and why."""
+
+
+class Held(Exception):
+    """Another process has the journal."""
+
+
+class Refused(Exception):
+    """The site refuses a question or a delta: by a number, with more of its line."""
+
+    def __init__(self, rest):
+        text = rest.decode(errors="replace")
+        super().__init__(text)
+        self.number, self.text = int(text.split()[0]), text
+
+
+class Work:
+    """What somebody waits for: its requests, and the replies that came. `most` is how much of a text is wanted."""
+
+    def __init__(self, kind, requests, most, done):
+        self.kind, self.requests, self.most, self.done = kind, requests, most, done
+        self.size, self.replies, self.vector, self.ends = sum(map(len, requests)), [], None, 0
+
+    def settle(self, vector=None, fault=None):
+        """Hands on what came, unless who waited has gone."""
+        if self.done.done():
+            return
+        self.vector = vector
+        if fault is None:
+            self.done.set_result(None)
+        else:
+            self.done.set_exception(fault)
+            self.done.exception()
+
+
+def as_message(line):
+    """A line as a request that is read as a message, whatever it begins with. A line of blanks is none."""
+    return b" " + line if line.startswith((b"delta ", b"? ")) else line
+
+
+def outcome_of(reply):
+    if reply.word == b"TAKEN":
+        return Outcome("TAKEN", int(reply.rest), "")
+    if reply.word == b"REPEAT":
+        return Outcome("REPEAT", 0, "")
+    text = reply.rest.decode(errors="replace")
+    return Outcome("REFUSED", int(text.split()[0]), text)
+
+
+class Keeper:
+    def __init__(self, files, program, number, group):
+        self.files, self.program, self.number, self.group = files, program, number, group
+        self.process, self.work, self.waiting, self.ends = None, collections.deque(), collections.Counter(), False
+        self.some, self.task, self.under_way = asyncio.Event(), None, None
+        self.halted = files.halted()
+        self.away = "the process is not started yet"  # why there is no process, or None
+        self.is_full, self.failed_size, self.failure, self.is_wrong = False, 0, None, False
+        self.counts, self.vector = [0] * group, "-"
+        self.numbers, self.rounds, self.round_seconds, self.restarts = collections.Counter(), 0, 0.0, -1
+        self.watchers, self.is_watched, self.watched_at, self.unseen = 0, False, 0.0, 0
+        self.on_round = lambda changes: None  # called after a round with the changed transfers, or with None if some are not known
+        self.on_failure = lambda: None  # called if the site cannot go on
+
+    # ---- for everyone
+
+    async def take(self, lines):
+        """The outcome of each line, after it is in the journal."""
+        if self.halted:
+            raise Halted(self.halted)
+        return list(map(outcome_of, (await self._ask("take", list(map(as_message, lines)), 0)).replies))
+
+    async def accept(self, delta):
+        """How many entries of a delta are new. It has tabs for line feeds."""
+        reply, = (await self._ask("accept", [delta], 0)).replies
+        if reply.word == b"ACCEPTED":
+            return int(reply.rest)
+        raise Refused(reply.rest)
+
+    async def ask(self, question, most=MOST_TEXT):
+        """The text that answers a question, as much of it as is wanted."""
+        return (await self.answer(question, most)).text
+
+    async def answer(self, question, most=MOST_TEXT):
+        """The text that answers a question, whether it is cut, and the vector of what was held then."""
+        one = await self._ask("ask", [question], most)
+        reply, = one.replies
+        if reply.word != b"TEXT":
+            raise Refused(reply.rest)
+        return Answer(reply.text, reply.is_cut, one.vector)
+
+    async def _ask(self, kind, requests, most):
+        if self.failure or self.ends or self.away:
+            raise Unable(self.failure or self.away or "the service ends")
+        one = Work(kind, requests, most, asyncio.get_running_loop().create_future())
+        limit = MOST_WAITING.get(kind)
+        if limit and self.waiting[kind] and self.waiting[kind] + one.size > limit or not limit and self.waiting["ask"] >= MOST_QUESTIONS:
+            raise Busy()
+        self.waiting[kind] += one.size if limit else 1
+        self.work.append(one)
+        self.some.set()
+        await one.done
+        return one
+
+    def halt(self, why):
+        """Takes no message from now on, and never again before somebody removes the mark."""
+        if not self.halted:
+            self.halted = why
+            log.error("the site takes no more messages: %s", why)
+            try:
+                self.files.put_halt(why)
+            except OSError as fault:
+                log.error("the mark of the halt is not written: %s", fault)
+
+    # ---- the process
+
+    async def start(self):
+        """Starts the process for the first time, and checks what it holds. One that somebody kills meanwhile is started again."""
+        for left in reversed(range(MOST_ENDS)):
+            try:
+                await self._started()
+                break
+            except Ended as end:
+                if end.fault is not None or not left:
+                    raise
+        await asyncio.get_running_loop().run_in_executor(None, self.files.check, self.counts)
+        self.task = asyncio.ensure_future(self._run())
+
+    async def _started(self):
+        """Starts the process. Wrong or Held if the site must not start, and Ended if the process ended for another reason."""
+        words = [self.program, "serve", str(self.number), str(self.group), str(self.files.journal)]
+        until = time.monotonic() + HELD_SECONDS
+        while True:
+            try:
+                self.process = await Process.started(words)
+                break
+            except Ended as end:
+                if end.fault == process.HELD and time.monotonic() < until:
+                    await asyncio.sleep(0.1)
+                    continue
+                if end.fault == process.HELD:
+                    raise Held("another process has it") from None
+                if end.fault in (process.WRONG_JOURNAL, process.OTHER_SITE):
+                    why = "it is no journal" if end.fault == process.WRONG_JOURNAL else "it is the journal of another site or group"
+                    raise Wrong(f"{why} ({end})") from None
+                if end.fault == 64 or end.fault is None and end.status in (1, 126, 127):
+                    raise Wrong(f"{self.program} does not serve: {end}") from None
+                raise
+            except OSError as fault:
+                raise Wrong(f"{self.program} cannot be started: {fault.strerror}") from None
+        self.restarts += 1
+        self.counts = listed(self.process.vector.decode(), self.group)
+        self.is_watched, self.unseen, self.away = False, 0, None
+        await self._exchange([(A_QUESTION, MOST_TEXT)])  # the first question costs most: nobody has to wait for it
+        if self.watchers:
+            await self._exchange([(b"? changes", MOST_TEXT)])
+            self.is_watched = True
+            self.on_round(None)
+        self._show()
+
+    async def _start_again(self):
+        """Starts the process until it runs. Meanwhile all get an error."""
+        pause = FIRST_PAUSE
+        while not self.process and not self.ends:
+            try:
+                await self._started()
+            except Ended as end:
+                self.away = f"the process does not start: {end}"
+                log.error("%s", self.away)
+                for one in self._left():
+                    one.settle(fault=Unable(self.away, self.is_full))
+                await asyncio.sleep(pause)
+                pause = min(2 * pause, MOST_PAUSE)
+
+    async def end(self):
+        """Ends the queue after what waits, and the process in peace."""
+        self.ends = True
+        self.some.set()
+        if self.task:
+            await asyncio.wait([self.task], timeout=30)
+        if self.process:
+            await self.process.end()
+
+    # ---- rounds
+
+    async def _run(self):
+        try:
+            while await self._next_round():
+                pass
+        except Exception as fault:
+            log.exception("the site ends")
+            self.failure, self.is_wrong = f"the site ended: {fault}", isinstance(fault, (Wrong, Held))
+            self.on_failure()
+        for one in [*(self.under_way or []), *self._left()]:
+            one.settle(fault=Unable(self.failure or "the service ends"))
+
+    def _left(self):
+        left, self.work, self.waiting = list(self.work), collections.deque(), collections.Counter()
+        return left
+
+    async def _next(self):
+        """What is done in this round. None at the end."""
+        while not self.work and not self.ends:
+            self.some.clear()
+            await self.some.wait()
+        if not self.work:
+            return None
+        found, size = [], 0
+        while self.work and (not size or size + self.work[0].size <= MOST_ROUND):
+            one = self.work.popleft()
+            found.append(one)
+            size += one.size if one.kind in MOST_WAITING else 0
+            self.waiting[one.kind] -= one.size if one.kind in MOST_WAITING else 1
+        return found
+
+    async def _next_round(self):
+        """Does some of what waits. False at the end."""
+        found = self.under_way = await self._next()
+        if found is None:
+            return False
+        await self._start_again()
+        writes = self._able([one for one in found if one.kind in MOST_WAITING])
+        questions = [one for one in found if one.kind == "ask"]
+        try:
+            if not self.process:
+                raise Ended(None, None, "the service ends")
+            await self._written(writes)
+            changes = await self._changes() if writes else []
+            await self._do(questions)
+        except Ended as end:
+            await self._process_ended(end, writes + questions)
+            return True
+        if writes:
+            self.on_round(changes)
+        return True
+
+    def _able(self, writes):
+        """Those of some lines and deltas that the process is given. The others get an error."""
+        for one in writes:
+            if self.halted and one.kind == "take":
+                one.settle(fault=Halted(self.halted))
+        writes = [one for one in writes if not one.done.done()]
+        if not self.is_full or not writes:
+            return writes
+        try:
+            self.files.try_room(max(self.failed_size, sum(one.size for one in writes)))
+        except OSError as fault:
+            for one in writes:
+                one.settle(fault=Unable(f"the disk fails: {fault.strerror}", True))
+            return []
+        self.is_full = False
+        log.warning("the disk has room again")
+        return writes
+
+    async def _written(self, writes):
+        """Gives lines and deltas to the process, and hands their replies on."""
+        if not writes:
+            return
+        began = time.monotonic()
+        await self._do(writes)
+        if any(one.kind == "accept" for one in writes):
+            reply, = await self._exchange([(b"? vector", MOST_TEXT)])
+            self.counts = listed(reply.text.decode(), self.group)
+        self.rounds += 1
+        self.round_seconds += time.monotonic() - began
+        self._show()
+        if self.unseen >= MOST_UNSEEN:
+            await self._exchange([(A_QUESTION, MOST_TEXT)])
+            self.unseen = 0
+
+    async def _do(self, works):
+        """Gives the process what has no reply yet. Each is settled when its last reply came."""
+        waiting = [(one, request) for one in works for request in one.requests[len(one.replies):]]
+
+        def settle(place, reply):
+            one, _ = waiting[place]
+            one.replies.append(reply)
+            self._note(one, reply)
+            if len(one.replies) == len(one.requests):
+                one.settle(self.vector)
+        if waiting:
+            await self.process.ask([(request, one.most) for one, request in waiting], settle)
+
+    async def _exchange(self, requests):
+        """The replies to some requests of the queue itself."""
+        replies = []
+        await self.process.ask(requests, lambda _, reply: replies.append(reply))
+        return replies
+
+    def _note(self, one, reply):
+        """Keeps the counts, and halts the site after what it must not go on after."""
+        number = int(reply.rest.split()[0]) if reply.word == b"REFUSED" else None
+        if one.kind == "take":
+            self.numbers[reply.word.decode()] += 1
+            if reply.word == b"TAKEN":
+                if int(reply.rest) != self.counts[self.number - 1] + 1:
+                    raise Wrong(f"the process gave the number {int(reply.rest)} after {self.counts[self.number - 1]}")
+                self.counts[self.number - 1] += 1
+                self.unseen += 1
+        elif one.kind == "accept" and reply.word == b"ACCEPTED":
+            self.unseen += int(reply.rest)
+        elif one.kind == "accept" and number in (FORK, OWN_AHEAD):
+            self.halt(f"a delta was refused: {reply.rest.decode()} {'Fork' if number == FORK else 'OwnAhead'}")
+        if number and one.kind != "ask":
+            self.numbers[number] += 1
+
+    async def _process_ended(self, end, works):
+        """The process ended: what has no reply is sent again, unless the disk fails or the process ended with it several times."""
+        left = [one for one in works if not one.done.done()]
+        log.error("the process ended with %d requests under way: %s", len(left), end)
+        self.process = None
+        if end.fault == process.DISK:
+            self.is_full, self.failed_size = True, sum(one.size for one in left if one.kind != "ask")
+        again = []
+        for one in left:
+            one.ends += 1
+            if self.is_full and one.kind != "ask":
+                one.settle(fault=Unable(f"the disk fails: {end}", True))
+            elif one.ends >= MOST_ENDS:
+                one.settle(fault=Unable(f"the process ended {one.ends} times with it: {end}"))
+            else:
+                again.append(one)
+        for one in reversed(again):
+            self.work.appendleft(one)
+            self.waiting[one.kind] += one.size if one.kind in MOST_WAITING else 1
+        await self._start_again()
+
+    # ---- what changed
+
+    def _show(self):
+        self.vector = vector_text(self.counts)
+
+    async def _changes(self):
+        """The transfers that changed since the round before, each with its lines: if someone watches, or to forget them."""
+        now = time.monotonic()
+        if not self.watchers and (not self.is_watched or now - self.watched_at < 1):
+            return []
+        was_watched, self.is_watched, self.watched_at = self.is_watched, True, now
+        text, = await self._exchange([(b"? changes", MOST_TEXT)])
+        names = [line.split(b"|") for line in bytes(text.text).splitlines()]
+        if not self.watchers or not was_watched:
+            return []
+        asked = [(b"? transfer " + b" ".join(name), MOST_TEXT) for name in names[:MOST_PUBLISHED]]
+        lines = [reply.text.decode() for reply in await self._exchange(asked)] + [None] * max(0, len(names) - len(asked))
+        return [(*(part.decode() for part in name), its) for name, its in zip(names, lines)]
+
+    def watch(self, more):
+        """Someone begins or stops to watch."""
+        self.watchers += more
+
+    async def begin_watching(self):
+        """After it, what changes is published. A page that begins to watch calls it."""
+        if not self.is_watched:
+            await self.ask(b"? changes")
+            self.is_watched, self.watched_at = True, time.monotonic()
+
+
+def outcome_line(number, outcome):
+    """The line that answers a line."""
+    if outcome.word == "TAKEN":
+        return f'{{"line":{number},"outcome":"TAKEN","number":{outcome.number}}}\n'
+    if outcome.word == "REPEAT":
+        return f'{{"line":{number},"outcome":"REPEAT"}}\n'
+    return f'{{"line":{number},"outcome":"REFUSED","code":{outcome.number},"why":{json.dumps(outcome.why)}}}\n'

@@ -1,0 +1,108 @@
+"""over.py: makes a journal of the SQLite journal of an older version, and tries a program on a copy of a journal.
+
+The lines of the site itself are fed to `serve` in the order of their numbers, and then the entries that it accepted, in the order in which it
+accepted them. Each must be new, under the number that it had: else nothing is left.
+"""
+import contextlib, os, shutil, sqlite3, subprocess, tempfile, urllib.parse
+from .files import Files, Wrong, synced
+from .vectors import listed, run_text
+
+AT_ONCE = 1 << 20  # bytes of requests that are written before their replies are read: less than a pipe of replies may hold up
+
+
+class Serve:
+    """A process that is asked one batch after another."""
+
+    def __init__(self, program, files, journal):
+        words = [program, "serve", str(files.site), str(files.group), str(journal)]
+        self.child = subprocess.Popen(words, stdin=subprocess.PIPE, stdout=subprocess.PIPE, stderr=subprocess.PIPE,
+                                      restore_signals=False)
+        ready = self.child.stdout.readline()
+        if not ready.startswith(b"READY "):
+            raise Wrong(f"{program} does not serve: {self.child.communicate()[1].decode(errors='replace').strip()}")
+        self.vector = ready[len("READY "):].strip().decode()
+
+    def ask(self, requests, rights):
+        """Sends a batch of requests, each of which must have its reply."""
+        self.child.stdin.write(b"".join(request + b"\n" for request in requests))
+        self.child.stdin.flush()
+        for request, right in zip(requests, rights):
+            reply = self.child.stdout.readline()
+            if reply != right + b"\n":
+                raise Wrong(f"{request[:60]!r} is answered with {reply.decode(errors='replace').strip()}, and not with {right.decode()}")
+
+    def end(self):
+        self.child.stdin.close()
+        return self.child.wait()
+
+
+def batches(pairs):
+    """Requests with their replies, some at once: a reply of a line is short, so that the replies of a batch fit into a pipe."""
+    requests, rights, size = [], [], 0
+    for request, right in pairs:
+        requests.append(request)
+        rights.append(right)
+        size += len(request)
+        if size >= AT_ONCE or len(requests) >= 1000:
+            yield requests, rights
+            requests, rights, size = [], [], 0
+    if requests:
+        yield requests, rights
+
+
+def pairs_in(connection):
+    """What is fed of a database, each with the reply that it must have."""
+    for number, line in connection.execute("SELECT number, line FROM own ORDER BY number"):
+        yield bytes(line).replace(b"\n", b" "), b"TAKEN %d" % number
+    for origin, first, count, lines in connection.execute("SELECT origin, first, count, lines FROM accepted ORDER BY rowid"):
+        yield run_text(origin, first, bytes(lines).split(b"\n")[:-1]), b"ACCEPTED %d" % count
+
+
+def remove(journal):
+    """Removes a journal, and the empty file that the program makes beside it."""
+    for path in journal, journal.with_name(journal.name + "-wal"):
+        with contextlib.suppress(FileNotFoundError):
+            path.unlink()
+
+
+def read_over(old, files, program):
+    """Makes the journal of a site of an SQLite journal. The result says what it then has."""
+    if files.journal.exists():
+        raise Wrong("it is there already")
+    new = files.journal.with_suffix(".new")
+    remove(new)
+    try:
+        with contextlib.closing(sqlite3.connect(f"file:{urllib.parse.quote(str(old))}?mode=ro", uri=True)) as connection:
+            found = connection.execute("SELECT number, sites FROM site").fetchall()
+            if found != [(files.site, files.group)]:
+                raise Wrong(f"{old} is the journal of {found}, and not of site {files.site} of {files.group}")
+            serve = Serve(program, files, new)
+            try:
+                for requests, rights in batches(pairs_in(connection)):
+                    serve.ask(requests, rights)
+            finally:
+                status = serve.end()
+        if status:
+            raise Wrong(f"{program} ended with status {status}")
+        made = Serve(program, files, new)
+        made.end()
+        os.replace(new, files.journal)
+        synced(files.folder)
+        return made.vector
+    except sqlite3.Error as fault:
+        raise Wrong(f"{old} cannot be read: {fault}") from None
+    finally:
+        remove(new)
+
+
+def checked(files, program):
+    """Tries the program on a copy of a journal. The result says what it then holds."""
+    with tempfile.TemporaryDirectory(prefix="check-", dir=files.folder) as folder:
+        copy = Files(folder, files.site, files.group)
+        shutil.copyfile(files.journal, copy.journal)
+        serve = Serve(program, copy, copy.journal)
+        try:
+            copy.check(listed(serve.vector, files.group))
+        finally:
+            serve.end()
+        return serve.vector

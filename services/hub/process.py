@@ -1,0 +1,142 @@
+"""process.py: the process `sct_sites serve` of a site: requests go in, and replies come back in their order.
+
+The process keeps the journal. What has a reply is on the disk. What has none is unknown when the process ends, and may be sent again.
+"""
+import asyncio, collections, ctypes, re, signal
+
+MOST_LINE = 4 << 20  # bytes of a line of a reply: the vector of a group, or a refusal with the key of a line
+PIECE = 1 << 20
+SECONDS = 20  # for the process to end after its input ended
+WRONG_JOURNAL, OTHER_SITE, HELD, DISK = 75, 76, 77, 78
+MEMORY_STATUS, MEMORY = 3, 65
+
+# a reply: its word, the rest of its line, and the text that follows it or None; `is_cut` says that the text is only a beginning
+Reply = collections.namedtuple("Reply", "word rest text is_cut")
+
+
+class Ended(Exception):
+    """The process ended: by which fault, if it said one, and how."""
+
+    def __init__(self, fault, status, said):
+        super().__init__(said or f"it ended with status {status}")
+        self.fault, self.status = fault, status
+
+
+def ends_with_parent():
+    """Lets the system end a process when the one that started it ends."""
+    ctypes.CDLL(None).prctl(1, signal.SIGTERM)
+
+
+class Process:
+    """The process of a site. `vector` is what it held when it was ready."""
+
+    def __init__(self, child):
+        self.child, self.said = child, b""
+        self.listening = asyncio.ensure_future(self._listen())
+        self.vector = None
+
+    @classmethod
+    async def started(cls, words):
+        """The process of a command line, which is ready. Ended if it does not become ready."""
+        streams = {"stdin": asyncio.subprocess.PIPE, "stdout": asyncio.subprocess.PIPE, "stderr": asyncio.subprocess.PIPE}
+        # signals stay as Python has them: a file that may not grow is then a write that fails, and does not end the process
+        it = cls(await asyncio.create_subprocess_exec(*words, limit=MOST_LINE, preexec_fn=ends_with_parent, restore_signals=False, **streams))
+        try:
+            ready = await it._line()
+            if not ready.startswith(b"READY "):
+                raise await it.ended(f"it said {ready[:80]!r} in place of READY")
+        except BaseException:
+            await it.kill()
+            raise
+        it.vector = ready[len(b"READY "):]
+        return it
+
+    async def _listen(self):
+        """Keeps the last that the process writes to standard error."""
+        while True:
+            piece = await self.child.stderr.read(PIECE)
+            if not piece:
+                return
+            self.said = (self.said + piece)[-2000:]
+
+    async def ended(self, why=""):
+        """Why the process ended. One that has not ended is stopped."""
+        if why:
+            await self.kill()
+        else:
+            try:
+                await asyncio.wait_for(self.child.wait(), SECONDS)
+            except asyncio.TimeoutError:
+                await self.kill()
+        await asyncio.wait([self.listening], timeout=1)
+        said = self.said.decode(errors="replace")
+        faults = re.findall(r"^fault (\d+)", said, re.M)
+        fault = int(faults[-1]) if faults else MEMORY if self.child.returncode == MEMORY_STATUS else None
+        return Ended(fault, self.child.returncode, why or " ".join(said.split())[-300:])
+
+    async def _line(self):
+        try:
+            line = await self.child.stdout.readuntil(b"\n")
+        except asyncio.IncompleteReadError:
+            raise await self.ended() from None
+        except asyncio.LimitOverrunError:
+            raise await self.ended("a line of its reply is too long") from None
+        return line[:-1]
+
+    async def _text(self, size, most):
+        """A text of a reply, or as much of it as was asked for."""
+        text, left = bytearray(), size
+        while left:
+            piece = await self.child.stdout.read(min(left, PIECE))
+            if not piece:
+                raise await self.ended()
+            if len(text) < most:
+                text += piece[:most - len(text)]
+            left -= len(piece)
+        if await self.child.stdout.read(1) != b"\n":
+            raise await self.ended("a text of its reply has another length than it said")
+        return text
+
+    async def reply(self, most):
+        """The next reply."""
+        word, _, rest = (await self._line()).partition(b" ")
+        if word != b"TEXT":
+            return Reply(word, rest, None, False)
+        if not rest.isdigit():
+            raise await self.ended(f"it said TEXT {rest[:80]!r}")
+        text = await self._text(int(rest), most)
+        return Reply(word, b"", text, int(rest) > len(text))
+
+    async def ask(self, requests, settle):
+        """Sends requests, each with the most bytes of its text that are wanted, and hands each reply on as it comes."""
+        sending = asyncio.ensure_future(self._send(b"".join(request + b"\n" for request, _ in requests)))
+        try:
+            for place, (_, most) in enumerate(requests):
+                settle(place, await self.reply(most))
+        finally:
+            sending.cancel()
+            await asyncio.wait([sending])
+
+    async def _send(self, data):
+        try:
+            self.child.stdin.write(data)
+            await self.child.stdin.drain()
+        except (ConnectionError, RuntimeError):
+            pass  # the process has ended, and the reply that lacks says so
+
+    async def end(self):
+        """Ends the process in peace."""
+        self.child.stdin.close()
+        try:
+            await asyncio.wait_for(self.child.wait(), SECONDS)
+        except asyncio.TimeoutError:
+            await self.kill()
+        self.listening.cancel()
+
+    async def kill(self):
+        if self.child.returncode is None:
+            try:
+                self.child.kill()
+            except ProcessLookupError:
+                pass
+            await self.child.wait()

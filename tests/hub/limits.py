@@ -1,0 +1,324 @@
+"""limits.py: who may ask a site of services/hub, and that nobody without a right uses up its memory, its connections or its time."""
+import base64, gzip, json, os, pathlib, shutil, threading, time
+from tests import harness
+from tests.hub import sites
+from tests.hub.sites import asked, until
+from tests.hub.trial import answered, events, head, is_closed, lines_of, raw, status_of, watched
+from tests.hub.troubles import tried
+
+TOKEN, READER, PEERS = "one-token", "another-one", "a-third-one"
+MIB = 1 << 20
+
+
+def memory(hub):
+    """The resident memory of a site, in bytes, without its process."""
+    return next(int(line.split()[1]) for line in open(f"/proc/{hub.process.pid}/status") if line.startswith("VmRSS")) << 10
+
+
+# ---- who may ask
+
+def guards(trial):
+    """Who may write, read and ask for deltas: who has the token, or without one this machine alone."""
+    variables = {"NILUPPANG_TOKEN": f"old-one {TOKEN}", "NILUPPANG_READ_TOKEN": READER, "NILUPPANG_PEER_TOKEN": PEERS}
+    with trial.site(trial.fresh("guarded"), "--host=0.0.0.0", "--name=hub.example", **variables) as hub:
+        bearer = lambda token: {"Authorization": f"Bearer {token}"}
+        post = lambda **headers: asked(hub.port, "/messages", lines_of(1, 1), **headers).status
+        get = lambda path, **headers: asked(hub.port, path, **headers).status
+        yield "to write: no token, a wrong one, that of a reader, the right ones", [
+            post(), post(**bearer("one")), post(**bearer(READER)), post(**bearer(TOKEN)), post(**bearer("old-one"))] == [401, 401, 401, 200, 200]
+        paths = ["/", "/status", "/archive", "/totals", "/contradictions", "/totals/BANKDEFF", "/transfers/BANKDEFF/T1", "/vector",
+                 "/transfers/BANKDEFF/T1/messages"]
+        yield "to read: no token", [get(path) for path in paths] == [401] * len(paths)
+        yield "to read: the token", [get(path, **bearer(READER)) for path in paths] == [200] * len(paths)
+        basic = base64.b64encode(f"desk:{READER}".encode()).decode()
+        yield "to read: the token as a browser sends a password", get("/status", Authorization=f"Basic {basic}") == 200
+        yield "to read: an answer to a browser asks for it", "Basic" in asked(hub.port, "/").headers.get("WWW-Authenticate", "")
+        yield "to report and to watch: the token", [asked(hub.port, "/report/BANKDEFF/2024-05-02", b"x").status, get("/changes")] == [401, 401]
+        yield "for deltas: the token of the peers alone", [get("/delta"), get("/delta", **bearer(TOKEN)), get("/delta", **bearer(PEERS))] == [
+            401, 401, 200]
+        yield "for vectors: the token of the peers too", get("/vector", **bearer(PEERS)) == 200
+        hosts = {"hub.example": 200, f"hub.example:{hub.port}": 200, "evil.example": 403, "hub.example.evil.example": 403, "[": 400}
+        yield "only by a name of its own, with a token too", {
+            name: get("/archive", Host=name, **bearer(READER)) for name in hosts} == hosts
+        yield "a metric counts who was not let in", b"niluppang_forbidden_total 0\n" not in asked(hub.port, "/metrics").body
+        yield "no address takes deltas", asked(hub.port, "/deltas", b"delta 2\nend 0\n", **bearer(TOKEN)).status in (404, 405)
+    with trial.site(trial.fresh("readers"), NILUPPANG_READ_TOKEN=READER) as hub:
+        get = lambda path, **headers: asked(hub.port, path, **headers).status
+        both = [(get(path), get(path, Authorization=f"Bearer {READER}")) for path in ("/status", "/delta?have=-", "/vector")]
+        yield "without a token of peers deltas are for readers", both == [(401, 200)] * 3
+    with trial.site(trial.fresh("local")) as hub:
+        own = f"http://127.0.0.1:{hub.port}"
+        post = lambda **headers: asked(hub.port, "/messages", lines_of(1, 1), **headers).status
+        get = lambda **headers: asked(hub.port, "/archive", **headers).status
+        yield "without a token: another name, to write and to read", [post(Host="hub.example"), get(Host="hub.example")] == [403, 403]
+        others = ["http://evil.example", f"http://127.0.0.1:{hub.port + 1}", "null", "http://127.0.0.1"]
+        yield "without a token: pages of other servers, also of other ports", [f(Origin=it) for it in others for f in (post, get)] == [403] * 8
+        yield "without a token: a page of its own", [post(Origin=own), get(Origin=own)] == [200, 200]
+        yield "a browser that says that another page asks", [get(Sec_Fetch_Site=it) for it in ("cross-site", "same-site", "same-origin", "none")] == [
+            403, 403, 200, 200]
+        odd = [answered(hub.port, head("GET", "/status", *more)) for more in (["Origin: http://["], ["Authorization: \xff"], ["Origin: \xff\xfe"])]
+        yield "heads that are none are no errors of the site", odd == [400, 200, 403] and "Traceback" not in hub.text()
+    status, said = trial.fails(trial.fresh("open"), "--host=0.0.0.0")
+    yield "without a token: it serves no other machine", status == 2 and "NILUPPANG_TOKEN" in said
+    status, said = trial.fails(trial.fresh("open"), "--host=0.0.0.0", "--peer=2=http://127.0.0.1:1", NILUPPANG_TOKEN=TOKEN)
+    yield "without a token of peers: no peers on other machines", status == 2 and "NILUPPANG_PEER_TOKEN" in said
+    wrong = [["--peer=1=http://127.0.0.1:1"], ["--peer=65=http://127.0.0.1:1"], ["--peer=2=http://a:1", "--peer=2=http://b:1"], ["--hear=1"]]
+    yield "peers that are none", [trial.fails(trial.fresh("words"), *words)[0] for words in wrong] == [2] * len(wrong)
+
+
+def is_private(trial):
+    """What browsers may do with the page and with answers."""
+    with trial.site(trial.fresh("private")) as hub:
+        page, text, health = [asked(hub.port, path) for path in ("/", "/status", "/health")]
+        policy = page.headers["Content-Security-Policy"]
+        words = ["default-src 'none'", "script-src 'sha256-", "style-src 'sha256-", "frame-ancestors 'none'", "base-uri 'none'", "form-action 'none'"]
+        yield "the page runs its own script alone", all(word in policy for word in words) and "unsafe" not in policy
+        both = [{name: it.headers.get(name) for name in ("X-Content-Type-Options", "Cross-Origin-Resource-Policy")} for it in (page, text, health)]
+        yield "no answer is used by another page", both == [{"X-Content-Type-Options": "nosniff", "Cross-Origin-Resource-Policy": "same-origin"}] * 3
+        yield "no answer is kept", health.headers["Cache-Control"] == "no-store"
+        yield "no version of the server is said", text.headers["Server"] == "niluppang"
+        yield "health says nothing of processes and addresses", sorted(json.loads(health.body)) == [
+            "faults", "group", "peers", "site", "vector", "version", "well"]
+        tag = text.headers["ETag"]
+        again = asked(hub.port, "/status", If_None_Match=tag)
+        asked(hub.port, "/messages", lines_of(1, 1))
+        after = asked(hub.port, "/status", If_None_Match=tag)
+        yield "a text that did not change is not sent again", (again.status, again.body, after.status) == (304, b"", 200)
+        yield "a text has its vector", after.headers["Niluppang-Vector"] == "1:1"
+        yield "a site that lives says so", asked(hub.port, "/live").status == 200
+        for process in hub.served().values():
+            os.kill(process, 19)
+        yield "one whose process hangs does not", asked(hub.port, "/live", timeout=10).status == 408
+        for process in hub.served().values():
+            os.kill(process, 18)
+
+
+# ---- bodies
+
+def bounds_posts(trial):
+    """What a post may have: bytes, lines, and bytes of a line."""
+    with trial.site(trial.fresh("posts")) as hub:
+        post = lambda body, **more: asked(hub.port, "/messages", body, **more).status
+        line = lines_of(1, 1)
+        padded = lambda size: line[:-1] + b" " * (size - len(line) + 1) + b"\n"
+        yield "a post that is too long is refused", post(b" " * (9 * MIB)) == 413
+        yield "a line that is too long is refused, and the post with it", post(lines_of(5, 1) + padded((64 << 10) + 1)) == 413
+        yield "nothing of it is taken", asked(hub.port, "/vector").body == b"-\n"
+        yield "one that is just short enough is taken", post(padded(64 << 10)) == 200
+        yield "too many lines are refused", post(b"x\n" * 20_001) == 413
+        yield "some thousand are not", post(b"x\n" * 4000) == 200
+        chunks = b"".join(b"100000\r\n" + b" " * MIB + b"\r\n" for _ in range(9)) + b"0\r\n\r\n"
+        with raw(hub.port, head("POST", "/messages", "Transfer-Encoding: chunked")) as connection:
+            threading.Thread(target=send, args=(connection, chunks), daemon=True).start()
+            yield "a post in pieces that is too long is refused", status_of(connection) in (413, None)
+        yield "and not taken", asked(hub.port, "/vector").body == b"1:1\n"
+        bomb = gzip.compress(b" " * (100 * MIB))
+        before = memory(hub)
+        yield "a body that is encoded is refused", post(bomb, Content_Encoding="gzip") == 415
+        yield "and not decoded", memory(hub) - before < 20 * MIB
+        yield "no word of it in the log", "Traceback" not in hub.text()
+
+
+def send(connection, data):
+    try:
+        connection.sendall(data)
+    except OSError:
+        pass
+
+
+def bounds_bodies(trial):
+    """Many bodies at the same time, from who has no token: their room is taken before they are read."""
+    with trial.site(trial.fresh("bodies"), "--seconds=4", NILUPPANG_TOKEN=TOKEN) as hub:
+        before, open_ones = memory(hub), []
+        body = b"x" * (8 * MIB - 1)
+        for _ in range(30):
+            connection = raw(hub.port, head("POST", "/report/BANKDEFF/2024-05-02", length=8 * MIB))
+            threading.Thread(target=send, args=(connection, body), daemon=True).start()
+            open_ones.append(connection)
+        time.sleep(1.5)
+        yield "30 lists that hold back their last byte take little memory", memory(hub) - before < 60 * MIB
+        refused = sum(status_of(it, 0.05) == 503 for it in open_ones)
+        yield "most of them are refused at once", refused >= 25
+        began = time.monotonic()
+        with raw(hub.port, head("POST", "/messages", length=8 * MIB)) as connection:
+            yield "without the token no body is waited for", status_of(connection) == 401 and time.monotonic() - began < 2
+        yield "clients with the token go on", asked(hub.port, "/messages", lines_of(1, 1), Authorization=f"Bearer {TOKEN}").status == 200
+        for one in open_ones:
+            one.close()
+        listed = b"DbtrAgt,TxId,Amt,Sts\n"
+        yield "and then reports are made again", until(lambda: asked(hub.port, "/report/BANKDEFF/2024-05-02", listed).status == 200, 10)
+        for process in hub.served().values():
+            os.kill(process, 19)
+        many = [raw(hub.port, head("POST", "/report/BANKDEFF/2024-05-02", length=len(listed)) + listed) for _ in range(10)]
+        refused = sum(status_of(it, 0.5) == 503 for it in many)
+        for process in hub.served().values():
+            os.kill(process, 18)
+        yield "while two reports are made, others are refused", refused == 8
+
+
+# ---- answers and connections
+
+def bounds_posted_bodies(trial):
+    """Many posts at the same time, on a machine where everyone may write."""
+    with trial.site(trial.fresh("posted"), "--seconds=4") as hub:
+        before, body, open_ones = memory(hub), b"x" * (8 * MIB - 1), []
+        for _ in range(40):
+            connection = raw(hub.port, head("POST", "/messages", length=8 * MIB))
+            threading.Thread(target=send, args=(connection, body), daemon=True).start()
+            open_ones.append(connection)
+        time.sleep(2)
+        yield "40 posts that hold back their last byte take the room of a few", memory(hub) - before < 160 * MIB
+        refused = sum(status_of(it, 0.05) == 503 for it in open_ones)
+        yield "the others are refused before they are read", refused >= 30
+        for one in open_ones:
+            one.close()
+        yield "and then posts are taken again", until(lambda: asked(hub.port, "/messages", lines_of(1, 1)).status == 200, 10)
+        yield "the room is given back", until(lambda: b"niluppang_body_bytes 0\n" in asked(hub.port, "/metrics").body)
+
+
+def bounds_readers(trial):
+    """Readers that do not read: an answer has seconds for all of it, others get theirs, and posts and peers go on."""
+    with trial.site(trial.fresh("readers"), "--seconds=2") as hub:
+        for number in range(0, 12_000, 2000):
+            asked(hub.port, "/messages", lines_of(number, 2000), timeout=60)
+        size = len(asked(hub.port, "/archive", timeout=60).body)
+        yield "the archive does not fit into what the system buffers", size > 4 * MIB
+        readers = [small_window(hub.port, head("GET", "/archive", "Connection: close")) for _ in range(8)]
+        deltas = [small_window(hub.port, head("GET", "/delta?have=-", "Connection: close")) for _ in range(8)]
+        time.sleep(0.5)
+        stop = threading.Event()
+        for one in readers[:4]:
+            threading.Thread(target=trickle, args=(one, stop), daemon=True).start()
+        yield "clients that do not read hold nobody up", asked(hub.port, "/messages", lines_of(20_000, 2), timeout=5).status == 200
+        yield "others read meanwhile", len(asked(hub.port, "/archive", timeout=60).body) > size
+        yield "a peer is answered meanwhile", asked(hub.port, "/delta?have=1:12000", timeout=30).body.count(b"\n") == 5
+        ended = until(lambda: connections(hub.port) == 0, 2 + 2 * size / MIB + 8)
+        yield "who does not take all of an answer in time is cut off, also who reads slowly", ended
+        stop.set()
+        for one in [*readers, *deltas]:
+            one.close()
+
+
+def connections(port):
+    """How many connections to a port are established, seen from the site."""
+    found = 0
+    for line in pathlib.Path("/proc/net/tcp").read_text().splitlines()[1:]:
+        local, _, state = line.split()[1:4]
+        found += int(local.rpartition(":")[2], 16) == port and state == "01"
+    return found
+
+
+def small_window(port, text):
+    """An open connection that takes little before it is read from."""
+    connection = sites.socket.socket()
+    connection.setsockopt(sites.socket.SOL_SOCKET, sites.socket.SO_RCVBUF, 4096)
+    connection.settimeout(5)
+    connection.connect(("127.0.0.1", port))
+    connection.sendall(text)
+    return connection
+
+
+def trickle(connection, stop):
+    """Reads a little at a time."""
+    connection.settimeout(5)
+    try:
+        while not stop.is_set() and connection.recv(4096):
+            time.sleep(0.1)
+    except OSError:
+        pass
+
+
+def bounds_connections(trial):
+    """Connections that are silent or send half a head, and more of them than a site takes."""
+    with trial.site(trial.fresh("connections"), "--seconds=4", "--connections=40") as hub:
+        silent = [raw(hub.port, b"") for _ in range(10)] + [raw(hub.port, b"GET /status HT") for _ in range(10)]
+        yield "silent connections and half heads are cut off", all(is_closed(one, 20) for one in silent)
+        kept = [raw(hub.port, head("GET", "/health")) for _ in range(30)]
+        yield "connections that asked something are not", all(status_of(one) for one in kept) and not is_closed(kept[0], 3)
+        more = [raw(hub.port, head("GET", "/health")) for _ in range(20)]
+        yield "one too many is refused, and the others go on", [status_of(one, 2) for one in more].count(None) >= 9
+        for one in [*kept, *more]:
+            one.close()
+        yield "and then there is room again", until(lambda: asked(hub.port, "/health").status == 200)
+
+
+def bounds_pages(trial):
+    """Watchers that send odd marks, heads without bodies, and waits."""
+    with trial.site(trial.fresh("pages")) as hub:
+        stream = watched(hub.port)
+        first, = events(stream, 1)
+        began = first["id"].partition("-")[0]
+        for mark in [began + "-" + "9" * 4400, "x", began + "-", began + "-\u00b2".encode().decode("latin-1")] * 30:
+            with raw(hub.port, head("GET", "/changes", f"Last-Event-ID: {mark}")) as connection:
+                status_of(connection)
+        again, = events(watched(hub.port, began + "-" + "9" * 1000), 1)
+        yield "120 odd marks later a page still watches, and loads again", again["event"] == "reset"
+        asked(hub.port, "/messages", lines_of(1, 1))
+        yield "pages that are gone are forgotten", until(lambda: b"niluppang_pages 1\n" in asked(hub.port, "/metrics").body
+                                                         or not asked(hub.port, "/messages", lines_of(int(time.time()), 1)), 40)
+        yield "a head alone is not answered by a body", [answered(hub.port, head("HEAD", path)) for path in ("/archive", "/changes")] == [405, 405]
+        many = [watched(hub.port) for _ in range(99)]
+        yield "more pages than a site has room for are refused", asked(hub.port, "/changes").status == 503
+        yield "with a word when to come back", asked(hub.port, "/changes").headers.get("Retry-After") == "1"
+        for one in many:
+            one.close()
+        began = time.monotonic()
+        body = asked(hub.port, "/delta?have=-&of=5&wait=1").body
+        yield "a peer that waits is answered after its seconds", body == b"delta 2\nend 0\n" and 0.9 < time.monotonic() - began < 5
+        wrong = [f"/delta?{words}" for words in ("have=1:1:1", "have=1:1:1&of=1", "have=-5000:7", "have=2:1,1:1", "have=1:" + "9" * 5000,
+                                                  "of=65", "of=-1", "of=x", "have=-&wait=x&of=1", "of=1&wait=nan")]
+        yield "vectors and words that are none", [asked(hub.port, path).status for path in wrong] == [400] * len(wrong)
+
+
+# ---- TLS
+
+def certificate(folder, name, authority=None):
+    """The paths of a certificate and its key, signed by an authority or by itself."""
+    cert, key, request = [str(folder / f"{name}.{end}") for end in ("crt", "key", "csr")]
+    extensions = folder / f"{name}.ext"
+    extensions.write_text("subjectAltName=DNS:localhost,IP:127.0.0.1\n" if authority else "basicConstraints=critical,CA:TRUE\n")
+    words = ["openssl", "req", "-newkey", "rsa:2048", "-nodes", "-keyout", key, "-out", request, "-subj", f"/CN={name}"]
+    signed = ["openssl", "x509", "-req", "-in", request, "-out", cert, "-days", "2", "-extfile", str(extensions)]
+    signed += ["-CA", authority[0], "-CAkey", authority[1], "-CAcreateserial"] if authority else ["-signkey", key]
+    for one in (words, signed):
+        done = harness.run(one)
+        if done.status:
+            raise sites.Skipped(done.errors.decode(errors="replace"))
+    return cert, key
+
+
+def speaks_tls(trial):
+    """Two sites with certificates of one authority, and who has none of it."""
+    if shutil.which("openssl") is None:
+        print("skipped: there is no openssl")
+        return
+    folder = trial.fresh("tls")
+    folder.mkdir()
+    authority = certificate(folder, "authority")
+    ports = sites.free_ports(2)
+    words = lambda number: [f"--tls-ca={authority[0]}", *(f"--tls-{kind}={path}" for kind, path in zip(
+        ("cert", "key"), certificate(folder, f"site{number}", authority)))]
+    with trial.site(trial.fresh("one"), *words(1), f"--peer=2=https://localhost:{ports + 1}", port=ports, is_well=None) as hub:
+        with trial.site(trial.fresh("two"), *words(2), f"--peer=1=https://localhost:{ports}", number=2, port=ports + 1, is_well=None):
+            ask = lambda path, *more: harness.run(["curl", "-s", "--cacert", authority[0], *more, f"https://localhost:{ports}{path}"]).text
+            yield "two sites hear each other over TLS", until(lambda: b'"well": true' in ask("/health"))
+            post = harness.run(["curl", "-s", "--cacert", authority[0], "--data-binary", "@-", f"https://localhost:{ports}/messages"], lines_of(1, 2))
+            yield "and exchange", post.text.count(b"TAKEN") == 2 and until(lambda: b'"1:2"' in harness.run(
+                ["curl", "-s", "--cacert", authority[0], f"https://localhost:{ports + 1}/health"]).text)
+            yield "who has no certificate gets no delta", b"needs a certificate" in ask("/delta?have=-")
+            its = ["--cert", str(folder / "site2.crt"), "--key", str(folder / "site2.key")]
+            yield "who has one does", ask("/delta?have=-", *its).startswith(b"delta 2\norigin 1 1 2\n")
+            stranger = certificate(folder, "stranger", certificate(folder, "another"))
+            yield "one of another authority is none", ask("/delta?have=-", "--cert", stranger[0], "--key", stranger[1]) == b""
+            yield "plain requests are no requests", answered(hub.port, head("GET", "/health"), 3) is None
+
+
+CHECKS = [guards, is_private, bounds_posts, bounds_bodies, bounds_posted_bodies, bounds_readers, bounds_connections, bounds_pages, speaks_tls]
+
+
+def check(python, program):
+    return tried("limits", CHECKS, python, program)
+
+
+if __name__ == "__main__":
+    sites.checked(check)

@@ -1,0 +1,200 @@
+"""peers.py: sites of services/hub and peers that are odd, slow, an hour behind, or another site than they should be."""
+import contextlib, http.server, os, re, threading, time
+from bench.generate import messages
+from tests import inputs
+from tests.harness import TOP
+from tests.hub import sites
+from tests.hub.sites import asked, until
+from tests.hub.trial import lines_of
+from tests.hub.troubles import tried
+
+VERSION = (TOP / "VERSION").read_text().strip()
+
+
+class Odd(http.server.BaseHTTPRequestHandler):
+    """A peer that answers what it is asked to."""
+    protocol_version = "HTTP/1.1"
+
+    def do_GET(self):
+        self.server.asked += 1
+        self.server.paths.append((time.monotonic(), self.path))
+        self.server.answer(self)
+
+    def send(self, body, length=None, status=200, vector="-", site="2/64", version=VERSION, **headers):
+        its = {"Content-Length": str(len(body) if length is None else length), "Niluppang-Vector": vector, "Niluppang-Site": site,
+               "Niluppang-Version": version, **headers}
+        self.send_response(status)
+        for name, value in its.items():
+            if value is not None:
+                self.send_header(name, value)
+        self.end_headers()
+        with contextlib.suppress(OSError):
+            self.wfile.write(body)
+        self.close_connection = length is not None
+
+    def endless(self):
+        self.send_response(200)
+        for name, value in ("Niluppang-Vector", "-"), ("Niluppang-Site", "2/64"), ("Niluppang-Version", VERSION):
+            self.send_header(name, value)
+        self.end_headers()
+        with contextlib.suppress(OSError):
+            while True:
+                self.wfile.write(b"x" * (1 << 16))
+
+    def log_message(self, *_):
+        pass
+
+
+@contextlib.contextmanager
+def odd_peer(answer):
+    server = http.server.ThreadingHTTPServer(("127.0.0.1", 0), Odd)
+    server.daemon_threads = True
+    server.answer, server.asked, server.paths = answer, 0, []
+    threading.Thread(target=server.serve_forever, args=(0.05,), daemon=True).start()
+    try:
+        yield server
+    finally:
+        server.shutdown()
+        server.server_close()
+
+
+def memory(process):
+    return next(int(line.split()[1]) for line in open(f"/proc/{process}/status") if line.startswith("VmRSS")) / 1000
+
+
+def faults(port):
+    """What a site says of its peers."""
+    return sites.json.loads(asked(port, "/health").body)["peers"]
+
+
+def survives_odd_peers(trial):
+    """Peers that answer rubbish, half a delta, too much, nothing, or that are another site."""
+    delta = inputs.delta(2, 1, 1, 2, 3)
+    kinds = {
+        "rubbish": lambda it: it.send(os.urandom(5000)),
+        "half a delta": lambda it: it.send(delta[:len(delta) // 2]),
+        "half a delta, cut off": lambda it: it.send(delta[:len(delta) // 2], len(delta)),
+        "a delta and more": lambda it: it.send(delta + b"x\n"),
+        "an error": lambda it: it.send(b"no", status=500),
+        "a vector that is none": lambda it: it.send(delta, vector="1:2:3,x"),
+        "a vector with a number that is none": lambda it: it.send(delta, vector="-5000:7"),
+        "no vector": lambda it: it.send(delta, vector=None),
+        "another site": lambda it: it.send(delta, site="3/64"),
+        "another group": lambda it: it.send(delta, site="2/65"),
+        "no site": lambda it: it.send(delta, site=None),
+        "another version": lambda it: it.send(delta, version="9.0.0"),
+        "entries of a site that is none": lambda it: it.send(inputs.delta(99, 1, 1)),
+        "a gap": lambda it: it.send(inputs.delta(2, 5, 1)),
+        "no answer": lambda it: time.sleep(3),
+        "no end": Odd.endless,
+    }
+    with odd_peer(kinds["rubbish"]) as server:
+        words = ["--silence=1", "--hear=0", f"--peer=2=http://127.0.0.1:{server.server_port}"]
+        with trial.site(trial.fresh("odd"), *words, is_well=False) as hub:
+            until(lambda: sites.is_well(hub.port))
+            for place, (kind, answer) in enumerate(kinds.items()):
+                server.answer, before = answer, server.asked
+                is_asked = until(lambda: server.asked > before)
+                took = until(lambda: asked(hub.port, "/messages", lines_of(100 + place, 1)).status == 200)
+                its = until(lambda: faults(hub.port)["2"]) and asked(hub.port, "/metrics").status == 200
+                yield f"a peer that answers {kind}: the site goes on, and says so", is_asked and took and its and sites.is_well(hub.port)
+            yield "none of it is accepted", asked(hub.port, "/vector").body == b"1:%d\n" % len(kinds)
+            yield "an answer without an end takes no memory", memory(hub.process.pid) < 150
+            metrics = asked(hub.port, "/metrics").body
+            yield "a peer that fails is counted", int(re.search(rb'peer_failures_total\{peer="2"\} (\d+)', metrics).group(1)) >= len(kinds)
+            yield from is_not_sent_on(server, hub)
+            server.answer = lambda it: it.send(delta, vector="2:3")
+            yield "what is right then is accepted", until(lambda: asked(hub.port, "/vector").body == b"1:%d,2:3\n" % len(kinds))
+            yield "and the peer is well", until(lambda: not faults(hub.port)["2"])
+            server.answer = lambda it: it.send(b"delta 2\nend 0\n", vector="2:9,5:1")
+            yield "how far a peer is ahead is counted", until(lambda: b'peer_lag_entries{peer="2"} 7\n' in asked(hub.port, "/metrics").body)
+            server.answer = lambda it: it.send(inputs.delta(2, 3, 9), vector="2:3")
+            yield "another message under a known number: the site takes no more", until(
+                lambda: b"42 2 3 Fork" in asked(hub.port, "/health").body and asked(hub.port, "/messages", lines_of(200, 1)).status == 409)
+            yield "and is not well", b"niluppang_is_well 0\n" in asked(hub.port, "/metrics").body and not sites.is_well(hub.port)
+
+
+def is_not_sent_on(server, hub):
+    """A peer that sends the site to another address."""
+    with odd_peer(lambda it: it.send(inputs.delta(2, 1, 1), vector="2:1")) as other:
+        server.answer = lambda it: it.send(b"", status=302, Location=f"http://127.0.0.1:{other.server_port}/delta")
+        before = server.asked
+        until(lambda: server.asked > before + 2)
+        yield "a site is not sent on to another address", other.asked == 0 and "status 302" in faults(hub.port)["2"]
+
+
+def hears_slow_peers(trial):
+    """A peer that takes longer than a site waits at first: the site waits twice as long after each failure."""
+    def answer(it):
+        time.sleep(3.2)
+        it.send(b"delta 2\nend 0\n" if "/delta" in it.path else b"-\n", vector="-")
+    with odd_peer(answer) as server:
+        words = ["--silence=0.5", f"--peer=2=http://127.0.0.1:{server.server_port}"]
+        with trial.site(trial.fresh("slow"), *words, is_well=False) as hub:
+            yield "a slow peer is heard in the end", until(lambda: sites.is_well(hub.port), 25)
+
+
+def asks_seldom(trial):
+    """While nothing happens, a site asks a peer that lets it wait seldom."""
+    with trial.site(trial.fresh("quiet")) as hub:
+        with trial.site(trial.fresh("asks"), f"--peer=1=http://127.0.0.1:{hub.port}", number=2):
+            began = number(hub.port)
+            time.sleep(4)
+            yield "a peer that waits is asked once in some seconds", number(hub.port) - began < 12
+
+
+def number(port):
+    """How many requests for deltas a site had."""
+    found = re.search(rb"niluppang_deltas_total (\d+)", asked(port, "/metrics").body)
+    return int(found.group(1))
+
+
+def catches_up(trial):
+    """A peer that was away for an hour, and one that asks while messages come."""
+    with trial.site(trial.fresh("first")) as hub:
+        lines = list(messages.lines(14_000))
+        for at in range(0, 14_000, 2000):
+            asked(hub.port, "/messages", "".join(lines[at:at + 2000]).encode(), timeout=60)
+        with trial.site(trial.fresh("behind"), f"--peer=1=http://127.0.0.1:{hub.port}", number=2) as peer:
+            yield "a peer an hour behind catches up", until(lambda: asked(peer.port, "/vector").body == b"1:14000\n", 60)
+            pieces = [line for line in sites.kept(peer.folder / "site2.journal") if line.startswith(b"delta ")]
+            yield "and is given the delta in several pieces of one site each", len(pieces) > 1 and all(
+                len(re.findall(rb"\torigin ", line)) == 1 and len(line) < 5 << 20 for line in pieces)
+            yield "and answers the same", asked(peer.port, "/archive", timeout=60).body == asked(hub.port, "/archive", timeout=60).body
+            asked(hub.port, "/messages", lines_of(1, 1))
+            asked(hub.port, "/messages", lines_of(2, 1))
+            seen = until(lambda: b"PENDING" in asked(peer.port, "/transfers/BANKDEFF/T2").body, 20)
+            yield "and then sees each message soon", seen
+            held = asked(peer.port, "/archive", timeout=60).body
+            hub.kill()
+            peer.kill()
+    with trial.site(peer.folder, "--hear=0", f"--peer=1=http://127.0.0.1:{hub.port}", number=2) as again:
+        yield "it starts again without its peer, and holds the same", asked(again.port, "/archive", timeout=60).body == held
+
+
+def takes_from_a_third(trial):
+    """Entries of a site that is away come over a third one. Sites with the token of peers hear each other, and others nothing."""
+    ports, one = sites.free_ports(3), {"NILUPPANG_PEER_TOKEN": "ours"}
+    url = lambda number: f"--peer={number}=http://127.0.0.1:{ports + number - 1}"
+    with trial.site(trial.fresh("a"), "--hear=0", url(2), port=ports, **one) as first:
+        with trial.site(trial.fresh("b"), "--hear=0", url(1), number=2, port=ports + 1, **one) as second:
+            asked(first.port, "/messages", lines_of(1, 3))
+            yield "sites with a token hear each other", until(lambda: asked(second.port, "/vector").body == b"1:3\n")
+            first.kill()
+            with trial.site(trial.fresh("c"), url(1), url(2), number=3, port=ports + 2, **one) as third:
+                yield "entries of a site that is away come over another", until(lambda: asked(third.port, "/vector").body == b"1:3\n")
+            with trial.site(trial.fresh("d"), "--hear=0", url(2), number=4, NILUPPANG_PEER_TOKEN="theirs", is_well=False) as other:
+                until(lambda: faults(other.port)["2"])
+                time.sleep(1)
+                yield "a site with another token hears nothing", asked(other.port, "/vector").body == b"-\n" and "401" in faults(other.port)["2"]
+
+
+CHECKS = [survives_odd_peers, hears_slow_peers, asks_seldom, catches_up, takes_from_a_third]
+
+
+def check(python, program):
+    return tried("peers", CHECKS, python, program)
+
+
+if __name__ == "__main__":
+    sites.checked(check)

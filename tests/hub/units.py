@@ -1,0 +1,280 @@
+"""units.py: parts of services/hub by themselves: deltas in pieces, marks and queues of events, texts that are shared, room on a disk.
+
+Deltas are cut at random places, and a site of the definitions takes the pieces. No package is needed.
+"""
+import asyncio, itertools, logging, os, random, subprocess, sys, tempfile
+from tests import harness, inputs
+from tests.harness import SERVICES, reported
+from tests.oracle import exchange
+sys.path.insert(0, str(SERVICES))
+from hub import events, guard, texts, vectors
+from hub.files import Files, Wrong
+from hub.keeper import A_QUESTION, MOST_WAITING, Answer, Busy, Keeper
+from hub.process import Reply
+
+SEED, TRIES = 20261128, 60
+
+
+def is_refused(error, call, *words):
+    try:
+        call(*words)
+    except error:
+        return True
+    return False
+
+
+# ---- vectors and deltas
+
+def reads_vectors():
+    right = {"-": {}, "1:2": {1: 2}, "1:0,64:18446744073709551615": {1: 0, 64: (1 << 64) - 1}}
+    yield "vectors", [vectors.vector_of(text) for text in right] == list(right.values())
+    wrong = ["", "1", "1:", ":1", "1:1,", "1:1,1:2", "2:1,1:1", "0:1", "1:-1", "1:+1", "1:01", "01:1", "1025:1", "1:18446744073709551616", "1:1:1",
+             "1:\u0661", "1: 1", "1:" + "9" * 5000, "-5000:7"]
+    yield "texts that are none", all(is_refused(ValueError, vectors.vector_of, text) for text in wrong)
+    yield "a group has no more origins", is_refused(ValueError, vectors.vector_of, "65:1", 64)
+
+
+def made(r):
+    """A site of the definitions with entries of several origins, some of which a peer has already."""
+    site = exchange.Site(1, 9)
+    number = itertools.count()
+    for origin in sorted(r.sample(range(1, 10), r.randint(1, 5))):
+        for _ in range(r.randint(1, 8)):
+            site.hold(origin, exchange.message_in(inputs.instruction(next(number)).encode())[0])
+    return site, {origin: r.randint(0, len(log)) for origin, log in site.logs.items() if r.random() < 0.5}
+
+
+def handed(site, have, requests):
+    """A site that held what a vector counts, after it accepted some requests, and whether it accepted all of them."""
+    peer = exchange.Site(9, 9)
+    for origin, count in have.items():
+        for message in site.logs[origin][:count]:
+            peer.hold(origin, message)
+    refused = []
+    for request in requests:
+        runs = exchange.delta_in(request.replace(b"\t", b"\n") + b"\n")
+        refused.append(peer.refusal(runs))
+        if not refused[-1]:
+            peer.accept(runs)
+    return peer, not any(refused)
+
+
+def pieces_of(text, most):
+    pieces, found = vectors.Pieces(most), []
+    for line in text.split(b"\n")[:-1]:
+        found += pieces.add(line)
+    return found, pieces.is_ended
+
+
+def cuts_deltas():
+    r, right, short, single, beginnings = random.Random(SEED), [], [], [], []
+    for _ in range(TRIES):
+        site, have = made(r)
+        if 9 in site.logs:
+            continue
+        text = exchange.delta_text(site.above(have)).encode()
+        most = r.choice([1, 500, 1000, 3000, len(text), 10 ** 6])
+        found, is_ended = pieces_of(text, most)
+        peer, took = handed(site, have, found)
+        right.append(is_ended and took and peer.logs.get(1) == site.logs.get(1) and peer.messages == site.messages)
+        if len(text) < most:
+            short.append(found in ([text.replace(b"\n", b"\t")[:-1]], []))
+        elif len(text) > 2 * most:
+            single.append(all(request.count(b"\torigin ") == 1 for request in found))
+        part = vectors.beginning(text[:r.randint(0, len(text))])
+        if part is not None:
+            peer, took = handed(site, have, [part.replace(b"\n", b"\t")[:-1]])
+            beginnings.append(took and peer.messages <= site.messages)
+    yield "a delta in pieces is the delta", len(right) > 20 and all(right)
+    yield "a short one is handed on as it came", short and all(short)
+    yield "a long one in pieces of one site each", single and all(single)
+    yield "a beginning of one is one", len(beginnings) > 10 and all(beginnings)
+    delta = inputs.delta(2, 1, 1, 2)
+    lines = delta.split(b"\n")[:-1]
+    wrong = [lines[1:], [b"delta 1", *lines[1:]], [*lines[:-1], b"end 3"], [*lines, b"x"], [lines[0], b"origin 2 1 0", b"end 0"],
+             [lines[0], b"origin 0 1 1", lines[2], b"end 1"], [lines[0], b"origin 2 1", *lines[2:]], [lines[0], b"x"],
+             [lines[0], b"origin 2 1 " + b"9" * 5000]]
+    yield "texts that are no deltas", all(is_refused(ValueError, pieces_of, b"\n".join(it) + b"\n", most) for it in wrong for most in (1, 10 ** 6))
+    yield "half a delta is not the end", all(not pieces_of(b"\n".join(lines[:many]) + b"\n", 1)[1] for many in range(1, len(lines)))
+
+
+# ---- events
+
+def marks_events():
+    one, other = events.Events(), events.Events()
+    yield "no two runs of a site have one mark", one.began != other.began
+    queue, slow = events.Queue(), events.Queue()
+    one.queues |= {queue, slow}
+    one.add([("BANKDEFFXXX", "T1", "T|BANKDEFFXXX|T1|PENDING\n")])
+    first = queue.get_nowait()
+    yield "an event", first == f'id: {one.began}-1\nevent: transfers\ndata: [{{"bank": "BANKDEFFXXX", "tx": "T1", "lines": ["T|BANKDEFFXXX|T1|PENDING"]}}]\n\n'.encode()
+    one.add([("BANKDEFFXXX", f"T{number}", None) for number in range(events.MOST_NAMES + 1)])
+    one.add(None)
+    one.add([("BANKDEFFXXX", "T2", "x" * (2 << 20))])
+    yield "what is too much, and what is not known, lets a page load again", [b"event: reset" in queue.get_nowait() for _ in range(3)] == [True] * 3
+    for number in range(events.MOST_BEHIND + 5):
+        one.add([("BANKDEFFXXX", f"T{number}", "T\n")])
+        if not queue.empty():
+            queue.bytes = 0
+            queue.get_nowait()
+    last = None
+    while not slow.empty():
+        last = slow.get_nowait()
+    yield "a page that is too slow is cut off, and the others are not", last is None and slow not in one.queues and queue in one.queues
+    for number in range(40):
+        one.add([("BANKDEFFXXX", f"T{number}", "x" * 600_000)])
+    yield "events that are kept have bytes at most", sum(len(event) for _, event in one.last) == one.size <= events.MOST_BYTES
+    now = one.number
+    since = lambda mark: one.since(mark)[:1]
+    yield "a page that has all gets nothing more", one.since(f"{one.began}-{now}") == []
+    yield "one that lacks the last gets it", since(f"{one.began}-{now - 1}") == [one.last[-1][1]]
+    resets = [f"{one.began}-{now + 1}", f"{one.began}-0", f"{other.began}-{now}", "x", f"{one.began}-", f"{one.began}-\u00b2", f"{one.began}-" + "9" * 4400]
+    yield "odd marks and old ones load again", all(b"event: reset" in since(mark)[0] for mark in resets)
+
+
+# ---- texts
+
+class Asked:
+    """In place of the queue of a site: it counts what it is asked, and takes a while."""
+    group = 64
+
+    def __init__(self, size, seconds=0.0):
+        self.vector, self.size, self.seconds, self.asked = "1:1", size, seconds, 0
+
+    async def answer(self, question):
+        self.asked += 1
+        await asyncio.sleep(self.seconds)
+        return Answer(b"x" * self.size, False, self.vector)
+
+
+async def shares():
+    keeper = Asked(100)
+    its = texts.Texts(keeper)
+    many = await asyncio.gather(*(its.get("status") for _ in range(50)))
+    await its.get("status")
+    yield "a text is made once for a vector, however many ask", keeper.asked == 1 and len({id(one) for one in many}) == 1
+    before = its.now("status")
+    keeper.vector = "1:2"
+    fresh = await its.get("status")
+    yield "and anew for the next vector", keeper.asked == 2 and fresh.vector == "1:2" and its.now("status") == fresh.mark != before
+    yield "texts of two names have two marks", its.now("status") != its.now("archive")
+    slow = Asked(100, 0.2)
+    its = texts.Texts(slow)
+    began = asyncio.get_running_loop().time()
+    for number in range(3):
+        slow.vector = f"1:{number}"
+        await its.get("archive")
+    yield "texts are made in a fifth of the time at most", asyncio.get_running_loop().time() - began > 2 * (1 + texts.SHARE) * 0.2
+    large = Asked(texts.MOST_KEPT + 1)
+    its, held = texts.Texts(large), []
+    for number in range(texts.MOST_THERE + 3):
+        large.vector = f"1:{number}"
+        held.append(await its.get("archive"))
+    yield "of long texts a few are there at a time, and then an older one is given", len({id(one) for one in held}) == texts.MOST_THERE
+    held.clear()
+    await asyncio.sleep(0.01)
+    large.vector = "1:99"
+    yield "when nobody reads them they are gone", its.found("archive") is None and (await its.get("archive")).vector == "1:99"
+
+
+def shares_texts():
+    async def all_of():
+        return [one async for one in shares()]
+    return asyncio.run(all_of())
+
+
+# ---- the queue
+
+class Replying:
+    """In place of the process of a site: it takes each line, and keeps what it is asked."""
+    vector = b"-"
+
+    def __init__(self):
+        self.asked, self.taken = [], 0
+
+    async def ask(self, requests, settle):
+        for place, (request, _) in enumerate(requests):
+            self.asked.append(request)
+            is_question = request.startswith(b"? ")
+            self.taken += not is_question
+            settle(place, Reply(b"TEXT", b"", b"", False) if is_question else Reply(b"TAKEN", b"%d" % self.taken, None, False))
+
+
+async def queues():
+    with tempfile.TemporaryDirectory() as folder:
+        keeper = Keeper(Files(folder, 1, 64), "none", 1, 64)
+        keeper.away = None
+        lines = [b"x" * 1000] * 1000
+        waiting = [asyncio.ensure_future(keeper.take(lines)) for _ in range(MOST_WAITING["take"] // 1_000_000)]
+        await asyncio.sleep(0)
+        refused = await asyncio.gather(keeper.take(lines), return_exceptions=True)
+        yield "of too much that waits no more is taken", isinstance(refused[0], Busy)
+        deltas = [asyncio.ensure_future(keeper.accept(b"x" * 1_000_000)) for _ in range(3)]
+        await asyncio.sleep(0)
+        yield "peers have room of their own", not any(one.done() for one in deltas)
+        for one in [*waiting, *deltas]:
+            one.cancel()
+        keeper = Keeper(Files(folder, 1, 64), "none", 1, 64)
+        keeper.away, keeper.process = None, Replying()
+        keeper.task = asyncio.ensure_future(keeper._run())
+        outcomes = [one for _ in range(3) for one in await keeper.take([b"x"] * 4000)]
+        await asyncio.sleep(0.05)
+        yield "numbers are those of the process", [one.number for one in outcomes] == list(range(1, 12_001))
+        yield "after many new entries a question is asked, so that nobody has to wait for it", keeper.process.asked.count(A_QUESTION) == 1
+        keeper.process.taken += 1
+        await asyncio.gather(keeper.take([b"x"]), return_exceptions=True)
+        yield "a process that leaves out a number ends the site", keeper.is_wrong and "12002" in keeper.failure
+
+
+def keeps_a_queue():
+    logging.disable(logging.CRITICAL)
+
+    async def all_of():
+        return [one async for one in queues()]
+    return asyncio.run(all_of())
+
+
+# ---- rooms and files
+
+def gives_room():
+    budget = guard.Budget(100)
+    budget.take(60)
+    yield "a budget has no more than it has", is_refused(Busy, budget.take, 41) and budget.used == 60
+    budget.give(60)
+    budget.take(100)
+    yield "and gets back what it gave", budget.used == 100
+    yield "two tokens while one takes the place of the other", guard.tokens_of(" a  b\n") == [b"a", b"b"] and guard.tokens_of(None) == []
+
+
+ROOM = ("import pathlib, resource, sys\nsys.path.insert(0, sys.argv[1])\nfrom hub.files import Files\nresource.setrlimit(resource.RLIMIT_FSIZE, (200000,) * 2)\n"
+        "files = Files(sys.argv[2], 1, 64)\nfiles.try_room(int(sys.argv[3]))\n")
+
+
+def looks_at_files():
+    with tempfile.TemporaryDirectory() as folder:
+        files = Files(folder, 1, 64)
+        files.journal.write_bytes(b" site 1 64\n" + b" x\n" * 30000 + b"\t")
+        tried = lambda size: subprocess.run([sys.executable, "-c", ROOM, str(SERVICES), folder, str(size)], stderr=subprocess.DEVNULL).returncode
+        yield "the disk is tried behind the journal, with the bytes that did not fit", [tried(1000), tried(150_000)] == [0, 1]
+        yield "and nothing is left of it", os.listdir(folder) == ["site1.journal"]
+        files.journal.write_bytes(b' site 1 64\n {1}\n delta 2\torigin 3 1 2\t{2}\t{3}\tend 2\n {4}\n delta 1\tentry 5 1 {7}\tentry 5 2 {8}\tend 2\n\t{5}\n {6}\n')
+        yield "what a journal keeps ends at the first line that does not count", list(files.own_lines()) == [b"{1}", b"{4}"]
+        counts = [2, 0, 2, 0, 2] + [0] * 59
+        yield "its counts are those of its words", files.counts() == counts and files.check(counts) is None
+        yield "a program that holds others is wrong", is_refused(Wrong, files.check, [1, 0, 2, 0, 2] + [0] * 59) and is_refused(
+            Wrong, files.check, [2, 0, 1, 0, 2] + [0] * 59)
+        yield "there is no halt", files.halted() is None and not files.clear_halt()
+        files.put_halt("first")
+        files.put_halt("second")
+        yield "the first halt stays until it is cleared", files.halted().startswith("first (") and files.clear_halt() and files.halted() is None
+        files.halt.write_text("")
+        yield "an empty mark is one too", bool(files.halted())
+
+
+def main():
+    checks = [reads_vectors, cuts_deltas, marks_events, shares_texts, keeps_a_queue, gives_room, looks_at_files]
+    harness.end_of([reported(name, right) for each in checks for name, right in each()])
+
+
+if __name__ == "__main__":
+    main()

@@ -1,0 +1,30 @@
+"""library.py: answers the calls of library.c, which is the other side, by the definitions of tests/embed/model.py."""
+import pathlib, struct, sys
+sys.path.insert(0, str(pathlib.Path(__file__).resolve().parents[2]))
+from tests.embed.model import Handle
+
+FIELDS = ["ok", "code", "place", "length", "is_repeat", "number", "fresh", "repeats", "refused"]
+# the arguments of each call, of two numbers and three texts
+NUMBERS, COUNTS = {"open": 2, "restore": 2, "counts": 1}, "cut_above"
+TEXTS = {"restore": 2, "take": 1, "take_lines": 1, "accept": 1, "cut": 1, "cut_above": 1, "report": 3, "transfer_text": 2, "messages_text": 2,
+         "bank_totals": 1}
+
+
+def main():
+    handles, read, write = {}, sys.stdin.buffer, sys.stdout.buffer
+    for line in iter(read.readline, b""):
+        name, number, *more = line.decode().split()
+        numbers, texts = list(map(int, more[:2])), [read.read(int(length)) for length in more[2:]]
+        if name == COUNTS:
+            texts[0] = struct.unpack(f"={len(texts[0]) // 8}Q", texts[0])
+        handle = handles.setdefault(number, Handle())
+        fields, text = handle.call(name, *numbers[:NUMBERS.get(name, 0)], *texts[:TEXTS.get(name, 0)])
+        if name == "close":
+            del handles[number]
+        text = text or b""
+        write.write(" ".join(str(int(fields.get(field, 0))) for field in FIELDS).encode() + b" %d\n" % len(text) + text)
+        write.flush()
+
+
+if __name__ == "__main__":
+    main()
