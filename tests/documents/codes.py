@@ -11,7 +11,7 @@ from tests.documents import man_page, pages
 from tests.harness import CRATES, EXAMPLES, reported
 
 SHOWN = ["Line", "Example"]
-MOST = 73  # the greatest number
+MOST = 78  # the greatest number
 # the requests and the signs of the manual page
 REQUESTS = {".\\\"", ".TH", ".SH", ".SS", ".PP", ".TP", ".IP", ".br", ".nf", ".fi", ".RS", ".RE", ".B"}
 SIGNS = re.compile(r"\\(?:[-e&]|f[BIR]|\((?:aq|ga|ti|ha|bu))")
@@ -31,8 +31,8 @@ def numbers_of_code():
 
 def said_free(text):
     """The numbers that the page says are not assigned."""
-    spans = re.findall(r"(\d+) to (\d+)", re.search(r"\*\*([^*]*) are not\s+assigned\.\*\*", text).group(1))
-    return [number for first, last in spans for number in range(int(first), int(last) + 1)]
+    spans = re.findall(r"(\d+)(?: to (\d+))?", re.search(r"\*\*([^*]*) are not\s+assigned\.\*\*", text).group(1))
+    return [number for first, last in spans for number in range(int(first), int(last or first) + 1)]
 
 
 def example_lines():

@@ -5,6 +5,7 @@ Section 3 has names of kinds, each given to the message of its kind, and reasons
 recall, with `?` or without. No answer shows which codes are usual for a recall. Section 6 has a written form. Section 11 has refused
 lines of scripts, and a script. Sections 12 and 13 have lines of examples/hub-morning.refused and examples/hub-morning.run-refused.
 Section 14 has bad lists and a report. Section 10 has a delta, and section 15 what a site refuses of files of examples/exchange/cases/.
+Section 16 has requests to a new site, one after another, and their replies.
 A row in other words than those of the tables stops the check.
 """
 import json, os, pathlib, re, tempfile
@@ -213,9 +214,23 @@ def refused_files(program, page, _):
     yield block.line, ("2:1\n", block.text, 1), answered(program, ["vector", "2", "2", *files], "")
 
 
+# ---- section 16: a site that lasts
+
+def requests(program, page, messages):
+    """Requests to a new site 1 of 2, one after another."""
+    found = list(page.rows("16. A site that lasts: `serve`", "Request", "Reply"))
+    signs = lambda text: text.replace("<TAB>", "\t").replace("<LF>", "\n")
+    lines = [signs(codes(row.cells[0])[0]) if row.cells[0].startswith("`") else messages[row.cells[0]] for row in found]
+    stated = "READY -\n" + "".join(signs(codes(row.cells[1])[0]) + "\n" for row in found)
+    with tempfile.TemporaryDirectory() as folder:
+        words = ["serve", "1", "2", str(pathlib.Path(folder, "journal"))]
+        yield found[0].line, (stated, "", 0), answered(program, words, "".join(line + "\n" for line in lines))
+
+
 # ---- the page
 
-PARTS = [refusals, written_forms, kinds, reasons, script_lines, script, example_lines, bad_lists, report, deltas, refused_files]
+PARTS = [refusals, written_forms, kinds, reasons, script_lines, script, example_lines, bad_lists, report, deltas, refused_files,
+         requests]
 
 
 def examples(program):

@@ -31,6 +31,7 @@ sct_sites \\- answers on the SEPA Instant messages of a clearing hub
 \\fBsct_sites site\\fR \\fISITE SITES JOURNAL\\fR [\\fIDELTA\\fR ...]
 \\fBsct_sites vector\\fR \\fISITE SITES JOURNAL\\fR [\\fIDELTA\\fR ...]
 \\fBsct_sites cut\\fR \\fISITE SITES HAVE JOURNAL\\fR [\\fIDELTA\\fR ...]
+\\fBsct_sites serve\\fR \\fISITE SITES JOURNAL\\fR < \\fIREQUESTS\\fR
 .fi
 .SH DESCRIPTION
 .B sct_sites
@@ -38,7 +39,9 @@ reads messages about SEPA Instant Credit Transfers, one JSON object a line, and 
 the status of each transfer and of each recall, what contradicts itself, the totals of each bank,
 and how the list of a bank differs from the messages.
 Sites on several machines give each other files, and then answer alike.
-It keeps nothing between two runs.
+Only
+.B serve
+keeps something between two runs: the journal of a site that lasts.
 .SH WHAT YOU SEE
 """
 FOOT = """.SH SEE ALSO

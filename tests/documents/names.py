@@ -93,7 +93,7 @@ def check_outside(report):
 @functools.lru_cache(maxsize=None)
 def all_files():
     """Every file of the repository that a page may name, with a slash before it."""
-    tops = [TOP / name for name in ("docs", "tests", "bench", "examples", "bindings", "tools")]
+    tops = [TOP / name for name in ("docs", "tests", "bench", "examples", "services", "bindings", "tools")]
     tops += [CRATES / crate / part for crate in sources.names() for part in ("src", "specs", "proofs", "must-fail")]
     found = [os.path.join(folder, name) for top in tops for folder, _, names in os.walk(top) for name in names]
     return "\n".join("/" + os.path.relpath(path, TOP) for path in [*TOP.glob("*.*"), *found]) + "\n"

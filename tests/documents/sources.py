@@ -143,7 +143,7 @@ def everywhere():
     found = set(re.findall(r"\w+", (TOP / "crates.txt").read_text()))
     for crate in names():
         found |= defined(crate)
-    for path in (path for folder in ("tests", "bench", "examples", "include", "bindings", "tools") for path in (TOP / folder).rglob("*")):
+    for path in (path for folder in ("tests", "bench", "examples", "services", "include", "bindings", "tools") for path in (TOP / folder).rglob("*")):
         if path.is_file() and path.suffix not in (".md", ".pyc") and path != TOP / "tests" / "documents" / "names.py":
             found.add(path.stem)
             found.update(re.findall(r"\w+", path.read_text(errors="replace")))
