@@ -126,16 +126,20 @@ def send(connection, data):
         pass
 
 
+def held_back(hub, path, many):
+    """Connections that have sent a body of 8 MiB but for its last byte."""
+    connections = [raw(hub.port, head("POST", path, length=8 * MIB)) for _ in range(many)]
+    for connection in connections:
+        threading.Thread(target=send, args=(connection, b"x" * (8 * MIB - 1)), daemon=True).start()
+    time.sleep(2)
+    return connections
+
+
 def bounds_bodies(trial):
     """Many bodies at the same time, from who has no token: their room is taken before they are read."""
     with trial.site(trial.fresh("bodies"), "--seconds=4", NILUPPANG_TOKEN=TOKEN) as hub:
-        before, open_ones = memory(hub), []
-        body = b"x" * (8 * MIB - 1)
-        for _ in range(30):
-            connection = raw(hub.port, head("POST", "/report/BANKDEFF/2024-05-02", length=8 * MIB))
-            threading.Thread(target=send, args=(connection, body), daemon=True).start()
-            open_ones.append(connection)
-        time.sleep(1.5)
+        before = memory(hub)
+        open_ones = held_back(hub, "/report/BANKDEFF/2024-05-02", 30)
         yield "30 lists that hold back their last byte take little memory", memory(hub) - before < 60 * MIB
         refused = sum(status_of(it, 0.05) == 503 for it in open_ones)
         yield "most of them are refused at once", refused >= 25
@@ -156,17 +160,11 @@ def bounds_bodies(trial):
         yield "while two reports are made, others are refused", refused == 8
 
 
-# ---- answers and connections
-
 def bounds_posted_bodies(trial):
     """Many posts at the same time, on a machine where everyone may write."""
     with trial.site(trial.fresh("posted"), "--seconds=4") as hub:
-        before, body, open_ones = memory(hub), b"x" * (8 * MIB - 1), []
-        for _ in range(40):
-            connection = raw(hub.port, head("POST", "/messages", length=8 * MIB))
-            threading.Thread(target=send, args=(connection, body), daemon=True).start()
-            open_ones.append(connection)
-        time.sleep(2)
+        before = memory(hub)
+        open_ones = held_back(hub, "/messages", 40)
         yield "40 posts that hold back their last byte take the room of a few", memory(hub) - before < 160 * MIB
         refused = sum(status_of(it, 0.05) == 503 for it in open_ones)
         yield "the others are refused before they are read", refused >= 30
@@ -175,6 +173,8 @@ def bounds_posted_bodies(trial):
         yield "and then posts are taken again", until(lambda: asked(hub.port, "/messages", lines_of(1, 1)).status == 200, 10)
         yield "the room is given back", until(lambda: b"niluppang_body_bytes 0\n" in asked(hub.port, "/metrics").body)
 
+
+# ---- answers and connections
 
 def bounds_readers(trial):
     """Readers that do not read: an answer has seconds for all of it, others get theirs, and posts and peers go on."""
