@@ -251,8 +251,8 @@ def bounds_pages(trial):
         for mark in [began + "-" + "9" * 4400, "x", began + "-", began + "-\u00b2".encode().decode("latin-1")] * 30:
             with raw(hub.port, head("GET", "/changes", f"Last-Event-ID: {mark}")) as connection:
                 status_of(connection)
-        again, = events(watched(hub.port, began + "-" + "9" * 1000), 1)
-        yield "120 odd marks later a page still watches, and loads again", again["event"] == "reset"
+        again = lambda: [it["event"] for it in events(watched(hub.port, began + "-" + "9" * 1000), 1)]
+        yield "after 120 odd marks, as soon as pages that are gone are forgotten, a page watches and loads again", until(lambda: again() == ["reset"], 40)
         asked(hub.port, "/messages", lines_of(1, 1))
         yield "pages that are gone are forgotten", until(lambda: b"niluppang_pages 1\n" in asked(hub.port, "/metrics").body
                                                          or not asked(hub.port, "/messages", lines_of(int(time.time()), 1)), 40)
