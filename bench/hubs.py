@@ -1,23 +1,33 @@
 """bench/hubs.py [--messages N] [--large N]: measures sites of services/hub on this machine, clients and all.
 
-- messages a second that are acknowledged at one site, and at three sites that exchange, for posts of 1, 10 and 100 messages by 4 clients;
+- messages a second that are acknowledged at one site, and at three sites that exchange, for posts of 1, 10 and 100 messages by 4 clients: one
+  after the other without TLS and roles, with both by an operator, and with both by a bank, whose lines the library reads first;
 - how long it takes until a peer shows a message: the median and the 99th of 100, without load and under load;
 - a site with a journal of a million messages: its start, its memory, and its first answer.
 
 With 0 messages, or a journal of 0, that part is left out. The program is that of the gate, or the one that SCT_SITES names.
 """
-import argparse, http.client, itertools, multiprocessing, os, pathlib, statistics, sys, tempfile, threading, time
+import argparse, contextlib, http.client, itertools, multiprocessing, os, pathlib, statistics, sys, tempfile, threading, time
 sys.path.insert(0, str(pathlib.Path(__file__).resolve().parents[1]))
 from bench.generate import messages
 from tests import harness, inputs
-from tests.hub import sites
+from tests.hub import secure, sites
 
 CLIENTS, SAMPLES = 4, 300
+ROLES = {"operator": ["operator", "desk"], "bank": ["bank BANKDEFF"], **{f"site{number}": [f"peer {number}"] for number in range(1, 4)}}
+WAYS = {None: "without TLS and roles", "operator": "with TLS, by an operator", "bank": "with TLS, by a bank"}
 
 
-def posted(port, posts):
+def connected(port, made, who):
+    """A connection of a client, with TLS if it is somebody."""
+    if who:
+        return http.client.HTTPSConnection("localhost", port, timeout=60, context=made.context(who))
+    return http.client.HTTPConnection("127.0.0.1", port, timeout=60)
+
+
+def posted(port, posts, made=None, who=None):
     """Posts bodies over one connection."""
-    connection = http.client.HTTPConnection("127.0.0.1", port, timeout=60)
+    connection = connected(port, made, who)
     for body in posts:
         connection.request("POST", "/messages", body)
         answer = connection.getresponse()
@@ -26,10 +36,10 @@ def posted(port, posts):
             sys.exit(f"a post was answered with status {answer.status}")
 
 
-def rate(ports, lines, size):
+def rate(ports, lines, size, made=None, who=None):
     """Messages a second that clients have acknowledged, which post to sites in turn, and the seconds until all sites hold all."""
     shares = [lines[client::CLIENTS] for client in range(CLIENTS)]
-    work = [(ports[client % len(ports)], [b"".join(share[at:at + size]) for at in range(0, len(share), size)])
+    work = [(ports[client % len(ports)], [b"".join(share[at:at + size]) for at in range(0, len(share), size)], made, who)
             for client, share in enumerate(shares)]
     clients = [multiprocessing.Process(target=posted, args=one) for one in work]
     began = time.monotonic()
@@ -38,7 +48,8 @@ def rate(ports, lines, size):
     for client in clients:
         client.join()
     ended = time.monotonic()
-    sites.until(lambda: len({sites.asked(port, "/vector").body for port in ports}) == 1, 120)
+    asked = (lambda port: made.asked(port, "/vector", who="operator")) if who else lambda port: sites.asked(port, "/vector")
+    sites.until(lambda: len({asked(port).body for port in ports}) == 1, 120)
     return len(lines) / (ended - began), time.monotonic() - ended
 
 
@@ -66,29 +77,44 @@ def memory(process):
                for one in [process, *(its for its, _ in sites.below(process))]) / 1000
 
 
-def three_sites(python, program, many):
-    lines = [line.encode() for line in messages.lines(many)]
-    for running in 1, 3:
-        for size, share in (1, 20), (10, 4), (100, 1):
-            port = sites.free_ports(3)
-            with tempfile.TemporaryDirectory() as folder, sites.Hub(python, program, f"{folder}/hub", f"--port={port}", "--group=64",
-                                                                    f"--sites={running}"):
-                ports = [port + site for site in range(running)]
-                sites.until(lambda: all(map(sites.is_well, ports)))
-                a_second, rest = rate(ports, lines[:many // share], size)
-                print(f"{running} sites, posts of {size}: {a_second:.0f} messages a second acknowledged;"
-                      f" all sites equal {rest:.2f} s after the last", flush=True)
-                if running == 3 and size == 100:
-                    print("a peer shows a message, without load (ms, median and 99th):", delays(port, port + 1, 10 ** 6)[0], flush=True)
-                    ends = threading.Event()
-                    extra = [line.encode() for line in messages.lines(many * 4, 7)]
-                    load = threading.Thread(target=background, args=(ports, extra, ends), daemon=True)
-                    load.start()
-                    shown, acknowledged = delays(port, port + 1, 2 * 10 ** 6)
-                    ends.set()
-                    load.join()
-                    print(f"a peer shows a message, under a load of {LOAD} messages a second: {shown}; acknowledged after {acknowledged}",
-                          flush=True)
+@contextlib.contextmanager
+def hub_of(python, program, running, who, library):
+    """A hub of some sites: its ports, and its certificates if it has TLS."""
+    port = sites.free_ports(3)
+    with tempfile.TemporaryDirectory() as folder:
+        data, made = pathlib.Path(folder, "hub"), secure.Secured(f"{folder}/secured", ROLES) if who else None
+        config = made.configured(data, list(range(1, running + 1)), port) if who else None
+        words = [] if who else [f"--port={port}", "--group=64", f"--sites={','.join(map(str, range(1, running + 1)))}"]
+        with sites.Hub(python, program, data, *words, config=config, NILUPPANG_LIBRARY=library):
+            ports = [port + site for site in range(running)]
+            sites.until(lambda: all(made.is_well(one) if who else sites.is_well(one) for one in ports))
+            yield ports, made
+
+
+def rates(python, program, many, library):
+    """The rates of each way, one after the other. Of a bank not more lines are posted than it may post at once."""
+    lines = [inputs.instruction(number).encode() for number in range(many)]
+    for running, (size, share) in itertools.product((1, 3), ((1, 20), (10, 4), (100, 1))):
+        for who, way in WAYS.items():
+            with hub_of(python, program, running, who, library) as (ports, made):
+                its = lines[:min(many // share, 20_000) if who == "bank" else many // share]
+                a_second, rest = rate(ports, its, size, made, who)
+                print(f"{running} sites, posts of {size}, {way}: {a_second:.0f} messages a second acknowledged; all sites equal {rest:.2f} s after"
+                      " the last", flush=True)
+
+
+def shown(python, program, many):
+    """How long it takes until a peer shows a message."""
+    with hub_of(python, program, 3, None, "") as (ports, _):
+        print("a peer shows a message, without load (ms, median and 99th):", delays(*ports[:2], 10 ** 6)[0], flush=True)
+        ends = threading.Event()
+        extra = [line.encode() for line in messages.lines(many * 4, 7)]
+        load = threading.Thread(target=background, args=(ports, extra, ends), daemon=True)
+        load.start()
+        seen, acknowledged = delays(*ports[:2], 2 * 10 ** 6)
+        ends.set()
+        load.join()
+        print(f"a peer shows a message, under a load of {LOAD} messages a second: {seen}; acknowledged after {acknowledged}", flush=True)
 
 
 LOAD = 1000
@@ -146,7 +172,9 @@ def main():
     python, program = sites.interpreter(), harness.program()
     print("load averages of the machine before:", *os.getloadavg(), flush=True)
     if asked.messages:
-        three_sites(python, program, asked.messages)
+        with sites.library() as library:
+            rates(python, program, asked.messages, library)
+        shown(python, program, asked.messages)
     if asked.large:
         large(python, program, asked.large)
 

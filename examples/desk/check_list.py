@@ -12,7 +12,7 @@ the header and without blank lines.
 
 Usage: check_list.py BANK DAY LIST ARCHIVE   (ARCHIVE: what `sct_sites archive` wrote)
 """
-import collections, csv, json, sys
+import collections, csv, io, json, sys
 from fields import bank, is_day
 
 # the beneficiary bank and the settlement day of an instruction
@@ -34,11 +34,18 @@ def held_in(archive):
 
 
 def rows(file):
-    """Each row of a list with its number, but for the header and rows that have no transfer."""
-    records = (row for row in csv.reader(file) if row)
+    """Each row of a list, a file of bytes, with its number, but for the header and rows that have no transfer."""
+    records = (row for row in csv.reader(io.TextIOWrapper(file, encoding="utf-8-sig", errors="replace", newline="")) if row)
     for number, row in enumerate(records, 1):
         if number > 1 and len(row) > 1:
             yield number, bank(row[0]), row[1]
+
+
+def banks_of(originator, transfer, held):
+    """The banks of a transfer: its originator, and the beneficiaries of its instructions or, if it has none, the banks of its messages."""
+    instructions, banks = held
+    ones = instructions.get((originator, transfer), [])
+    return {originator, *([one.beneficiary for one in ones] or banks.get((originator, transfer), []))}
 
 
 def faults(asking, day, listed, held):
@@ -47,10 +54,11 @@ def faults(asking, day, listed, held):
     for number, originator, transfer in listed:
         ones = instructions.get((originator, transfer), [])
         others = banks.get((originator, transfer), set())
+        is_its = asking in banks_of(originator, transfer, held)
         name = f"row {number}: {originator} {transfer}"
-        if ones and asking not in [originator, *(one.beneficiary for one in ones)]:
+        if ones and not is_its:
             yield True, f"{name} is a transfer to {ones[0].beneficiary}, and not of {asking}"
-        elif not ones and others and asking not in {originator, *others}:
+        elif others and not is_its:
             yield True, f"{name} has no instruction, and {asking} is not one of its banks"
         elif ones and day not in [one.day for one in ones]:
             yield False, f"{name} is of {ones[0].day}, and not of {day}; the report compares it all the same"
@@ -65,7 +73,7 @@ def main():
     try:
         with open(archive_path, encoding="utf-8") as archive:
             held = held_in(archive)
-        with open(list_path, encoding="utf-8-sig", errors="replace", newline="") as file:
+        with open(list_path, "rb") as file:
             found = list(faults(bank(asking), day, rows(file), held))
     except (OSError, ValueError, KeyError, csv.Error) as why:
         sys.exit(f"check_list: {list_path} cannot be checked by {archive_path}: {why}")

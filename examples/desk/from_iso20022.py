@@ -103,15 +103,20 @@ def reason(element, name):
 ELEMENTS = {element: kind for kind, (element, *_) in KINDS.items()}
 
 
-def documents(file):
-    """The messages of a file, each with what it is called in a message to people: its Documents, or without any the messages themselves."""
-    root = ElementTree.parse(file, ElementTree.XMLParser(target=NoDoctype())).getroot()
+def messages_in(root):
+    """The messages of a file with this root, and what they are called: its Documents, or without any the messages themselves."""
     name = lambda part: part.tag.rpartition("}")[2]
     for what, ones in (("Document", [part for part in root.iter() if name(part) == "Document"]),
                        ("message", [part for part in root.iter() if name(part) in ELEMENTS])):
         if ones:
-            return [(file if len(ones) == 1 else f"{file}: {what} {place}", one) for place, one in enumerate(ones, 1)]
+            return what, ones
     raise Wrong("it has no Document")
+
+
+def documents(file):
+    """The messages of a file, each with what it is called in a message to people."""
+    what, ones = messages_in(ElementTree.parse(file, ElementTree.XMLParser(target=NoDoctype())).getroot())
+    return [(file if len(ones) == 1 else f"{file}: {what} {place}", one) for place, one in enumerate(ones, 1)]
 
 
 def cut_name(identification, number):
@@ -141,7 +146,7 @@ class Message:
         if self.head is None:
             raise Wrong(f"it has no {head}")
         self.transactions = self.body.findall(transactions)
-        self.notes = []  # what is left out of its lines
+        self.notes = {}  # what is left out of the line of a transaction
         if self.kind == "pacs.002" and not self.transactions and self.body.find("OrgnlGrpInfAndSts") is not None:
             raise Wrong("it confirms a whole message and names no transaction")
         stated = found([(self.body, number)]) if number else None
@@ -184,7 +189,7 @@ class Message:
         texts = [part.text for part in transaction.findall("RmtInf/Ustrd") if part.text]
         text = " ".join(texts)
         if len(texts) > 1 and len(text) > MOST_REMITTANCE:
-            self.notes.append(f"Ustrd is left out: its {len(texts)} texts have {len(text)} characters together")
+            self.notes[transaction] = f"Ustrd is left out: its {len(texts)} texts have {len(text)} characters together"
             return None
         return text or None
 
@@ -240,7 +245,7 @@ class Message:
         groups = [group for place in places for name in ("OrgnlGrpInf", "OrgnlGrpInfAndSts") for group in place.findall(name)]
         messages = [found([(group, "OrgnlMsgId")]) for group in groups if names_recall(group)]
         cases = [found([(place, "RslvdCase/Id")]) for place in places + groups]
-        return [name for name in messages + cases if name is not None]
+        return {name for name in messages + cases if name is not None}
 
     def recalls(self, place):
         """The line of a camt.056."""
@@ -332,7 +337,7 @@ def converted(files):
                 try:
                     message = Message(document)
                     lines += message.lines(place)
-                    left_out += [f"{place}: {note}" for note in message.notes]
+                    left_out += [f"{place}: {note}" for note in message.notes.values()]
                 except Wrong as why:
                     left_out.append(f"{place}: {why}")
         except (OSError, ElementTree.ParseError, LookupError, ValueError, RecursionError, Wrong) as why:
@@ -340,21 +345,33 @@ def converted(files):
     return lines, left_out
 
 
-def completed(line, banks, recalls):
-    """What is left out of a line: its bank and its recall are looked up. The result is None if there is no line."""
-    if lacks_bank(line.keys):
-        known = banks.get((line.keys.get("OrgnlMsgId"), line.keys.get("OrgnlTxId")), set()) - {None}
-        if len(known) != 1:
-            said = ", ".join(sorted(known)) or "none"
-            return None, f"it names no DbtrAgt; originator banks of {line.keys.get('OrgnlTxId')} in {line.keys.get('OrgnlMsgId')}: {said}"
-        line.keys["DbtrAgt"], = known
-    if wants_recall(line.keys):
-        about = correlated(line, recalls)
-        if len(about) != 1:
-            known = ", ".join(map(str, about)) or "none"
-            return line, f"OrgnlCxlId is left out; recalls of {line.keys.get('OrgnlTxId')}: {known}"
-        line.keys["OrgnlCxlId"] = about[0]
-    return line, None
+def without_bank(line, banks):
+    """Why a line has no originator bank, which is looked up if the message names none. None if it has one."""
+    if not lacks_bank(line.keys):
+        return None
+    known = banks.get((line.keys.get("OrgnlMsgId"), line.keys.get("OrgnlTxId")), set()) - {None}
+    if len(known) != 1:
+        said = ", ".join(sorted(known)) or "none"
+        return f"it names no DbtrAgt; originator banks of {line.keys.get('OrgnlTxId')} in {line.keys.get('OrgnlMsgId')}: {said}"
+    line.keys["DbtrAgt"], = known
+    return None
+
+
+def without_recall(line, recalls):
+    """Why a line lacks the recall that it is about, which is looked up. None if it has it or needs none."""
+    if not wants_recall(line.keys):
+        return None
+    about = correlated(line, recalls)
+    if len(about) != 1:
+        known = ", ".join(map(str, about)) or "none"
+        return f"OrgnlCxlId is left out; recalls of {line.keys.get('OrgnlTxId')}: {known}"
+    line.keys["OrgnlCxlId"] = about[0]
+    return None
+
+
+def json_line(line):
+    """A line as bytes, without the line feed at its end."""
+    return json.dumps(line.keys, ensure_ascii=False, separators=(",", ":")).encode()
 
 
 def main():
@@ -366,11 +383,12 @@ def main():
     lines, left_out = converted(files)
     banks, recalls = banks_of(held + lines), recalls_of(held + lines)
     for line in lines:
-        done, why = completed(line, banks, recalls)
+        no_line = without_bank(line, banks)
+        why = no_line or without_recall(line, recalls)
         if why:
             left_out.append(f"{line.place}: {why}")
-        if done:
-            sys.stdout.buffer.write((json.dumps(line.keys, ensure_ascii=False, separators=(",", ":")) + "\n").encode())
+        if not no_line:
+            sys.stdout.buffer.write(json_line(line) + b"\n")
     for text in left_out:
         print(f"from_iso20022: {text}", file=sys.stderr)
     sys.stdout.buffer.flush()

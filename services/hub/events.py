@@ -37,6 +37,12 @@ class Events:
             else:
                 queue.put_nowait(event)
 
+    def end(self):
+        """Ends all pages: each comes back, and shows anew who it is."""
+        for queue in self.queues:
+            queue.put_nowait(None)
+        self.queues.clear()
+
     def text(self, word, found):
         return f"id: {self.began}-{self.number}\nevent: {word}\ndata: {json.dumps(found)}\n\n".encode()
 

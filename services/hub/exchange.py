@@ -3,16 +3,17 @@
 Before anything else a site asks each peer for its vector. A peer that counts more messages of this site than this site has shows that its
 journal lost lines, and then the site halts. The same is looked at in each later answer, before the body of the answer is read.
 
-Then there is one task for each peer. It sends the site's vector and waits: the peer answers as soon as it has new entries of its own. From
-time to time it asks for everything that the peer has and this site lacks, since entries may come over a third site. A peer that fails is
+Then there is one task for each peer. It sends the site's vector and waits: the peer answers as soon as it has new entries of its own. A peer
+is asked for its own entries alone, and an answer with entries of another site is thrown away: no site speaks for another one. Only the
+entries of a site that is retired, or cannot be reached, are asked from the peer that the configuration names for it. A peer that fails is
 asked again after a pause, which doubles up to a limit. A long answer is given to the site in pieces, as it comes.
 """
 import asyncio, logging, random, time
 import aiohttp
-from .keeper import GAP, Busy, Refused, Unable
+from .keeper import Busy, Refused, Unable
 from .vectors import BadText, Pieces, vector_of
 
-WAIT = 2.0  # seconds that a peer waits for new entries, and between two questions for everything
+WAIT = 2.0  # seconds that a peer waits for new entries, and between two questions for those of another site
 FIRST_PAUSE, MOST_PAUSE = 0.05, 2.0
 MOST_SILENCE = 600.0  # seconds: a peer that cuts a very long delta may need more time than a peer has at first
 REST = 0.01  # seconds after an answer that had nothing new
@@ -39,23 +40,26 @@ def said(fault):
 
 
 class Peer:
-    """A peer, and what is known of it."""
+    """A peer, and what is known of it. `others` are the sites whose entries it hands on."""
 
-    def __init__(self, number, address, keeper, silence, version):
-        self.number, self.address, self.keeper, self.version = number, address.rstrip("/"), keeper, version
+    def __init__(self, number, address, others, keeper, silence, version, headers, tls):
+        self.number, self.address, self.others, self.keeper, self.version = number, address.rstrip("/"), others, keeper, version
         self.first_silence = self.silence = silence
-        self.pause, self.asked_all_at, self.heard_at, self.fault = FIRST_PAUSE, 0.0, None, None
-        self.counts, self.failures = {}, 0
+        self.pause, self.heard_at, self.fault = FIRST_PAUSE, None, None
+        self.counts, self.failures, self.asked_others_at = {}, 0, 0.0
+        self.session = aiohttp.ClientSession(auto_decompress=False, headers=headers, read_bufsize=MOST_LINE, trust_env=False,
+                                             cookie_jar=aiohttp.DummyCookieJar(), connector=aiohttp.TCPConnector(ssl=tls))
+        self.task = None
 
     def lag(self):
         """How many entries the peer had when it was heard last that this site lacks now."""
         counts = self.keeper.counts
         return sum(max(0, count - counts[origin - 1]) for origin, count in self.counts.items() if origin <= len(counts))
 
-    def request(self, session, path, **words):
+    def request(self, path, **words):
         """A request to the peer. It is not sent on to where an answer points."""
         timeout = aiohttp.ClientTimeout(total=None, sock_connect=2, sock_read=WAIT + self.silence)
-        return session.get(f"{self.address}{path}", params=words, timeout=timeout, allow_redirects=False)
+        return self.session.get(f"{self.address}{path}", params=words, timeout=timeout, allow_redirects=False)
 
     def heard(self, answer):
         """Looks at the head of an answer: whether it is that of the peer, and whether the peer has more of this site than it has."""
@@ -82,11 +86,11 @@ class Peer:
             log.info("site %d answers again", self.number)
             self.fault = None
 
-    async def hear(self, session):
+    async def hear(self):
         """Asks for the vector until the peer answers with it."""
         while True:
             try:
-                async with self.request(session, "/vector") as answer:
+                async with self.request("/vector") as answer:
                     self.heard(answer)
                 return self.is_well()
             except OwnAhead as fault:
@@ -95,32 +99,28 @@ class Peer:
                 return
             except Exception as fault:
                 self.failed(fault)
-                await asyncio.sleep(self.pause * random.uniform(0.5, 1))
-                self.pause = min(2 * self.pause, MOST_PAUSE)
+                await self.rest()
 
-    async def once(self, session):
-        """Asks once, and accepts the answer. How many of its entries are new."""
-        asks_all = time.monotonic() - self.asked_all_at > WAIT
-        words = {"have": self.keeper.vector}
-        if not asks_all:
-            words.update(of=str(self.number), wait=str(WAIT))
-        async with self.request(session, "/delta", **words) as answer:
-            self.heard(answer)
-            try:
-                fresh = await self._accepted(answer)
-            except Refused as refused:
-                if refused.number != GAP or asks_all:
-                    raise
-                self.asked_all_at = 0.0
-                return 0
-        if asks_all and "Niluppang-Partial" not in answer.headers:
-            self.asked_all_at = time.monotonic()
+    async def once(self):
+        """Asks once for what the peer has of its own, and from time to time for what it hands on. How many entries are new."""
+        fresh = 0
+        if time.monotonic() - self.asked_others_at > WAIT:
+            for origin in self.others:
+                fresh += await self._asked(origin)
+            self.asked_others_at = time.monotonic()
+        fresh += await self._asked(self.number, wait=str(0 if fresh else WAIT))
         self.is_well()
         return fresh
 
-    async def _accepted(self, answer):
+    async def _asked(self, origin, **words):
+        """Asks for the entries of a site, and accepts the answer."""
+        async with self.request("/delta", have=self.keeper.vector, of=str(origin), **words) as answer:
+            self.heard(answer)
+            return await self._accepted(answer, origin)
+
+    async def _accepted(self, answer, origin):
         """How many entries of the body of an answer are new."""
-        pieces, fresh = Pieces(MOST_PIECE), 0
+        pieces, fresh = Pieces(MOST_PIECE, origin), 0
         while not pieces.is_ended:
             line = await answer.content.readline()
             if not line.endswith(b"\n"):
@@ -140,58 +140,83 @@ class Peer:
                 await asyncio.sleep(0.1)
 
     def failed(self, fault):
-        """Remembers that the peer failed, and logs it if it did not fail so before."""
+        """Remembers that the peer failed, and logs it if it did not fail so before. A halt has its own line in the log."""
         self.failures += 1
         if isinstance(fault, asyncio.TimeoutError):
             self.silence = min(2 * self.silence, MOST_SILENCE)
         text = said(fault)
-        if text != self.fault:
+        if text != self.fault and not isinstance(fault, OwnAhead):
             log.warning("site %d at %s: %s", self.number, self.address, str(fault) or text)
         self.fault = text
 
-    async def follow(self, session):
+    async def rest(self):
+        await asyncio.sleep(self.pause * random.uniform(0.5, 1))
+        self.pause = min(2 * self.pause, MOST_PAUSE)
+
+    async def follow(self):
         """Asks again and again, for ever. No failure ends it."""
         while True:
             try:
-                if not await self.once(session):
+                if not await self.once():
                     await asyncio.sleep(REST)
             except Exception as fault:
                 self.failed(fault)
-                await asyncio.sleep(self.pause * random.uniform(0.5, 1))
-                self.pause = min(2 * self.pause, MOST_PAUSE)
+                await self.rest()
+
+    async def end(self):
+        if self.task:
+            self.task.cancel()
+            await asyncio.gather(self.task, return_exceptions=True)
+        await self.session.close()
 
 
 class Peers:
-    """All peers of a site."""
+    """All peers of a site. `context` makes the TLS of a peer, by its number."""
 
-    def __init__(self, addresses, keeper, silence, version, token, tls):
-        self.all = [Peer(number, address, keeper, silence, version) for number, address in sorted(addresses.items())]
-        self.token, self.tls, self.tasks, self.session = token, tls, [], None
+    def __init__(self, keeper, version):
+        self.keeper, self.version, self.all, self.follows = keeper, version, [], False
+
+    async def be(self, settings, context):
+        """Has the peers that the settings name. Those that were there before are asked anew."""
+        headers = {}
+        if settings.peer_token:
+            with open(settings.peer_token, encoding="utf-8") as file:
+                headers["Authorization"] = f"Bearer {file.read().strip()}"
+        contexts = {number: context(number) for number in settings.peers}  # what fails above and here leaves the peers as they are
+        handed_on = lambda number: sorted(origin for origin, peer in settings.through.items() if peer == number)
+        before, self.all = self.all, [
+            Peer(number, address, handed_on(number), self.keeper, settings.silence, self.version, headers, contexts[number])
+            for number, address in sorted(settings.peers.items())]
+        for peer in before:
+            await peer.end()
+        if self.follows:
+            self.follow()
 
     async def hear(self, least, is_ended):
-        """Asks each peer for its vector, before the site takes anything. It ends when so many were heard, and all of them were or some
-        seconds have passed."""
-        headers = {"Authorization": f"Bearer {self.token}"} if self.token else {}
-        self.session = aiohttp.ClientSession(auto_decompress=False, headers=headers, read_bufsize=MOST_LINE, trust_env=False,
-                                             connector=aiohttp.TCPConnector(ssl=self.tls))
-        tasks = [asyncio.ensure_future(peer.hear(self.session)) for peer in self.all]
-        until = time.monotonic() + (HEARING if least else 1)
-        while not is_ended() and (self.heard() < least or self.heard() < len(self.all) and time.monotonic() < until):
+        """Asks each peer for its vector, before the site takes anything. It ends when as many as `least` says were heard, and all of them
+        were or some seconds have passed. Meanwhile the configuration may name other peers."""
+        tasks, until = {}, time.monotonic() + (HEARING if least() else 1)
+        while not is_ended() and (self.heard() < least() or self.heard() < len(self.all) and time.monotonic() < until):
+            for peer in set(self.all) - set(tasks):
+                tasks[peer] = asyncio.ensure_future(peer.hear())
+            for peer in set(tasks) - set(self.all):
+                tasks[peer].cancel()
             await asyncio.sleep(0.02)
-        for task in tasks:
+        for task in tasks.values():
             task.cancel()
-        await asyncio.gather(*tasks, return_exceptions=True)
+        await asyncio.gather(*tasks.values(), return_exceptions=True)
 
     def heard(self):
         """How many peers have answered."""
         return sum(peer.heard_at is not None for peer in self.all)
 
     def follow(self):
-        self.tasks = [asyncio.ensure_future(peer.follow(self.session)) for peer in self.all]
+        """From now on each peer is asked."""
+        self.follows = True
+        for peer in self.all:
+            if peer.task is None:
+                peer.task = asyncio.ensure_future(peer.follow())
 
     async def end(self):
-        for task in self.tasks:
-            task.cancel()
-        await asyncio.gather(*self.tasks, return_exceptions=True)
-        if self.session:
-            await self.session.close()
+        for peer in self.all:
+            await peer.end()

@@ -22,13 +22,17 @@ def synced(folder):
 
 
 def last_of(field):
-    """The origin of the entries that a field of a delta begins or is, and the number of the last of them. (0, 0) if it is another one."""
-    if field.startswith(ORIGIN):
-        origin, first, many = map(int, field.split(b" ")[1:])
-        return origin, first + many - 1
-    if field.startswith(ENTRY):  # the older form of a delta
-        origin, number = field.split(b" ", 3)[1:3]
-        return int(origin), int(number)
+    """The origin of the entries that a field of a delta begins or is, and the number of the last of them. (0, 0) if it is another one. Wrong if
+    it was changed so that it is none."""
+    try:
+        if field.startswith(ORIGIN):
+            origin, first, many = map(int, field.split(b" ")[1:])
+            return origin, first + many - 1
+        if field.startswith(ENTRY):  # the older form of a delta
+            origin, number = field.split(b" ", 3)[1:3]
+            return int(origin), int(number)
+    except ValueError:
+        raise Wrong(f"it has a delta with {field[:60]!r}") from None
     return 0, 0
 
 
@@ -40,6 +44,7 @@ class Files:
         self.journal = self.folder / f"site{site}.journal"
         self.halt = self.folder / f"site{site}.halted"
         self.room = self.folder / f"site{site}.room"
+        self.record = self.folder / f"site{site}.record"
         self.old = self.folder / f"site{site}.db"
 
     def make_folder(self):
@@ -68,6 +73,8 @@ class Files:
                 counts[self.site - 1] += 1
                 continue
             for origin, last in map(last_of, line.split(b"\t")):
+                if origin > self.group:
+                    raise Wrong(f"it has entries of site {origin}, and the group has {self.group}")
                 if origin:
                     counts[origin - 1] = max(counts[origin - 1], last)
         return counts
@@ -86,6 +93,11 @@ class Files:
         return 0
 
     # ---- the disk
+
+    def free(self):
+        """Bytes that the disk of the folder has left."""
+        found = os.statvfs(self.folder)
+        return found.f_bavail * found.f_frsize
 
     def try_room(self, size):
         """Fails as long as the disk has no room for a batch of some bytes behind the journal. It leaves nothing."""

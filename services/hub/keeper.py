@@ -17,15 +17,16 @@ MOST_ROUND = 4 << 20  # bytes of lines and deltas in a round, unless one request
 MOST_WAITING = {"take": 64 << 20, "accept": 32 << 20}  # bytes that wait at most: of clients, and of peers
 MOST_QUESTIONS = 2000  # questions that wait at most
 MOST_PUBLISHED = 200  # changed transfers of a round whose lines are published; of the others only the names are
-MOST_UNSEEN = 10_000  # new entries after which a question is asked, so that no client has to wait for a question on more of them
+MOST_UNSEEN = 10_000  # new entries after which they are evaluated, so that no client has to wait for more of them
 MOST_TEXT = 1 << 40
 MOST_ENDS = 3  # times that the process may end with a request before the request is given up
 FIRST_PAUSE, MOST_PAUSE, HELD_SECONDS = 0.05, 2.0, 3.0  # HELD_SECONDS: a process that ended may have the journal a moment longer
 GAP, FORK, OWN_AHEAD, BAD_DELTA = 41, 42, 43, 45
-A_QUESTION = b"? transfer AAAADEAA A"
+EVALUATE = b"? evaluate"
 
 Answer = collections.namedtuple("Answer", "text is_cut vector")
-Outcome = collections.namedtuple("Outcome", "word number why")  # TAKEN with its number, REPEAT, or REFUSED by a number and a text
+# TAKEN with its number, REPEAT, REFUSED by a number and a text, WAITING until a time, or FORBIDDEN for a reason
+Outcome = collections.namedtuple("Outcome", "word number why")
 
 log = logging.getLogger("hub")
 
@@ -114,6 +115,13 @@ class Keeper:
             raise Halted(self.halted)
         return list(map(outcome_of, (await self._ask("take", list(map(as_message, lines)), 0)).replies))
 
+    def refused(self, text):
+        """The outcome of a line that the library refuses as the process would, which is counted as well."""
+        outcome = Outcome("REFUSED", int(text.split()[0]), text)
+        self.numbers["REFUSED"] += 1
+        self.numbers[outcome.number] += 1
+        return outcome
+
     async def accept(self, delta):
         """How many entries of a delta are new. It has tabs for line feeds."""
         reply, = (await self._ask("accept", [delta], 0)).replies
@@ -133,9 +141,19 @@ class Keeper:
             raise Refused(reply.rest)
         return Answer(reply.text, reply.is_cut, one.vector)
 
+    async def ask_all(self, questions, most=MOST_TEXT):
+        """The texts that answer some questions, each with whether it is cut, all of what is held at one moment."""
+        one = await self._ask("ask", questions, most)
+        for reply in one.replies:
+            if reply.word != b"TEXT":
+                raise Refused(reply.rest)
+        return [Answer(reply.text, reply.is_cut, one.vector) for reply in one.replies]
+
     async def _ask(self, kind, requests, most):
         if self.failure or self.ends or self.away:
             raise Unable(self.failure or self.away or "the service ends")
+        if any(b"\n" in request for request in requests):
+            raise Refused(b"64")  # it would be several requests
         one = Work(kind, requests, most, asyncio.get_running_loop().create_future())
         limit = MOST_WAITING.get(kind)
         if limit and self.waiting[kind] and self.waiting[kind] + one.size > limit or not limit and self.waiting["ask"] >= MOST_QUESTIONS:
@@ -195,10 +213,11 @@ class Keeper:
         self.restarts += 1
         self.counts = listed(self.process.vector.decode(), self.group)
         self.is_watched, self.unseen, self.away = False, 0, None
-        await self._exchange([(A_QUESTION, MOST_TEXT)])  # the first question costs most: nobody has to wait for it
+        await self._exchange([(EVALUATE, MOST_TEXT)])  # everything: nobody has to wait for it
         if self.watchers:
             await self._exchange([(b"? changes", MOST_TEXT)])
             self.is_watched = True
+        if self.restarts:
             self.on_round(None)
         self._show()
 
@@ -309,7 +328,7 @@ class Keeper:
         self.round_seconds += time.monotonic() - began
         self._show()
         if self.unseen >= MOST_UNSEEN:
-            await self._exchange([(A_QUESTION, MOST_TEXT)])
+            await self._exchange([(EVALUATE, MOST_TEXT)])
             self.unseen = 0
 
     async def _do(self, works):
@@ -375,15 +394,16 @@ class Keeper:
         self.vector = vector_text(self.counts)
 
     async def _changes(self):
-        """The transfers that changed since the round before, each with its lines: if someone watches, or to forget them."""
+        """The transfers that changed since the round before, each with its lines: if someone watches, or to forget them. None if it is not
+        known which ones changed: who comes back to watch has to load again."""
         now = time.monotonic()
         if not self.watchers and (not self.is_watched or now - self.watched_at < 1):
-            return []
+            return [] if self.is_watched else None
         was_watched, self.is_watched, self.watched_at = self.is_watched, True, now
         text, = await self._exchange([(b"? changes", MOST_TEXT)])
         names = [line.split(b"|") for line in bytes(text.text).splitlines()]
         if not self.watchers or not was_watched:
-            return []
+            return None if names or not was_watched else []
         asked = [(b"? transfer " + b" ".join(name), MOST_TEXT) for name in names[:MOST_PUBLISHED]]
         lines = [reply.text.decode() for reply in await self._exchange(asked)] + [None] * max(0, len(names) - len(asked))
         return [(*(part.decode() for part in name), its) for name, its in zip(names, lines)]
@@ -405,4 +425,8 @@ def outcome_line(number, outcome):
         return f'{{"line":{number},"outcome":"TAKEN","number":{outcome.number}}}\n'
     if outcome.word == "REPEAT":
         return f'{{"line":{number},"outcome":"REPEAT"}}\n'
+    if outcome.word == "WAITING":
+        return f'{{"line":{number},"outcome":"WAITING","until":"{outcome.why}"}}\n'
+    if outcome.word == "FORBIDDEN":
+        return f'{{"line":{number},"outcome":"FORBIDDEN","why":{json.dumps(outcome.why)}}}\n'
     return f'{{"line":{number},"outcome":"REFUSED","code":{outcome.number},"why":{json.dumps(outcome.why)}}}\n'

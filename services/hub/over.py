@@ -1,11 +1,11 @@
-"""over.py: makes a journal of the SQLite journal of an older version, and tries a program on a copy of a journal.
+"""over.py: makes a journal of the SQLite journal of an older version.
 
 The lines of the site itself are fed to `serve` in the order of their numbers, and then the entries that it accepted, in the order in which it
 accepted them. Each must be new, under the number that it had: else nothing is left.
 """
-import contextlib, os, shutil, sqlite3, subprocess, tempfile, urllib.parse
-from .files import Files, Wrong, synced
-from .vectors import listed, run_text
+import contextlib, os, sqlite3, subprocess, urllib.parse
+from .files import Wrong, synced
+from .vectors import run_text
 
 AT_ONCE = 1 << 20  # bytes of requests that are written before their replies are read: less than a pipe of replies may hold up
 
@@ -68,7 +68,7 @@ def remove(journal):
 def read_over(old, files, program):
     """Makes the journal of a site of an SQLite journal. The result says what it then has."""
     if files.journal.exists():
-        raise Wrong("it is there already")
+        raise Wrong(f"{files.journal} is there already")
     new = files.journal.with_suffix(".new")
     remove(new)
     try:
@@ -93,16 +93,3 @@ def read_over(old, files, program):
         raise Wrong(f"{old} cannot be read: {fault}") from None
     finally:
         remove(new)
-
-
-def checked(files, program):
-    """Tries the program on a copy of a journal. The result says what it then holds."""
-    with tempfile.TemporaryDirectory(prefix="check-", dir=files.folder) as folder:
-        copy = Files(folder, files.site, files.group)
-        shutil.copyfile(files.journal, copy.journal)
-        serve = Serve(program, copy, copy.journal)
-        try:
-            copy.check(listed(serve.vector, files.group))
-        finally:
-            serve.end()
-        return serve.vector

@@ -2,7 +2,7 @@
 
 The process keeps the journal. What has a reply is on the disk. What has none is unknown when the process ends, and may be sent again.
 """
-import asyncio, collections, ctypes, re, signal
+import asyncio, collections, contextlib, ctypes, re, signal
 
 MOST_LINE = 4 << 20  # bytes of a line of a reply: the vector of a group, or a refusal with the key of a line
 PIECE = 1 << 20
@@ -33,6 +33,7 @@ class Process:
     def __init__(self, child):
         self.child, self.said = child, b""
         self.listening = asyncio.ensure_future(self._listen())
+        self.closing = asyncio.ensure_future(self._closed())
         self.vector = None
 
     @classmethod
@@ -58,6 +59,12 @@ class Process:
             if not piece:
                 return
             self.said = (self.said + piece)[-2000:]
+
+    async def _closed(self):
+        """Waits until the input of the process is closed. A process that is killed with bytes on their way closes it by an error, which its
+        reply that lacks says better."""
+        with contextlib.suppress(OSError):
+            await self.child.stdin.wait_closed()
 
     async def ended(self, why=""):
         """Why the process ended. One that has not ended is stopped."""

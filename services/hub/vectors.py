@@ -73,10 +73,10 @@ def beginning(text):
 
 class Pieces:
     """The requests that a delta text comes to, which is read line by line. A short delta is one request, as it came. A long one is cut
-    into pieces of one origin each, so that nobody holds it entirely."""
+    into pieces of one origin each, so that nobody holds it entirely. With an origin it may have entries of that site alone."""
 
-    def __init__(self, most):
-        self.most, self.size = most, 0
+    def __init__(self, most, origin=None):
+        self.most, self.size, self.origin = most, 0, origin
         self.whole = []  # the lines, as long as the delta is short
         self.run, self.left, self.many, self.is_ended = None, 0, 0, False
 
@@ -112,6 +112,8 @@ class Pieces:
         origin, first, count = words_of(line, b"origin", 3)
         if not count or not first or not 1 <= origin <= MOST_SITES:
             raise BadText("it has a run of no entries")
+        if self.origin not in (None, origin):
+            raise BadText(f"it has entries of site {origin}, and was asked for those of site {self.origin}")
         self.run, self.left = [origin, first, []], count
         return done
 

@@ -1,17 +1,17 @@
 """journals.py: the journals of sites of services/hub: no number is given twice, whatever was lost or copied.
 
-A journal lost its last lines, and its peer is there, away or slow; it has a line that changed, or belongs to another site; two processes open
-it; it is copied while its site takes lines; it is made of an SQLite journal of an older version. A site that was halted stays so.
+A journal lost its last lines, and its peer is there, away or slow; it has a line that changed, or belongs to another site; two processes
+open it; it is copied while its site takes lines; a new number adopts it; it is made of an SQLite journal of an older version. A site that
+was halted stays so.
 """
-import contextlib, os, shutil, signal, sqlite3, stat, threading, time
+import contextlib, os, shutil, signal, sqlite3, stat, subprocess, threading, time
 from tests import harness, inputs
-from tests.harness import SERVICES
+from tests.harness import EXAMPLES, SERVICES
 from tests.hub import sites
 from tests.hub.sites import asked, kept, outcomes, own_lines, until, write_journal
 from tests.hub.trial import lines_of
 from tests.hub.troubles import tried
-
-POST = SERVICES / "hub" / "post.py"
+from tests.oracle.exchange import message_in
 
 
 def at(hub):
@@ -59,10 +59,13 @@ def refuses_changed_lines(trial):
     status, said = trial.fails(folder)
     yield "a journal with a line that is refused: the site does not start", status == 2 and "5 entries of site 1, of which the program takes 4" in said
     checked = trial.ran(folder, "--check")
-    yield "and a check of it says so", checked.status == 2 and b"takes 4" in checked.errors
+    fault = message_in(lines[2].replace(b"EUR", b"USD"))[1]
+    yield "and a check of it names the line", (checked.text.decode(), checked.status) == (f"1:4\nline 4: {fault} (message 3)\n", 1)
     write_journal(folder / "site1.journal", 1, 64, [*lines, inputs.delta(2, 1, 7, 8).replace(b"\n", b"\t")[:-1].replace(b"EUR", b"USD")])
     status, said = trial.fails(folder)
     yield "a journal with a delta that is refused: the site does not start", status == 2 and "2 entries of site 2" in said
+    checked = trial.ran(folder, "--check")
+    yield "and a check of it names the delta", (checked.text, checked.status) == (b"1:5\nline 7: 45 3 (delta)\n", 1)
     write_journal(folder / "site1.journal", 1, 64, lines)
     checked = trial.ran(folder, "--check")
     yield "a check of a journal that is right says what it holds", (checked.text, checked.status) == (b"1:5\n", 0)
@@ -168,7 +171,7 @@ def copies(trial):
 
 
 def retires_a_number(trial):
-    """The journal of a number that is retired is printed, and posted at a site with a new number, which first hears its peer."""
+    """The journal of a number that is retired is printed, and adopted by a site with a new number, which first hears its peer."""
     old, new, keeps = trial.fresh("old"), trial.fresh("new"), trial.fresh("peer")
     with trial.site(old) as hub, trial.site(keeps, f"--peer=1={at(hub)}", number=2) as peer:
         asked(hub.port, "/messages", lines_of(1, 20) + b"{}\n" + lines_of(1, 3))
@@ -176,24 +179,20 @@ def retires_a_number(trial):
         printed = harness.run([*hub.command, "--print"], env=hub.variables)
         yield "a journal is printed while its site runs", printed == (lines_of(1, 20), b"", 0)
         peer.kill()
-        journal = trial.folder / "journal1"
-        journal.write_bytes(printed.text + lines_of(21, 2))
-        with trial.site(new, f"--peer=2={at(peer)}", number=3, is_well=False, NILUPPANG_TOKEN="a") as third:
-            post = lambda token, *words: harness.run([trial.python, str(POST), *words, str(journal), at(third)],
-                                                     env={**os.environ, "NILUPPANG_TOKEN": token})
-            early = post("a", "--seconds=1")
-            yield "post.py: what is not acknowledged is said, and is no success", early.status == 2 and b"line 1 and those after it" in early.errors
-            wrong = post("b")
-            yield "post.py: a wrong token is no success", wrong.status == 2 and b"401" in wrong.errors
+        hub.end()
+        write_journal(old / "site1.journal", 1, 64, lines_of(1, 22).splitlines())
+        words = [f"--peer=2={at(peer)}", "--through=1=2"]
+        command = [trial.python, str(sites.MAIN), str(new), "--site=3", *words, f"--adopt={old / 'site1.journal'}"]
+        with subprocess.Popen(command, stdout=subprocess.PIPE, stderr=subprocess.DEVNULL, env=hub.variables) as adopting:
+            until(lambda: any("serve" in its for _, its in sites.below(adopting.pid)))
+            time.sleep(2)
+            yield "a journal is not adopted before the peers were heard", adopting.poll() is None and own_lines(new / "site3.journal") == []
             peer.start()
-            done = post("a")
-            yield "post.py: what no other site holds is taken, the rest are repeats", (done.text, done.status) == (
-                b"taken 2, repeats 20, refused 0\n", 0)
-            yield "under its own number", asked(third.port, "/health").body.count(b'"vector": "1:20,3:2"') == 1
-            journal.write_bytes(b"{}\n" + lines_of(30, 1))
-            refused = post("a")
-            yield "post.py: refused lines are said", (refused.text, refused.errors, refused.status) == (
-                b"taken 1, repeats 0, refused 1\n", b"line 1: 33\n", 1)
+            text, _ = adopting.communicate(timeout=2 * sites.LATEST)
+        yield "what no other site holds is taken, and the rest are repeats", adopting.returncode == 0 and text.startswith(
+            b"taken 2, repeats 20, refused 0\n")
+        with trial.site(new, *words, number=3) as third:
+            yield "under its own number", asked(third.port, "/vector").body == b"1:20,3:2\n"
 
 
 OLD = ("CREATE TABLE site (number INTEGER NOT NULL, sites INTEGER NOT NULL);"
@@ -241,7 +240,8 @@ def reads_over(trial):
 def is_released(trial):
     """The service in the layout of a release finds the program of the release."""
     release = trial.fresh("release")
-    shutil.copytree(SERVICES, release / "share" / "niluppang" / "services", ignore=shutil.ignore_patterns("__pycache__"))
+    for folder, place in (SERVICES, "niluppang/services"), (EXAMPLES / "desk", "doc/niluppang/examples/desk"):
+        shutil.copytree(folder, release / "share" / place, ignore=shutil.ignore_patterns("__pycache__"))
     (release / "bin").mkdir()
     (release / "bin" / "sct_sites").write_text(f'#!/bin/sh\nexec {trial.program} "$@"\n')
     (release / "bin" / "sct_sites").chmod(0o755)

@@ -11,12 +11,15 @@ end:
 - all sites answer equal archive, status and totals texts, and these are the right ones by tests/oracle and by the program;
 - lines were acknowledged, and a kill met posts under way.
 
+Sites and clients know each other by certificates, and clients have roles; with --plain there are neither. At the end the record of each site is
+whole, by an audit.
+
 `python3 -m tests.hub.kills --kills 100 --messages 20000` is the long form. The gate runs the short one. It ends after --seconds in any case.
 """
-import argparse, collections, contextlib, http.client, json, os, pathlib, random, re, signal, tempfile, threading, time
+import argparse, collections, contextlib, functools, http.client, json, os, pathlib, random, re, shutil, signal, tempfile, threading, time
 from tests import harness, inputs
 from tests.harness import reported
-from tests.hub import sites
+from tests.hub import secure, sites
 from tests.oracle import status as oracle
 from tests.oracle.exchange import message_in
 
@@ -69,7 +72,7 @@ class Lines:
             time.sleep(0.005)
 
 
-def client(r, port, lines):
+def client(r, ask, port, lines):
     """Posts lines to any sites, until all are sent."""
     for post in iter(lines.next, None):
         again = r.choices([1, 2], [9, 1])[0]
@@ -79,7 +82,7 @@ def client(r, port, lines):
             lines.posted_to = site
             lines.posted.set()
             try:
-                answer = sites.asked(port + site - 1, "/messages", b"\n".join(post), timeout=20)
+                answer = ask(port + site - 1, "/messages", b"\n".join(post), timeout=20)
                 if answer.status != 200:
                     raise http.client.HTTPException(f"status {answer.status}")
             except FAILURES as fault:
@@ -152,9 +155,9 @@ def messages_of(lines):
     return {message for message, refusal in map(message_in, lines) if refusal is None}
 
 
-def same_texts(port):
+def same_texts(ask, port):
     """The archive, status and totals texts, if all sites answer equal ones."""
-    texts = {name: {sites.asked(port + site, f"/{name}").body for site in range(SITES)} for name in oracle.TEXT}
+    texts = {name: {ask(port + site, f"/{name}").body for site in range(SITES)} for name in oracle.TEXT}
     return {name: all_texts.pop() for name, all_texts in texts.items() if len(all_texts) == 1}
 
 
@@ -168,8 +171,16 @@ def program_texts(program, texts):
     return all(harness.run([program, name], texts["archive"]).text == texts[name] for name in oracle.TEXT)
 
 
-def vectors(port):
-    return {sites.asked(port + site, "/vector").body for site in range(SITES)}
+def vectors(ask, port):
+    return {ask(port + site, "/vector").body for site in range(SITES)}
+
+
+def audits(hub):
+    """What an audit says of the record of each site, if it finds something wrong."""
+    for site in range(1, SITES + 1):
+        done = harness.run([*hub.command, f"--site={site}", "--audit"], env=hub.variables)
+        if done.status:
+            yield f"site {site}: {done.text.decode()}{done.errors.decode()}"
 
 
 def judged(program, asked, lines, texts, kept, log):
@@ -191,29 +202,48 @@ def judged(program, asked, lines, texts, kept, log):
     yield "kills met posts under way", sum(lines.failures.values()) > 0, ""
 
 
+def asking(asked, folder, port, data):
+    """How clients ask, and the words or the configuration of the hub."""
+    if asked.plain:
+        return sites.asked, [f"--port={port}"], None
+    made = secure.Secured(pathlib.Path(folder, "secured"))
+    config = made.configured(data, list(range(1, SITES + 1)), port)
+    return functools.partial(made.asked, context=made.context("gateway")), [], config
+
+
 def check(python, program):
     """Lets clients post and sites be killed, and checks what is there in the end."""
     asked = options()
-    r = random.Random(asked.seed)
-    with tempfile.TemporaryDirectory(prefix="hub-kills-") as folder:
+    if not asked.plain and shutil.which("openssl") is None:
+        raise sites.Skipped("there is no openssl: apt-get install openssl")
+    with sites.library() if not asked.plain else contextlib.nullcontext("") as library, tempfile.TemporaryDirectory(prefix="hub-kills-") as folder:
         port, data = sites.free_ports(SITES), pathlib.Path(folder, "hub")
-        lines = Lines(r, made_lines(r, asked.messages), asked.seconds or 120 + asked.kills * 5 + asked.messages / 20)
-        with sites.Hub(python, program, data, f"--port={port}") as hub:
-            sites.until(lambda: all(sites.is_well(port + site) for site in range(SITES)))
-            clients = [threading.Thread(target=client, args=(random.Random(r.random()), port, lines), daemon=True) for _ in range(CLIENTS)]
-            for one in clients:
-                one.start()
-            killed(r, hub, lines, asked.kills)
-            for one in clients:
-                one.join(max(1, lines.until + 30 - time.monotonic()))
-            print(f"failures that the clients saw: {dict(lines.failures)}; lines given up: {len(lines.given_up)}")
-            sites.until(lambda: len(vectors(port)) == 1, 60)
-            print("vectors:", *sorted(vectors(port)))
-            texts = same_texts(port)
-        right = [reported(*one) for one in judged(program, asked, lines, texts, journals(data), hub.text())]
-        if not all(right):
-            print(*hub.text().splitlines()[-30:], sep="\n")
-        return right
+        ask, words, config = asking(asked, folder, port, data)
+        return killed_hub(asked, program, ask, port, sites.Hub(python, program, data, *words, config=config, NILUPPANG_LIBRARY=library))
+
+
+def killed_hub(asked, program, ask, port, running):
+    """Whether a hub that runs does what it must, while its sites are killed."""
+    r = random.Random(asked.seed)
+    lines = Lines(r, made_lines(r, asked.messages), asked.seconds or 120 + asked.kills * 5 + asked.messages / 20)
+    with running as hub:
+        sites.until(lambda: all(ask(port + site, "/health").status == 200 for site in range(SITES)))
+        clients = [threading.Thread(target=client, args=(random.Random(r.random()), ask, port, lines), daemon=True) for _ in range(CLIENTS)]
+        for one in clients:
+            one.start()
+        killed(r, hub, lines, asked.kills)
+        for one in clients:
+            one.join(max(1, lines.until + 30 - time.monotonic()))
+        print(f"failures that the clients saw: {dict(lines.failures)}; lines given up: {len(lines.given_up)}")
+        sites.until(lambda: len(vectors(ask, port)) == 1, 60)
+        print("vectors:", *sorted(vectors(ask, port)))
+        texts = same_texts(ask, port)
+    right = [reported(*one) for one in judged(program, asked, lines, texts, journals(hub.folder), hub.text())]
+    wrong = list(audits(hub))
+    right.append(reported("the record of each site is whole, and has each line of its journal", not wrong, "\n".join(wrong)))
+    if not all(right):
+        print(*hub.text().splitlines()[-30:], sep="\n")
+    return right
 
 
 def options():
@@ -222,6 +252,7 @@ def options():
     it.add_argument("--messages", type=int, default=1000)
     it.add_argument("--seed", type=int, default=20261127)
     it.add_argument("--seconds", type=float, help="after which the clients end")
+    it.add_argument("--plain", action="store_true", help="without TLS and roles")
     return it.parse_args()
 
 

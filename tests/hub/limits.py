@@ -1,12 +1,10 @@
 """limits.py: who may ask a site of services/hub, and that nobody without a right uses up its memory, its connections or its time."""
-import base64, gzip, json, os, pathlib, shutil, threading, time
-from tests import harness
+import gzip, json, os, pathlib, threading, time
 from tests.hub import sites
 from tests.hub.sites import asked, until
 from tests.hub.trial import answered, events, head, is_closed, lines_of, raw, status_of, watched
 from tests.hub.troubles import tried
 
-TOKEN, READER, PEERS = "one-token", "another-one", "a-third-one"
 MIB = 1 << 20
 
 
@@ -18,50 +16,29 @@ def memory(hub):
 # ---- who may ask
 
 def guards(trial):
-    """Who may write, read and ask for deltas: who has the token, or without one this machine alone."""
-    variables = {"NILUPPANG_TOKEN": f"old-one {TOKEN}", "NILUPPANG_READ_TOKEN": READER, "NILUPPANG_PEER_TOKEN": PEERS}
-    with trial.site(trial.fresh("guarded"), "--host=0.0.0.0", "--name=hub.example", **variables) as hub:
-        bearer = lambda token: {"Authorization": f"Bearer {token}"}
-        post = lambda **headers: asked(hub.port, "/messages", lines_of(1, 1), **headers).status
-        get = lambda path, **headers: asked(hub.port, path, **headers).status
-        yield "to write: no token, a wrong one, that of a reader, the right ones", [
-            post(), post(**bearer("one")), post(**bearer(READER)), post(**bearer(TOKEN)), post(**bearer("old-one"))] == [401, 401, 401, 200, 200]
-        paths = ["/", "/status", "/archive", "/totals", "/contradictions", "/totals/BANKDEFF", "/transfers/BANKDEFF/T1", "/vector",
-                 "/transfers/BANKDEFF/T1/messages"]
-        yield "to read: no token", [get(path) for path in paths] == [401] * len(paths)
-        yield "to read: the token", [get(path, **bearer(READER)) for path in paths] == [200] * len(paths)
-        basic = base64.b64encode(f"desk:{READER}".encode()).decode()
-        yield "to read: the token as a browser sends a password", get("/status", Authorization=f"Basic {basic}") == 200
-        yield "to read: an answer to a browser asks for it", "Basic" in asked(hub.port, "/").headers.get("WWW-Authenticate", "")
-        yield "to report and to watch: the token", [asked(hub.port, "/report/BANKDEFF/2024-05-02", b"x").status, get("/changes")] == [401, 401]
-        yield "for deltas: the token of the peers alone", [get("/delta"), get("/delta", **bearer(TOKEN)), get("/delta", **bearer(PEERS))] == [
-            401, 401, 200]
-        yield "for vectors: the token of the peers too", get("/vector", **bearer(PEERS)) == 200
-        hosts = {"hub.example": 200, f"hub.example:{hub.port}": 200, "evil.example": 403, "hub.example.evil.example": 403, "[": 400}
-        yield "only by a name of its own, with a token too", {
-            name: get("/archive", Host=name, **bearer(READER)) for name in hosts} == hosts
-        yield "a metric counts who was not let in", b"niluppang_forbidden_total 0\n" not in asked(hub.port, "/metrics").body
-        yield "no address takes deltas", asked(hub.port, "/deltas", b"delta 2\nend 0\n", **bearer(TOKEN)).status in (404, 405)
-    with trial.site(trial.fresh("readers"), NILUPPANG_READ_TOKEN=READER) as hub:
-        get = lambda path, **headers: asked(hub.port, path, **headers).status
-        both = [(get(path), get(path, Authorization=f"Bearer {READER}")) for path in ("/status", "/delta?have=-", "/vector")]
-        yield "without a token of peers deltas are for readers", both == [(401, 200)] * 3
-    with trial.site(trial.fresh("local")) as hub:
+    """Who asks a site without roles: programs of this machine, by a name of the site, and pages of its own."""
+    with trial.site(trial.fresh("local"), "--name=hub.example") as hub:
         own = f"http://127.0.0.1:{hub.port}"
         post = lambda **headers: asked(hub.port, "/messages", lines_of(1, 1), **headers).status
         get = lambda **headers: asked(hub.port, "/archive", **headers).status
-        yield "without a token: another name, to write and to read", [post(Host="hub.example"), get(Host="hub.example")] == [403, 403]
+        hosts = {"hub.example": 200, f"hub.example:{hub.port}": 200, "evil.example": 403, "hub.example.evil.example": 403, "[": 400}
+        yield "only by a name of its own, to write and to read", {name: {post(Host=name), get(Host=name)} for name in hosts} == {
+            name: {status} for name, status in hosts.items()}
         others = ["http://evil.example", f"http://127.0.0.1:{hub.port + 1}", "null", "http://127.0.0.1"]
-        yield "without a token: pages of other servers, also of other ports", [f(Origin=it) for it in others for f in (post, get)] == [403] * 8
-        yield "without a token: a page of its own", [post(Origin=own), get(Origin=own)] == [200, 200]
+        yield "pages of other servers, also of other ports", [f(Origin=it) for it in others for f in (post, get)] == [403] * 8
+        yield "a page of its own", [post(Origin=own), get(Origin=own)] == [200, 200]
         yield "a browser that says that another page asks", [get(Sec_Fetch_Site=it) for it in ("cross-site", "same-site", "same-origin", "none")] == [
             403, 403, 200, 200]
         odd = [answered(hub.port, head("GET", "/status", *more)) for more in (["Origin: http://["], ["Authorization: \xff"], ["Origin: \xff\xfe"])]
         yield "heads that are none are no errors of the site", odd == [400, 200, 403] and "Traceback" not in hub.text()
+        yield "a metric counts who was not let in", b"niluppang_forbidden_total 0\n" not in asked(hub.port, "/metrics").body
+        yield "no address takes deltas", asked(hub.port, "/deltas", b"delta 2\nend 0\n").status in (404, 405)
+        live, ready = asked(hub.port, "/live"), asked(hub.port, "/ready")
+        yield "it lives, and is ready", [(it.status, it.body) for it in (live, ready)] == [(200, b"live\n"), (200, b"ready\n")]
+    with trial.site(trial.fresh("deaf"), "--peer=2=http://127.0.0.1:1", is_well=False) as hub:
+        yield "a site that has heard no peer lives, and is not ready", [asked(hub.port, path).status for path in ("/live", "/ready")] == [200, 503]
     status, said = trial.fails(trial.fresh("open"), "--host=0.0.0.0")
-    yield "without a token: it serves no other machine", status == 2 and "NILUPPANG_TOKEN" in said
-    status, said = trial.fails(trial.fresh("open"), "--host=0.0.0.0", "--peer=2=http://127.0.0.1:1", NILUPPANG_TOKEN=TOKEN)
-    yield "without a token of peers: no peers on other machines", status == 2 and "NILUPPANG_PEER_TOKEN" in said
+    yield "without roles it serves no other machine", status == 2 and "without [tls] and roles only this machine is served" in said
     wrong = [["--peer=1=http://127.0.0.1:1"], ["--peer=65=http://127.0.0.1:1"], ["--peer=2=http://a:1", "--peer=2=http://b:1"], ["--hear=1"]]
     yield "peers that are none", [trial.fails(trial.fresh("words"), *words)[0] for words in wrong] == [2] * len(wrong)
 
@@ -136,17 +113,14 @@ def held_back(hub, path, many):
 
 
 def bounds_bodies(trial):
-    """Many bodies at the same time, from who has no token: their room is taken before they are read."""
-    with trial.site(trial.fresh("bodies"), "--seconds=4", NILUPPANG_TOKEN=TOKEN) as hub:
+    """Many lists at the same time: their room is taken before they are read."""
+    with trial.site(trial.fresh("bodies"), "--seconds=4") as hub:
         before = memory(hub)
         open_ones = held_back(hub, "/report/BANKDEFF/2024-05-02", 30)
         yield "30 lists that hold back their last byte take little memory", memory(hub) - before < 60 * MIB
         refused = sum(status_of(it, 0.05) == 503 for it in open_ones)
         yield "most of them are refused at once", refused >= 25
-        began = time.monotonic()
-        with raw(hub.port, head("POST", "/messages", length=8 * MIB)) as connection:
-            yield "without the token no body is waited for", status_of(connection) == 401 and time.monotonic() - began < 2
-        yield "clients with the token go on", asked(hub.port, "/messages", lines_of(1, 1), Authorization=f"Bearer {TOKEN}").status == 200
+        yield "clients go on posting", asked(hub.port, "/messages", lines_of(1, 1)).status == 200
         for one in open_ones:
             one.close()
         listed = b"DbtrAgt,TxId,Amt,Sts\n"
@@ -270,50 +244,7 @@ def bounds_pages(trial):
         yield "vectors and words that are none", [asked(hub.port, path).status for path in wrong] == [400] * len(wrong)
 
 
-# ---- TLS
-
-def certificate(folder, name, authority=None):
-    """The paths of a certificate and its key, signed by an authority or by itself."""
-    cert, key, request = [str(folder / f"{name}.{end}") for end in ("crt", "key", "csr")]
-    extensions = folder / f"{name}.ext"
-    extensions.write_text("subjectAltName=DNS:localhost,IP:127.0.0.1\n" if authority else "basicConstraints=critical,CA:TRUE\n")
-    words = ["openssl", "req", "-newkey", "rsa:2048", "-nodes", "-keyout", key, "-out", request, "-subj", f"/CN={name}"]
-    signed = ["openssl", "x509", "-req", "-in", request, "-out", cert, "-days", "2", "-extfile", str(extensions)]
-    signed += ["-CA", authority[0], "-CAkey", authority[1], "-CAcreateserial"] if authority else ["-signkey", key]
-    for one in (words, signed):
-        done = harness.run(one)
-        if done.status:
-            raise sites.Skipped(done.errors.decode(errors="replace"))
-    return cert, key
-
-
-def speaks_tls(trial):
-    """Two sites with certificates of one authority, and who has none of it."""
-    if shutil.which("openssl") is None:
-        print("skipped: there is no openssl")
-        return
-    folder = trial.fresh("tls")
-    folder.mkdir()
-    authority = certificate(folder, "authority")
-    ports = sites.free_ports(2)
-    words = lambda number: [f"--tls-ca={authority[0]}", *(f"--tls-{kind}={path}" for kind, path in zip(
-        ("cert", "key"), certificate(folder, f"site{number}", authority)))]
-    with trial.site(trial.fresh("one"), *words(1), f"--peer=2=https://localhost:{ports + 1}", port=ports, is_well=None) as hub:
-        with trial.site(trial.fresh("two"), *words(2), f"--peer=1=https://localhost:{ports}", number=2, port=ports + 1, is_well=None):
-            ask = lambda path, *more: harness.run(["curl", "-s", "--cacert", authority[0], *more, f"https://localhost:{ports}{path}"]).text
-            yield "two sites hear each other over TLS", until(lambda: b'"well": true' in ask("/health"))
-            post = harness.run(["curl", "-s", "--cacert", authority[0], "--data-binary", "@-", f"https://localhost:{ports}/messages"], lines_of(1, 2))
-            yield "and exchange", post.text.count(b"TAKEN") == 2 and until(lambda: b'"1:2"' in harness.run(
-                ["curl", "-s", "--cacert", authority[0], f"https://localhost:{ports + 1}/health"]).text)
-            yield "who has no certificate gets no delta", b"needs a certificate" in ask("/delta?have=-")
-            its = ["--cert", str(folder / "site2.crt"), "--key", str(folder / "site2.key")]
-            yield "who has one does", ask("/delta?have=-", *its).startswith(b"delta 2\norigin 1 1 2\n")
-            stranger = certificate(folder, "stranger", certificate(folder, "another"))
-            yield "one of another authority is none", ask("/delta?have=-", "--cert", stranger[0], "--key", stranger[1]) == b""
-            yield "plain requests are no requests", answered(hub.port, head("GET", "/health"), 3) is None
-
-
-CHECKS = [guards, is_private, bounds_posts, bounds_bodies, bounds_posted_bodies, bounds_readers, bounds_connections, bounds_pages, speaks_tls]
+CHECKS = [guards, is_private, bounds_posts, bounds_bodies, bounds_posted_bodies, bounds_readers, bounds_connections, bounds_pages]
 
 
 def check(python, program):

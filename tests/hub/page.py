@@ -2,15 +2,18 @@
 
 `python3 -m tests.hub.page PICTURE` writes a picture of it too.
 """
-import contextlib, json, pathlib, shutil, socket, subprocess, sys, tempfile, threading
-from tests.harness import EXAMPLES, reported
+import asyncio, contextlib, json, pathlib, shutil, socket, subprocess, sys, tempfile, threading, time
+from tests.harness import EXAMPLES, SERVICES, reported
 from tests.hub import sites
+sys.path.insert(0, str(SERVICES))
+from hub import record
 
 DRIVER = pathlib.Path(__file__).with_name("chromium.py")
 SEARCH = 'document.getElementById("transfer").innerText'
 TIMES = '[...document.querySelectorAll("#transfer tbody tr td:first-child")]'
 FIRST = 'document.querySelector("#news .id").textContent'
 NEWS = 'document.getElementById("news").innerText'
+WAITING = 'document.getElementById("waitingRows").innerText'
 
 
 def steps(post):
@@ -20,6 +23,7 @@ def steps(post):
         'document.getElementById("state").textContent === "well"',
         'document.getElementById("many").textContent === "none yet"',
         'document.querySelectorAll("#totals tr").length > 3',
+        f'!document.getElementById("waiting").hidden && {WAITING}.includes("SCALBEBBXXX") && {WAITING}.includes("LATE/1")',
         {"key": "/"}, {"text": "lutefrpp"},
         'document.activeElement.id === "bank"',
         {"do": 'document.getElementById("tx").focus()'},
@@ -136,6 +140,17 @@ def used(python, url, steps, *picture):
     return [*right, reported("the page reports no error, and all was tried", done.returncode == 0 and len(right) == scripts)]
 
 
+def make_waiting(folder, site):
+    """Makes the record of a site, in which an answer waits for its instruction."""
+    async def put():
+        its = record.Record(folder / f"site{site}.record", site, 64)
+        await its.open(lambda: [])
+        await its.put_waiting([record.to_wait(record.utc(time.time() + 3600), "scalbebb", "SCALBEBBXXX", "pacs.002", "LUTEFRPPXXX", "LATE/1", "", b"{}")])
+        await its.close()
+    folder.mkdir(mode=0o700)
+    asyncio.run(put())
+
+
 def check(python, program):
     if shutil.which("chromium") is None:
         raise sites.Skipped("there is no chromium: apt-get install chromium")
@@ -143,6 +158,7 @@ def check(python, program):
     post = f'fetch("/messages", {{method: "POST", body: {more}}}).then(it => it.ok)'
     with tempfile.TemporaryDirectory(prefix="hub-page-") as folder:
         port = sites.free_ports(3)
+        make_waiting(pathlib.Path(folder, "hub"), 2)
         with sites.Hub(python, program, f"{folder}/hub", f"--port={port}"):
             sites.until(lambda: all(sites.is_well(port + site) for site in range(3)))
             sites.asked(port, "/messages", (EXAMPLES / "bank-day.jsonl").read_bytes())

@@ -1,5 +1,5 @@
 """peers.py: sites of services/hub and peers that are odd, slow, an hour behind, or another site than they should be."""
-import contextlib, http.server, os, re, threading, time
+import contextlib, http.server, os, re, signal, threading, time
 from bench.generate import messages
 from tests import inputs
 from tests.harness import TOP
@@ -111,6 +111,7 @@ def survives_odd_peers(trial):
             server.answer = lambda it: it.send(inputs.delta(2, 3, 9), vector="2:3")
             yield "another message under a known number: the site takes no more", until(
                 lambda: b"42 2 3 Fork" in asked(hub.port, "/health").body and asked(hub.port, "/messages", lines_of(200, 1)).status == 409)
+            yield "which is logged once", hub.text().count("takes no more messages") == 1
             yield "and is not well", b"niluppang_is_well 0\n" in asked(hub.port, "/metrics").body and not sites.is_well(hub.port)
 
 
@@ -173,23 +174,41 @@ def catches_up(trial):
 
 
 def takes_from_a_third(trial):
-    """Entries of a site that is away come over a third one. Sites with the token of peers hear each other, and others nothing."""
-    ports, one = sites.free_ports(3), {"NILUPPANG_PEER_TOKEN": "ours"}
+    """Entries of a site that is away come over a third one, if the configuration names it, and else not."""
+    ports = sites.free_ports(2)
     url = lambda number: f"--peer={number}=http://127.0.0.1:{ports + number - 1}"
-    with trial.site(trial.fresh("a"), "--hear=0", url(2), port=ports, **one) as first:
-        with trial.site(trial.fresh("b"), "--hear=0", url(1), number=2, port=ports + 1, **one) as second:
+    with trial.site(trial.fresh("a"), "--hear=0", url(2), port=ports) as first:
+        with trial.site(trial.fresh("b"), "--hear=0", url(1), number=2, port=ports + 1) as second:
             asked(first.port, "/messages", lines_of(1, 3))
-            yield "sites with a token hear each other", until(lambda: asked(second.port, "/vector").body == b"1:3\n")
+            yield "two sites hear each other", until(lambda: asked(second.port, "/vector").body == b"1:3\n")
             first.kill()
-            with trial.site(trial.fresh("c"), url(1), url(2), number=3, port=ports + 2, **one) as third:
-                yield "entries of a site that is away come over another", until(lambda: asked(third.port, "/vector").body == b"1:3\n")
-            with trial.site(trial.fresh("d"), "--hear=0", url(2), number=4, NILUPPANG_PEER_TOKEN="theirs", is_well=False) as other:
-                until(lambda: faults(other.port)["2"])
-                time.sleep(1)
-                yield "a site with another token hears nothing", asked(other.port, "/vector").body == b"-\n" and "401" in faults(other.port)["2"]
+            with trial.site(trial.fresh("c"), url(2), "--through=1=2", number=3) as third:
+                yield "entries of a site that is away come over the one that is named", until(lambda: asked(third.port, "/vector").body == b"1:3\n")
+            with trial.site(trial.fresh("d"), url(2), number=4) as other:
+                asked(second.port, "/messages", lines_of(4, 1))
+                yield "and else not", until(lambda: asked(other.port, "/vector").body == b"2:1\n")
 
 
-CHECKS = [survives_odd_peers, hears_slow_peers, asks_seldom, catches_up, takes_from_a_third]
+def changes_peers(trial):
+    """A configuration that is read again: with other peers while the site still hears them, and with a file that is not there."""
+    ports, folder = sites.free_ports(2), trial.fresh("changed")
+    config = folder.with_suffix(".toml")
+    write = lambda address, *more: config.write_text("\n".join([f'folder = "{folder}"', "site = 1", f"port = {ports}", *more, "[peers]", f'2 = "{address}"']))
+    write("http://127.0.0.1:1")
+    with trial.site(trial.fresh("other"), "--hear=0", f"--peer=1=http://127.0.0.1:{ports}", number=2, port=ports + 1):
+        with sites.Hub(trial.python, trial.program, folder, config=config) as hub:
+            hears = until(lambda: asked(ports, "/ready").status == 503)
+            write(f"http://127.0.0.1:{ports + 1}")
+            hub.process.send_signal(signal.SIGHUP)
+            yield "a site that hears nobody is given another address, and opens", hears and until(lambda: sites.is_well(ports), 20)
+            write(f"http://127.0.0.1:{ports + 1}", f'peer_token = "{folder}/none"')
+            hub.process.send_signal(signal.SIGHUP)
+            yield "a file that is not there is logged", until(lambda: "is not read again" in hub.text())
+            asked(ports + 1, "/messages", lines_of(1, 1))
+            yield "and the peers stay as they are", until(lambda: asked(ports, "/vector").body == b"2:1\n")
+
+
+CHECKS = [survives_odd_peers, hears_slow_peers, asks_seldom, catches_up, takes_from_a_third, changes_peers]
 
 
 def check(python, program):

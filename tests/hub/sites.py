@@ -91,7 +91,11 @@ def until(is_so, seconds=LATEST):
 
 def asked(port, path, body=None, timeout=60, **headers):
     """The answer of a site to a request."""
-    connection = http.client.HTTPConnection("127.0.0.1", port, timeout=timeout)
+    return answer_on(http.client.HTTPConnection("127.0.0.1", port, timeout=timeout), path, body, headers)
+
+
+def answer_on(connection, path, body, headers):
+    """The answer to a request on a connection, which is closed then. A low line in a name of a header is written for a dash."""
     try:
         connection.request("GET" if body is None else "POST", path, body, {name.replace("_", "-"): it for name, it in headers.items()})
         answer = connection.getresponse()
@@ -105,16 +109,13 @@ def outcomes(answer):
     return [json.loads(line) for line in answer.body.splitlines()]
 
 
-TOKENS = ("NILUPPANG_TOKEN", "NILUPPANG_READ_TOKEN", "NILUPPANG_PEER_TOKEN")
-
-
 class Hub:
     """A process of main.py with these words, in a folder, whose output goes to a file."""
 
-    def __init__(self, python, program, folder, *words, room=None, **variables):
+    def __init__(self, python, program, folder, *words, room=None, config=None, **variables):
         self.folder, self.log = pathlib.Path(folder), pathlib.Path(f"{folder}.log")
-        clean = {name: it for name, it in os.environ.items() if name not in (*TOKENS, "PYTHONHOME", "PYTHONPATH")}
-        self.command = [python, "-u", str(MAIN), str(folder), *map(str, words)]
+        clean = {name: it for name, it in os.environ.items() if name not in ("PYTHONHOME", "PYTHONPATH")}
+        self.command = [python, "-u", str(MAIN), *([f"--config={config}"] if config else [str(folder)]), *map(str, words)]
         self.variables = {**clean, "SCT_SITES": program, **variables}
         self.room = room
         self.start()
@@ -145,8 +146,7 @@ class Hub:
 
     def children(self):
         """The processes of the sites that it runs, by number."""
-        return {int(next(word for word in words if word.startswith("--site=")).split("=")[1]): process
-                for process, words in below(self.process.pid) if any(word.startswith("--site=") for word in words)}
+        return {int(words[words.index("--only") + 1]): process for process, words in below(self.process.pid) if "--only" in words}
 
     def served(self):
         """The processes `serve`, each below a site, by number."""

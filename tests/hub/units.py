@@ -2,14 +2,14 @@
 
 Deltas are cut at random places, and a site of the definitions takes the pieces. No package is needed.
 """
-import asyncio, itertools, logging, os, random, subprocess, sys, tempfile
+import asyncio, itertools, logging, os, random, subprocess, sys, tempfile, time
 from tests import harness, inputs
 from tests.harness import SERVICES, reported
 from tests.oracle import exchange
 sys.path.insert(0, str(SERVICES))
 from hub import events, guard, texts, vectors
 from hub.files import Files, Wrong
-from hub.keeper import A_QUESTION, MOST_WAITING, Answer, Busy, Keeper
+from hub.keeper import EVALUATE, MOST_WAITING, Answer, Busy, Keeper
 from hub.process import Reply
 
 SEED, TRIES = 20261128, 60
@@ -220,10 +220,37 @@ async def queues():
         outcomes = [one for _ in range(3) for one in await keeper.take([b"x"] * 4000)]
         await asyncio.sleep(0.05)
         yield "numbers are those of the process", [one.number for one in outcomes] == list(range(1, 12_001))
-        yield "after many new entries a question is asked, so that nobody has to wait for it", keeper.process.asked.count(A_QUESTION) == 1
+        yield "after many new entries they are evaluated, so that nobody has to wait for them", keeper.process.asked.count(EVALUATE) == 1
         keeper.process.taken += 1
         await asyncio.gather(keeper.take([b"x"]), return_exceptions=True)
         yield "a process that leaves out a number ends the site", keeper.is_wrong and "12002" in keeper.failure
+
+
+async def changes():
+    """What a round changed, as a page is told that watches, or that comes back after nobody watched."""
+    with tempfile.TemporaryDirectory() as folder:
+        keeper = Keeper(Files(folder, 1, 64), "none", 1, 64)
+        text = [b"BANKDEFFXXX|T1\n"]
+
+        async def exchange(requests):
+            return [Reply(b"TEXT", b"", text[0] if request == b"? changes" else b"a line\n", False) for request, _ in requests]
+        keeper._exchange = exchange
+        yield "while nobody watches, who comes back loads again", await keeper._changes() is None
+        keeper.is_watched = True
+        yield "also if somebody watched a moment ago and is gone", await keeper._changes() is None
+        yield "and not for each round: they are asked for once a second", await keeper._changes() == []
+        keeper.watched_at, text[0] = 0.0, b""
+        yield "and not if nothing changed", await keeper._changes() == []
+        keeper.watchers, text[0] = 1, b"BANKDEFFXXX|T1\n"
+        yield "who watches is told what changed", await keeper._changes() == [("BANKDEFFXXX", "T1", "a line\n")]
+        keeper.is_watched = False
+        yield "the first who watches loads again", await keeper._changes() is None
+
+
+def follows_changes():
+    async def all_of():
+        return [one async for one in changes()]
+    return asyncio.run(all_of())
 
 
 def keeps_a_queue():
@@ -243,7 +270,12 @@ def gives_room():
     budget.give(60)
     budget.take(100)
     yield "and gets back what it gave", budget.used == 100
-    yield "two tokens while one takes the place of the other", guard.tokens_of(" a  b\n") == [b"a", b"b"] and guard.tokens_of(None) == []
+    rates = guard.Rates(1000, 100)
+    rates.take("a", 100)
+    yield "a client has so many lines at once, and another one has its own", is_refused(guard.TooMany, rates.take, "a", 50) and not is_refused(
+        guard.TooMany, rates.take, "b", 100)
+    time.sleep(0.06)
+    yield "and more after a while", not is_refused(guard.TooMany, rates.take, "a", 50) and is_refused(guard.TooMany, rates.take, "a", 90)
 
 
 ROOM = ("import pathlib, resource, sys\nsys.path.insert(0, sys.argv[1])\nfrom hub.files import Files\nresource.setrlimit(resource.RLIMIT_FSIZE, (200000,) * 2)\n"
@@ -271,8 +303,22 @@ def looks_at_files():
         yield "an empty mark is one too", bool(files.halted())
 
 
+def counts_entries():
+    """The entries that a journal has by its own words, and journals that were changed."""
+    with tempfile.TemporaryDirectory() as folder:
+        its = Files(folder, 1, 64)
+        deltas = {"of two sites": (b"delta 2\torigin 2 1 2\t{}\t{}\torigin 64 3 1\t{}\tend 3", {1: 1, 2: 2, 64: 3}),
+                  "of the older form": (b"delta 1\tentry 3 4 {}\tend 1", {1: 1, 3: 4})}
+        for name, (delta, right) in deltas.items():
+            its.journal.write_bytes(b" site 1 64\n {}\n " + delta + b"\n\t")
+            yield f"a delta {name}", {origin: count for origin, count in enumerate(its.counts(), 1) if count} == right
+        for delta in (b"delta 2\torigin x 1 1\t{}\tend 1", b"delta 2\torigin 2 1\t{}\tend 1", b"delta 1\tentry 3\tend 1", b"delta 2\torigin 65 1 1\t{}\tend 1"):
+            its.journal.write_bytes(b" site 1 64\n " + delta + b"\n\t")
+            yield f"{delta.decode()!r} is no delta of a journal", is_refused(Wrong, its.counts)
+
+
 def main():
-    checks = [reads_vectors, cuts_deltas, marks_events, shares_texts, keeps_a_queue, gives_room, looks_at_files]
+    checks = [reads_vectors, cuts_deltas, marks_events, shares_texts, keeps_a_queue, follows_changes, gives_room, looks_at_files, counts_entries]
     harness.end_of([reported(name, right) for each in checks for name, right in each()])
 
 

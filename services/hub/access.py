@@ -1,0 +1,169 @@
+"""access.py: who asks, by a client certificate or by a token, and who may ask what.
+
+The file of roles has a table for each who: its roles, the names of its certificates, and the sums of its tokens. A token is known by its
+SHA-256 alone, and two may be there while one takes the place of the other. Without a file of roles everyone on this machine may do all.
+"""
+import base64, binascii, collections, hashlib, re
+from .config import parsed
+from .files import Wrong
+
+BIC = re.compile(r"[A-Z0-9]{4}[A-Z]{2}[A-Z0-9]{2}(?:[A-Z0-9]{3})?")
+SUM = re.compile(r"sha256:[0-9a-f]{64}")
+NAME = re.compile(r"[A-Za-z0-9._-]{1,64}")
+KINDS = ("DNS", "URI")  # of names that a certificate may have
+MOST_TOKENS = 2
+PLAIN_ROLES = ("desk", "monitor", "operator")
+EVERYONE = ("everyone",)
+
+# an address: the method, the path as pages show it, and the roles that may ask it
+Address = collections.namedtuple("Address", "method path roles")
+ADDRESSES = [
+    Address("GET", "/", ("desk",)),
+    Address("POST", "/messages", ("bank", "operator")),
+    Address("POST", "/iso20022", ("bank", "operator")),
+    Address("GET", "/waiting", ("bank", "desk", "operator")),
+    Address("GET", "/transfers/{bank}/{tx}", ("bank", "desk")),
+    Address("GET", "/transfers/{bank}/{tx}/messages", ("bank", "desk")),
+    Address("GET", "/totals/{bank}", ("bank", "desk")),
+    Address("POST", "/report/{bank}/{day}", ("bank", "desk")),
+    Address("GET", "/totals", ("desk",)),
+    Address("GET", "/status", ("desk",)),
+    Address("GET", "/archive", ("desk",)),
+    Address("GET", "/contradictions", ("desk",)),
+    Address("GET", "/changes", ("desk",)),
+    Address("GET", "/vector", ("peer", "desk", "monitor", "operator")),
+    Address("GET", "/delta", ("peer",)),
+    Address("GET", "/metrics", ("monitor", "operator")),
+    Address("GET", "/health", EVERYONE),
+    Address("GET", "/live", EVERYONE),
+    Address("GET", "/ready", EVERYONE),
+    Address("GET", "/openapi.json", EVERYONE),
+]
+
+
+BOUNDED = {"bank", "peer", "everyone"}  # what these are given is bounded by the address itself: they get no other one
+
+
+def table(changes):
+    """The addresses, with other roles for some of them, such as {"GET /totals": ["desk", "monitor"]}."""
+    names = {f"{it.method} {it.path}": it for it in ADDRESSES}
+    for name, roles in changes.items():
+        if name not in names:
+            raise Wrong(f"[access] has {name}, which is no address: it is one of {', '.join(names)}")
+        odd = [role for role in roles if role not in PLAIN_ROLES and not (role in BOUNDED and role in names[name].roles)]
+        if odd or not roles:
+            raise Wrong(f"{name} in [access] has roles of {', '.join(PLAIN_ROLES)}, and of {', '.join(names[name].roles)}")
+        names[name] = names[name]._replace(roles=EVERYONE if "everyone" in roles else tuple(roles))
+    return list(names.values())
+
+
+def bank(text):
+    """A BIC of 8 characters and the same with XXX after it are one bank."""
+    return text + "XXX" if len(text) == 8 else text
+
+
+class Who(collections.namedtuple("Who", "name roles banks peers")):
+    """Somebody: a name for the record, the words of the roles, the banks in whose name it sends, and the sites that it is."""
+
+    def may(self, roles):
+        return roles is EVERYONE or not self.roles.isdisjoint(roles)
+
+    def sees_all(self, roles):
+        """Whether one of some roles lets it ask about all banks, and not about its own alone."""
+        return not self.roles.isdisjoint(set(roles) - {"bank"})
+
+
+LOCAL = Who("local", frozenset({"peer", "bank", *PLAIN_ROLES}), frozenset(), frozenset())
+NOBODY = Who("nobody", frozenset(), frozenset(), frozenset())
+
+
+def who_of(name, texts):
+    """Somebody with the roles that some texts are."""
+    roles, banks, peers = set(), set(), set()
+    for text in texts:
+        word, _, rest = text.partition(" ")
+        if word == "bank" and BIC.fullmatch(rest):
+            banks.add(bank(rest))
+        elif word == "peer" and rest.isascii() and rest.isdecimal() and 1 <= int(rest) <= 1024:
+            peers.add(int(rest))
+        elif text not in PLAIN_ROLES:
+            raise Wrong(f"{text!r} of {name} is not a role: peer N, bank BIC, {', '.join(PLAIN_ROLES)}")
+        roles.add(word)
+    return Who(name, frozenset(roles), frozenset(banks), frozenset(peers))
+
+
+def sum_of(token):
+    """What a file of roles has of a token."""
+    return f"sha256:{hashlib.sha256(token).hexdigest()}"
+
+
+def names_in(certificate):
+    """The names of a certificate, as a file of roles has them."""
+    return [f"{kind}:{name}" for kind, name in (certificate or {}).get("subjectAltName", ()) if kind in KINDS]
+
+
+def token_in(header):
+    """The token of a header, also as the password that a browser asks for. None if the header has none."""
+    kind, _, text = header.encode("utf-8", "surrogateescape").partition(b" ")
+    if kind.lower() == b"basic":
+        try:
+            return base64.b64decode(text, validate=True).partition(b":")[2]
+        except (binascii.Error, ValueError):
+            return b""
+    return text.strip() if kind.lower() == b"bearer" else None
+
+
+class Roles:
+    """Who is who. Without a file everyone is local."""
+
+    def __init__(self, path=None):
+        self.is_open, self.certificates, self.tokens, self.all = path is None, {}, {}, []
+        for name, table in parsed(path).items() if path else ():
+            if not NAME.fullmatch(name) or not isinstance(table, dict):
+                raise Wrong(f"{name!r} in {path} is not a table whose name has letters, digits, points, dashes and low lines alone")
+            self._add(name, {key: self._texts(path, name, key, value) for key, value in table.items()})
+
+    @staticmethod
+    def _texts(path, name, key, value):
+        if key not in ("roles", "certificates", "tokens"):
+            raise Wrong(f"{name} in {path} has no key {key}")
+        if not isinstance(value, list) or not value or not all(isinstance(text, str) for text in value):
+            raise Wrong(f"{key} of {name} in {path} is not a list of texts")
+        return value
+
+    def _add(self, name, table):
+        who, certificates, tokens = who_of(name, table.get("roles", [])), table.get("certificates", []), table.get("tokens", [])
+        if not who.roles or not certificates + tokens:
+            raise Wrong(f"{name} has no roles, or neither certificates nor tokens")
+        if len(tokens) > MOST_TOKENS or not all(SUM.fullmatch(text) for text in tokens):
+            raise Wrong(f"tokens of {name} are one or two texts sha256: with 64 digits of the sum of a token")
+        if not all(text.partition(":")[0] in KINDS and text.partition(":")[2] for text in certificates):
+            raise Wrong(f"certificates of {name} are names such as DNS:gateway.example")
+        for known, keys in (self.certificates, certificates), (self.tokens, tokens):
+            for key in keys:
+                if key in known:
+                    raise Wrong(f"{known[key].name} and {name} have one certificate or token")
+                known[key] = who
+        self.all.append(who)
+
+    def who(self, certificate, header):
+        """Who asks, by a certificate and the text of the header Authorization. None if a token is given that nobody has."""
+        if self.is_open:
+            return LOCAL
+        token = token_in(header) if header else None
+        if token is not None:
+            return self.tokens.get(sum_of(token))
+        found = {self.certificates[name] for name in names_in(certificate) if name in self.certificates}
+        return found.pop() if len(found) == 1 else NOBODY if not found else None
+
+    def is_peer(self, number, certificate):
+        """Whether a certificate is that of a site, and of nobody else."""
+        found = {self.certificates[name] for name in names_in(certificate) if name in self.certificates}
+        return len(found) == 1 and number in found.pop().peers
+
+    def may_send(self, name, bank):
+        """Whether somebody of a name sends in the name of a bank."""
+        return self.is_open or any(who.name == name and bank in who.banks for who in self.all)
+
+    def has_banks(self):
+        return any(who.banks for who in self.all)

@@ -1,0 +1,378 @@
+"""client.py: a client of the sites of a hub, of the standard library alone. It needs Python 3.8, and no other file of this folder.
+
+A post is sent to one of several addresses, and again to the next one until each of its lines has an outcome: what was taken before is
+then a REPEAT. An answer that sends on to another address is an error. A token is sent over http to this machine alone.
+"""
+import collections, contextlib, email.utils, http.client, ipaddress, json, os, pathlib, re, socket, ssl, time, urllib.parse
+
+MOST_LINES, MOST_BYTES = 1000, 1 << 20  # of a post
+AGAIN = (408, 429, 500, 502, 503, 504, 507)  # statuses after which the same may be sent again, to any site
+HALTED = 409  # the status after which it may be sent to another site
+FIRST_PAUSE, MOST_PAUSE = 0.1, 5.0  # seconds before the same is sent again
+MOST_CONNECT, LEAST = 10.0, 1.0  # seconds to connect at most, and seconds that a site has at least to answer a post
+PIECE = 1 << 16  # bytes of an answer that are read at once
+MOST_SAID = 500  # letters of what a site says that an error has
+BLANK = b" \t\r"
+FAULTS = (OSError, http.client.HTTPException)
+# what is said of faults that do not say it in plain words
+SAID = {http.client.IncompleteRead: "the answer is cut off", http.client.RemoteDisconnected: "the connection ended without an answer",
+        http.client.HTTPException: "the answer is none of HTTP"}
+ADDRESS = re.compile(r"https?://[^\s/?#@]+(/[\w.~%/-]*)?", re.ASCII | re.IGNORECASE)
+TOKEN = re.compile(r"[!-~]+")
+
+Answer = collections.namedtuple("Answer", "status headers body")
+
+
+class Failed(Exception):
+    """There is no answer that counts, and why, in one line. `status` and `request`, its identification, are those of an answer that is an
+    error. Both are None if there is no answer at all."""
+
+    def __init__(self, why, status=None, request=None, seconds=0.0):
+        super().__init__(why)
+        self.status, self.request, self.seconds = status, request, seconds
+
+
+class Later(Failed):
+    """The same may be sent again, to any site. This site asks for it after `seconds`."""
+
+
+class Elsewhere(Failed):
+    """The same may be sent to another site, and not to this one."""
+
+
+# ---- what failures say
+
+def one_line(text):
+    """A text as a line without signs that a terminal would obey."""
+    return "".join(sign if sign.isprintable() else "?" for sign in " ".join(text.split()))[:MOST_SAID]
+
+
+def seconds_of(text):
+    """The seconds for which an answer asks by Retry-After: a number, or a moment that is ahead."""
+    if text.isascii() and text.isdigit():
+        return float(text[:9])
+    try:
+        return max(0.0, email.utils.parsedate_to_datetime(text).timestamp() - time.time())
+    except (TypeError, ValueError, IndexError, OverflowError):
+        return 0.0
+
+
+def failure(address, what, answer, kind=Failed):
+    """A failure of a kind that an answer is, with the identification of its request."""
+    request = one_line(answer.headers.get("Niluppang-Request", ""))
+    why = f"{address}: {what}" + (f" (request {request})" if request else "")
+    return kind(why, answer.status, request or None, seconds_of(answer.headers.get("Retry-After", "")))
+
+
+def failure_of(address, answer):
+    """The failure that an answer with another status than 200 is."""
+    said = one_line(answer.body[:4 * MOST_SAID].decode(errors="replace"))
+    if 300 <= answer.status < 400:
+        said = "the answer sends on to another address, which is not asked"
+    kind = Later if answer.status in AGAIN else Elsewhere if answer.status == HALTED else Failed
+    return failure(address, f"status {answer.status}" + (f": {said}" if said else ""), answer, kind)
+
+
+def failure_by(address, fault):
+    """The failure that a broken connection is. A site is not asked again if one side does not trust the certificate of the other."""
+    said = next((text for kind, text in SAID.items() if isinstance(fault, kind)), None)
+    kind = Elsewhere if type(fault) in (ssl.SSLError, ssl.SSLCertVerificationError) else Later
+    return kind(f"{address}: {said or one_line(getattr(fault, 'strerror', None) or str(fault) or type(fault).__name__)}")
+
+
+# ---- one site
+
+def is_local(host):
+    try:
+        return ipaddress.ip_address(host).is_loopback
+    except ValueError:
+        return host == "localhost"
+
+
+def has_end(answer):
+    """Whether an answer says how long it is, or has a mark at its end. Without that nobody knows whether all of it came."""
+    return answer.chunked or answer.length is not None
+
+
+class Site:
+    """A site at an address, and the connection to it that is kept open. It does not want to be asked again before `free_at`."""
+
+    def __init__(self, address, context):
+        try:
+            parts = urllib.parse.urlsplit(address if ADDRESS.fullmatch(address) else "")
+            self.host, self.port = parts.hostname, parts.port
+        except ValueError:
+            self.host = None
+        if not self.host:
+            raise ValueError(f"{address} is not the address of a site, such as https://site1.hub.example:8700")
+        self.address, self.path = address.rstrip("/"), parts.path.rstrip("/")
+        self.context = (context or ssl.create_default_context()) if parts.scheme == "https" else None
+        self.connection, self.free_at = self.fresh(), 0.0
+
+    def keeps_secrets(self):
+        """Whether nobody else reads what is sent to it."""
+        return self.context is not None or is_local(self.host)
+
+    def fresh(self):
+        """A connection that is not open yet."""
+        if self.context:
+            return http.client.HTTPSConnection(self.host, self.port, context=self.context)
+        return http.client.HTTPConnection(self.host, self.port)
+
+    def ask(self, method, path, body, headers, timeout):
+        """The answer of the site. A site ends connections that are silent. So one that was kept open and is broken is opened anew."""
+        was_open = self.connection.sock is not None
+        try:
+            return self._answer(method, path, body, headers, timeout)
+        except OSError as fault:
+            if not was_open or isinstance(fault, socket.timeout):
+                raise
+        return self._answer(method, path, body, headers, timeout)
+
+    def _answer(self, method, path, body, headers, timeout):
+        try:
+            answer = self.begun(self.connection, method, path, body, headers, timeout)
+            return Answer(answer.status, answer.headers, answer.read())
+        except BaseException:
+            self.connection.close()
+            raise
+
+    def begun(self, connection, method, path, body, headers, timeout):
+        """An answer of which the head has come. A site may answer before it has read the body of a request, and then read no more of it."""
+        connection.timeout = min(timeout, MOST_CONNECT)
+        if connection.sock is None:
+            connection.connect()
+        connection.sock.settimeout(timeout)
+        with contextlib.suppress(BrokenPipeError, ConnectionResetError, ssl.SSLEOFError):
+            connection.request(method, self.path + path, body, headers)
+        answer = connection.getresponse()
+        if not has_end(answer):
+            raise http.client.IncompleteRead(b"")
+        return answer
+
+
+class Lines:
+    """The lines of an answer as they come, and its head. Each has its line feed, but for a last one that lacks it."""
+
+    def __init__(self, address, answer):
+        self.address, self.answer, self.headers = address, answer, answer.headers
+
+    def __iter__(self):
+        rest = b""
+        try:
+            for piece in self._pieces():
+                *lines, rest = (rest + piece).split(b"\n")
+                yield from (line + b"\n" for line in lines)
+        except FAULTS as fault:
+            if rest:
+                yield rest
+            raise failure_by(self.address, fault) from None
+        if rest:
+            yield rest
+
+    def _pieces(self):
+        """The bytes of the answer as they come. Its `readline` takes an answer in chunks that is cut off for one that ends."""
+        if self.answer.chunked:
+            yield from iter(lambda: self.answer.read1(PIECE), b"")
+            return
+        left = self.answer.length
+        while left:
+            piece = self.answer.read1(min(left, PIECE))
+            if not piece:
+                raise http.client.IncompleteRead(b"")
+            left -= len(piece)
+            yield piece
+
+
+# ---- posts
+
+def posts(file):
+    """The lines of a file in posts, each with the number of its first line. They have no line feeds."""
+    first, lines, size = 1, [], 0
+    for number, line in enumerate(file, 1):
+        if lines and (len(lines) >= MOST_LINES or size + len(line) > MOST_BYTES):
+            yield first, lines
+            first, lines, size = number, [], 0
+        lines.append(line.rstrip(b"\n"))
+        size += len(line)
+    if lines:
+        yield first, lines
+
+
+def outcomes_in(body):
+    """The outcomes in an answer, each as the site has it. None if the answer has something else."""
+    try:
+        found = [json.loads(line) for line in body.split(b"\n") if line]
+    except ValueError:
+        return None
+    return found if all(isinstance(one, dict) and isinstance(one.get("outcome"), str) for one in found) else None
+
+
+class Client:
+    """Asks sites of a hub, one request after another. Threads do not share it.
+
+    `addresses` are those of the sites. A `token` is sent with each request, and a `context` of ssl has the certificates. No site may be
+    silent for longer than `timeout` seconds. In names of headers _ is written for -. ValueError says why an address or a token is refused.
+    """
+
+    def __init__(self, addresses, token=None, context=None, timeout=60):
+        self.sites = [Site(address, context) for address in addresses]
+        if not self.sites:
+            raise ValueError("there is no address of a site")
+        if token and not TOKEN.fullmatch(token):
+            raise ValueError("the token is not one word of printable ASCII")
+        for site in self.sites:
+            if token and not site.keeps_secrets():
+                raise ValueError(f"{site.address}: a token is not sent over http to another machine, since others could read it: use https")
+        self.token, self.timeout = token, timeout
+        self.place = 0  # of the site that is asked next
+
+    def close(self):
+        """Ends the connections that are open."""
+        for site in self.sites:
+            site.connection.close()
+
+    def address(self):
+        """The address of the site that answered last."""
+        return self.sites[self.place].address
+
+    def get(self, path, **headers):
+        """The answer to a question, whatever its status is. Another site is asked if the connection to one is broken."""
+        return self._first(lambda site: site.ask("GET", path, None, self._head(headers), self.timeout))
+
+    def post(self, path, body, **headers):
+        """The answer to a body, as `get` has it. After a broken connection nobody knows whether a site took it, and it is sent again."""
+        return self._first(lambda site: site.ask("POST", path, body, self._head(headers), self.timeout))
+
+    @contextlib.contextmanager
+    def stream(self, path, **headers):
+        """The lines of an answer as they come. Failed if its status is not 200, and in the end if it is cut off."""
+        connection, answer = self._first(lambda site: self._opened(site, path, headers))
+        try:
+            yield Lines(self.address(), answer)
+        finally:
+            connection.close()
+
+    def posted(self, lines, until):
+        """The outcomes of lines that have no line feeds, in their order. Blank lines have none.
+
+        The lines are sent again, to the next site, until a moment of `time.monotonic`. Failed if a site refuses them for good, or if they
+        are not acknowledged in time. Then nobody knows which of them were taken, and they may be sent again later.
+        """
+        numbers = [number for number, line in enumerate(lines, 1) if line.strip(BLANK)]
+        if not numbers:
+            return []
+        is_right = lambda found: [one.get("line") for one in found] == numbers
+        return self._acknowledged("/messages", b"\n".join(lines), "application/x-ndjson", is_right, until)
+
+    def posted_xml(self, document, until):
+        """The outcomes of the messages of an XML document of ISO 20022, by the rule of `posted`."""
+        is_right = lambda found: all("message" in one for one in found)
+        return self._acknowledged("/iso20022", document, "application/xml", is_right, until)
+
+    # ---- what these have in common
+
+    def _head(self, headers):
+        its = {"Authorization": f"Bearer {self.token}"} if self.token else {}
+        return {**its, **{name.replace("_", "-"): text for name, text in headers.items()}}
+
+    def _first(self, ask):
+        """What the first site answers that does. The one that answered last is the first that is asked."""
+        for left in reversed(range(len(self.sites))):
+            site = self.sites[self.place]
+            try:
+                return ask(site)
+            except FAULTS as fault:
+                self.place = (self.place + 1) % len(self.sites)
+                if not left:
+                    raise failure_by(site.address, fault) from None
+
+    def _opened(self, site, path, headers):
+        """An answer that has begun, on a connection of its own."""
+        connection = site.fresh()
+        try:
+            answer = site.begun(connection, "GET", path, None, self._head(headers), self.timeout)
+            if answer.status != 200:
+                raise failure_of(site.address, Answer(answer.status, answer.headers, answer.read()))
+            return connection, answer
+        except BaseException:
+            connection.close()
+            raise
+
+    def _acknowledged(self, path, body, kind, is_right, until):
+        """The outcomes with which a site answers a post. It is sent again until there are some, or until it fails for good."""
+        pause, left = FIRST_PAUSE, list(self.sites)
+        while True:
+            site = self.sites[self.place]
+            try:
+                return self._once(site, path, body, kind, is_right, until)
+            except Later as fault:
+                failure, site.free_at = fault, time.monotonic() + fault.seconds
+            except Elsewhere as fault:
+                failure = fault
+                left.remove(site)
+            self._go_on(left, pause, until, failure)
+            pause = min(2 * pause, MOST_PAUSE)
+
+    def _once(self, site, path, body, kind, is_right, until):
+        seconds = max(LEAST, min(self.timeout, until - time.monotonic()))
+        try:
+            answer = site.ask("POST", path, body, self._head({"Content-Type": kind}), seconds)
+        except FAULTS as fault:
+            raise failure_by(site.address, fault) from None
+        if answer.status != 200:
+            raise failure_of(site.address, answer)
+        found = outcomes_in(answer.body)
+        if found is None or not is_right(found):
+            raise failure(site.address, "the answer lacks the outcome of some line", answer, Later)
+        return found
+
+    def _go_on(self, left, pause, until, failure):
+        """Waits, and goes on to the next site that may be asked. The failure stays if there is none in time."""
+        now = time.monotonic()
+        in_turn = [site for site in self.sites[self.place + 1:] + self.sites[:self.place + 1] if site in left]
+        moments = [max(now + pause, site.free_at) for site in in_turn]
+        if not moments or min(moments) > until:
+            raise failure
+        time.sleep(min(moments) - now)
+        self.place = self.sites.index(in_turn[moments.index(min(moments))])
+
+
+# ---- the words of a command line
+
+def add_options(parser):
+    """The options that say who asks, for a parser of argparse."""
+    parser.add_argument("--token-file", metavar="FILE", help="a file with the token (without it the variable NILUPPANG_TOKEN)")
+    parser.add_argument("--cert", metavar="FILE", help="the certificate that is shown to sites")
+    parser.add_argument("--key", metavar="FILE", help="the key of that certificate, if it is not in the same file")
+    parser.add_argument("--ca", metavar="FILE", help="who signs the certificates of sites (without it the authorities of the system)")
+
+
+def client_of(asked, addresses):
+    """The client for the words of a command line. ValueError and OSError say why there is none."""
+    token = os.environ.get("NILUPPANG_TOKEN")
+    if asked.token_file:
+        token = pathlib.Path(asked.token_file).read_text(encoding="utf-8", errors="replace").strip()
+        if not token:
+            raise ValueError(f"{asked.token_file} has no token")
+    return Client(addresses, token, context_of(asked, addresses))
+
+
+def context_of(asked, addresses):
+    """The certificates of both sides. None if no address is one of https."""
+    if asked.key and not asked.cert:
+        raise ValueError("--key is the key of --cert, which lacks")
+    if not any(address.lower().startswith("https:") for address in addresses):
+        if asked.cert or asked.ca:
+            raise ValueError("--cert, --key and --ca need an address of https")
+        return None
+    for path in filter(None, (asked.ca, asked.cert, asked.key)):
+        open(path, "rb").close()
+    try:
+        context = ssl.create_default_context(cafile=asked.ca)
+        context.minimum_version = ssl.TLSVersion.TLSv1_2
+        if asked.cert:
+            context.load_cert_chain(asked.cert, asked.key)
+    except ssl.SSLError as fault:
+        raise ValueError(f"the certificates cannot be used: {one_line(str(fault))}") from None
+    return context

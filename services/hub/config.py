@@ -1,0 +1,181 @@
+"""config.py: what the sites of this machine are, by the words of the command line or by a file in TOML.
+
+Each key of the file has a type, and a key that is not known is refused by its name. A path in it is seen from the folder of the file.
+In a path `{site}` is replaced by the number of the site.
+"""
+import dataclasses, ipaddress, pathlib, tomllib
+from typing import Dict, Optional, Tuple
+from .files import Wrong
+
+MOST_GROUP = 1024
+FIRST_PORT = 8701
+MOST_CONNECTIONS = 2000
+SECONDS = 30.0  # for a head, for a body, and for an answer
+
+
+def is_local(host):
+    """Whether an address is one of this machine alone."""
+    try:
+        return ipaddress.ip_address(host).is_loopback
+    except ValueError:
+        return host == "localhost"
+
+
+@dataclasses.dataclass(frozen=True)
+class Tls:
+    """The files by which a site shows who it is, and by which it knows the others."""
+    certificate: str
+    key: str
+    authority: str
+    clients: str = "required"
+
+
+@dataclasses.dataclass(frozen=True)
+class Settings:
+    """What one site is told."""
+    folder: str
+    site: int
+    group: int = 64
+    host: str = "127.0.0.1"
+    port: int = FIRST_PORT
+    names: Tuple[str, ...] = ()
+    hear: Optional[int] = None
+    silence: float = 10.0
+    connections: int = MOST_CONNECTIONS
+    seconds: float = SECONDS
+    waiting: float = 86400.0
+    program: Optional[str] = None
+    roles: Optional[str] = None
+    peer_token: Optional[str] = None
+    tls: Optional[Tls] = None
+    peers: Dict[int, str] = dataclasses.field(default_factory=dict)
+    through: Dict[int, int] = dataclasses.field(default_factory=dict)
+    access: Dict[str, Tuple[str, ...]] = dataclasses.field(default_factory=dict)
+
+
+NUMBER, SECONDS_TYPE, TEXT = (int,), (int, float), (str,)
+# the keys of a file that have one value, with the types of it, and those whose text is a path
+KEYS = {"folder": TEXT, "site": NUMBER, "group": NUMBER, "host": TEXT, "port": NUMBER, "hear": NUMBER, "silence": SECONDS_TYPE,
+        "connections": NUMBER, "seconds": SECONDS_TYPE, "waiting": SECONDS_TYPE, "program": TEXT, "roles": TEXT, "peer_token": TEXT}
+TLS_KEYS = {"certificate": TEXT, "key": TEXT, "authority": TEXT, "clients": TEXT}
+PATHS = {"folder", "roles", "peer_token", "certificate", "key", "authority"}
+LISTS, TABLES = {"names", "sites"}, {"tls", "peers", "through", "access"}
+
+
+def typed(found, keys, what):
+    """The values of a table, each of the type that its key has."""
+    for key, value in found.items():
+        if key not in keys:
+            raise Wrong(f"{what} has no key {key}")
+        if not isinstance(value, keys[key]) or isinstance(value, bool):
+            raise Wrong(f"{key} in {what} is not a {'text' if keys[key] is TEXT else 'number'}")
+    return found
+
+
+def by_number(found, kind, what):
+    """A table whose keys are numbers of sites."""
+    is_one = lambda key, value: key.isascii() and key.isdecimal() and isinstance(value, kind) and not isinstance(value, bool)
+    if not isinstance(found, dict) or not all(is_one(*pair) for pair in found.items()):
+        raise Wrong(f"{what} is not a table from numbers of sites to {'addresses' if kind is str else 'numbers of sites'}")
+    return {int(key): value for key, value in found.items()}
+
+
+def listed_in(found, key, kind):
+    values = found.get(key, [])
+    if not isinstance(values, list) or not all(isinstance(value, kind) and not isinstance(value, bool) for value in values):
+        raise Wrong(f"{key} is not a list of {'texts' if kind is str else 'numbers'}")
+    return values
+
+
+def access_in(found):
+    """The addresses whose roles are others than usual."""
+    table = found.get("access", {})
+    if not isinstance(table, dict):
+        raise Wrong("access is not a table")
+    return {name: tuple(listed_in(table, name, str)) for name in table}
+
+
+def placed(table, folder, site):
+    """A table whose paths are seen from a folder, for one site."""
+    return {key: str(folder / value.replace("{site}", str(site))) if key in PATHS else value for key, value in table.items()}
+
+
+def parsed(path):
+    try:
+        return tomllib.loads(pathlib.Path(path).read_text(encoding="utf-8"))
+    except OSError as fault:
+        raise Wrong(f"{path} cannot be read: {fault.strerror}") from None
+    except (tomllib.TOMLDecodeError, UnicodeDecodeError) as fault:
+        raise Wrong(f"{path} is not TOML: {fault}") from None
+
+
+def tls_in(found, folder, site):
+    if "tls" not in found:
+        return None
+    if not isinstance(found["tls"], dict):
+        raise Wrong("tls is not a table")
+    table = placed(typed(found["tls"], TLS_KEYS, "[tls]"), folder, site)
+    lacking = [key for key in ("certificate", "key", "authority") if key not in table]
+    if lacking:
+        raise Wrong(f"[tls] lacks {' and '.join(lacking)}")
+    if table.get("clients", "required") not in ("required", "optional"):
+        raise Wrong("clients in [tls] is required or optional")
+    return Tls(**table)
+
+
+def addresses(numbers, site, host, port, scheme):
+    """The addresses of the other sites of a machine. Site N is N - 1 ports after the first one."""
+    name = f"[{host}]" if ":" in host else host
+    return {number: f"{scheme}://{name}:{port + number - 1}" for number in numbers if number != site}
+
+
+def of_file(path):
+    """The settings of each site that a file names, by number."""
+    found, folder = parsed(path), pathlib.Path(path).resolve().parent
+    plain = {key: value for key, value in found.items() if key not in LISTS | TABLES}
+    typed(plain, KEYS, path)
+    if "folder" not in plain or ("site" in plain) == ("sites" in found):
+        raise Wrong(f"{path} has a folder, and either a site or sites")
+    numbers = listed_in(found, "sites", int) if "sites" in found else [plain["site"]]
+    plain.pop("site", None)
+    peers, through = by_number(found.get("peers", {}), str, "[peers]"), by_number(found.get("through", {}), int, "[through]")
+    several = "sites" in found
+    if several and peers:
+        raise Wrong("[peers] is for one site: several sites of a machine know each other")
+    made = {}
+    for number in numbers:
+        tls = tls_in(found, folder, number)
+        port = plain.get("port", FIRST_PORT)
+        its = addresses(numbers, number, plain.get("host", "127.0.0.1"), port, "https" if tls else "http") if several else peers
+        more = {"port": port + number - 1} if several else {}
+        handed_on = {origin: other for origin, other in through.items() if not several or other != number}
+        made[number] = checked(Settings(**{**placed(plain, folder, number), **more}, site=number, tls=tls, peers=its, through=handed_on,
+                                        names=tuple(listed_in(found, "names", str)), access=access_in(found)))
+    if len(made) < len(numbers) or not made:
+        raise Wrong("sites has a number twice, or none")
+    return made
+
+
+def checked(it):
+    """The settings of a site, if they go together."""
+    if not 1 <= it.site <= it.group <= MOST_GROUP:
+        raise Wrong(f"a site has a number from 1 to the group, which is at most {MOST_GROUP}")
+    if it.site in it.peers or not all(1 <= number <= it.group for number in it.peers):
+        raise Wrong("a peer has a number from 1 to the group, which is not that of the site")
+    if not all(address.startswith(("http://", "https://")) for address in it.peers.values()):
+        raise Wrong("the address of a peer begins with http:// or https://")
+    if it.tls and not all(address.startswith("https://") for address in it.peers.values()):
+        raise Wrong("with [tls] the address of a peer begins with https://: else its certificate is not seen, and a token goes in clear")
+    if it.hear is not None and not 0 <= it.hear <= len(it.peers):
+        raise Wrong("hear is a number of peers")
+    if not all(1 <= number <= it.group and number != it.site and other in it.peers for number, other in it.through.items()):
+        raise Wrong("[through] names another site, and a peer that hands its entries on")
+    if set(it.through) & set(it.peers):
+        raise Wrong("[through] is for sites that are no peers: a peer hands on its own entries")
+    if not is_local(it.host) and not (it.tls and it.roles):
+        raise Wrong("without [tls] and roles only this machine is served: host is one of its own addresses, such as 127.0.0.1")
+    if it.tls and not it.roles:
+        raise Wrong("[tls] needs roles: they say who a certificate is")
+    if not 1 <= it.port < 1 << 16 or not 1 <= it.connections <= 1 << 20 or it.seconds <= 0 or it.silence <= 0 or it.waiting < 0:
+        raise Wrong("port, connections, seconds, silence or waiting is out of range")
+    return it

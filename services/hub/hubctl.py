@@ -1,0 +1,266 @@
+"""hubctl.py: asks the sites of a hub, and posts messages at them, from any machine. It needs Python 3.8, and client.py of its folder.
+
+A post goes to one of the sites, and again to the next one until each message has an outcome. Other commands ask the first site that
+answers. Answers go to standard output as they come. An error is a line on standard error: the site, the status, what it said, and the
+identification that the request has in the records of the site.
+
+The exit status is 0 if all is well. It is 1 if messages were refused or forbidden, which standard error lists. It is 2 after an error:
+what is not acknowledged then may be posted again.
+"""
+import argparse, collections, contextlib, json, os, pathlib, signal, sys, time, urllib.parse
+sys.path.insert(0, str(pathlib.Path(__file__).resolve().parent))
+import client
+
+SECONDS = 600
+COUNTS = {"TAKEN": "taken", "REPEAT": "repeats", "WAITING": "waiting", "REFUSED": "refused", "FORBIDDEN": "forbidden"}
+WELL = ("TAKEN", "REPEAT", "WAITING")
+NOTHING = {"message": "the document", "outcome": "UNREAD", "why": "there is no message in it"}
+LIST = {"Content_Type": "text/csv"}
+
+
+def quoted(*words):
+    """The path that some words come to. A slash in a word does not end it."""
+    return "".join(f"/{urllib.parse.quote(os.fsencode(word), safe='')}" for word in words)
+
+
+def opened(path):
+    """A file as bytes, or standard input."""
+    return contextlib.nullcontext(sys.stdin.buffer) if path == "-" else open(path, "rb")
+
+
+def printed(data):
+    """Writes an answer. On a terminal what could steer it is shown as a question mark: a name may have any character."""
+    if sys.stdout.isatty():
+        data = "".join(sign if sign.isprintable() or sign in "\n\t" else "?" for sign in data.decode(errors="replace")).encode()
+    sys.stdout.buffer.write(data)
+    sys.stdout.buffer.flush()
+
+
+def good(its, answer):
+    """An answer with status 200."""
+    if answer.status != 200:
+        raise client.failure_of(its.address(), answer)
+    return answer
+
+
+# ---- posts
+
+def remarks(one):
+    """What is said of an outcome: why it is none of those that are well, and what the site notes."""
+    if one["outcome"] not in WELL:
+        word = "" if one["outcome"] == "REFUSED" else f"{one['outcome'].lower()}: "
+        yield f"{word}{one.get('why', '')}"
+    if "note" in one:
+        yield f"note: {one['note']}"
+
+
+def noted(counts, found, place_of):
+    """Counts outcomes. Standard error lists what is said of them, each with its place."""
+    counts.update(one["outcome"] for one in found)
+    for line in (f"{place_of(one)}: {remark}" for one in found for remark in remarks(one)):
+        print(client.one_line(line), file=sys.stderr)
+
+
+def acknowledged(rest, ask, *words):
+    """The outcomes of a part of what is posted, or an error that says with what the rest begins."""
+    try:
+        return ask(*words)
+    except KeyboardInterrupt:
+        raise client.Failed(f"{rest} are not acknowledged: it was interrupted") from None
+    except client.Failed as fault:
+        raise client.Failed(f"{rest} are not acknowledged: {fault}") from None
+
+
+def summed(counts):
+    """Prints the counts of outcomes. The exit status that they come to."""
+    names = {**COUNTS, **{outcome: outcome.lower() for outcome in sorted(counts) if outcome not in COUNTS}}
+    print(client.one_line(", ".join(f"{name} {counts[outcome]}" for outcome, name in names.items())))
+    return 1 if set(counts) - set(WELL) else 0
+
+
+def post(its, asked):
+    until, counts = time.monotonic() + asked.seconds, collections.Counter()
+    with opened(asked.file) as file:
+        for first, lines in client.posts(file):
+            found = acknowledged(f"line {first} and those after it", its.posted, lines, until)
+            noted(counts, found, lambda one: f"line {first + one['line'] - 1}")
+    return summed(counts)
+
+
+def xml(its, asked):
+    until, counts = time.monotonic() + asked.seconds, collections.Counter()
+    for path in asked.files:
+        with opened(path) as file:
+            found = acknowledged(f"{path} and the files after it", its.posted_xml, file.read(), until)
+        noted(counts, found or [NOTHING], lambda one: f"{path}: {one['message']}")
+    return summed(counts)
+
+
+# ---- questions
+
+def text(path_of):
+    """The command that prints a text, which has the path that some words come to."""
+    def command(its, asked):
+        with its.stream(path_of(asked)) as lines:
+            for line in lines:
+                sys.stdout.buffer.write(line)
+            sys.stdout.buffer.flush()
+            if "Niluppang-Partial" in lines.headers:
+                print("hubctl: this is the beginning of a longer delta: ask again with what it adds", file=sys.stderr)
+        return 0
+    return command
+
+
+def report(its, asked):
+    with opened(asked.list) as file:
+        rows = file.read()
+    printed(good(its, its.post(quoted("report", asked.bank, asked.day), rows, **LIST)).body)
+    return 0
+
+
+def health(its, _):
+    """Prints what the site says of itself, also if it is not well. That is an error all the same."""
+    answer = its.get("/health")
+    with contextlib.suppress(ValueError, KeyError, TypeError):
+        faults = "; ".join(map(str, json.loads(answer.body)["faults"]))
+        printed(answer.body.rstrip(b"\n") + b"\n")
+        answer = answer._replace(body=faults.encode())
+    good(its, answer)
+    return 0
+
+
+def events_of(lines):
+    """The events of a stream, each as its fields. One without fields shows that the stream is alive."""
+    fields = {}
+    for line in lines:
+        name, found, value = line.decode(errors="replace").rstrip("\r\n").partition(":")
+        if name:
+            fields[name] = value[1:] if value.startswith(" ") else value
+        elif not found:
+            yield fields
+            fields = {}
+
+
+class Following:
+    """Follows what changes at a site. `last` is the mark of the last event, and `is_alive` says that something came after that."""
+
+    def __init__(self, its):
+        self.its, self.last, self.is_alive = its, None, False
+
+    def next(self):
+        """The events after the last one, until the stream ends."""
+        self.is_alive = False
+        with self.its.stream("/changes", **({"Last_Event_ID": self.last} if self.last else {})) as lines:
+            for event in events_of(lines):
+                self.is_alive, self.last = True, event.get("id", self.last)
+                if event:
+                    yield event
+        raise client.Later("the stream of changes ended")
+
+    def all(self, seconds):
+        """All events. A stream that ends is opened again, until no site has answered for these seconds."""
+        until, pause = 0.0, client.FIRST_PAUSE
+        while True:
+            try:
+                yield from self.next()
+            except client.Later as fault:
+                if self.is_alive:
+                    until, pause = time.monotonic() + seconds, client.FIRST_PAUSE
+                if time.monotonic() > until:
+                    raise
+                time.sleep(max(pause, fault.seconds))
+                pause = min(2 * pause, client.MOST_PAUSE)
+
+
+def changes(its, asked):
+    """Prints each event as a line of JSON."""
+    for number, event in enumerate(Following(its).all(asked.seconds), 1):
+        printed(json.dumps({**event, "data": json.loads(event.get("data", "null"))}).encode() + b"\n")
+        if number == asked.events:
+            break
+    return 0
+
+
+# ---- the words of the command line
+
+BANK = {"metavar": "BANK", "help": "the BIC of the bank"}
+WORDS = {
+    "file": {"metavar": "FILE", "help": "JSON lines, one message each; - is standard input"},
+    "files": {"metavar": "FILE", "nargs": "+", "help": "an XML document; - is standard input"},
+    "originator": {"metavar": "BANK", "help": "the BIC of the originator bank"},
+    "tx": {"metavar": "TX", "help": "the identification of the transfer"},
+    "bank": BANK, "one_bank": {**BANK, "nargs": "?"},
+    "day": {"metavar": "DAY", "help": "the day of the list, such as 2025-03-10"},
+    "list": {"metavar": "LIST", "help": "the list as CSV; - is standard input"},
+    "have": {"metavar": "HAVE", "help": "the vector, such as 1:20,3:7; - is that of nothing"},
+}
+TRANSFER = "originator tx"
+# what each command does, what its help says, and its words
+COMMANDS = {
+    "post": (post, "post the JSON lines of a file", "file"),
+    "xml": (xml, "post files of ISO 20022 messages in XML", "files"),
+    "transfer": (text(lambda its: quoted("transfers", its.originator, its.tx)), "print the findings on a transfer", TRANSFER),
+    "messages": (text(lambda its: quoted("transfers", its.originator, its.tx, "messages")), "print the messages on a transfer", TRANSFER),
+    "totals": (text(lambda its: quoted("totals", *filter(None, [its.one_bank]))), "print the totals of all banks, or of one", "one_bank"),
+    "report": (report, "print the report on a list of a bank", "bank day list"),
+    "status": (text(lambda _: "/status"), "print the findings on all transfers", ""),
+    "archive": (text(lambda _: "/archive"), "print all messages", ""),
+    "contradictions": (text(lambda _: "/contradictions"), "print the contradictions", ""),
+    "waiting": (text(lambda _: "/waiting"), "print the messages that wait for their instruction at the site", ""),
+    "vector": (text(lambda _: "/vector"), "print how many messages of each site the site holds", ""),
+    "health": (health, "print whether the site takes messages", ""),
+    "changes": (changes, "print changed transfers as they come, each event as a line of JSON; the first event is a mark", ""),
+    "delta": (text(lambda its: f"/delta?{urllib.parse.urlencode({'have': its.have})}"), "print what a site holds above a vector", "have"),
+}
+
+
+def options(words):
+    it = argparse.ArgumentParser(prog="hubctl", description=__doc__, formatter_class=argparse.RawDescriptionHelpFormatter)
+    it.add_argument("--url", action="append", metavar="URL",
+                    help="the address of a site; several may be given (without it the variable NILUPPANG_URL has them, between blanks)")
+    client.add_options(it)
+    commands = it.add_subparsers(dest="command", metavar="COMMAND", required=True)
+    for name, (run, does, places) in COMMANDS.items():
+        one = commands.add_parser(name, help=does, description=does[0].upper() + does[1:] + ".")
+        one.set_defaults(run=run)
+        for place in places.split():
+            one.add_argument(place, **WORDS[place])
+        if name in ("post", "xml", "changes"):
+            one.add_argument("--seconds", metavar="N", type=float, default=SECONDS, help=f"give up after N seconds ({SECONDS})")
+        if name == "changes":
+            one.add_argument("-n", "--events", metavar="N", type=int, default=0, help="end after N events")
+    return it.parse_args(words)
+
+
+def end_by(number):
+    """Ends as a process that a signal ends, so that a shell sees which."""
+    signal.signal(number, signal.SIG_DFL)
+    os.kill(os.getpid(), number)
+
+
+def complain(why):
+    print(f"hubctl: {why}", file=sys.stderr)
+    return 2
+
+
+def main():
+    asked = options(sys.argv[1:])
+    try:
+        addresses = asked.url or os.environ.get("NILUPPANG_URL", "").split()
+        if not addresses:
+            raise ValueError("name a site by --url, or by the variable NILUPPANG_URL")
+        status = asked.run(client.client_of(asked, addresses), asked)
+        sys.stdout.flush()
+    except BrokenPipeError:
+        end_by(signal.SIGPIPE)
+    except KeyboardInterrupt:
+        end_by(signal.SIGINT)
+    except (client.Failed, ValueError) as why:
+        status = complain(why)
+    except OSError as fault:
+        status = complain(f"{fault.filename}: {fault.strerror}" if fault.filename else fault.strerror)
+    sys.exit(status)
+
+
+if __name__ == "__main__":
+    main()

@@ -1,0 +1,272 @@
+"""iso.py: ISO 20022 messages in XML as lines, for POST /iso20022. The converter of the desk, from_iso20022.py, makes them.
+
+The recall that an answer is about is looked up in the site, and not in an archive. If the site holds the answer already, its line gets
+the same recall again: so a message that is sent twice is a repeat. The site is asked by bank and identification. So an answer that does
+not name the originator bank needs its instruction or its recall in the same body.
+
+A short XML text can cost much memory and time. So what costs is limited, as early as it can be seen, and two bodies are read at a time.
+"""
+import asyncio, collections, json, re
+from xml.etree import ElementTree
+from . import keeper
+from .files import Wrong
+from .keeper import Refused, Unable
+from .places import desk_module
+from .vectors import BadText
+
+MOST = 1000  # messages of a body, and transactions of all of them
+MOST_SIGNS = 500_000  # signs that begin an element, an attribute or a piece of a text
+MOST_TEXT = 8 << 10  # characters from one tag to the next, and of a text
+MOST_DEPTH, MOST_NAMES, MOST_SPACE = 30, 1000, 200  # elements in each other, different names, and characters of a name space
+MOST_BESIDE = 200_000  # elements beside the transactions of a message, times its transactions: each transaction looks at them
+MOST_LINES = 8 << 20  # bytes of all lines: what is beside the transactions is in the line of each
+MOST_WHY = 500  # characters of a reason
+AT_ONCE = 16  # transfers that are looked up together
+PIECE = 1 << 16
+SIGNS = "<=&\r\n"
+FAR = re.compile(f"<[^<]{{{MOST_TEXT + 1}}}")
+LONG = f"it has a tag or a text of more than {MOST_TEXT} characters"
+BEGINNINGS = {b"\xef\xbb\xbf": "utf-8-sig", b"\xff\xfe": "utf-16", b"\xfe\xff": "utf-16", b"<\0": "utf-16-le", b"\0<": "utf-16-be"}
+DECLARED = re.compile(rb"<\?xml\s[^>]{0,200}?\sencoding\s*=\s*[\"']([A-Za-z0-9._-]{1,40})[\"']")
+ENCODINGS = ("utf-8", "us-ascii", "iso-8859-1")  # that a body may declare; one in UTF-16 is known by how it begins
+CONVERTER = "from_iso20022"
+RECALL = "camt.056"
+BAD_NAME = 73  # the number of a refusal: a text is no bank, or no identification
+
+conversions = asyncio.Semaphore(2)
+
+# a message, or a transaction that was cut out of one: its place in the body, its line or None, and why it has none or what the line lacks
+Item = collections.namedtuple("Item", "place line why")
+
+
+async def lines_of(body, messages):
+    """An item for each message of a body, or for each transaction if it is cut into several lines. BadText if the body cannot be read.
+
+    `messages` is asked for the text of the messages on a transfer. It raises Refused if the bank or the identification is none.
+    """
+    try:
+        async with conversions:
+            drafts = await asyncio.to_thread(drafts_of, body)
+    except Wrong as fault:
+        raise Unable(str(fault)) from None
+    recalls, answers = await looked_up(transfers_of(drafts), messages)
+    return await asyncio.to_thread(finished, drafts, recalls, answers)
+
+
+def outcome_line(one, outcome):
+    """The line that answers an item: what became of its line, or why it has none."""
+    if one.line is None:
+        found = {"outcome": "UNREAD", "why": one.why}
+    else:
+        found = json.loads(keeper.outcome_line(0, outcome))
+        del found["line"]
+        found.update({"note": one.why} if one.why else {})
+    return json.dumps({"message": one.place, **found}, separators=(",", ":")) + "\n"
+
+
+# ---- XML
+
+class Tree(ElementTree.TreeBuilder):
+    """Makes a tree as messages have one. A document type is refused, and so a body has no entities of its own."""
+
+    def __init__(self):
+        super().__init__()
+        self.depth, self.names = 0, set()
+
+    def doctype(self, name, pubid, system):
+        raise BadText("it has a document type")
+
+    def start_ns(self, prefix, space):
+        if len(space) > MOST_SPACE:
+            raise BadText(f"it has a name space of more than {MOST_SPACE} characters")
+
+    def start(self, tag, attributes):
+        self.depth += 1
+        self.names.add(tag)
+        self.names.update(attributes)
+        if self.depth > MOST_DEPTH:
+            raise BadText(f"it has more than {MOST_DEPTH} elements in each other")
+        if len(self.names) > MOST_NAMES:
+            raise BadText(f"it has more than {MOST_NAMES} different names")
+        return super().start(tag, attributes)
+
+    def end(self, tag):
+        self.depth -= 1
+        return super().end(tag)
+
+    def comment(self, text):
+        """Leaves a comment out. The builder of ElementTree would copy all of the text before it."""
+
+    def pi(self, target, text=None):
+        """Leaves a processing instruction out, for the same reason."""
+
+
+def text_of(body):
+    """The text of a body: in the encoding that its first bytes show, or else in the one that it declares."""
+    encoding = next((its for mark, its in BEGINNINGS.items() if body.startswith(mark)), None)
+    if encoding is None:
+        declared = DECLARED.match(body)
+        encoding = declared.group(1).decode().lower() if declared else ENCODINGS[0]
+        if encoding not in ENCODINGS:
+            raise BadText(f"it declares the encoding {encoding}, and may be in UTF-16, {', '.join(ENCODINGS)}")
+    try:
+        return body.decode(encoding)
+    except UnicodeError:
+        raise BadText(f"it is no text in {encoding}") from None
+
+
+def tree_of(text):
+    """The root of an XML text, which may cost no more than a body of messages does."""
+    if sum(map(text.count, SIGNS)) > MOST_SIGNS:
+        raise BadText(f"it has more than {MOST_SIGNS} tags, attributes and ends of lines")
+    if FAR.search(text):
+        raise BadText(LONG)
+    parser = ElementTree.XMLParser(target=Tree())
+    try:
+        for place in range(0, len(text), PIECE):  # a piece in which something is refused is read to its end
+            parser.feed(text[place:place + PIECE])
+        root = parser.close()
+    except ElementTree.ParseError as why:
+        raise BadText(f"it is no XML: {shortened(str(why))}") from None
+    if any(len(part.text or "") > MOST_TEXT for part in root.iter()):
+        raise BadText(LONG)
+    return root
+
+
+# ---- lines
+
+def drafts_of(body):
+    """The items of a body before recalls are looked up: the line of each is one of the converter."""
+    desk, drafts = desk_module(CONVERTER), []
+    for place, message in enumerate(messages_of(desk, tree_of(text_of(body))), 1):
+        drafts += items_of(desk, f"message {place}", message)
+    banks = desk.banks_of([draft.line for draft in drafts if draft.line])
+    return [with_bank(desk, draft, banks) for draft in drafts]
+
+
+def messages_of(desk, root):
+    """The messages below a root, each as the converter reads it, or the reason why it reads none. BadText if they are too many."""
+    try:
+        _, ones = desk.messages_in(root)
+    except desk.Wrong as why:
+        raise BadText(str(why)) from None
+    must_be_few(len(ones), "messages")
+    found = [unless_wrong(desk, desk.Message, one) for one in ones]
+    read = [message for message in found if isinstance(message, desk.Message)]
+    must_be_few(sum(len(message.transactions) for message in read), "transactions")
+    if sum(map(looks, read)) > MOST_BESIDE:
+        raise BadText("its messages have too many elements beside their transactions")
+    return found
+
+
+def must_be_few(many, what):
+    if many > MOST:
+        raise BadText(f"it has {many} {what}, and a body has at most {MOST}")
+
+
+def looks(message):
+    """How many times an element beside the transactions of a message is looked at."""
+    size = lambda element: sum(1 for _ in element.iter())
+    return len(message.transactions) * (size(message.body) - sum(map(size, message.transactions)))
+
+
+def unless_wrong(desk, call, *words):
+    """What a call of the converter returns, or the reason why it makes no line."""
+    try:
+        return call(*words)
+    except desk.Wrong as why:
+        return shortened(str(why))
+
+
+def shortened(text):
+    return text if len(text) <= MOST_WHY else text[:MOST_WHY] + ".."
+
+
+def items_of(desk, place, message):
+    """The items of a message, or of the reason why there is none."""
+    lines = message if isinstance(message, str) else unless_wrong(desk, message.lines, place)
+    if isinstance(lines, str):
+        return [Item(place, None, lines)]
+    notes = [message.notes.get(transaction) for transaction in message.transactions]
+    if len(lines) == 1:
+        return [Item(place, lines[0], notes[0])]
+    return [Item(f"{place}, transaction {number}", line, note) for number, (line, note) in enumerate(zip(lines, notes), 1)]
+
+
+def with_bank(desk, draft, banks):
+    """A draft whose line has its originator bank, or that has no line."""
+    why = draft.line and desk.without_bank(draft.line, banks)
+    return Item(draft.place, None, shortened(why)) if why else draft
+
+
+def finished(drafts, recalls, answers):
+    """The items of drafts, after recalls were looked up."""
+    desk, items, size = desk_module(CONVERTER), [], 0
+    known = desk.recalls_of(recalls + [draft.line for draft in drafts if draft.line])
+    for draft in drafts:
+        if draft.line:
+            notes = filter(None, [draft.why, without_recall(desk, draft.line, known, answers)])
+            draft = Item(draft.place, desk.json_line(draft.line), shortened("; ".join(notes)) or None)
+            size += len(draft.line)
+        if size > MOST_LINES:
+            raise BadText(f"its lines have more than {MOST_LINES} bytes")
+        items.append(draft)
+    return items
+
+
+def without_recall(desk, line, recalls, answers):
+    """Why a line lacks the recall that it is about. None if it has it or needs none."""
+    before = answers.get(identity(desk, line.keys)) if desk.wants_recall(line.keys) else None
+    if before is None:
+        return desk.without_recall(line, recalls)
+    line.keys["OrgnlCxlId"] = before
+    return None
+
+
+# ---- what the site holds
+
+def transfer_of(desk, keys):
+    return desk.bank(keys.get("DbtrAgt")), keys.get("OrgnlTxId")
+
+
+def identity(desk, keys):
+    """What an answer is known by if it comes again: its transfer, its kind, its sender and its MsgId."""
+    return transfer_of(desk, keys), keys["MsgNmId"][:len(RECALL)], desk.bank(keys.get("InstgAgt")), keys["MsgId"]
+
+
+def transfers_of(drafts):
+    """The transfers whose recalls are looked up."""
+    desk = desk_module(CONVERTER)
+    answers = [draft.line.keys for draft in drafts if draft.line and desk.wants_recall(draft.line.keys)]
+    return sorted(transfer for transfer in {transfer_of(desk, keys) for keys in answers} if None not in transfer)
+
+
+async def looked_up(transfers, messages):
+    """The recalls of some transfers as lines of the converter, and the recall of each answer that the site holds."""
+    recalls, answers = [], {}
+    for place in range(0, len(transfers), AT_ONCE):
+        some = transfers[place:place + AT_ONCE]
+        texts = await asyncio.gather(*(held_on(messages, *transfer) for transfer in some))
+        await asyncio.to_thread(lambda: [learn(*one, recalls, answers) for one in zip(some, texts)])
+    return recalls, answers
+
+
+async def held_on(messages, bank, tx):
+    """The text of the messages on a transfer. Nothing is held of one with a name that none can have."""
+    try:
+        return bytes(await messages(bank, tx))
+    except Refused as refused:
+        if refused.number != BAD_NAME:
+            raise
+        return b""
+
+
+def learn(transfer, text, recalls, answers):
+    """Adds the recalls of a transfer, and the recall of each answer, by the text of the messages on it."""
+    desk = desk_module(CONVERTER)
+    for keys in map(json.loads, filter(None, text.split(b"\n"))):
+        if keys["MsgNmId"].startswith(RECALL):
+            parts = [part for part in desk.parts_of(keys) if transfer_of(desk, part) == transfer]
+            recalls.append(desk.Line(None, {**keys, "TxInf": parts}, [None] * len(parts), keys["MsgId"]))
+        elif "OrgnlCxlId" in keys:
+            answers[identity(desk, keys)] = keys["OrgnlCxlId"]

@@ -1,0 +1,599 @@
+"""mirror.py: a mirror of a site in a database: its transfers, findings, recalls, messages and totals in SQLite, for dashboards and SQL.
+
+message, transfer, finding, recall and refused are the tables of load_sqlite.py, and refused stays empty. totals has a row for each bank,
+with amounts in cents. mirror has one row: the site, its group, its address, the vector of which the tables have everything, the last event
+that they have, and the time at which that was so. When nothing has come for a moment, the tables are the texts of that vector.
+
+It opens the stream of changes, and then loads the complete texts. From then on it replaces the rows of each transfer that an event names.
+A site says what changes only while somebody listens. So after a break the mirror goes on after its last event if the site still has the
+vector of the tables, and else it loads all again. What somebody removes or drops of the database is made again.
+
+Usage: mirror.py [--once | --compare] [--token-file FILE] [--cert FILE --key FILE] [--ca FILE] URL DATABASE
+
+It runs until a signal comes. With --once it ends when the tables have all that the site held at its start. With --compare it compares the
+database with the texts, which another mirror may keep meanwhile. The exit status is then 1 if they differ, and standard output says where.
+It is 2 if the site refuses what is asked, the database is that of something else, or another mirror has it: standard error says why.
+"""
+import argparse, collections, contextlib, fcntl, itertools, json, os, pathlib, signal, sqlite3, sys, threading, time, urllib.parse
+sys.path.insert(0, str(pathlib.Path(__file__).resolve().parents[1]))
+from hub.client import Failed, Later, add_options, client_of, failure_of
+from hub.files import Wrong
+from hub.places import desk_module
+from hub.vectors import BadText, vector_of
+
+try:
+    load_sqlite = desk_module("load_sqlite")
+except Wrong as lack:
+    print(f"mirror: {lack}", file=sys.stderr)
+    sys.exit(2)
+
+MOST_ALONE, SHARE = 1000, 20  # changed transfers that are asked for one by one, also if they are more than one for so many messages
+EVERY = 1.0  # seconds between two loads of the totals
+LOOK, BEAT = 1.0, 5.0  # seconds after which the file is looked at, and after which a quiet site is asked for its vector
+FIRST_PAUSE, MOST_PAUSE = 0.1, 5.0  # seconds before a site that is away is asked again
+MOST_OLD = 60.0  # seconds in which a busy site may give texts that are too old
+BUSY = 30.0  # seconds for which somebody else may have the database
+COMPARING = 10.0  # seconds in which a mirror must have what the texts have
+MOST_SHOWN = 5  # rows of a table that are shown as a difference
+MARK = 0x4E4C5047  # what says in a file of SQLite that it is a mirror
+MOST_LOG = 16 << 20  # bytes of the log of SQLite that stay after a load
+
+TABLES = load_sqlite.TABLES + """
+CREATE TABLE totals (bank TEXT PRIMARY KEY, sent INTEGER, sent_cents INTEGER, returned_in_cents INTEGER, rejected INTEGER, waiting INTEGER,
+    missing INTEGER, contradicted INTEGER, received INTEGER, received_cents INTEGER, returned_out_cents INTEGER);
+CREATE TABLE mirror (site INTEGER, "group" INTEGER, url TEXT, vector TEXT, event TEXT, time TEXT);
+CREATE INDEX finding_on ON finding (bank, transfer_id);
+"""
+STATEMENTS = [statement.strip() for statement in TABLES.split(";") if statement.strip()]
+TEXTS = ("message", "transfer", "finding", "recall", "refused", "totals")  # the tables that are made of texts
+OF_TRANSFER = ("message", "transfer", "finding", "recall")  # those with rows of single transfers
+IN_MESSAGE = slice(4, 6)  # the bank and the transfer in a row of message
+
+Text = collections.namedtuple("Text", "vector lines")
+Event = collections.namedtuple("Event", "id word found")
+State = collections.namedtuple("State", "site group url vector event time")
+# what came of a site: changed transfers with their lines or None, the last event, whether all must be loaded, and totals if they were asked
+News = collections.namedtuple("News", "changes event loads totals")
+Totals = collections.namedtuple("Totals", "vector rows event")  # the event is the last one after all that the vector counts
+
+
+class Stop(Exception):
+    """Why the mirror cannot go on."""
+
+
+def say(text):
+    print(f"mirror: {text}", file=sys.stderr, flush=True)
+
+
+def now():
+    return time.strftime("%Y-%m-%dT%H:%M:%SZ", time.gmtime())
+
+
+def covers(vector, other):
+    """Whether a vector counts all that another one does."""
+    counts = vector_of(vector)
+    return all(counts.get(origin, 0) >= count for origin, count in vector_of(other).items())
+
+
+def is_after(event, other):
+    """Whether an event is the same as another one of its run of a site, or came after it."""
+    (run, _, number), (its_run, _, its_number) = event.rpartition("-"), other.rpartition("-")
+    return run == its_run and int(number) >= int(its_number)
+
+
+# ---- what a site answers
+
+def events_in(lines):
+    """The server-sent events in lines."""
+    fields = {}
+    for line in lines:
+        text = line.decode(errors="replace").rstrip("\r\n")
+        if text:
+            name, _, value = text.partition(":")
+            fields[name] = value.strip()
+            continue
+        if "event" in fields:
+            yield Event(fields["id"], fields["event"], json.loads(fields["data"]))
+        fields = {}
+
+
+def status_rows(lines):
+    """The rows of T, F and R lines."""
+    of = load_sqlite.rows_of
+    return {"transfer": of(lines, "T", 3), "finding": of(lines, "F", 3), "recall": of(lines, "R", 4)}
+
+
+def totals_rows(lines):
+    """The rows of a totals text. An amount has two decimals, and a count has no point."""
+    for line in lines:
+        bank, *fields = line.split("|")
+        yield [bank, *(int(field.replace(".", "")) for field in fields)]
+
+
+class Site:
+    """Asks a site. Later if it may answer another time, and another Failed if it never will."""
+
+    def __init__(self, client):
+        self.client = client
+
+    def get(self, path):
+        answer = self.client.get(path)
+        if answer.status != 200:
+            raise failure_of(self.client.address(), answer)
+        return answer
+
+    def lines(self, path):
+        return self.get(path).body.decode(errors="replace").split("\n")[:-1]
+
+    def who(self):
+        """The number of the site, its group and its vector."""
+        answer = self.get("/vector")
+        try:
+            site, group = map(int, answer.headers.get("Niluppang-Site", "").split("/"))
+        except ValueError:
+            raise Stop(f"{self.client.address()} is not the address of a site") from None
+        return site, group, answer.body.decode().strip()
+
+    def path(self, bank, tx):
+        """The path of a transfer. Each character of an identification that has a meaning in a path is quoted."""
+        return f"/transfers/{urllib.parse.quote(bank, safe='')}/{urllib.parse.quote(tx, safe='')}"
+
+    @contextlib.contextmanager
+    def text(self, name, least="-"):
+        """A complete text that covers a vector. A site that is busy may give an older one for a time."""
+        until = time.monotonic() + MOST_OLD
+        while time.monotonic() < until:
+            with self.client.stream(f"/{name}") as found:
+                vector = found.headers.get("Niluppang-Vector", "")
+                if covers(vector, least):
+                    yield Text(vector, (line.decode(errors="replace").rstrip("\n") for line in found))
+                    return
+            time.sleep(FIRST_PAUSE)
+        raise Later(f"{self.client.address()} gives a text that is too old")
+
+    @contextlib.contextmanager
+    def rows(self, least="-"):
+        """The rows of all tables, by complete texts that cover a vector, and the vectors of these texts. Messages are read as they come."""
+        with self.text("status", least) as status:
+            found = status_rows(list(status.lines))
+        with self.text("totals", least) as totals:
+            found["totals"] = list(totals_rows(totals.lines))
+        with self.text("archive", least) as archive:
+            yield {**found, "message": load_sqlite.messages(archive.lines)}, {status.vector, totals.vector, archive.vector}
+
+    def rows_on(self, changes):
+        """The rows of some transfers. The lines of a transfer are asked for if its event does not have them."""
+        found = {table: [] for table in OF_TRANSFER}
+        for (bank, tx), lines in changes.items():
+            its = status_rows(self.lines(self.path(bank, tx)) if lines is None else lines)
+            messages = load_sqlite.messages(self.lines(f"{self.path(bank, tx)}/messages"))
+            its["message"] = (row for row in messages if row[IN_MESSAGE] == (bank, tx))  # a recall is on other transfers, too
+            for table, rows in its.items():
+                found[table] += rows
+        return found
+
+    def last_event(self):
+        """The event that the site published last: a new stream begins with it. All that the site answered before is in it."""
+        with self.client.stream("/changes") as lines:
+            return next(events_in(lines)).id
+
+
+class Stream:
+    """The stream of changes. A thread reads it, so that the site never waits for a mirror that loads. What nobody took yet is put together:
+    of each transfer the last lines count."""
+
+    def __init__(self, client, last):
+        self.client, self.event, self.some = client, last, threading.Condition()
+        self.changes, self.loads, self.totals, self.is_open, self.fault, self.is_over = {}, False, None, False, None, False
+        self._begin(self._read)
+
+    def __enter__(self):
+        """Waits until the site publishes to this stream."""
+        with self.some:
+            self.some.wait_for(lambda: self.is_open and self.event or self.fault)
+        return self
+
+    def __exit__(self, *_):
+        self.is_over = True
+
+    def take(self, seconds):
+        """What came and was not taken yet, after some seconds at most."""
+        with self.some:
+            self.some.wait_for(lambda: self.changes or self.loads or self.totals or self.fault, seconds)
+            if self.fault:
+                raise self.fault
+            news = News(self.changes, self.event, self.loads, self.totals)
+            self.changes, self.loads, self.totals = {}, False, None
+            return news
+
+    def ask_totals(self):
+        """Has the totals loaded. A site takes its time for them if it has much to do, and changes come meanwhile."""
+        self._begin(self._load_totals)
+
+    def _begin(self, work):
+        threading.Thread(target=self._done, args=(work,), daemon=True).start()
+
+    def _done(self, work):
+        """Does what a thread is for. Who waits for it has to know why it failed, whatever it was."""
+        try:
+            work(Site(self.client()))
+        except Failed as failed:
+            self._set(fault=failed)
+        except Exception as failed:
+            self._set(fault=Later(f"the site answers something else: {type(failed).__name__} {failed}"))
+
+    def _set(self, **its):
+        with self.some:
+            vars(self).update(its)
+            self.some.notify()
+
+    def _read(self, site):
+        with site.client.stream("/changes", **({"Last-Event-ID": self.event} if self.event else {})) as lines:
+            self._set(is_open=True)
+            for event in events_in(itertools.takewhile(lambda _: not self.is_over, lines)):
+                self._put(event)
+        raise Later("the stream of changes has ended")
+
+    def _put(self, event):
+        changes = {(one["bank"], one["tx"]): one.get("lines") for one in event.found}
+        with self.some:
+            self.changes.update(changes)
+            self.event, self.loads = event.id, self.loads or event.word != "transfers"
+            self.some.notify()
+
+    def _load_totals(self, site):
+        try:
+            with site.text("totals") as text:
+                rows = list(totals_rows(text.lines))
+            self._set(totals=Totals(text.vector, rows, site.last_event()))
+        except Later:
+            self._set(totals=Totals(None, None, None))  # it is too busy: another time
+
+
+# ---- the database
+
+class Lock:
+    """The lock of a database: a file beside it, so that no two mirrors write to one."""
+
+    def __init__(self, database):
+        self.database, self.path, self.file = database, f"{database}.lock", None
+        self.take()
+
+    def take(self):
+        """Takes the lock, also if somebody removed its file. Stop if another mirror has it."""
+        if self.file is not None:
+            os.close(self.file)
+        try:
+            self.file = os.open(self.path, os.O_RDWR | os.O_CREAT, 0o600)
+            fcntl.flock(self.file, fcntl.LOCK_EX | fcntl.LOCK_NB)
+        except BlockingIOError:
+            raise Stop(f"another mirror has {self.database}") from None
+        except OSError as fault:
+            raise Stop(f"{self.path} cannot be made: {fault.strerror}") from None
+
+    def hold(self):
+        if not is_file(self.path, os.fstat(self.file)):
+            self.take()
+
+
+def is_file(path, known):
+    """Whether a path is still that of a file that is known."""
+    try:
+        found = os.stat(path)
+    except FileNotFoundError:
+        return False
+    return (found.st_dev, found.st_ino) == (known.st_dev, known.st_ino)
+
+
+def schema_of(connection):
+    return set(connection.execute("SELECT name, sql FROM sqlite_master WHERE sql IS NOT NULL"))
+
+
+def blueprint():
+    """The tables as SQLite lists them, and how a row of each is inserted."""
+    with contextlib.closing(sqlite3.connect(":memory:")) as made:
+        for statement in STATEMENTS:
+            made.execute(statement)
+        width = lambda table: len(list(made.execute(f"PRAGMA table_info({table})")))
+        return schema_of(made), {table: f"INSERT INTO {table} VALUES ({', '.join('?' * width(table))})" for table in (*TEXTS, "mirror")}
+
+
+SCHEMA, INSERTS = blueprint()
+
+
+def fill(connection, rows):
+    """Makes all tables anew, with these rows. An index is quicker made of the rows that are there."""
+    for table in INSERTS:
+        connection.execute(f"DROP TABLE IF EXISTS {table}")
+    for statement in filter(lambda it: it.startswith("CREATE TABLE"), STATEMENTS):
+        connection.execute(statement)
+    for table, its in rows.items():
+        connection.executemany(INSERTS[table], its)
+    for statement in filter(lambda it: it.startswith("CREATE INDEX"), STATEMENTS):
+        connection.execute(statement)
+
+
+class Database:
+    """The database. Each change of it is one transaction."""
+
+    def __init__(self, path):
+        self.path, self.connection, self.file = path, None, None
+
+    def open(self):
+        """Opens the file, or makes it. Stop if it is a database of something else."""
+        self.close()
+        if not os.path.exists(self.path):
+            remove(f"{self.path}-wal", f"{self.path}-shm")  # of a file that was removed
+        try:
+            self.connection = sqlite3.connect(self.path, timeout=BUSY, isolation_level=None)
+        except sqlite3.OperationalError as fault:
+            raise Stop(f"{self.path}: {fault}") from None
+        (mark,), (many,) = map(self._one, ("PRAGMA application_id", "SELECT count(*) FROM sqlite_master"))
+        if mark != MARK and many:
+            raise Stop(f"{self.path} is a database, and not one of a mirror: it is left as it is")
+        if mark != MARK:
+            self.connection.execute(f"PRAGMA application_id = {MARK}")
+        self._one("PRAGMA journal_mode = WAL")
+        self._one(f"PRAGMA journal_size_limit = {MOST_LOG}")
+        self.connection.execute("PRAGMA synchronous = NORMAL")
+        self.file = os.stat(self.path)
+
+    def close(self):
+        if self.connection:
+            self.connection.close()
+            self.connection = None
+
+    def _one(self, question):
+        return self.connection.execute(question).fetchone()
+
+    def state(self):
+        """What the tables have, or None if one of them lacks."""
+        if not SCHEMA <= schema_of(self.connection):
+            return None
+        found = self._one("SELECT * FROM mirror")
+        return found and State(*found)
+
+    def is_removed(self):
+        return not is_file(self.path, self.file)
+
+    def messages(self):
+        return self._one("SELECT count(*) FROM message")[0]
+
+    @contextlib.contextmanager
+    def transaction(self):
+        self.connection.execute("BEGIN IMMEDIATE")
+        try:
+            yield self.connection
+            self.connection.execute("COMMIT")
+        finally:
+            if self.connection.in_transaction:
+                self.connection.execute("ROLLBACK")
+
+    def load(self, rows, state):
+        """Makes all tables anew."""
+        with self.transaction() as its:
+            fill(its, rows)
+            its.execute(INSERTS["mirror"], state)
+
+    def replace(self, transfers, rows, event):
+        """Replaces the rows of some transfers by those that an event led to."""
+        with self.transaction() as its:
+            for table in OF_TRANSFER:
+                its.executemany(f"DELETE FROM {table} WHERE bank = ? AND transfer_id = ?", transfers)
+                its.executemany(INSERTS[table], rows[table])
+            its.execute("UPDATE mirror SET event = ?", (event,))
+
+    def put_totals(self, rows):
+        with self.transaction() as its:
+            its.execute("DELETE FROM totals")
+            its.executemany(INSERTS["totals"], rows)
+
+    def confirm(self, vector):
+        """Notes that the tables have all that a vector counts."""
+        with self.transaction() as its:
+            its.execute("UPDATE mirror SET vector = ?, time = ?", (vector, now()))
+
+
+def remove(*paths):
+    for path in paths:
+        with contextlib.suppress(FileNotFoundError):
+            os.unlink(path)
+
+
+# ---- the mirror
+
+class Mirror:
+    """Keeps a database equal to a site. `client` makes a client of it: each thread has its own."""
+
+    def __init__(self, url, path, client):
+        self.url, self.client, self.site = url, client, Site(client())
+        self.lock, self.database = Lock(path), Database(path)
+        self.event, self.vector = None, None  # the last event of which the tables have the changes, and what they have in any case
+        self.is_old, self.is_asked = True, False  # whether the totals are older than the other tables, and whether they are being loaded
+        self.mark = None  # a vector, and the event after which the tables have all that it counts
+        self.totals_at = self.beat_at = 0.0
+        self.pause, self.is_away = FIRST_PAUSE, False
+
+    def run(self, once):
+        """Follows the site until a signal comes, or with `once` until the tables have all that it held."""
+        try:
+            while not self._ran(once):
+                time.sleep(self.pause)
+                self.pause = min(2 * self.pause, MOST_PAUSE)
+        finally:
+            self.database.close()
+
+    def _ran(self, once):
+        """Whether it came to its end. What may be well another time is said once."""
+        try:
+            self.lock.hold()
+            self.database.open()
+            self._follow(once)
+            return True
+        except (Later, sqlite3.OperationalError) as why:
+            if not self.is_away:
+                say(f"{why}; it is tried again")
+            self.is_away = True
+            return False
+
+    def _follow(self, once):
+        state = self.database.state()
+        knows = lambda: state is not None and (state.site, state.group, state.vector, state.url) == (*self.site.who(), self.url)
+        with Stream(self.client, state.event if knows() else None) as stream:
+            is_there = knows()
+            self.event, self.vector, self.is_old, self.is_asked, self.mark = stream.event, state and state.vector, True, False, None
+            while not once or self.is_old or self.is_asked or self.mark:
+                news = stream.take(self._rest() if is_there else 0)
+                self._bring(news._replace(loads=news.loads or not is_there))
+                is_there = self._is_there()
+                if is_there:
+                    self._settle(stream)
+
+    def _rest(self):
+        """The seconds for which the mirror may wait for news."""
+        return max(0.0, min(LOOK, self.totals_at - time.monotonic())) if self.is_old and not self.is_asked else LOOK
+
+    def _is_there(self):
+        """Whether nobody removed the database or dropped a table. A file that was removed is made again."""
+        self.lock.hold()
+        if self.database.is_removed():
+            self.database.open()
+        return self.database.state() is not None
+
+    def _bring(self, news):
+        """Brings news into the tables. If many transfers changed it is quicker to load all."""
+        many = len(news.changes)
+        if news.loads or many > MOST_ALONE and many > self.database.messages() // SHARE:
+            self._load(news.event)
+        elif news.changes:
+            self.database.replace(list(news.changes), self.site.rows_on(news.changes), news.event)
+        if news.loads or news.changes:
+            self.event, self.is_old = news.event, True
+        if news.totals:
+            self._put_totals(news.totals)
+
+    def _put_totals(self, totals):
+        """Brings totals into their table. All tables have what the vector counts when they have the event."""
+        self.is_asked, is_new = False, totals.vector is not None and covers(totals.vector, self.vector)
+        if is_new:
+            self.database.put_totals(totals.rows)
+            self.mark = totals.vector, totals.event
+        self.is_old = self.is_old or not is_new
+
+    def _load(self, event):
+        """Makes all tables anew. What came since the event is in the texts or comes as another event, and may be both."""
+        site, group, self.vector = self.site.who()
+        with self.site.rows(self.vector) as (rows, _):
+            self.database.load(rows, State(site, group, self.url, self.vector, event, now()))
+        say(f"all is loaded: {self.database.messages()} rows of messages, with all that {self.vector} counts")
+
+    def _settle(self, stream):
+        """Has the totals loaded after changes, and notes what the tables have. A quiet site is asked at times whether that is still all."""
+        at = time.monotonic()
+        if self.is_old and not self.is_asked and at >= self.totals_at:
+            stream.ask_totals()
+            self.is_asked, self.is_old, self.totals_at = True, False, at + EVERY
+        if self.mark and is_after(self.event, self.mark[1]):
+            self._confirm(self.mark[0])
+            self.mark = None
+        if not self.is_old and not self.is_asked and not self.mark and at >= self.beat_at:
+            *_, vector = self.site.who()
+            self.is_old = vector != self.vector
+            if not self.is_old:
+                self._confirm(vector)
+
+    def _confirm(self, vector):
+        self.database.confirm(vector)
+        if self.is_away:
+            say("it goes on")
+        self.vector, self.is_away, self.pause, self.beat_at = vector, False, FIRST_PAUSE, time.monotonic() + BEAT
+
+
+# ---- the comparison
+
+def is_reached(path, vector, until):
+    """Whether a mirror has all that a vector counts, in some time."""
+    while time.monotonic() < until:
+        with contextlib.suppress(sqlite3.OperationalError), contextlib.closing(sqlite3.connect(read_only(path), uri=True)) as connection:
+            found = connection.execute("SELECT vector FROM mirror").fetchone()
+            if found and covers(found[0], vector):
+                return True
+        time.sleep(FIRST_PAUSE)
+    return False
+
+
+def read_only(path):
+    return f"{pathlib.Path(path).as_uri()}?mode=ro"
+
+
+def differences(connection):
+    """What the tables of a mirror lack, what they have beside it, and how many rows they have. Of each only the first."""
+    for table, (word, one, other) in itertools.product(TEXTS, (("lacks", "main", "made"), ("has", "made", "main"))):
+        question = f"SELECT * FROM {one}.{table} EXCEPT SELECT * FROM {other}.{table} LIMIT {MOST_SHOWN}"
+        yield from (f"{table} {word} {row}" for row in connection.execute(question))
+    for table in TEXTS:
+        right, its = (connection.execute(f"SELECT count(*) FROM {one}.{table}").fetchone()[0] for one in ("main", "made"))
+        if right != its:
+            yield f"{table} has {its} rows in place of {right}"
+
+
+def compared(site, path):
+    """The vectors of the texts, and the first differences between them and a database."""
+    with contextlib.closing(sqlite3.connect("", isolation_level=None, uri=True)) as connection:
+        with site.rows() as (rows, vectors):
+            fill(connection, rows)
+        try:
+            connection.execute("ATTACH ? AS made", (read_only(path),))
+            connection.execute("BEGIN")
+            return vectors, list(differences(connection))
+        except sqlite3.OperationalError as fault:
+            return vectors, [f"{path}: {fault}"]
+
+
+def compare(site, path):
+    """Prints how a database differs from the texts of a site, after a mirror had some seconds to have what they have. The exit status."""
+    until, is_over, found = time.monotonic() + COMPARING, False, [""]
+    while found and not is_over:
+        *_, vector = site.who()
+        is_due = is_reached(path, vector, until)
+        vectors, found = compared(site, path)
+        is_over = not is_due or time.monotonic() > until or vectors == {vector, site.who()[2]}
+    print(*(found or [f"equal at {' and '.join(sorted(vectors))}"]), sep="\n")
+    return 1 if found else 0
+
+
+def options():
+    it = argparse.ArgumentParser(prog="mirror.py", description=__doc__, formatter_class=argparse.RawDescriptionHelpFormatter)
+    what = it.add_mutually_exclusive_group()
+    what.add_argument("--once", action="store_true", help="make the database equal, and end")
+    what.add_argument("--compare", action="store_true", help="compare the database with the site, and end")
+    add_options(it)
+    it.add_argument("url", metavar="URL", help="the address of the site, such as https://site1.hub.example:8700")
+    it.add_argument("database", metavar="DATABASE", help="the file of the database")
+    return it.parse_args()
+
+
+def client_for(asked):
+    try:
+        return client_of(asked, [asked.url])
+    except (ValueError, OSError) as why:
+        raise Stop(f"{why}") from None
+
+
+def main():
+    asked = options()
+    os.umask(0o077)  # the database has payments of customers: nobody else of this machine reads it
+    for number in (signal.SIGINT, signal.SIGTERM):
+        signal.signal(number, lambda *_: sys.exit(0))
+    path, client = os.path.realpath(asked.database), lambda: client_for(asked)
+    try:
+        sys.exit(compare(Site(client()), path) if asked.compare else Mirror(asked.url.rstrip("/"), path, client).run(asked.once))
+    except (Stop, Failed, BadText) as why:
+        say(why)
+    except sqlite3.DatabaseError as why:
+        say(f"{path} is damaged: {why}; when it is removed, a new one is made")
+    sys.exit(2)
+
+
+if __name__ == "__main__":
+    main()

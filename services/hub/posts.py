@@ -1,0 +1,198 @@
+"""posts.py: what becomes of lines that somebody posts: in whose name they are, what the record has of it, and what waits for its instruction.
+
+A bank posts in its own name alone. An answer of a beneficiary bank whose instruction is not held yet waits on the disk. It is taken when the
+instruction comes, be it from a client or from a peer, and after some time without one it is given up. What is handed to the process is in
+the record before.
+"""
+import asyncio, collections, logging, time
+from . import record, senders
+from .keeper import Busy, Halted, Outcome, Refused, Unable
+from .questions import on_transfer
+
+LOOK = 5.0  # seconds after which what waits too long is looked for, and what could not be handed on is tried again
+AT_ONCE = 100  # questions that are asked together
+MOST_SHORT = 1 << 16  # bytes of a text that is asked for together with others
+MOST_WITHHELD = 100  # lines in the name of another bank, of one post, that the record names
+log = logging.getLogger("hub")
+
+# somebody who posts: who it is, from which address, in which request
+Asker = collections.namedtuple("Asker", "who address request")
+
+
+class Posts:
+    """The lines that clients post. `reader` reads lines as the core does: it is needed if a bank has a role."""
+
+    def __init__(self, keeper, its_record, reader, seconds):
+        self.keeper, self.record, self.reader, self.seconds = keeper, its_record, reader, seconds
+        self.names, self.many, self.some, self.task, self.watches = set(), 0, asyncio.Event(), None, False
+        self.may_send = lambda name, bank: True  # whether somebody still sends in the name of a bank
+        self.changed = set()  # transfers with something that waits, and of which a message came
+
+    async def begin(self):
+        """Looks at all that waited when the site ended, and from now on at what changes."""
+        rows = await self.record.waiting()
+        self.names, self.many = {(row.originator, row.tx) for row in rows}, len(rows)
+        self.changed = set(self.names)
+        self._watch()
+        self.some.set()
+        self.task = asyncio.ensure_future(self._follow())
+
+    async def end(self):
+        if self.task:
+            self.task.cancel()
+            await asyncio.gather(self.task, return_exceptions=True)
+
+    # ---- what is posted
+
+    async def post(self, asker, lines):
+        """The outcome of each line."""
+        if asker.who.may(("operator",)):
+            return await self._handed_on(asker, lines)
+        verdicts, reads = await self._judged(asker, lines)
+        places = lambda word: [place for place, verdict in enumerate(verdicts) if verdict.word == word]
+        kept, allowed = places(senders.WAITS), places(senders.ALLOWED)
+        rows = await self._kept(asker, [(reads[place], lines[place]) for place in kept])
+        read, unread = ([place for place in allowed if (reads[place] is None) == is_unread] for is_unread in (False, True))
+        done = await self._handed_on(asker, [lines[place] for place in read])
+        refused = await self._refused(asker, [lines[place] for place in unread])
+        self._withheld(asker, [(lines[place], verdicts[place].why) for place in places(senders.FORBIDDEN)])
+        outcomes = {**dict(zip(read, done)), **dict(zip(unread, refused)),
+                    **{place: Outcome("WAITING", 0, row.until) for place, row in zip(kept, rows)}}
+        if rows:
+            self._look_at({(row.originator, row.tx) for row in rows})
+        return [outcomes.get(place) or Outcome("FORBIDDEN", 0, verdict.why) for place, verdict in enumerate(verdicts)]
+
+    def _from(self, asker):
+        return asker.who.name, asker.address, asker.request
+
+    async def _judged(self, asker, lines):
+        """What a bank may do with each line, and how the core reads it."""
+        if self.reader is None:
+            raise Unable("the library that reads lines is not there")
+        reads = await asyncio.to_thread(self.reader.read, lines)
+        held = await self._held(senders.wanted(reads))
+        return senders.judged(reads, asker.who.banks, held), reads
+
+    async def looked_up(self, transfers, seen):
+        """What a function sees in the text of the messages on each of some transfers. Not more texts than a few are there at a time."""
+        transfers, found = sorted(transfers), {}
+        for place in range(0, len(transfers), AT_ONCE):
+            some = transfers[place:place + AT_ONCE]
+            answers = await self.keeper.ask_all([on_transfer(*transfer) for transfer in some], MOST_SHORT)
+            short = [(transfer, one.text) for transfer, one in zip(some, answers) if not one.is_cut]
+            found.update(await asyncio.to_thread(lambda: {transfer: seen(bytes(text), *transfer) for transfer, text in short}))
+            for transfer in (transfer for transfer, one in zip(some, answers) if one.is_cut):  # a long text is there alone
+                found[transfer] = await asyncio.to_thread(seen, bytes(await self.keeper.ask(on_transfer(*transfer))), *transfer)
+        return found
+
+    async def _held(self, transfers):
+        """The beneficiary banks of the instructions that are held for some transfers."""
+        return await self.looked_up(transfers, senders.beneficiaries)
+
+    async def _handed_on(self, asker, lines):
+        """The outcomes of lines that the process is given, after the record has them."""
+        if not lines:
+            return []
+        number = await self.record.add("post", *self._from(asker), record.post_of(lines))
+        try:
+            outcomes = await self.keeper.take(lines)
+        except (Halted, Unable, Busy) as why:
+            self.record.note("failed", *self._from(asker), record.failed_of(number, str(why)))
+            raise
+        self.record.note("outcome", *self._from(asker), record.outcomes_of(number, outcomes))
+        return outcomes
+
+    async def _refused(self, asker, lines):
+        """The outcomes of lines that the core refuses. The process is not given them: nobody knows in whose name they are. The record has
+        their number alone, so that nobody fills the disk with them."""
+        if not lines:
+            return []
+        texts = await asyncio.to_thread(self.reader.refusals, lines)
+        self.record.note("unread", *self._from(asker), {"lines": len(lines), "first": record.digest_of(lines[0])})
+        return [self.keeper.refused(text) for text in texts]
+
+    def _withheld(self, asker, found):
+        """Has the record say which lines were in the name of another bank."""
+        if found:
+            first = [[record.digest_of(line), why] for line, why in found[:MOST_WITHHELD]]
+            self.record.note("withheld", *self._from(asker), {"lines": first, "more": len(found) - len(first)})
+
+    async def _kept(self, asker, found):
+        """The rows of some lines that wait from now on."""
+        if not found:
+            return []
+        until = record.utc(time.time() + self.seconds)
+        rows = [record.to_wait(until, asker.who.name, read.sender, read.kind, *read.transfers[0], asker.request, line) for read, line in found]
+        return await self.record.put_waiting(rows, asker.address)
+
+    # ---- what waits
+
+    def round(self, changes):
+        """After a round of the site: what waits for a transfer that changed is looked at. With None it is not known which ones changed."""
+        if self.names:
+            found = self.names if changes is None else self.names & {change[:2] for change in changes}
+            if found:
+                self._look_at(found)
+
+    def _look_at(self, transfers):
+        self.names |= transfers
+        self.changed |= transfers
+        self._watch()
+        self.some.set()
+
+    def _watch(self):
+        """Has the site say what changes, as long as something waits."""
+        if bool(self.names) != self.watches:
+            self.watches = bool(self.names)
+            self.keeper.watch(1 if self.watches else -1)
+
+    async def _follow(self):
+        """Looks again and again, for ever. No failure ends it, and one that goes on is logged once."""
+        said = None
+        while True:
+            try:
+                await asyncio.wait_for(self.some.wait(), LOOK)
+            except asyncio.TimeoutError:
+                pass
+            self.some.clear()
+            try:
+                await self._look()
+                said = None
+            except Exception as why:
+                if repr(why) != said:
+                    is_known = isinstance(why, (Busy, Halted, Refused, Unable))
+                    log.warning("what waits for its instruction is looked at again later: %s", why, exc_info=not is_known)
+                said = repr(why)
+                await asyncio.sleep(LOOK)
+                self.some.set()
+
+    async def _look(self):
+        """Takes what has its instruction now, and gives up what waited too long."""
+        if self.names:
+            await self.keeper.begin_watching()
+        changed, self.changed = self.changed, set()
+        try:
+            held = await self._held(changed)
+            for row in await self.record.waiting() if any(held.values()) else []:
+                if held.get((row.originator, row.tx)):
+                    await self._decided(row, held[row.originator, row.tx])
+        except BaseException:
+            self.changed |= changed
+            raise
+        late = await self.record.due(record.utc())
+        for row in late:
+            await self.record.end_waiting(row.number, "EXPIRED", "no instruction came in time")
+        if changed or late:
+            rows = await self.record.waiting()
+            self.names, self.many = {(row.originator, row.tx) for row in rows} | self.changed, len(rows)
+            self._watch()
+
+    async def _decided(self, row, beneficiaries):
+        """Hands a line on that waited, if the bank is the beneficiary bank of its instruction."""
+        if row.bank not in beneficiaries or not self.may_send(row.who, row.bank):
+            why = (f"{row.bank} is not the beneficiary bank of {row.originator} {row.tx}" if row.bank not in beneficiaries
+                   else f"{row.who} does not send in the name of {row.bank} any more")
+            await self.record.end_waiting(row.number, "FORBIDDEN", why)
+            return
+        outcome, = await self.keeper.take([row.line])
+        await self.record.end_waiting(row.number, outcome.word, outcome.number if outcome.word == "TAKEN" else outcome.why or None)

@@ -1,0 +1,34 @@
+"""tls.py: how a site shows who it is over TLS, and how it knows clients and peers by certificates of its own authority."""
+import ssl
+from .access import names_in
+from .files import Wrong
+
+
+def to_clients(tls):
+    """The context of a site for its clients."""
+    try:
+        it = ssl.create_default_context(ssl.Purpose.CLIENT_AUTH, cafile=tls.authority)
+        it.minimum_version = ssl.TLSVersion.TLSv1_2
+        it.verify_mode = ssl.CERT_REQUIRED if tls.clients == "required" else ssl.CERT_OPTIONAL
+        it.load_cert_chain(tls.certificate, tls.key)
+        return it
+    except (OSError, ssl.SSLError) as fault:
+        raise Wrong(f"the certificates cannot be used: {fault}") from None
+
+
+def to_peer(tls, number, roles):
+    """The context of a site for one of its peers, whose certificate must be that of the site with this number."""
+    class OfPeer(ssl.SSLObject):
+        def do_handshake(self):
+            super().do_handshake()
+            certificate = self.getpeercert()
+            if not roles().is_peer(number, certificate):
+                raise ssl.CertificateError(f"the certificate of {', '.join(names_in(certificate)) or 'nobody'} is not that of site {number}")
+    try:
+        it = ssl.create_default_context(cafile=tls.authority)
+        it.minimum_version = ssl.TLSVersion.TLSv1_2
+        it.load_cert_chain(tls.certificate, tls.key)
+        it.sslobject_class = OfPeer
+        return it
+    except (OSError, ssl.SSLError) as fault:
+        raise Wrong(f"the certificates cannot be used: {fault}") from None

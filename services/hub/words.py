@@ -1,0 +1,417 @@
+"""words.py: what an operator has a site do with journals: check its own, copy it, try a copy, put a copy in its place, adopt another one.
+
+Each word returns what is printed, and the exit status, which is 1 if lines are refused. Wrong and Held say why nothing was done. What
+changes something has a row in the record. A journal that is there is only read.
+"""
+import collections, contextlib, fcntl, hashlib, os, pathlib, re, sys, tempfile, threading
+from . import record
+from .files import DELTA, OPEN, ORIGIN, Files, Wrong, synced
+from .keeper import GAP, Held, Refused, Unable, as_message
+from .over import Serve
+from .process import OTHER_SITE, WRONG_JOURNAL
+from .vectors import BadText, listed, run_text, words_of
+
+FIRST_LINE = re.compile(rb" site ([1-9][0-9]{0,3}) ([1-9][0-9]{0,3})\n")
+MOST_FIRST = 20  # bytes of the first line of a journal
+SHUT = b"\t"  # the byte after the last line that counts
+BLANK = b" \t\r"
+LOCK_AT, LOCKED = 1 << 30, 512  # the bytes of a journal that its process locks
+MOST_LINES, MOST_BYTES = 1000, 1 << 20  # of lines that are adopted at once
+PIECE = 1 << 20
+
+# what a journal keeps: its lines, the messages among them, the bytes after them that do not count, and whether it was cut off there
+Kept = collections.namedtuple("Kept", "lines messages rest is_cut")
+# what a program makes of a journal: its vector, what it keeps, the size and the sum of the file, and what is wrong
+Tried = collections.namedtuple("Tried", "vector kept size sum faults")
+# a message of a journal: its line in the file, its number, and the line itself
+Message = collections.namedtuple("Message", "place number line")
+
+
+# ---- journals at any place
+
+@contextlib.contextmanager
+def naming(path):
+    """Has a fault of the disk say which file it was."""
+    try:
+        yield
+    except OSError as fault:
+        fault.filename = fault.filename or str(path)
+        raise
+
+
+def journal_at(path):
+    """The files of the site whose journal is at a path, whatever its name is. Wrong if it is none."""
+    path = pathlib.Path(path)
+    try:
+        with open(path, "rb") as file:
+            found = FIRST_LINE.fullmatch(file.readline(MOST_FIRST))
+    except FileNotFoundError:
+        raise Wrong(f"there is no file {path}") from None
+    if not found:
+        raise Wrong(f"{path} is no journal of a site: fault {WRONG_JOURNAL}")
+    files = Files(path.parent, *map(int, found.groups()))
+    files.journal = path
+    return files
+
+
+def journal_of(files, path):
+    """The same for a journal of this site. Wrong if it is that of another one."""
+    its = journal_at(path)
+    if (its.site, its.group) != (files.site, files.group):
+        raise Wrong(f"{path} is the journal of another site or group, {its.site} of {its.group} in place of {files.site} of {files.group}: "
+                    f"fault {OTHER_SITE}")
+    return its
+
+
+def measured(files):
+    """What a journal keeps."""
+    lines, messages, end = 1, 0, len(b" site %d %d\n" % (files.site, files.group))
+    for line in files.kept():
+        lines += 1
+        messages += not line.startswith(DELTA)
+        end += len(line) + 2
+    with open(files.journal, "rb") as file:
+        file.seek(end)
+        is_cut = file.read(1) in (b"", OPEN)
+        return Kept(lines, messages, 0 if is_cut else os.fstat(file.fileno()).st_size - end - len(SHUT), is_cut)
+
+
+def copied(path, target):
+    """Copies a file byte by byte, once, since a site may write to it meanwhile. The size of the copy, and its SHA-256."""
+    size, its = 0, hashlib.sha256()
+    with open(path, "rb") as file, open(target, "xb") as copy:
+        for piece in iter(lambda: file.read(PIECE), b""):
+            copy.write(piece)
+            its.update(piece)
+            size += len(piece)
+    return size, its.hexdigest()
+
+
+# ---- what a program makes of a journal
+
+def tried(files, program, path):
+    """What a program makes of a journal of this site, of which it is given a copy in a private folder. It serves nobody."""
+    journal_of(files, path)
+    with tempfile.TemporaryDirectory(prefix="niluppang-") as folder:
+        copy = Files(folder, files.site, files.group)
+        with naming(folder):
+            size, its = copied(path, copy.journal)
+        kept, vector = measured(copy), restored(program, copy)
+        faults = faults_of(program, copy, vector)
+        if kept.is_cut:
+            faults.append(cut_text(kept))
+        return Tried(vector, kept, size, its, faults)
+
+
+def restored(program, files):
+    """The vector of the site that a program restores from a journal."""
+    serve = Serve(program, files, files.journal)
+    status = serve.end()
+    if status:
+        raise Wrong(f"{program} ended with status {status}")
+    return serve.vector
+
+
+def faults_of(program, files, vector):
+    """What a program refuses of a journal, from which it restored a site with this vector: a text for each line."""
+    try:
+        files.check(listed(vector, files.group))
+        return []
+    except (Wrong, ValueError, IndexError) as fault:  # the head of a changed delta may be anything
+        return list(refused(program, files)) or [str(fault)]
+
+
+def refused(program, files):
+    """A text for each line of a journal that a program refuses, or takes for a repeat: then the lines after it have other numbers."""
+    messages = 0
+    for place, line, reply in replies(program, files):
+        is_delta = line.startswith(DELTA)
+        messages += not is_delta
+        if not reply.startswith("ACCEPTED " if is_delta else "TAKEN "):
+            yield fault_text(place, reply.removeprefix("REFUSED "), None if is_delta else messages)
+
+
+def replies(program, files):
+    """The lines that a journal keeps, each with its line in the file, and with the reply of a new site that takes one after another."""
+    serve = Serve(program, files, files.folder / "replies.journal")
+    feeding = threading.Thread(target=feed, args=(serve.child.stdin, files), daemon=True)
+    feeding.start()
+    try:
+        for place, line in enumerate(files.kept(), 2):
+            reply = serve.child.stdout.readline()
+            if not reply:
+                raise Wrong(f"{program} ended at line {place}: {serve.child.stderr.read().decode(errors='replace').strip()}")
+            yield place, line, reply[:-1].decode(errors="replace")
+    finally:
+        serve.child.kill()
+        serve.child.wait()
+        feeding.join()
+
+
+def feed(stream, files):
+    """Writes the lines of a journal as requests. A line that looks like a question is a message that is refused."""
+    with contextlib.suppress(BrokenPipeError):
+        for line in files.kept():
+            stream.write((line if line.startswith(DELTA) else as_message(line)) + b"\n")
+        stream.close()
+
+
+# ---- texts
+
+def fault_text(place, why, message=None):
+    """What is printed of a line that is refused. It begins as the program prints one, so that explain.py of the desk knows it."""
+    return f"line {place}: {why or 'blank'} ({'delta' if message is None else f'message {message}'})"
+
+
+def cut_text(kept):
+    return f"the file is cut off after line {kept.lines}: it may have had more"
+
+
+def rest_texts(kept):
+    return [f"{kept.rest} bytes after line {kept.lines} do not count"] if kept.rest else []
+
+
+def report_of(it):
+    """What is printed of a copy: the vector of the site that it restores, by what the file is known, and what is odd."""
+    return [it.vector, f"messages {it.kept.messages}, bytes {it.size}, sha256 {it.sum}", *rest_texts(it.kept), *it.faults]
+
+
+def row_of(path, it):
+    """What the record has of a copy."""
+    return {"file": str(path), "vector": it.vector, "messages": it.kept.messages, "bytes": it.size, "sha256": it.sum}
+
+
+def must_be_right(path, it):
+    if it.faults:
+        raise Wrong("\n".join([f"{path} is not right, and nothing was done:", *it.faults]))
+
+
+# ---- files that come and go
+
+@contextlib.contextmanager
+def beside(target):
+    """A new file beside a path, which nobody else reads. In the end it is gone, or it was given that path."""
+    there, new = tempfile.mkstemp(prefix=f"{target.name}.", suffix=".new", dir=target.parent)
+    os.close(there)
+    try:
+        with naming(new):
+            yield pathlib.Path(new)
+    finally:
+        with contextlib.suppress(FileNotFoundError):
+            os.unlink(new)
+
+
+def keep(files, new):
+    """Writes what a journal keeps to a file, and puts it on the disk. A batch that comes meanwhile is in it completely or not at all."""
+    with open(new, "wb") as copy:
+        copy.write(b" site %d %d\n" % (files.site, files.group))
+        for line in files.kept():
+            copy.write(OPEN + line + b"\n")
+        copy.write(SHUT)
+        copy.flush()
+        os.fsync(copy.fileno())
+
+
+def give(new, target):
+    """Gives a file a path that no file has."""
+    try:
+        os.link(new, target)
+    except FileExistsError:
+        raise Wrong(f"{target} is there already, and stays as it is") from None
+    os.unlink(new)
+    synced(target.parent)
+
+
+# ---- the words
+
+def note(noted, act, what):
+    """The number of a row that the record gets. Wrong if it cannot be written."""
+    try:
+        return noted.act(act, what)
+    except Unable as why:
+        raise Wrong(str(why)) from None
+
+
+def clear_halt(files, noted):
+    """Lets a site take messages again."""
+    why = files.halted()
+    if why is None:
+        return "there was no halt", 0
+    note(noted, "clear-halt", {"halt": why})
+    files.clear_halt()
+    return f"the halt is cleared: the site takes messages when it is started again. It was halted for: {why}", 0
+
+
+def check(files, program):
+    """What a program makes of the journal, such as before an upgrade. The site may run meanwhile."""
+    it = tried(files, program, files.journal)
+    return "\n".join([it.vector, *it.faults]), 1 if it.faults else 0
+
+
+def verify(files, program, path):
+    """What a program makes of a copy of the journal."""
+    it = tried(files, program, path)
+    return "\n".join(report_of(it)), 1 if it.faults else 0
+
+
+def backup(files, program, target, noted):
+    """Makes a copy of the journal, which ends as one does that was closed in peace. The site may run meanwhile."""
+    target, its = pathlib.Path(target).absolute(), journal_of(files, files.journal)
+    if os.path.lexists(target):
+        raise Wrong(f"{target} is there already, and stays as it is")
+    with beside(target) as new:
+        keep(its, new)
+        it = tried(files, program, new)
+        must_be_right(files.journal, it)
+        note(noted, "backup", row_of(target, it))
+        give(new, target)
+    return "\n".join(report_of(it)), 0
+
+
+def restore(files, program, path, noted):
+    """Puts a copy in the place of a journal that is not there any more. The row of the record follows, since a new record begins with the
+    lines of the journal."""
+    if os.path.lexists(files.journal):
+        raise Wrong(f"{files.journal} is there, and may have messages that {path} lacks: move it away first, and keep it")
+    its, it = journal_of(files, path), tried(files, program, path)
+    must_be_right(path, it)
+    with beside(files.journal) as new:
+        keep(its, new)
+        give(new, files.journal)
+    try:
+        note(noted, "restore", row_of(pathlib.Path(path).absolute(), it))
+    except (Wrong, OSError) as why:
+        raise Wrong(f"{files.journal} is restored, and the record has no row of it: {why}") from None
+    more = f"the site halts as soon as a peer counts more than {it.kept.messages} messages of site {files.site}: its number is then retired"
+    return "\n".join([*report_of(it), more]), 0
+
+
+# ---- adopting the journal of another number
+
+async def adopt(keeper, path, noted):
+    """Has a site take all of the journal of another number: what the site lacks of its deltas, and then its messages. What is held is a
+    repeat, so a journal may be adopted again. Standard error has each line that is refused."""
+    its = journal_at(path)
+    if its.group != keeper.group or its.site == keeper.number:
+        raise Wrong(f"{path} is the journal of site {its.site} of {its.group}, and site {keeper.number} of {keeper.group} adopts that of "
+                    "another site of its group")
+    must_be_free(path)
+    kept = measured(its)
+    fresh, parts = await accepted(keeper, its)
+    counts, messages = await taken(keeper, its, noted)
+    for text in [*parts, *messages, *rest_texts(kept), *([cut_text(kept)] if kept.is_cut else [])]:
+        print(text, file=sys.stderr)
+    return "\n".join([f"taken {counts['TAKEN']}, repeats {counts['REPEAT']}, refused {len(messages)}",
+                      f"new entries of other sites {fresh}, refused parts of deltas {len(parts)}",
+                      f"the site holds {await vector_now(keeper)}"]), 1 if parts or messages else 0
+
+
+def must_be_free(path):
+    """Held if a process has a journal: its site still takes messages."""
+    with open(path, "rb") as file:
+        try:
+            fcntl.lockf(file, fcntl.LOCK_SH | fcntl.LOCK_NB, LOCKED, LOCK_AT)
+        except (BlockingIOError, PermissionError):
+            raise Held(f"{path} is in use: end its site first, for good") from None
+
+
+async def vector_now(keeper):
+    return (await keeper.ask(b"? vector")).decode()
+
+
+async def accepted(keeper, its):
+    """Hands the deltas of a journal on, and those that were early again after the others. How many entries are new, and a text for each
+    part that is refused in the end."""
+    counts, total = listed(await vector_now(keeper), keeper.group), 0
+    while True:
+        fresh, faults, is_early = await handed_on(keeper, its, counts)
+        total += fresh
+        if not fresh or not is_early:
+            return total, faults
+
+
+async def handed_on(keeper, its, counts):
+    """Hands on once what the deltas have beyond some counts, which then count it. How many entries are new, a text for each part that is
+    refused, and whether one was early."""
+    fresh, faults, is_early = 0, [], False
+    for place, line in enumerate(its.kept(), 2):
+        for origin, last, delta in runs_beyond(counts, line) if line.startswith(DELTA) else ():
+            try:
+                fresh += await keeper.accept(delta)
+                if origin:
+                    counts[origin - 1] = last
+            except Refused as why:
+                faults.append(fault_text(place, why.text))
+                is_early = is_early or why.number == GAP
+    return fresh, faults, is_early
+
+
+def runs_of(delta):
+    """The runs of a delta: the site, the first number and the messages of each. BadText if it is none of today's form."""
+    fields, place, found = delta.split(b"\t"), 1, []
+    while place < len(fields) and fields[place].startswith(ORIGIN):
+        origin, first, many = words_of(fields[place], b"origin", 3)
+        found.append((origin, first, fields[place + 1:place + 1 + many]))
+        place += 1 + many
+    is_complete = fields[place:] == [b"end %d" % sum(len(lines) for _, _, lines in found)]
+    if fields[0] != b"delta 2" or not is_complete or not all(origin and first and lines for origin, first, lines in found):
+        raise BadText("it is not a delta")
+    return found
+
+
+def runs_beyond(counts, delta):
+    """What a delta has beyond some counts, as deltas of one site each, with the site and its last number there. One that cannot be read is
+    handed on as it is, with None. What a site holds is not handed to it: if the journal has something else there, that would halt it."""
+    try:
+        runs = runs_of(delta)
+    except BadText:
+        return [(None, 0, delta)]
+    found = []
+    for origin, first, lines in runs:
+        held = counts[origin - 1] if 1 <= origin <= len(counts) else 0
+        lacking = lines[max(0, held + 1 - first):]
+        if lacking:
+            found.append((origin, first + len(lines) - 1, run_text(origin, max(first, held + 1), lacking)))
+    return found
+
+
+async def taken(keeper, its, noted):
+    """Has a site take the messages of a journal. How many had each outcome, and a text for each that is refused."""
+    counts, faults = collections.Counter(), []
+    for batch in batches(its):
+        blank, asked = [one for one in batch if not one.line.strip(BLANK)], [one for one in batch if one.line.strip(BLANK)]
+        outcomes = await recorded(keeper, its, [one.line for one in asked], noted)
+        counts.update(outcome.word for outcome in outcomes)
+        faults += [fault_text(one.place, "", one.number) for one in blank]
+        faults += [fault_text(one.place, it.why, one.number) for one, it in zip(asked, outcomes) if it.word == "REFUSED"]
+    return counts, faults
+
+
+async def recorded(keeper, its, lines, noted):
+    """The outcomes of messages that a site takes. The record has the sum of each before, and its outcome after that."""
+    if not lines:
+        return []
+    row = note(noted, "adopt", {"journal": str(its.journal.absolute()), "site": its.site, **record.post_of(lines)})
+    try:
+        outcomes = await keeper.take(lines)
+    except Exception as why:
+        note(noted, "failed", record.failed_of(row, str(why)))
+        raise
+    note(noted, "outcome", record.outcomes_of(row, outcomes))
+    return outcomes
+
+
+def batches(files):
+    """The messages of a journal, some at once."""
+    found, size, number = [], 0, 0
+    for place, line in enumerate(files.kept(), 2):
+        if line.startswith(DELTA):
+            continue
+        number += 1
+        found.append(Message(place, number, line))
+        size += len(line)
+        if size >= MOST_BYTES or len(found) >= MOST_LINES:
+            yield found
+            found, size = [], 0
+    if found:
+        yield found

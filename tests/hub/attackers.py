@@ -1,0 +1,554 @@
+"""attackers.py: what each who may do, and what it may not, at sites of services/hub with TLS and roles.
+
+The rows are those of the table of attackers in docs/users/hub.md: strangers, pages of the web, banks, peers, people in the middle, users of the
+machine, monitors and operators.
+"""
+import asyncio, contextlib, hashlib, http.client, json, os, pathlib, shutil, signal, socket, sqlite3, ssl, sys, time
+from concurrent.futures import ThreadPoolExecutor
+from bench.generate import samples
+from tests import harness, inputs
+from tests.harness import EXAMPLES, SERVICES
+from tests.hub import clients, secure, sites
+from tests.hub.limits import connections, memory
+from tests.hub.peers import odd_peer
+from tests.hub.secure import DESK_TOKEN, OLD_TOKEN, ROLES
+from tests.hub.sites import Hub, outcomes, until
+from tests.hub.troubles import tried
+sys.path.insert(0, str(SERVICES))
+from hub import record
+
+LUX, HAN, SCA = "LUTEFRPPXXX", "HANSDEHHXXX", "SCALBEBBXXX"
+# of each address, a path and a body that somebody may send, and the roles that may ask it
+PATHS = {
+    "GET /": ("/", None, "desk gateway"), "POST /messages": ("/messages", b"{}\n", "lutefrpp hansdehh scalbebb operator gateway"),
+    "POST /iso20022": ("/iso20022", (EXAMPLES / "desk/iso20022/pacs.008.xml").read_bytes(), "lutefrpp hansdehh scalbebb operator gateway"),
+    "GET /waiting": ("/waiting", None, "lutefrpp hansdehh scalbebb desk operator gateway"),
+    "GET /transfers": (f"/transfers/{LUX}/T0", None, "lutefrpp desk gateway"), "GET messages": (f"/transfers/{LUX}/T0/messages", None, "lutefrpp desk gateway"),
+    "GET /totals/BANK": (f"/totals/{LUX}", None, "lutefrpp desk gateway"),
+    "POST /report": (f"/report/{LUX}/2025-03-10", b"DbtrAgt,TxId,Amt,Sts\n", "lutefrpp desk gateway"), "GET /totals": ("/totals", None, "desk gateway"),
+    "GET /status": ("/status", None, "desk gateway"), "GET /archive": ("/archive", None, "desk gateway"),
+    "GET /contradictions": ("/contradictions", None, "desk gateway"), "GET /vector": ("/vector", None, "desk monitor operator gateway site1 site2 site3 site4"),
+    "GET /delta": ("/delta?have=-", None, "site1 site2 site3 site4"), "GET /metrics": ("/metrics", None, "monitor operator gateway"),
+    **{f"GET {path}": (path, None, " ".join(ROLES)) for path in ("/health", "/live", "/ready", "/openapi.json")},
+}
+
+
+def instruction(sender, receiver, number, **changed):
+    """The line of an instruction of a bank."""
+    keys = {"MsgId": f"M{number}", "TxId": f"T{number}", "InstgAgt": sender, "DbtrAgt": sender, "CdtrAgt": receiver, **changed}
+    return samples.line(samples.instruction(**keys)).encode()
+
+
+def confirmation(sender, originator, number, **changed):
+    """The line of the confirmation of an instruction."""
+    keys = {"MsgId": f"C{number}", "InstgAgt": sender, "DbtrAgt": originator, "OrgnlMsgId": f"M{number}", "OrgnlTxId": f"T{number}", **changed}
+    return samples.line(samples.confirmation(**keys)).encode()
+
+
+def recall(sender, originator, *numbers):
+    """The line of a recall of some transfers of a bank."""
+    listed = [samples.transaction(CxlId=f"R{number}", OrgnlMsgId=f"M{number}", OrgnlTxId=f"T{number}", DbtrAgt=originator) for number in numbers]
+    return samples.line(samples.recall(listed, MsgId=f"K{'-'.join(map(str, numbers))}", InstgAgt=sender)).encode()
+
+
+class Secure:
+    """The interpreter and the program, and certificates and roles of its own for each hub."""
+
+    def __init__(self, trial):
+        self.trial, self.made = trial, secure.Secured(trial.fresh("secured"))
+
+    @contextlib.contextmanager
+    def site(self, name, *lines, number=1, is_well=True, library=None, **keys):
+        """One site with TLS and roles, which takes messages."""
+        port, data = keys.pop("port", None) or sites.free_ports(1), keys.pop("data", None) or self.trial.fresh(name)
+        config = self.made.configured(data, number, port, *lines, **keys)
+        with Hub(self.trial.python, self.trial.program, data, config=config) as hub:
+            hub.port, hub.config = port, config
+            until(lambda: self.made.is_well(port) if is_well else self.made.asked(port, "/health", who="desk"))
+            yield hub
+
+    def asked(self, hub, path, body=None, **more):
+        return self.made.asked(hub.port, path, body, **more)
+
+    def open(self, hub, who, size):
+        """A connection on which somebody sends the head of a post, and holds its body back."""
+        connection = http.client.HTTPSConnection("localhost", hub.port, timeout=20, context=self.made.context(who))
+        connection.putrequest("POST", "/messages")
+        connection.putheader("Content-Length", str(size))
+        connection.endheaders()
+        return connection
+
+    def words(self, hub, who, *lines):
+        """The outcomes of lines that somebody posts."""
+        return [one["outcome"] for one in outcomes(self.asked(hub, "/messages", b"".join(lines), who=who))]
+
+
+def is_cut(call):
+    """Whether a connection is refused before there is an answer."""
+    try:
+        call()
+    except (ssl.SSLError, ConnectionError, http.client.HTTPException):
+        return True
+    return False
+
+
+def strangers(trial):
+    """Who has no certificate, one of another authority, one that nobody knows, or speaks no TLS."""
+    it = Secure(trial)
+    with it.site("strangers") as hub:
+        yield "no certificate: no answer", all(is_cut(lambda: it.asked(hub, path, who=None)) for path in ("/health", "/archive", "/"))
+        yield "a certificate of another authority: no answer", is_cut(lambda: it.asked(hub, "/health", authority="other", who="desk"))
+        yield "no TLS: no answer", is_cut(lambda: sites.asked(hub.port, "/health", timeout=10))
+        secure.certificate(it.made.folder / "tls", "unknown")
+        found = [it.asked(hub, path, body, who="unknown").status for path, body, roles in PATHS.values() if "site1" not in roles or "desk" not in roles]
+        yield "a certificate that no role has: 401 on all but health", set(found) == {401}
+        yield "and health, as everyone has it who may connect", it.asked(hub, "/health", who="unknown").status == 200
+        names = {"evil.example": 403, f"localhost:{hub.port}": 200, "[": 400}
+        yield "a page that gives its name the address of the site: 403, with a certificate too", {
+            name: it.asked(hub, "/archive", Host=name).status for name in names} == names
+        from_page = [it.asked(hub, "/messages", b"{}\n", Origin="https://evil.example").status, it.asked(hub, "/archive", Sec_Fetch_Site="cross-site").status]
+        yield "a page of another server, in a browser with a certificate: 403", from_page == [403, 403]
+    with it.site("optional", clients="optional") as hub:
+        got = lambda token, path="/status": it.asked(hub, path, who=None, **({"Authorization": f"Bearer {token}"} if token else {})).status
+        yield "if certificates are optional, who has none needs a token", [got(None), got("x"), got(DESK_TOKEN), got(OLD_TOKEN)] == [401, 401, 200, 200]
+        yield "a token has its role and no other", [got(DESK_TOKEN, path) for path in ("/metrics", "/delta", "/vector")] == [403, 403, 200]
+        yield "a peer needs a certificate or a token", got(None, "/delta") == 401
+
+
+def each_role(trial):
+    """Each role asks each address."""
+    it = Secure(trial)
+    with it.site("matrix") as hub:
+        for name, (path, body, roles) in PATHS.items():
+            got = {who: it.asked(hub, path, body, who=who).status for who in ROLES}
+            right = {who: who in roles.split() for who in ROLES}
+            yield f"{name}: {roles}", {who: status not in (401, 403) for who, status in got.items()} == right, str(got)
+        yield "who may ask is not refused for another reason", [it.asked(hub, path, body, who=roles.split()[0]).status for path, body, roles in PATHS.values()] == [
+            200] * len(PATHS)
+
+
+ROUTES = """
+import json, sys, types
+sys.path.insert(0, sys.argv[1])
+from hub.access import ADDRESSES
+from hub.guard import Guard
+from hub.service import Service
+its = Service(types.SimpleNamespace(), None, Guard([], None), None, None, "", 1).application().router.routes()
+print(json.dumps([[(it.method, it.resource.canonical.replace("{rest}", "{rest:.+}")) for it in its], {f"{a.method} {a.path}": a.roles for a in ADDRESSES}]))
+"""
+
+
+def describes_itself(trial):
+    """The OpenAPI text has the addresses of the router, with the roles that may ask each."""
+    done = harness.run([trial.python, "-c", ROUTES, SERVICES])
+    yield "the router has its addresses", done.status == 0, done.errors.decode()
+    routes, roles = json.loads(done.text)
+    text = json.loads((SERVICES / "hub" / "openapi.json").read_text())
+    wrong = clients.describes(text, [tuple(one) for one in routes], roles)
+    yield "the OpenAPI text has each of them, with its roles", wrong == [] and len(routes) == 19, f"{wrong} {len(routes)}"
+    less = clients.describes(text, [tuple(one) for one in routes[1:]], roles)
+    more = clients.describes(text, [tuple(one) for one in routes], {**roles, "GET /archive": ["monitor"]})
+    yield "and would be found out without", bool(less) and bool(more)
+
+
+def banks(trial):
+    """A bank in the name of another one."""
+    it = Secure(trial)
+    with it.site("banks", waiting=3) as hub:
+        words = lambda who, *lines: it.words(hub, who, *lines)
+        mine = instruction(LUX, SCA, 1)
+        yield "an instruction of its own", words("lutefrpp", mine) == ["TAKEN"]
+        yield "the same of another bank", words("hansdehh", instruction(LUX, SCA, 2)) == ["FORBIDDEN"]
+        yield "sent by itself for the account of another bank", words("hansdehh", instruction(HAN, SCA, 2, DbtrAgt=LUX)) == ["FORBIDDEN"]
+        yield "another instruction of the same transfer, to contradict it", words("hansdehh", instruction(LUX, HAN, 1, MsgId="X")) == ["FORBIDDEN"]
+        yield "the confirmation by the originator, and by a third bank", [
+            words(who, confirmation(bank, LUX, 1)) for who, bank in (("lutefrpp", LUX), ("hansdehh", HAN))] == [["FORBIDDEN"], ["FORBIDDEN"]]
+        yield "a third bank that says it is the beneficiary", words("hansdehh", confirmation(SCA, LUX, 1)) == ["FORBIDDEN"]
+        yield "the confirmation by the beneficiary bank", words("scalbebb", confirmation(SCA, LUX, 1)) == ["TAKEN"]
+        yield "a recall of its own, of another bank, and of both", [
+            words("lutefrpp", recall(LUX, LUX, 1)), words("hansdehh", recall(HAN, LUX, 1)), words("lutefrpp", recall(HAN, LUX, 1))] == [
+                ["TAKEN"], ["FORBIDDEN"], ["FORBIDDEN"]]
+        both = json.loads(recall(LUX, LUX, 1, 2))
+        both["TxInf"][1]["DbtrAgt"] = HAN
+        yield "a recall of which one transaction is of another bank", words("lutefrpp", samples.line(both).encode()) == ["FORBIDDEN"]
+        twice = b'{"InstgAgt":"LUTEFRPPXXX",' + instruction(HAN, SCA, 3)[1:]
+        yield "a name that is there twice is read as the core reads it", [words("lutefrpp", twice), words("hansdehh", twice)] == [["FORBIDDEN"], ["TAKEN"]]
+        yield "a line that is a delta or a question is no message", words("lutefrpp", b"delta 2\tend 0\n", b"? archive\n") == ["REFUSED", "REFUSED"]
+        refused = [one["why"] for one in outcomes(it.asked(hub, "/messages", (EXAMPLES / "refusals.jsonl").read_bytes(), who="lutefrpp"))
+                   if one["outcome"] == "REFUSED"]
+        right = [line.partition(": ")[2] for line in (EXAMPLES / "refusals.refused").read_text().splitlines()]
+        yield "lines that are no messages are refused in the words of the program", refused == right and len(right) == 29, str(refused)
+        yield "and are counted", b'niluppang_messages_total{outcome="REFUSED"} 31\n' in it.asked(hub, "/metrics", who="monitor").body
+        yield "who may say anything", words("operator", instruction(HAN, SCA, 9)) == ["TAKEN"]
+        yield from reads_own(it, hub)
+        yield from waits(it, hub)
+
+
+def reads_own(it, hub):
+    """What a bank reads, after a transfer from LUX to SCA and one from HAN to SCA."""
+    got = lambda who, path, body=None: it.asked(hub, path, body, who=who).status
+    paths = [f"/transfers/{LUX}/T1", f"/transfers/{LUX}/T1/messages"]
+    yield "its own transfers, as originator and as beneficiary bank", [got(who, path) for who in ("lutefrpp", "scalbebb") for path in paths] == [200] * 4
+    yield "no transfer of others", [got("hansdehh", path) for path in paths] == [403] * 2
+    said = [it.asked(hub, f"/transfers/{LUX}/{tx}", who="hansdehh").body for tx in ("T1", "NONE")]
+    yield "and not whether it is there", said[0] == said[1]
+    yield "totals of its own", [got("hansdehh", f"/totals/{bank}") for bank in ("HANSDEHH", HAN, LUX)] == [200, 200, 403]
+    rows = lambda *names: b"DbtrAgt,TxId,Amt,Sts\n" + b"".join(f"{bank},{tx},1.00,ACCEPTED\n".encode() for bank, tx in names)
+    report = lambda who, bank, *names: got(who, f"/report/{bank}/2024-05-02", rows(*names))
+    yield "a report on its own list", [report("scalbebb", "SCALBEBB", (LUX, "T1"), (HAN, "T9")), report("hansdehh", HAN, (HAN, "T9"))] == [200, 200]
+    yield "no report with rows of others, and none in another name", [report("hansdehh", HAN, (LUX, "T1")), report("hansdehh", LUX, (LUX, "T1"))] == [403, 403]
+    said = it.asked(hub, f"/report/{HAN}/2024-05-02", rows((HAN, "T9"), (LUX, "T1")), who="hansdehh").body
+    yield "the row is named, and nothing of the transfer", said == b"no transfer of this bank: row 3\n"
+    row = "list", "hansdehh", {"rows": 1, "first": "row 3: LUTEFRPPXXX T1 is a transfer to SCALBEBBXXX, and not of HANSDEHHXXX"}
+    yield "the record has what the rule says", until(lambda: row in recorded(hub))
+    words = [it.words(hub, "lutefrpp", *lines) for lines in ([instruction(LUX, HAN, 31), instruction(LUX, SCA, 32)], [recall(LUX, LUX, 31, 32)])]
+    its = {who: it.asked(hub, f"/transfers/{LUX}/T31/messages", who=who).body.splitlines() for who in ("lutefrpp", "hansdehh", "desk")}
+    about = {who: [[part["OrgnlTxId"] for part in one["TxInf"]] for one in map(json.loads, lines) if "TxInf" in one] for who, lines in its.items()}
+    yield "of a recall of several transfers a beneficiary bank is shown its own", words == [["TAKEN"] * 2, ["TAKEN"]] and about == {
+        "lutefrpp": [["T31", "T32"]], "hansdehh": [["T31"]], "desk": [["T31", "T32"]]}
+
+
+def waits(it, hub):
+    """An answer before its instruction."""
+    words = lambda who, *lines: it.words(hub, who, *lines)
+    waiting = lambda who: [(one["tx"], one["state"]) for one in map(json.loads, it.asked(hub, "/waiting", who=who).body.splitlines())]
+    yield "an answer whose instruction is not there waits, also if it is sent again", words("scalbebb", confirmation(SCA, LUX, 5)) == ["WAITING"] and words(
+        "scalbebb", confirmation(SCA, LUX, 5)) == ["WAITING"]
+    yield "one of a third bank waits, too: nobody knows yet", words("hansdehh", confirmation(HAN, LUX, 5)) == ["WAITING"]
+    yield "the desk sees what waits, and a bank what is its own", [waiting(who) for who in ("desk", "scalbebb", "hansdehh", "lutefrpp")] == [
+        [("T5", "WAITING")] * 2, [("T5", "WAITING")], [("T5", "WAITING")], []]
+    yield "it changes nothing", it.asked(hub, f"/transfers/{LUX}/T5").body == b"T|LUTEFRPPXXX|T5|UNKNOWN\n"
+    yield "the instruction comes", words("lutefrpp", instruction(LUX, SCA, 5)) == ["TAKEN"]
+    yield "the answer is taken", until(lambda: it.asked(hub, f"/transfers/{LUX}/T5").body == b"T|LUTEFRPPXXX|T5|ACCEPTED\n")
+    yield "and that of the third bank is not", until(lambda: (waiting("scalbebb"), waiting("hansdehh")) == ([("T5", "TAKEN")], [("T5", "FORBIDDEN")]))
+    yield "both in one post, in the right order and in the other one", words("scalbebb", instruction(SCA, SCA, 6), confirmation(SCA, SCA, 6)) == [
+        "TAKEN", "TAKEN"] and words("scalbebb", confirmation(SCA, SCA, 7), instruction(SCA, SCA, 7)) == ["WAITING", "TAKEN"]
+    yield "and it is taken then", until(lambda: it.asked(hub, f"/transfers/{SCA}/T7").body == b"T|SCALBEBBXXX|T7|ACCEPTED\n")
+    words("scalbebb", confirmation(SCA, LUX, 8))
+    yield "without an instruction it is given up in time", until(lambda: ("T8", "EXPIRED") in waiting("scalbebb"))
+    yield "and a late instruction changes nothing", words("lutefrpp", instruction(LUX, SCA, 8)) == ["TAKEN"] and it.asked(
+        hub, f"/transfers/{LUX}/T8").body == b"T|LUTEFRPPXXX|T8|PENDING\n"
+
+
+def floods(trial):
+    """A bank that posts and asks as much as it can."""
+    it = Secure(trial)
+    with it.site("floods") as hub:
+        post = lambda body, who="lutefrpp": it.asked(hub, "/messages", body, who=who)
+        with ThreadPoolExecutor(5) as pool:
+            answers = list(pool.map(post, [b"{}\n" * 20_000] * 5))
+        late = [int(one.headers["Retry-After"]) for one in answers if one.status == 429]
+        yield "lines in a row are bounded for each client, with a word when to come back", (
+            {one.status for one in answers} == {200, 429} and len(late) >= 2 and set(late) <= {1, 2, 3, 4}), str([one.status for one in answers])
+        yield "another bank is not, and neither is an operator", [post(b"{}\n", who).status for who in ("hansdehh", "operator")] == [200, 200]
+        yield "the bank may go on later", until(lambda: post(b"{}\n").status == 200, 10)
+        size = (hub.folder / "site1.record").stat().st_size
+        yield "lines that are no messages do not fill the record", size < 200_000, str(size)
+        for _ in range(300):
+            it.asked(hub, "/archive", who="lutefrpp")
+        it.asked(hub, "/" + "y" * 7000, who="lutefrpp")
+        yield "a long path is a short line of the log", max(map(len, hub.text().splitlines())) < 1000
+        rows = recorded(hub, "denied")
+        denied = [what for act, who, what in rows if act == "denied" and who == "lutefrpp"]
+        yield "being refused 300 times is one row", len(denied) == 1 and denied[0]["asked"] == "GET /archive"
+        held = [it.open(hub, "lutefrpp", 4 << 20) for _ in range(6)]
+        time.sleep(0.3)
+        yield "bodies that one client holds back leave room for the others", [
+            post(b"{}\n" * 10).status, post(b"x" * (4 << 20) + b"\n", "hansdehh").status] == [503, 413]
+        for one in held:
+            one.close()
+        began, connection = time.monotonic(), it.open(hub, "monitor", 8 << 20)
+        yield "the body of who may not post is not waited for", answer_of(connection) == 403 and time.monotonic() - began < 5
+        connection.close()
+
+
+def crowds(trial):
+    """Who has no certificate, or no role, and uses up connections and memory."""
+    it = Secure(trial)
+    with it.site("crowds", connections=30, seconds=8) as hub:
+        held = []
+        for _ in range(100):
+            with contextlib.suppress(OSError):
+                held.append(socket.create_connection(("127.0.0.1", hub.port), 5))
+        yield "connections without a handshake are bounded too", until(lambda: connections(hub.port) <= 30, 6), str(connections(hub.port))
+        yield "and end after their seconds: then others are let in", until(lambda: it.made.is_well(hub.port), 20)
+        for one in held:
+            one.close()
+        before = memory(hub)
+        ahead = it.made.context("monitor").wrap_socket(socket.create_connection(("localhost", hub.port), 10), server_hostname="localhost")
+        ahead.settimeout(10)
+        many, request = 0, b"GET /health HTTP/1.1\r\nHost: localhost\r\n\r\n" * 100
+        with contextlib.suppress(OSError):
+            for many in range(20_000_000 // len(request)):
+                ahead.sendall(request)
+        yield "who asks far ahead of its answers is cut off, and takes no memory", many * len(request) < 19_000_000 and memory(hub) - before < 40 << 20
+        yield "and others are answered", it.made.is_well(hub.port)
+
+
+def recorded(hub, *acts):
+    """The rows of the record of a site: the act, who, and what. A note is written a moment later, so that some acts are waited for."""
+    def rows():
+        with contextlib.closing(sqlite3.connect(f"file:{hub.folder}/site1.record?mode=ro", uri=True)) as connection:
+            return [(act, who, json.loads(what)) for act, who, what in connection.execute("SELECT act, who, what FROM record ORDER BY number")]
+    until(lambda: {act for act, _, _ in rows()}.issuperset(acts), 10)
+    return rows()
+
+
+def on_record(trial):
+    """What is on record of each post, each refusal and each operator's act, and that nobody changes it unseen."""
+    it, digest = Secure(trial), lambda line: hashlib.sha256(line.rstrip(b"\n")).hexdigest()
+    with it.site("record") as hub:
+        lines = [instruction(LUX, SCA, 1), b"{}\n", instruction(HAN, SCA, 2)]
+        answer = it.asked(hub, "/messages", b"".join(lines), who="lutefrpp")
+        it.asked(hub, "/messages", confirmation(SCA, LUX, 9), who="scalbebb")
+        it.asked(hub, "/archive", who="monitor")
+        rows = [row for row in recorded(hub, "outcome", "unread", "withheld", "wait", "denied") if row[0] != "begin"]
+        by_act = {act: (who, what) for act, who, what in rows}
+        yield "who posted what, and what became of it", [by_act[act] for act in ("post", "outcome")] == [
+            ("lutefrpp", {"lines": [digest(lines[0])]}), ("lutefrpp", {"of": 2, "outcomes": [["TAKEN", 1]]})]
+        yield "what is no message, and what was in the name of another bank", [by_act[act] for act in ("unread", "withheld")] == [
+            ("lutefrpp", {"lines": 1, "first": digest(b"{}")}),
+            ("lutefrpp", {"lines": [[digest(lines[2]), f"InstgAgt is {HAN}, and not {LUX}"]], "more": 0})]
+        yield "what waits", by_act["wait"] == ("scalbebb", {"of": None, "lines": [[1, SCA, digest(confirmation(SCA, LUX, 9))]]})
+        yield "who was refused", by_act["denied"] == ("monitor", {"asked": "GET /archive", "why": "this needs the role desk"})
+        with contextlib.closing(sqlite3.connect(f"file:{hub.folder}/site1.record?mode=ro", uri=True)) as connection:
+            cells = connection.execute("SELECT address, request, at FROM record WHERE act = 'post'").fetchone()
+        yield "from where, in which request, and when", (
+            cells[0].startswith("127.0.0.1:") and cells[1] == answer.headers["Niluppang-Request"] and cells[2].startswith(time.strftime("%Y-", time.gmtime())))
+        log = [json.loads(line) for line in hub.text().splitlines() if line.startswith("{")]
+        yield "the log has the request too", any(one.get("request") == cells[1] and one["who"] == "lutefrpp" for one in log)
+        audit = lambda *words: harness.run([trial.python, str(sites.MAIN), f"--config={hub.config}", "--audit", *words],
+                                           env={**os.environ, "SCT_SITES": trial.program})
+        first = audit()
+        yield "an audit while the site runs finds nothing wrong", first.status == 0 and b"WRONG" not in first.text
+        last = first.text.decode().splitlines()[0].rsplit(" ", 1)[1]
+        yield "a row that was kept is still there", audit("--since", last).status == 0
+        yield "its sum and no other", audit("--since", last[:-1] + ("0" if last[-1] != "0" else "1")).status == 1
+        operator = harness.run([trial.python, str(sites.MAIN), f"--config={hub.config}", f"--backup={hub.folder}/copy"], env={**os.environ, "SCT_SITES": trial.program})
+        yield "an operator's act is on record", operator.status == 0 and [row[0] for row in recorded(hub, "backup")][-1] == "backup", operator.errors.decode()
+    with contextlib.closing(sqlite3.connect(hub.folder / "site1.record")) as connection:
+        for statement in ("UPDATE record SET who = 'x'", "DELETE FROM record"):
+            refused = is_refused_by_base(connection, statement)
+            yield f"{statement.split()[0]} is refused by the file itself", refused
+        connection.execute("DROP TRIGGER record_stays")
+        connection.execute("UPDATE record SET who = 'hansdehh' WHERE act = 'post'")
+        connection.commit()
+    changed = audit()
+    yield "a changed row is found by an audit", changed.status == 1 and b"WRONG" in changed.text
+
+
+def certificates_are_kept(trial):
+    """certificates.sh never writes over the authority, and nothing beside its folder."""
+    folder = trial.fresh("tls")
+    secure.certificate(folder, "one")
+    before = {path.name: path.read_bytes() for path in folder.iterdir()}
+    wrong = ["authority", "../out", "-out", ".hidden", "a,DNS:b"]
+    yield "names that are none", [harness.run(["sh", secure.CERTIFICATES, folder, name]).status for name in wrong] == [2] * len(wrong)
+    yield "nothing is written then", {path.name: path.read_bytes() for path in folder.iterdir()} == before and not (folder.parent / "out.key").exists()
+
+
+def is_refused_by_base(connection, statement):
+    try:
+        connection.execute(statement)
+    except sqlite3.DatabaseError:
+        return True
+    return False
+
+
+def peers(trial):
+    """A peer that speaks for another site, or is another one, and who is between two sites."""
+    it = Secure(trial)
+    ports = sites.free_ports(3)
+    url = lambda number: f"https://localhost:{ports + number - 1}"
+    its = lambda number, *others: ["[peers]", *(f'{other} = "{url(other)}"' for other in others)]
+    held = lambda port, who="gateway": it.made.asked(port, "/vector", who=who).body.strip().decode()
+    with it.site("one", *its(1, 2, 3), port=ports, is_well=False) as one, it.site("two", *its(2, 1), number=2, port=ports + 1) as two:
+        yield "two sites hear each other by their certificates", until(lambda: it.made.is_well(ports))
+        it.words(two, "operator", instruction(LUX, SCA, 1))
+        yield "and exchange", until(lambda: held(ports) == "2:1")
+        with it.site("three", *its(3, 2), number=3, port=ports + 2):
+            it.made.asked(ports + 2, "/messages", instruction(LUX, SCA, 2), who="operator")
+            yield "a third one exchanges with both", until(lambda: held(ports) == "2:1,3:1")
+            yield "what comes over another site is not taken from it", held(ports + 1) == "2:1"
+        config = (one.config).read_text()
+        swapped = config.replace(url(2), url(3)).replace(f'3 = "{url(3)}"\n', "", 1)
+        one.config.write_text(swapped)
+        one.process.send_signal(signal.SIGHUP)
+        with it.site("three", *its(3, 2), number=3, port=ports + 2):
+            said = lambda: json.loads(it.made.asked(ports, "/health", who="desk").body)["peers"]
+            yield "a site at the address of another one is not heard: its certificate is not that of the other one", until(
+                lambda: "Certificate" in said().get("2", "")), str(said())
+        one.config.write_text(config)
+        one.process.send_signal(signal.SIGHUP)
+        it.words(two, "operator", instruction(LUX, SCA, 3))
+        yield "with the right address it goes on", until(lambda: held(ports) == "2:2,3:1")
+        yield "a peer is given deltas, and nothing else", [it.made.asked(ports, path, who="site2").status for path in ("/delta?have=-", "/archive", "/totals")] == [
+            200, 403, 403]
+
+
+def overtakes(trial):
+    """An answer that comes to another site than its instruction, before it, and that lasts over a kill."""
+    it = Secure(trial)
+    ports = sites.free_ports(2)
+    its = lambda number, other: ["[peers]", f'{other} = "https://localhost:{ports + other - 1}"']
+    line = confirmation(SCA, LUX, 1)
+    with it.site("late", *its(2, 1), number=2, port=ports + 1, hear=0) as two:
+        yield "an answer at a site that never heard of its transfer waits", it.words(two, "scalbebb", line) == ["WAITING"]
+        two.kill()
+        two.start()
+        yield "also after a kill", until(lambda: b'"WAITING"' in it.made.asked(ports + 1, "/waiting", who="scalbebb").body)
+        with it.site("early", *its(1, 2), port=ports) as one:
+            it.words(one, "lutefrpp", instruction(LUX, SCA, 1))
+            accepted = f"T|{LUX}|T1|ACCEPTED\n".encode()
+            yield "the instruction comes from the other site, and the answer goes back to it", until(
+                lambda: {it.made.asked(port, f"/transfers/{LUX}/T1").body for port in (ports, ports + 1)} == {accepted})
+            yield "sent again at the other site, it is a message of that one too, and changes nothing", it.words(one, "scalbebb", line)[0] in (
+                "TAKEN", "REPEAT") and it.made.asked(ports, f"/transfers/{LUX}/T1").body == accepted
+
+
+def goes_on(trial):
+    """An answer that waited when its site ended, while its instruction had come: it is taken at the next start."""
+    it, data = Secure(trial), trial.fresh("goes-on")
+    data.mkdir(mode=0o700)
+    sites.write_journal(data / "site1.journal", 1, 64, [instruction(LUX, SCA, 1).strip(), instruction(LUX, HAN, 2).strip()])
+    until_then = record.utc(time.time() + 3600)
+    rows = [record.to_wait(until_then, "scalbebb", SCA, "pacs.002", LUX, f"T{number}", "", confirmation(SCA, LUX, number).strip()) for number in (1, 2)]
+
+    async def put():
+        its = record.Record(data / "site1.record", 1, 64)
+        await its.open(lambda: [])
+        await its.put_waiting(rows)
+        await its.close()
+    asyncio.run(put())
+    with it.site("goes-on", data=data) as hub:
+        status = lambda number: it.asked(hub, f"/transfers/{LUX}/T{number}").body.split(b"|")[3].strip()
+        yield "what waited is taken when the site starts and holds its instruction", until(lambda: status(1) == b"ACCEPTED")
+        yield "and not if the instruction is to another bank", until(lambda: "forbidden" in {row[0] for row in recorded(hub)}) and status(2) == b"PENDING"
+
+
+def handed_on(trial):
+    """Entries of another site in the answer of a peer, and those of a retired one, which the configuration lets a peer hand on."""
+    delta = inputs.delta(5, 1, 1, 2)
+    cookies = []
+
+    def sends_cookies(it):
+        cookies.append(it.headers.get("Cookie"))
+        it.send(delta, vector="5:2", **{"Set-Cookie": f"c{len(cookies)}=x"})
+    with odd_peer(sends_cookies) as server:
+        words = ["--hear=0", f"--peer=2=http://localhost:{server.server_port}"]  # a name, since cookies of a number are never kept
+        with trial.site(trial.fresh("other"), *words, is_well=False) as hub:
+            yield "entries of a third site are thrown away, and it is said", until(lambda: "entries of site 5" in str(said_of(hub))) and sites.asked(
+                hub.port, "/vector").body == b"-\n"
+            asked_for = {path.partition("?")[2] for _, path in server.paths if path.startswith("/delta")}
+            yield "what a peer gives to remember is not remembered", until(lambda: len(cookies) > 3) and set(cookies) == {None}
+            yield "a peer is asked for its own entries", all("of=2" in words for words in asked_for)
+    own = inputs.delta(2, 1, 3)
+    answer = lambda it: it.send(delta if "of=5" in it.path else own, vector="2:1,5:2")
+    with odd_peer(answer) as server:
+        words = ["--hear=0", f"--peer=2=http://127.0.0.1:{server.server_port}", "--through=5=2"]
+        with trial.site(trial.fresh("through"), *words, is_well=False) as hub:
+            yield "a peer that the configuration names hands on those of a retired site", until(
+                lambda: sites.asked(hub.port, "/vector").body == b"2:1,5:2\n"), str(said_of(hub))
+
+
+def said_of(hub):
+    return json.loads(sites.asked(hub.port, "/health").body)["peers"]
+
+
+def insiders(trial):
+    """Other users of the machine, monitors and operators."""
+    it = Secure(trial)
+    with it.site("insiders") as hub:
+        it.words(hub, "operator", instruction(LUX, SCA, 1))
+        modes = {path.name: path.stat().st_mode & 0o077 for path in [hub.folder, *hub.folder.iterdir()]}
+        yield "no other user reads a file of the site", len(modes) > 2 and not any(modes.values()), str(modes)
+        yield "what another user of the machine asks needs a certificate, too", is_cut(lambda: it.asked(hub, "/health", who=None))
+        yield "a monitor reads no payment", [it.asked(hub, path, who="monitor").status for path in ("/archive", f"/transfers/{LUX}/T1", "/changes", "/metrics")] == [
+            403, 403, 403, 200]
+        yield "an operator reads none either, and posts on record", it.asked(hub, "/archive", who="operator").status == 403 and (
+            "post", "operator") in [row[:2] for row in recorded(hub)]
+        words = pathlib.Path(f"/proc/{hub.process.pid}/cmdline").read_bytes() + pathlib.Path(f"/proc/{hub.process.pid}/environ").read_bytes()
+        yield "no secret is in the words or the environment of the process", DESK_TOKEN.encode() not in words
+        connection = http.client.HTTPSConnection("localhost", hub.port, context=it.made.context("desk"))
+        get = lambda: (connection.request("GET", "/totals"), answer_of(connection))[1]
+        before, stream = get(), it.made.context("desk").wrap_socket(socket.create_connection(("localhost", hub.port), 20), server_hostname="localhost")
+        stream.sendall(b"GET /changes HTTP/1.0\r\nHost: localhost\r\n\r\n")
+        stream.recv(100)
+        it.words(hub, "scalbebb", confirmation(SCA, LUX, 9))
+        it.made.write_roles(desk=["monitor"], scalbebb=["bank HANSDEHH370"])
+        hub.process.send_signal(signal.SIGHUP)
+        yield "a role that is taken away is gone at once, on an open connection too", before == 200 and until(lambda: get() == 403)
+        yield "an open stream of changes ends", is_ended(stream)
+        it.words(hub, "operator", instruction(LUX, SCA, 9))
+        yield "what waits in the name of a bank that its client lost is not taken", until(lambda: recorded(hub)[-1][0] == "forbidden") and it.asked(
+            hub, f"/transfers/{LUX}/T9").body == f"T|{LUX}|T9|PENDING\n".encode()
+        (it.made.folder / "roles.toml").write_text("[desk]\nroles = [1]\n")
+        hub.process.send_signal(signal.SIGHUP)
+        yield "a file of roles that is none changes nothing, and is logged", until(lambda: "is not read again" in hub.text()) and get() == 403
+
+
+def other_roles(trial):
+    """A configuration that gives addresses other roles, and one that gives a bank too much."""
+    it = Secure(trial)
+    own = f'"GET /transfers/{{bank}}/{{tx}}/messages" = ["desk"]'
+    with it.site("other-roles", "[access]", '"GET /totals" = ["monitor"]', own) as hub:
+        got = lambda who, path: it.asked(hub, path, who=who).status
+        yield "an address has the roles that the configuration gives it", [got(who, "/totals") for who in ("monitor", "desk")] == [200, 403]
+        paths = [f"/transfers/{LUX}/T1", f"/transfers/{LUX}/T1/messages"]
+        yield "a transfer and its messages are two addresses", [got("lutefrpp", path) for path in paths] == [200, 403]
+    config = it.made.configured(trial.fresh("too-much"), 1, sites.free_ports(1), "[access]", '"GET /archive" = ["bank"]')
+    done = harness.run([trial.python, str(sites.MAIN), f"--config={config}"], env={**os.environ, "SCT_SITES": trial.program}, seconds=20)
+    yield "a bank gets no complete text", done.status == 2 and b"GET /archive in [access]" in done.errors, done.errors.decode()
+
+
+def is_ended(stream):
+    """Whether the other side ends a connection in some seconds."""
+    stream.settimeout(20)
+    with contextlib.suppress(ConnectionError, ssl.SSLError):
+        while stream.recv(1 << 16):
+            pass
+        return True
+    return False
+
+
+def answer_of(connection):
+    answer = connection.getresponse()
+    answer.read()
+    return answer.status
+
+
+def new_certificates(trial):
+    """A site is given another certificate and another authority while it runs."""
+    it = Secure(trial)
+    with it.site("renewed") as hub:
+        serial = lambda: peer_certificate(it, hub)
+        before = serial()
+        secure.certificate(it.made.folder / "tls", "site1", "localhost", "127.0.0.1")
+        hub.process.send_signal(signal.SIGHUP)
+        yield "a new certificate is shown after SIGHUP", until(lambda: serial() != before)
+        config = hub.config.read_text()
+        hub.config.write_text(config.replace("tls/authority.crt", "other/authority.crt"))
+        hub.process.send_signal(signal.SIGHUP)
+        yield "who has a certificate of the old authority is let in no more", until(lambda: is_cut(lambda: it.asked(hub, "/health", who="desk")))
+        yield "and who has one of the new one is", it.asked(hub, "/health", who="desk", authority="other").status == 200
+
+
+def peer_certificate(it, hub):
+    with socket.create_connection(("localhost", hub.port), 20) as plain, it.made.context("desk").wrap_socket(plain, server_hostname="localhost") as connection:
+        return connection.getpeercert()["serialNumber"]
+
+
+CHECKS = [describes_itself, strangers, each_role, banks, floods, crowds, on_record, peers, overtakes, goes_on, handed_on, insiders, other_roles, new_certificates, certificates_are_kept]
+
+
+def check(python, program):
+    for command in ("openssl", "gcc"):
+        if shutil.which(command) is None:
+            raise sites.Skipped(f"there is no {command}: apt-get install {command}")
+    with sites.library() as library:
+        os.environ["NILUPPANG_LIBRARY"] = library
+        return tried("attackers", CHECKS, python, program)
+
+
+if __name__ == "__main__":
+    sites.checked(check)

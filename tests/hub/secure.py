@@ -1,0 +1,73 @@
+"""secure.py: sites of services/hub with TLS and roles for a check: certificates of an authority of its own, a file of roles, a configuration."""
+import hashlib, http.client, json, pathlib, ssl
+from tests import harness
+from tests.harness import SERVICES
+from tests.hub.sites import answer_on
+
+CERTIFICATES = SERVICES / "hub" / "system" / "certificates.sh"
+DESK_TOKEN, OLD_TOKEN = "a-token-of-the-desk", "an-older-token"
+# who has which roles. Each has a certificate of its name
+ROLES = {
+    "lutefrpp": ["bank LUTEFRPP"], "hansdehh": ["bank HANSDEHHXXX"], "scalbebb": ["bank SCALBEBB"], "desk": ["desk"], "monitor": ["monitor"],
+    "operator": ["operator"], "gateway": ["operator", "desk", "monitor"], **{f"site{number}": [f"peer {number}"] for number in range(1, 5)},
+}
+
+
+def sum_of(token):
+    return f"sha256:{hashlib.sha256(token.encode()).hexdigest()}"
+
+
+def certificate(folder, name, *others):
+    """Makes a certificate, whose authority is made first if it is not there."""
+    done = harness.run(["sh", CERTIFICATES, folder, name, *others])
+    if done.status:
+        harness.stop(f"certificates.sh failed: {done.errors.decode(errors='replace')}")
+
+
+def roles_text(roles, tokens):
+    """A file of roles."""
+    table = lambda name: [f"[{name}]", f"roles = {json.dumps(roles[name])}", f'certificates = ["DNS:{name}"]'] + (
+        [f"tokens = {json.dumps(list(map(sum_of, tokens[name])))}"] if name in tokens else [])
+    return "\n".join(line for name in roles for line in table(name)) + "\n"
+
+
+class Secured:
+    """Certificates, roles and configurations in a folder."""
+
+    def __init__(self, folder, roles=None):
+        self.folder, self.roles = pathlib.Path(folder), dict(roles or ROLES)
+        self.folder.mkdir(parents=True, exist_ok=True)
+        for name in self.roles:
+            certificate(self.folder / "tls", name, *(["localhost", "127.0.0.1"] if name.startswith("site") else []))
+        certificate(self.folder / "other", "desk")  # of another authority
+        self.write_roles()
+
+    def write_roles(self, **changed):
+        self.roles.update(changed)
+        (self.folder / "roles.toml").write_text(roles_text(self.roles, {"desk": [DESK_TOKEN, OLD_TOKEN]}))
+
+    def configured(self, data, sites, port, *lines, clients="required", **keys):
+        """The path of the configuration of some sites of this machine, or of one."""
+        path = self.folder / f"{data.name}.toml"
+        more = [f"{key} = {json.dumps(value)}" for key, value in keys.items()]
+        which = f"sites = {sites}" if isinstance(sites, list) else f"site = {sites}"
+        path.write_text("\n".join([
+            f"folder = {json.dumps(str(data))}", which, f"port = {port}", f'roles = "{self.folder}/roles.toml"', *more, "[tls]",
+            f'certificate = "{self.folder}/tls/site{{site}}.crt"', f'key = "{self.folder}/tls/site{{site}}.key"',
+            f'authority = "{self.folder}/tls/authority.crt"', f'clients = "{clients}"', *lines]) + "\n")
+        return path
+
+    def context(self, who="gateway", authority="tls"):
+        """How a client connects, with the certificate of somebody or without one."""
+        it = ssl.create_default_context(cafile=self.folder / "tls" / "authority.crt")
+        if who:
+            it.load_cert_chain(self.folder / authority / f"{who}.crt", self.folder / authority / f"{who}.key")
+        return it
+
+    def asked(self, port, path, body=None, who="gateway", timeout=60, authority="tls", context=None, **headers):
+        """The answer of a site to somebody."""
+        its = context or self.context(who, authority)
+        return answer_on(http.client.HTTPSConnection("localhost", port, timeout=timeout, context=its), path, body, headers)
+
+    def is_well(self, port):
+        return self.asked(port, "/health", who="desk").status == 200
