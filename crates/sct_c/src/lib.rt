@@ -1,23 +1,24 @@
 //! Sites for programs in other languages. `include/niluppang.h` declares these functions to C, and says what a caller owes.
 #![tactic(auto)]
 
-ghost use Rattle.std.specs.Prelude.{◌≡◌, None, Ok, false};
-ghost use Rattle.sct_delta.specs.Entries.{messages_of};
-ghost use Rattle.sct_exchange.specs.Sites.{held_text};
-ghost use Rattle.sct_set.specs.Archive.{archive_text_of};
-ghost use Rattle.sct_view.specs.StatusText.{status_text_of};
-ghost use Rattle.sct_view.specs.TotalsText.{totals_text_of};
-ghost use Rattle.sct_embed.specs.Calls.{cut_above_answer, cut_answer};
+ghost use Rattle.std.specs.Prelude.{◌≡◌, None, false, length};
+ghost use Rattle.sct_embed.specs.Codes.{code_name, code_text};
 ghost use Rattle.sct_embed.specs.Outcomes.{refused_accept, refused_as, refused_lines, refused_take};
-ghost use Rattle.sct_embed.specs.Places.{Accepts, Changes, Copies, Counts, IsAsked, IsCalled, Opens, Restores, Takes, TakesLines};
-ghost use Rattle.sct_embed.specs.Questions.{bank_answer, contradictions_text_of, messages_answer, report_answer, transfer_answer};
+ghost use Rattle.sct_embed.specs.Places.{Accepts, Asks, Copies, CopiesPart, Counts, EndsAnswer, Evaluates, IsCalled, IsCopied, Opens, Restores, Says, Takes, TakesLines};
+ghost use Rattle.sct_embed.specs.declared.question.Question.TheVariants as question;
+ghost use Rattle.sct_version.specs.Numbers.{version_number};
+ghost use Rattle.sct_version.specs.declared.TheConstants.{VERSION};
 
-use sct_embed::{AcceptOutcome, LinesOutcome, Outcome, Place, TakeOutcome};
+use sct_embed::{
+    AcceptOutcome, LinesOutcome, Outcome, Place, Question, TakeOutcome, copy_code_name,
+    copy_code_text,
+};
+use sct_version::version_number;
 use std::alloc::Global;
 
 /// Opens the site `number` of a group of `group` sites in an empty place.
 #[unsafe(no_mangle)]
-pub extern "C" fn sct_site_open(alloc: Global, site: &mut Place, number: u16, group: u16) -> Outcome
+pub extern "C" fn sct_raw_open(alloc: Global, site: &mut Place, number: u16, group: u16) -> Outcome
     ensures { Opens number group site.old.handle.held result site.new.handle.held }
 {
     site.open(alloc, number, group)
@@ -25,7 +26,7 @@ pub extern "C" fn sct_site_open(alloc: Global, site: &mut Place, number: u16, gr
 
 /// Opens a site that was there before, in an empty place, from its journal and a delta text.
 #[unsafe(no_mangle)]
-pub extern "C" fn sct_site_restore(
+pub extern "C" fn sct_raw_restore(
     alloc: Global,
     site: &mut Place,
     number: u16,
@@ -40,7 +41,7 @@ pub extern "C" fn sct_site_restore(
 
 /// Ends the site of a place, if there is one, and frees its memory.
 #[unsafe(no_mangle)]
-pub extern "C" fn sct_site_close(alloc: Global, site: &mut Place)
+pub extern "C" fn sct_raw_close(alloc: Global, site: &mut Place)
     ensures { site.new.handle.held ≡ None }
 {
     site.close(alloc);
@@ -48,7 +49,7 @@ pub extern "C" fn sct_site_close(alloc: Global, site: &mut Place)
 
 /// Takes the message that one JSON object is.
 #[unsafe(no_mangle)]
-pub extern "C" fn sct_site_take(alloc: Global, site: &mut Place, json: &[u8]) -> TakeOutcome
+pub extern "C" fn sct_raw_take(alloc: Global, site: &mut Place, json: &[u8]) -> TakeOutcome
     ensures { IsCalled refused_take (Takes json.now) site.old.handle.held result site.new.handle.held }
 {
     site.take(alloc, json)
@@ -56,7 +57,7 @@ pub extern "C" fn sct_site_take(alloc: Global, site: &mut Place, json: &[u8]) ->
 
 /// Takes the messages of a text, one on each line.
 #[unsafe(no_mangle)]
-pub extern "C" fn sct_site_take_lines(alloc: Global, site: &mut Place, text: &[u8]) -> LinesOutcome
+pub extern "C" fn sct_raw_take_lines(alloc: Global, site: &mut Place, text: &[u8]) -> LinesOutcome
     ensures { IsCalled refused_lines (TakesLines text.now) site.old.handle.held result site.new.handle.held }
 {
     site.take_lines(alloc, text)
@@ -64,7 +65,7 @@ pub extern "C" fn sct_site_take_lines(alloc: Global, site: &mut Place, text: &[u
 
 /// Accepts a delta text.
 #[unsafe(no_mangle)]
-pub extern "C" fn sct_site_accept(alloc: Global, site: &mut Place, text: &[u8]) -> AcceptOutcome
+pub extern "C" fn sct_raw_accept(alloc: Global, site: &mut Place, text: &[u8]) -> AcceptOutcome
     ensures { IsCalled refused_accept (Accepts text.now) site.old.handle.held result site.new.handle.held }
 {
     site.accept(alloc, text)
@@ -72,149 +73,219 @@ pub extern "C" fn sct_site_accept(alloc: Global, site: &mut Place, text: &[u8]) 
 
 /// Writes how many entries of each origin the site holds, that of origin 1 first.
 #[unsafe(no_mangle)]
-pub extern "C" fn sct_site_counts(alloc: Global, site: &mut Place, counts: &mut [u64]) -> Outcome
+pub extern "C" fn sct_raw_counts(alloc: Global, site: &mut Place, counts: &mut [u64]) -> Outcome
     ensures called { IsCalled refused_as (Counts counts.old counts.new) site.old.handle.held result site.new.handle.held }
     ensures unwritten { result.ok ≡ false → counts.new ≡ counts.old }
 {
     site.counts(alloc, counts)
 }
 
-/// Has the delta above a vector of counts as the answer.
-#[unsafe(no_mangle)]
-pub extern "C" fn sct_site_cut_above(alloc: Global, site: &mut Place, counts: &[u64]) -> Outcome
-    ensures { IsCalled refused_as (λ held. IsAsked (cut_above_answer counts.now held.core.arrivals) held)
-        site.old.handle.held result site.new.handle.held }
-{
-    site.cut_above(alloc, counts)
-}
-
-/// The archive text becomes the answer.
-#[unsafe(no_mangle)]
-pub extern "C" fn sct_site_archive_text(alloc: Global, site: &mut Place) -> Outcome
-    ensures { IsCalled refused_as (λ held. IsAsked (Ok (archive_text_of (messages_of held.core.arrivals))) held)
-        site.old.handle.held result site.new.handle.held }
-{
-    site.archive_text(alloc)
-}
-
-/// The status text becomes the answer.
-#[unsafe(no_mangle)]
-pub extern "C" fn sct_site_status_text(alloc: Global, site: &mut Place) -> Outcome
-    ensures { IsCalled refused_as (λ held. IsAsked (Ok (status_text_of (messages_of held.core.arrivals))) held)
-        site.old.handle.held result site.new.handle.held }
-{
-    site.status_text(alloc)
-}
-
-/// The totals text becomes the answer.
-#[unsafe(no_mangle)]
-pub extern "C" fn sct_site_totals_text(alloc: Global, site: &mut Place) -> Outcome
-    ensures { IsCalled refused_as (λ held. IsAsked (Ok (totals_text_of (messages_of held.core.arrivals))) held)
-        site.old.handle.held result site.new.handle.held }
-{
-    site.totals_text(alloc)
-}
-
-/// The contradicted identities become the answer.
-#[unsafe(no_mangle)]
-pub extern "C" fn sct_site_contradictions_text(alloc: Global, site: &mut Place) -> Outcome
-    ensures { IsCalled refused_as (λ held. IsAsked (Ok (contradictions_text_of (messages_of held.core.arrivals))) held)
-        site.old.handle.held result site.new.handle.held }
-{
-    site.contradictions_text(alloc)
-}
-
 /// The version vector becomes the answer, as text.
 #[unsafe(no_mangle)]
-pub extern "C" fn sct_site_vector_text(alloc: Global, site: &mut Place) -> Outcome
-    ensures { IsCalled refused_as (λ held. IsAsked (Ok (held_text held.core.arrivals)) held)
-        site.old.handle.held result site.new.handle.held }
+pub extern "C" fn sct_raw_vector_text(alloc: Global, site: &mut Place) -> Outcome
+    ensures { IsCalled refused_as (Asks question.Vector) site.old.handle.held result site.new.handle.held }
 {
-    site.vector_text(alloc)
+    site.ask(alloc, Question::Vector)
 }
 
 /// The delta above a version vector of text becomes the answer.
 #[unsafe(no_mangle)]
-pub extern "C" fn sct_site_cut(alloc: Global, site: &mut Place, vector: &[u8]) -> Outcome
-    ensures { IsCalled refused_as (λ held. IsAsked (cut_answer vector.now held.core.arrivals) held)
-        site.old.handle.held result site.new.handle.held }
+pub extern "C" fn sct_raw_cut(alloc: Global, site: &mut Place, vector: &[u8]) -> Outcome
+    ensures { IsCalled refused_as (Asks (question.Cut vector.entry)) site.old.handle.held result site.new.handle.held }
 {
-    site.cut(alloc, vector)
+    site.ask(alloc, Question::Cut(vector))
+}
+
+/// The delta above a vector of counts becomes the answer.
+#[unsafe(no_mangle)]
+pub extern "C" fn sct_raw_cut_above(alloc: Global, site: &mut Place, counts: &[u64]) -> Outcome
+    ensures { IsCalled refused_as (Asks (question.CutAbove counts.entry)) site.old.handle.held result site.new.handle.held }
+{
+    site.ask(alloc, Question::CutAbove(counts))
+}
+
+/// The site's own messages numbered above a count become the answer, each on a line.
+#[unsafe(no_mangle)]
+pub extern "C" fn sct_raw_journal_text(alloc: Global, site: &mut Place, above: u64) -> Outcome
+    ensures { IsCalled refused_as (Asks (question.Journal above)) site.old.handle.held result site.new.handle.held }
+{
+    site.ask(alloc, Question::Journal(above))
+}
+
+/// The messages that came last become the answer, at most so many, each on a line.
+#[unsafe(no_mangle)]
+pub extern "C" fn sct_raw_newest_text(alloc: Global, site: &mut Place, count: u64) -> Outcome
+    ensures { IsCalled refused_as (Asks (question.Newest count)) site.old.handle.held result site.new.handle.held }
+{
+    site.ask(alloc, Question::Newest(count))
+}
+
+/// What the site reads in the lines of a text becomes the answer. None of them is taken.
+#[unsafe(no_mangle)]
+pub extern "C" fn sct_raw_reading_text(alloc: Global, site: &mut Place, text: &[u8]) -> Outcome
+    ensures { IsCalled refused_as (Asks (question.Reading text.entry)) site.old.handle.held result site.new.handle.held }
+{
+    site.ask(alloc, Question::Reading(text))
+}
+
+/// Evaluates what is new. No answer changes.
+#[unsafe(no_mangle)]
+pub extern "C" fn sct_raw_evaluate(alloc: Global, site: &mut Place) -> Outcome
+    ensures { IsCalled refused_as Evaluates site.old.handle.held result site.new.handle.held }
+{
+    site.evaluate(alloc)
+}
+
+/// The archive text becomes the answer.
+#[unsafe(no_mangle)]
+pub extern "C" fn sct_raw_archive_text(alloc: Global, site: &mut Place) -> Outcome
+    ensures { IsCalled refused_as (Asks question.Archive) site.old.handle.held result site.new.handle.held }
+{
+    site.ask(alloc, Question::Archive)
+}
+
+/// The status text becomes the answer.
+#[unsafe(no_mangle)]
+pub extern "C" fn sct_raw_status_text(alloc: Global, site: &mut Place) -> Outcome
+    ensures { IsCalled refused_as (Asks question.Status) site.old.handle.held result site.new.handle.held }
+{
+    site.ask(alloc, Question::Status)
+}
+
+/// The totals text becomes the answer.
+#[unsafe(no_mangle)]
+pub extern "C" fn sct_raw_totals_text(alloc: Global, site: &mut Place) -> Outcome
+    ensures { IsCalled refused_as (Asks question.Totals) site.old.handle.held result site.new.handle.held }
+{
+    site.ask(alloc, Question::Totals)
+}
+
+/// The contradicted identities become the answer.
+#[unsafe(no_mangle)]
+pub extern "C" fn sct_raw_contradictions_text(alloc: Global, site: &mut Place) -> Outcome
+    ensures { IsCalled refused_as (Asks question.Contradictions) site.old.handle.held result site.new.handle.held }
+{
+    site.ask(alloc, Question::Contradictions)
 }
 
 /// The lines of one transfer become the answer, as the status text has them.
 #[unsafe(no_mangle)]
-pub extern "C" fn sct_site_transfer_text(
+pub extern "C" fn sct_raw_transfer_text(
     alloc: Global,
     site: &mut Place,
     bank: &[u8],
     tx: &[u8],
 ) -> Outcome
-    ensures { IsCalled refused_as (λ held. IsAsked (transfer_answer bank.now tx.now (messages_of held.core.arrivals)) held)
-        site.old.handle.held result site.new.handle.held }
+    ensures { IsCalled refused_as (Asks (question.Transfer bank.entry tx.entry)) site.old.handle.held result site.new.handle.held }
 {
-    site.transfer_text(alloc, bank, tx)
+    site.ask(alloc, Question::Transfer { bank, tx })
 }
 
 /// The messages on one transfer become the answer, as the archive text has them.
 #[unsafe(no_mangle)]
-pub extern "C" fn sct_site_messages_text(
+pub extern "C" fn sct_raw_messages_text(
     alloc: Global,
     site: &mut Place,
     bank: &[u8],
     tx: &[u8],
 ) -> Outcome
-    ensures { IsCalled refused_as (λ held. IsAsked (messages_answer bank.now tx.now (messages_of held.core.arrivals)) held)
-        site.old.handle.held result site.new.handle.held }
+    ensures { IsCalled refused_as (Asks (question.Messages bank.entry tx.entry)) site.old.handle.held result site.new.handle.held }
 {
-    site.messages_text(alloc, bank, tx)
+    site.ask(alloc, Question::Messages { bank, tx })
 }
 
 /// The line of one bank becomes the answer, as the totals text has it.
 #[unsafe(no_mangle)]
-pub extern "C" fn sct_site_bank_totals(alloc: Global, site: &mut Place, bank: &[u8]) -> Outcome
-    ensures { IsCalled refused_as (λ held. IsAsked (bank_answer bank.now (messages_of held.core.arrivals)) held)
-        site.old.handle.held result site.new.handle.held }
+pub extern "C" fn sct_raw_bank_totals(alloc: Global, site: &mut Place, bank: &[u8]) -> Outcome
+    ensures { IsCalled refused_as (Asks (question.Bank bank.entry)) site.old.handle.held result site.new.handle.held }
 {
-    site.bank_totals(alloc, bank)
+    site.ask(alloc, Question::Bank(bank))
 }
 
 /// The report on a bank's list for a settlement day becomes the answer.
 #[unsafe(no_mangle)]
-pub extern "C" fn sct_site_report(
+pub extern "C" fn sct_raw_report(
     alloc: Global,
     site: &mut Place,
     bank: &[u8],
     day: &[u8],
     list: &[u8],
 ) -> Outcome
-    ensures { IsCalled refused_as (λ held. IsAsked (report_answer bank.now day.now list.now (messages_of held.core.arrivals)) held)
-        site.old.handle.held result site.new.handle.held }
+    ensures { IsCalled refused_as (Asks (question.Report bank.entry day.entry list.entry)) site.old.handle.held result site.new.handle.held }
 {
-    site.report(alloc, bank, day, list)
+    site.ask(alloc, Question::Report { bank, day, list })
 }
 
-/// Has what changed since the call before as the answer.
+/// What changed since the call before becomes the answer.
 #[unsafe(no_mangle)]
-pub extern "C" fn sct_site_changes(alloc: Global, site: &mut Place) -> Outcome
-    ensures { IsCalled refused_as Changes site.old.handle.held result site.new.handle.held }
+pub extern "C" fn sct_raw_changes(alloc: Global, site: &mut Place) -> Outcome
+    ensures { IsCalled refused_as (Asks question.Changes) site.old.handle.held result site.new.handle.held }
 {
-    site.changes_text(alloc)
+    site.ask(alloc, Question::Changes)
 }
 
 /// Copies the answer, if it fits, and says its length.
 #[unsafe(no_mangle)]
-pub extern "C" fn sct_site_answer(alloc: Global, site: &mut Place, out: &mut [u8]) -> Outcome
+pub extern "C" fn sct_raw_answer(alloc: Global, site: &mut Place, out: &mut [u8]) -> Outcome
     ensures called { IsCalled refused_as (Copies out.old out.new) site.old.handle.held result site.new.handle.held }
     ensures unwritten { result.ok ≡ false → out.new ≡ out.old }
 {
     site.answer(alloc, out)
 }
 
-/// The version of the library.
+/// Copies a part of the answer, and says its length.
+#[unsafe(no_mangle)]
+pub extern "C" fn sct_raw_answer_part(
+    alloc: Global,
+    site: &mut Place,
+    from: usize,
+    out: &mut [u8],
+) -> Outcome
+    ensures called { IsCalled refused_as (CopiesPart from out.old out.new) site.old.handle.held result site.new.handle.held }
+    ensures unwritten { result.ok ≡ false → out.new ≡ out.old }
+{
+    site.answer_part(alloc, from, out)
+}
+
+/// The answer becomes empty, and its memory is freed.
+#[unsafe(no_mangle)]
+pub extern "C" fn sct_raw_answer_end(alloc: Global, site: &mut Place) -> Outcome
+    ensures { IsCalled refused_as EndsAnswer site.old.handle.held result site.new.handle.held }
+{
+    site.end_answer(alloc)
+}
+
+/// Copies why the last call was refused, if it fits, and says the length of that text.
+#[unsafe(no_mangle)]
+pub extern "C" fn sct_raw_why(alloc: Global, site: &mut Place, out: &mut [u8]) -> Outcome
+    ensures called { IsCalled refused_as (Says out.old out.new) site.old.handle.held result site.new.handle.held }
+    ensures unwritten { result.ok ≡ false → out.new ≡ out.old }
+{
+    site.why(alloc, out)
+}
+
+/// Copies the name of a number, if it fits, and returns its length.
+#[unsafe(no_mangle)]
+pub extern "C" fn sct_raw_code_name(code: u8, out: &mut [u8]) -> usize
+    ensures length { result ≡ length (code_name code) }
+    ensures copied { IsCopied (code_name code) out.old out.new }
+{
+    copy_code_name(code, out)
+}
+
+/// Copies the meaning of a number, if it fits, and returns its length.
+#[unsafe(no_mangle)]
+pub extern "C" fn sct_raw_code_text(code: u8, out: &mut [u8]) -> usize
+    ensures length { result ≡ length (code_text code) }
+    ensures copied { IsCopied (code_text code) out.old out.new }
+{
+    copy_code_text(code, out)
+}
+
+/// The version of the library: 1000000 for each major, 1000 for each minor, 1 for each patch version.
 #[unsafe(no_mangle)]
 pub extern "C" fn sct_version() -> u32
-    ensures { result ≡ 2000 }
+    ensures { result ≡ version_number VERSION.now }
 {
-    2000
+    version_number()
 }

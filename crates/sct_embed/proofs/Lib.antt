@@ -1,8 +1,10 @@
 -- The lemmas of an embedded site.
 pub mod AddressLemmas
 pub mod CountsLemmas
-pub mod KeptSite
+pub mod EntryLemmas
+pub mod RowOfSite
 pub mod PlaceLemmas
+pub mod ReadingLemmas
 pub mod ShownLemmas
 pub mod TakingLemmas
 pub mod WatchLemmas

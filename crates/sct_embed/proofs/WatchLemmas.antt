@@ -18,8 +18,11 @@ use Rattle.sct_set.specs.Contents.{contents_of}
 use Rattle.sct_set.proofs.ContentsLemmas.{any_items, same_contents, union-none}
 use Rattle.sct_delta.specs.Entries.{Placed, messages_of}
 use Rattle.sct_site.proofs.AcceptLemmas.{messages-append}
-use Rattle.sct_view.specs.Touched.{fresh_of, is_newly_contradicted, touched_by, touched_in}
+use Rattle.sct_view.specs.StatusText.{finding_line, lines_on, recall_line, status_line}
+use Rattle.sct_view.specs.Touched.{IsToldAlike, fresh_of, is_newly_contradicted, touched_by, touched_in}
+use Rattle.sct_view.proofs.TouchedLemmas.{untouched_stay}
 use Rattle.sct_view.proofs.TouchesAddUpLemmas.{touches_add_up}
+use Rattle.sct_embed.specs.Laws.{OtherTransfersKeepTheirLines}
 use Rattle.sct_embed.specs.Questions.{changes_since, changes_text_of, transfer_line}
 use Rattle.sct_embed.specs.Showing.{IsLater, IsWatched, text_of_changes, watched_by}
 use Rattle.sct_embed.specs.declared.changes.Watch.{Watch}
@@ -115,3 +118,20 @@ watched_anew k es watch asked none = record {
       ∙ sym (touched_by_itself (messages_of (take k es)))
       ∙ (λ i. touched_in (messages_of (take (sym asked i) es)) (messages_of (take k es)));
 }
+
+-- ---- transfers that did not change
+
+lines_alike : (held later : MessageSet) (transfer : TransferKey) → IsToldAlike held later transfer → lines_on later transfer ≡ lines_on held transfer
+unfolding lines_on
+lines_alike held later transfer same = λ i.
+    status_line transfer (same.status i)
+    ++ flat_map (finding_line transfer) (same.findings i)
+    ++ flat_map (λ cxl. recall_line transfer cxl (same.recall cxl i)) (same.recalls i)
+
+pub others_keep : OtherTransfersKeepTheirLines
+others_keep arrivals asked transfer fewer away =
+    let first = messages_of (take asked arrivals) in
+    let later : set.union first (messages_of arrivals) ≡ messages_of arrivals =
+    subst (λ (es : List Placed). set.union first (messages_of es) ≡ messages_of es) (whole arrivals) (within asked (length arrivals) arrivals fewer) in
+    subst (λ (held : MessageSet). lines_on held transfer ≡ lines_on first transfer) later
+    (lines_alike first (set.union first (messages_of arrivals)) transfer (untouched_stay first (messages_of arrivals) transfer away))

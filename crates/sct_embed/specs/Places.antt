@@ -1,46 +1,52 @@
 -- What calls do to a place in which a program in another language keeps a site: the site before and after, and what the call
 -- returns. Read by an auditor.
 use Rattle.std.specs.Prelude.{◌≡◌, ◌≤◌, ◌⊎◌, ℕ, List, [], Option, Some, None, Result, Ok, Err, OnOk, OnErr, IfOk, IfErr, true, false, length, take, drop, ◌<◌, ⊤}
+use Rattle.std.specs.Result.{result_err}
 use Rattle.sct_delta.specs.declared.fault.DeltaFault.TheVariants as delta
 use Rattle.sct_lines.specs.Lines.{messages_read, refusals_told, told_text_of}
 use Rattle.sct_site.specs.Cores.{is_open}
 use Rattle.sct_site.specs.declared.answers.Took.{Took}
 use Rattle.sct_site.specs.declared.answers.Accepted.{Accepted}
+use Rattle.sct_embed.specs.Asking.{answer_to, watched_after}
 use Rattle.sct_embed.specs.Calls.{IsTaken, IsAccepted, RefusesMessage, RefusesDelta}
 use Rattle.sct_embed.specs.Counts.{AreCounts}
 use Rattle.sct_embed.specs.Embeddings.{Embedding}
 use Rattle.sct_embed.specs.Outcomes.{accept_as, done_as, lines_as, refused_as, take_as}
-use Rattle.sct_embed.specs.Questions.{Answers, changes_since}
+use Rattle.sct_embed.specs.Questions.{Answers}
+use Rattle.sct_embed.specs.Reasons.{why_text}
 use Rattle.sct_embed.specs.Restoring.{core_restored, restored_text}
 use Rattle.sct_embed.specs.Taking.{ArePartlyTaken, AreTaken}
 use Rattle.sct_embed.specs.declared.faults.EmbedFault.{EmbedFault}
 use Rattle.sct_embed.specs.declared.faults.EmbedFault.TheVariants as fault
+use Rattle.sct_embed.specs.declared.kept.KeptSite.{KeptSite}
 use Rattle.sct_embed.specs.declared.outcomes.Outcome.{Outcome}
 use Rattle.sct_embed.specs.declared.outcomes.TakeOutcome.{TakeOutcome}
 use Rattle.sct_embed.specs.declared.outcomes.LinesOutcome.{LinesOutcome}
 use Rattle.sct_embed.specs.declared.outcomes.AcceptOutcome.{AcceptOutcome}
+use Rattle.sct_embed.specs.declared.question.Question.{Question}
 use Rattle.sct_embed.specs.declared.taking.TakenLines.{TakenLines}
 
 -- ---- calls of a place
 
--- A place holds a site afterwards, with this property.
-abbrev pub IsHeld : (Embedding → Type 0) → Option Embedding → Type 0
+-- A place holds a site afterwards, with this property. With the site it keeps why its last call was refused.
+abbrev pub IsHeld : (KeptSite → Type 0) → Option KeptSite → Type 0
 IsHeld Property None = ⊥
-IsHeld Property (Some site) = Property site
+IsHeld Property (Some kept) = Property kept
 
--- A call of an empty place is refused with 70, and leaves it empty. A call of a place with a site does this to the site.
-abbrev pub IsCalled : {Told : Type 0} → (EmbedFault → Told) → (Embedding → Told → Embedding → Type 0)
-    → Option Embedding → Told → Option Embedding → Type 0
+-- A call of an empty place is refused with 70, and leaves it empty. A call of a place with a site does this to what it keeps.
+abbrev pub IsCalled : {Told : Type 0} → (EmbedFault → Told) → (KeptSite → Told → KeptSite → Type 0)
+    → Option KeptSite → Told → Option KeptSite → Type 0
 IsCalled refused Does None outcome after = (outcome ≡ refused fault.Empty) × (after ≡ None)
-IsCalled refused Does (Some site) outcome after = IsHeld (Does site outcome) after
+IsCalled refused Does (Some kept) outcome after = IsHeld (Does kept outcome) after
 
 -- ---- a site begins
 
 -- A place that has a site is refused with 71, and keeps it. An empty place has a site with this property afterwards, whose
--- answer has the length that is returned; or it is refused for this reason, and stays empty.
-abbrev pub IsFilled : (Embedding → Type 0) → (EmbedFault → Type 0) → Option Embedding → Outcome → Option Embedding → Type 0
-IsFilled Opened Refused (Some site) outcome after = (outcome ≡ refused_as fault.Full) × (after ≡ Some site)
-IsFilled Opened Refused None outcome (Some site) = (outcome ≡ done_as (Ok tt) (length site.answer)) × Opened site
+-- answer has the length that is returned, and nothing was refused yet. Or it is refused for this reason, and stays empty.
+abbrev pub IsFilled : (Embedding → Type 0) → (EmbedFault → Type 0) → Option KeptSite → Outcome → Option KeptSite → Type 0
+IsFilled Opened Refused (Some kept) outcome after = (outcome ≡ refused_as fault.Full) × (after ≡ Some kept)
+IsFilled Opened Refused None outcome (Some kept) =
+    (outcome ≡ done_as (Ok tt) (length kept.site.answer)) × (Opened kept.site × (kept.why ≡ None))
 IsFilled Opened Refused None outcome None = (reason : EmbedFault) × ((outcome ≡ refused_as reason) × Refused reason)
 
 -- There is no such site, or the call is out of memory.
@@ -65,88 +71,122 @@ IsRestored number group journal text site =
       watched = None;
     })
 
-abbrev pub Opens : ℕ → ℕ → Option Embedding → Outcome → Option Embedding → Type 0
+abbrev pub Opens : ℕ → ℕ → Option KeptSite → Outcome → Option KeptSite → Type 0
 Opens number group = IsFilled (IsOpened number group) (NoSite number group)
 
-abbrev pub Restores : ℕ → ℕ → List ℕ → List ℕ → Option Embedding → Outcome → Option Embedding → Type 0
+abbrev pub Restores : ℕ → ℕ → List ℕ → List ℕ → Option KeptSite → Outcome → Option KeptSite → Type 0
 Restores number group journal text = IsFilled (IsRestored number group journal text) (NoSite number group)
 
 -- A place gets a site that was opened; or it is out of memory for the site, and is as it was.
-abbrev pub IsFilledWith : Result Embedding EmbedFault → Option Embedding → Outcome → Option Embedding → Type 0
+abbrev pub IsFilledWith : Result Embedding EmbedFault → Option KeptSite → Outcome → Option KeptSite → Type 0
 IsFilledWith (Err reason) before outcome after = (outcome ≡ refused_as reason) × (after ≡ before)
 IsFilledWith (Ok site) before outcome after =
-    ((outcome ≡ done_as (Ok tt) (length site.answer)) × (after ≡ Some site))
+    ((outcome ≡ done_as (Ok tt) (length site.answer)) × (after ≡ Some (record { site = site; why = None })))
     ⊎ ((outcome ≡ refused_as fault.Memory) × (after ≡ before))
 
--- ---- messages and deltas
+-- ---- messages and deltas. After each of these calls the place keeps why it was refused, or nothing
 
 -- The site took the message, or refused it and is as it was.
-pub record Takes (json : List ℕ) (site : Embedding) (outcome : TakeOutcome) (later : Embedding) : Type 0 where
+pub record Takes (json : List ℕ) (before : KeptSite) (outcome : TakeOutcome) (later : KeptSite) : Type 0 where
   pub done : Result Took EmbedFault
   pub told : outcome ≡ take_as done
-  pub taken : IfOk done (λ took. IsTaken site.core json took later.core)
+  pub why : later.why ≡ result_err done
+  pub taken : IfOk done (λ took. IsTaken before.site.core json took later.site.core)
   pub err : IfErr done (RefusesMessage json)
-  pub answer : later.answer ≡ site.answer
-  pub watched : later.watched ≡ site.watched
-  pub unchanged : OnErr done (later ≡ site)
+  pub answer : later.site.answer ≡ before.site.answer
+  pub watched : later.site.watched ≡ before.site.watched
+  pub unchanged : OnErr done (later.site ≡ before.site)
 
 -- The site accepted the delta, or refused it and is as it was.
-pub record Accepts (text : List ℕ) (site : Embedding) (outcome : AcceptOutcome) (later : Embedding) : Type 0 where
+pub record Accepts (text : List ℕ) (before : KeptSite) (outcome : AcceptOutcome) (later : KeptSite) : Type 0 where
   pub done : Result Accepted EmbedFault
   pub told : outcome ≡ accept_as done
-  pub accepted : IfOk done (λ accepted. IsAccepted site.core text accepted later.core)
-  pub err : IfErr done (RefusesDelta site.core text)
-  pub answer : later.answer ≡ site.answer
-  pub watched : later.watched ≡ site.watched
-  pub unchanged : OnErr done (later ≡ site)
+  pub why : later.why ≡ result_err done
+  pub accepted : IfOk done (λ accepted. IsAccepted before.site.core text accepted later.site.core)
+  pub err : IfErr done (RefusesDelta before.site.core text)
+  pub answer : later.site.answer ≡ before.site.answer
+  pub watched : later.site.watched ≡ before.site.watched
+  pub unchanged : OnErr done (later.site ≡ before.site)
 
 -- The site took the messages of the lines, and names those that it refused. Or it is out of memory, and took the first ones.
-pub record TakesLines (text : List ℕ) (site : Embedding) (outcome : LinesOutcome) (later : Embedding) : Type 0 where
+pub record TakesLines (text : List ℕ) (before : KeptSite) (outcome : LinesOutcome) (later : KeptSite) : Type 0 where
   pub done : Result TakenLines EmbedFault
-  pub told : outcome ≡ lines_as done (length later.answer)
-  pub taken : IfOk done (λ taken. AreTaken site.core text taken later.core)
-  pub answer : OnOk done (later.answer ≡ told_text_of (refusals_told text))
-  pub watched : later.watched ≡ site.watched
+  pub told : outcome ≡ lines_as done (length later.site.answer)
+  pub why : later.why ≡ result_err done
+  pub taken : IfOk done (λ taken. AreTaken before.site.core text taken later.site.core)
+  pub answer : OnOk done (later.site.answer ≡ told_text_of (refusals_told text))
+  pub watched : later.site.watched ≡ before.site.watched
   pub err : IfErr done (λ reason. reason ≡ fault.Memory)
-  pub partly : OnErr done (ArePartlyTaken site.core (messages_read text) later.core)
-  pub answer_kept : OnErr done (later.answer ≡ site.answer)
+  pub partly : OnErr done (ArePartlyTaken before.site.core (messages_read text) later.site.core)
+  pub answer_kept : OnErr done (later.site.answer ≡ before.site.answer)
 
--- ---- questions
+-- ---- questions. After each the place keeps why it was refused, or nothing
 
--- The answer is the text that was asked for. Or the call is refused, and the site is as it was.
-pub record IsAsked (asked : Result (List ℕ) EmbedFault) (site : Embedding) (outcome : Outcome) (later : Embedding) : Type 0 where
+-- The answer is the answer to the question. Or the question is refused, and the site is as it was.
+pub record Asks (question : Question) (before : KeptSite) (outcome : Outcome) (later : KeptSite) : Type 0 where
   pub done : Result Unit EmbedFault
-  pub told : outcome ≡ done_as done (length later.answer)
-  pub answer : Answers asked done later.answer
-  pub core : later.core ≡ site.core
-  pub watched : later.watched ≡ site.watched
-  pub unchanged : OnErr done (later ≡ site)
+  pub told : outcome ≡ done_as done (length later.site.answer)
+  pub why : later.why ≡ result_err done
+  pub answer : Answers (answer_to question before.site) done later.site.answer
+  pub core : later.site.core ≡ before.site.core
+  pub watched : OnOk done (later.site.watched ≡ watched_after question before.site)
+  pub unchanged : OnErr done (later.site ≡ before.site)
 
--- The answer is what changed since changes were asked for last. Or the call is out of memory, and the site is as it was.
-pub record Changes (site : Embedding) (outcome : Outcome) (later : Embedding) : Type 0 where
+-- The site is as it was, whether what is new was evaluated or the call is out of memory.
+pub record Evaluates (before : KeptSite) (outcome : Outcome) (later : KeptSite) : Type 0 where
   pub done : Result Unit EmbedFault
-  pub told : outcome ≡ done_as done (length later.answer)
-  pub answer : OnOk done (later.answer ≡ changes_since site.watched site.core.arrivals)
-  pub core : later.core ≡ site.core
-  pub watched : OnOk done (later.watched ≡ Some (length site.core.arrivals))
+  pub told : outcome ≡ done_as done (length before.site.answer)
+  pub why : later.why ≡ result_err done
+  pub same : later.site ≡ before.site
   pub err : IfErr done (λ reason. reason ≡ fault.Memory)
-  pub unchanged : OnErr done (later ≡ site)
 
--- ---- what is copied out; the site is as it was
+-- ---- what is copied out; the place is as it was
 
 -- The counts of origin 1, 2, .. are written, unless more than 1024 are asked for.
-pub record Counts (before after : List ℕ) (site : Embedding) (outcome : Outcome) (later : Embedding) : Type 0 where
+pub record Counts (before after : List ℕ) (kept : KeptSite) (outcome : Outcome) (later : KeptSite) : Type 0 where
   pub done : Result Unit EmbedFault
   pub told : outcome ≡ done_as done 0
-  pub counts : OnOk done (AreCounts site.core.arrivals after)
+  pub counts : OnOk done (AreCounts kept.site.core.arrivals after)
   pub err : IfErr done (λ reason. (reason ≡ fault.Delta delta.BadSite) × (1024 < length before))
   pub unwritten : OnErr done (after ≡ before)
-  pub same : later ≡ site
+  pub same : later ≡ kept
 
--- The answer is copied to the start of the room if it fits, and nothing is written otherwise. Its length is returned.
-pub record Copies (before after : List ℕ) (site : Embedding) (outcome : Outcome) (later : Embedding) : Type 0 where
-  pub told : outcome ≡ done_as (Ok tt) (length site.answer)
-  pub copied : length site.answer ≤ length before → take (length site.answer) after ≡ site.answer
-  pub rest : length site.answer ≤ length before → drop (length site.answer) after ≡ drop (length site.answer) before
-  pub unwritten : length before < length site.answer → after ≡ before
-  pub same : later ≡ site
+-- A text is copied to the start of the room if it fits, and nothing is written otherwise.
+pub record IsCopied (text before after : List ℕ) : Type 0 where
+  pub copied : length text ≤ length before → take (length text) after ≡ text
+  pub rest : length text ≤ length before → drop (length text) after ≡ drop (length text) before
+  pub unwritten : length before < length text → after ≡ before
+
+-- The answer is copied if it fits. Its length is returned.
+pub record Copies (before after : List ℕ) (kept : KeptSite) (outcome : Outcome) (later : KeptSite) : Type 0 where
+  pub told : outcome ≡ done_as (Ok tt) (length kept.site.answer)
+  pub copied : IsCopied kept.site.answer before after
+  pub same : later ≡ kept
+
+-- the part of a text that begins after its first `from` bytes, as far as there is room
+abbrev pub part_of : ℕ → ℕ → List ℕ → List ℕ
+part_of from room text = take room (drop from text)
+
+-- A part of the answer is copied. Its length is returned.
+pub record CopiesPart (from : ℕ) (before after : List ℕ) (kept : KeptSite) (outcome : Outcome) (later : KeptSite) : Type 0 where
+  pub told : outcome ≡ done_as (Ok tt) (length (part_of from (length before) kept.site.answer))
+  pub copied : IsCopied (part_of from (length before) kept.site.answer) before after
+  pub same : later ≡ kept
+
+-- The text of the reason that the place keeps is copied if it fits. Its length is returned. Or the call is out of memory, and
+-- nothing is written.
+pub record Says (before after : List ℕ) (kept : KeptSite) (outcome : Outcome) (later : KeptSite) : Type 0 where
+  pub done : Result Unit EmbedFault
+  pub told : outcome ≡ done_as done (length (why_text kept.why))
+  pub copied : OnOk done (IsCopied (why_text kept.why) before after)
+  pub err : IfErr done (λ reason. reason ≡ fault.Memory)
+  pub unwritten : OnErr done (after ≡ before)
+  pub same : later ≡ kept
+
+-- ---- the answer ends
+
+-- The answer is empty afterwards, and all else is as it was.
+pub record EndsAnswer (before : KeptSite) (outcome : Outcome) (later : KeptSite) : Type 0 where
+  pub told : outcome ≡ done_as (Ok tt) 0
+  pub why : later.why ≡ before.why
+  pub site : later.site ≡ record { core = before.site.core; answer = []; watched = before.site.watched }

@@ -1,175 +1,108 @@
-//! Questions to the site of a place. Each makes an answer, which the place keeps.
+//! Questions to the site of a place, and what it keeps of the last call.
 
-ghost use Rattle.std.specs.Prelude.{◌≡◌, length, Ok, Some};
-ghost use Rattle.sct_delta.specs.Entries.{messages_of};
-ghost use Rattle.sct_exchange.specs.Sites.{held_text};
-ghost use Rattle.sct_set.specs.Archive.{archive_text_of};
-ghost use Rattle.sct_view.specs.StatusText.{status_text_of};
-ghost use Rattle.sct_view.specs.TotalsText.{totals_text_of};
-ghost use Rattle.sct_embed.specs.Calls.{cut_above_answer, cut_answer};
-ghost use Rattle.sct_embed.specs.Outcomes.{done_as, refused_as};
-ghost use Rattle.sct_embed.specs.Places.{Changes, IsAsked, IsCalled};
-ghost use Rattle.sct_embed.specs.Questions.{bank_answer, contradictions_text_of, messages_answer, report_answer, transfer_answer};
+ghost use Rattle.std.specs.Prelude.{◌≡◌, false};
+ghost use Rattle.sct_embed.specs.Outcomes.{refused_as};
+ghost use Rattle.sct_embed.specs.Places.{Asks, Copies, CopiesPart, EndsAnswer, Evaluates, IsCalled, Says};
 
+use crate::copying::{copy_part, copy_text};
 use crate::faults::EmbedFault;
+use crate::kept::KeptSite;
 use crate::outcomes::Outcome;
 use crate::place::Place;
-use crate::site::EmbeddedSite;
+use crate::question::Question;
 use std::alloc::Global;
 
+// Copies the text of the reason that is kept.
+fn say(alloc: Global, kept: &KeptSite, out: &mut [u8]) -> Outcome
+    ensures said { Says out.old out.new kept.now result kept.now }
+    ensures unwritten { result.ok ≡ false → out.new ≡ out.old }
+{
+    match kept.why_text(alloc) {
+        Ok(text) => Outcome::done(copy_text(text.as_bytes(), out)),
+        Err(reason) => Outcome::refused(&reason),
+    }
+}
+
 impl Place {
-    // Puts the site back after a question, and says what the question came to.
-    fn put_back(&mut self, site: Box<EmbeddedSite>, done: Result<(), EmbedFault>) -> Outcome
-        ensures outcome { result ≡ done_as done (length site.value.answer) }
-        ensures held { self.new.handle.held ≡ Some site.value }
+    /// Asks the site a question. Its text becomes the answer, and its length is returned.
+    /// Refusals: those of the question, `Memory` (65), `Empty` (70).
+    pub fn ask(&mut self, alloc: Global, question: Question<'_>) -> Outcome
+        ensures { IsCalled refused_as (Asks question.entry) self.old.handle.held result self.new.handle.held }
     {
-        let length = site.answer().len();
-        self.put_in(site);
-        Outcome::of(done, length)
+        let Some(mut kept) = self.take_out(alloc) else {
+            return Outcome::refused(&EmbedFault::Empty);
+        };
+        let done = kept.site.ask(question);
+        let outcome = Outcome::of(&done, kept.site.answer().len());
+        kept.keep_why(done);
+        self.put_in(kept);
+        outcome
     }
 
-    /// The archive text becomes the answer. Refusals: `Memory` (65), `Empty` (70).
-    pub fn archive_text(&mut self, alloc: Global) -> Outcome
-        ensures { IsCalled refused_as (λ site. IsAsked (Ok (archive_text_of (messages_of site.core.arrivals))) site)
-            self.old.handle.held result self.new.handle.held }
+    /// Evaluates what is new. No answer changes. Refusals: `Memory` (65), `Empty` (70).
+    pub fn evaluate(&mut self, alloc: Global) -> Outcome
+        ensures { IsCalled refused_as Evaluates self.old.handle.held result self.new.handle.held }
     {
-        let Some(mut site) = self.take_out(alloc) else {
-            return Outcome::refused(EmbedFault::Empty);
+        let Some(mut kept) = self.take_out(alloc) else {
+            return Outcome::refused(&EmbedFault::Empty);
         };
-        let done = site.archive_text();
-        self.put_back(site, done)
+        let done = kept.site.evaluate();
+        let outcome = Outcome::of(&done, kept.site.answer().len());
+        kept.keep_why(done);
+        self.put_in(kept);
+        outcome
     }
 
-    /// The status text becomes the answer. Refusals: `Memory` (65), `Empty` (70).
-    pub fn status_text(&mut self, alloc: Global) -> Outcome
-        ensures { IsCalled refused_as (λ site. IsAsked (Ok (status_text_of (messages_of site.core.arrivals))) site)
-            self.old.handle.held result self.new.handle.held }
+    /// Copies the answer, if it fits, and says its length. Refusal: `Empty` (70).
+    pub fn answer(&mut self, alloc: Global, out: &mut [u8]) -> Outcome
+        ensures called { IsCalled refused_as (Copies out.old out.new) self.old.handle.held result self.new.handle.held }
+        ensures unwritten { result.ok ≡ false → out.new ≡ out.old }
     {
-        let Some(mut site) = self.take_out(alloc) else {
-            return Outcome::refused(EmbedFault::Empty);
+        let Some(kept) = self.take_out(alloc) else {
+            return Outcome::refused(&EmbedFault::Empty);
         };
-        let done = site.status_text();
-        self.put_back(site, done)
+        let length = copy_text(kept.site.answer(), out);
+        self.put_in(kept);
+        Outcome::done(length)
     }
 
-    /// The totals text becomes the answer. Refusals: `Memory` (65), `Empty` (70).
-    pub fn totals_text(&mut self, alloc: Global) -> Outcome
-        ensures { IsCalled refused_as (λ site. IsAsked (Ok (totals_text_of (messages_of site.core.arrivals))) site)
-            self.old.handle.held result self.new.handle.held }
+    /// Copies a part of the answer: what comes after its first `from` bytes, as far as there is room. Says the length of the part.
+    /// Refusal: `Empty` (70).
+    pub fn answer_part(&mut self, alloc: Global, from: usize, out: &mut [u8]) -> Outcome
+        ensures called { IsCalled refused_as (CopiesPart from out.old out.new) self.old.handle.held result self.new.handle.held }
+        ensures unwritten { result.ok ≡ false → out.new ≡ out.old }
     {
-        let Some(mut site) = self.take_out(alloc) else {
-            return Outcome::refused(EmbedFault::Empty);
+        let Some(kept) = self.take_out(alloc) else {
+            return Outcome::refused(&EmbedFault::Empty);
         };
-        let done = site.totals_text();
-        self.put_back(site, done)
+        let length = copy_part(kept.site.answer(), from, out);
+        self.put_in(kept);
+        Outcome::done(length)
     }
 
-    /// The contradicted identities become the answer. Refusals: `Memory` (65), `Empty` (70).
-    pub fn contradictions_text(&mut self, alloc: Global) -> Outcome
-        ensures { IsCalled refused_as (λ site. IsAsked (Ok (contradictions_text_of (messages_of site.core.arrivals))) site)
-            self.old.handle.held result self.new.handle.held }
+    /// The answer becomes empty, and its memory is freed. Refusal: `Empty` (70).
+    pub fn end_answer(&mut self, alloc: Global) -> Outcome
+        ensures { IsCalled refused_as EndsAnswer self.old.handle.held result self.new.handle.held }
     {
-        let Some(mut site) = self.take_out(alloc) else {
-            return Outcome::refused(EmbedFault::Empty);
+        let Some(mut kept) = self.take_out(alloc) else {
+            return Outcome::refused(&EmbedFault::Empty);
         };
-        let done = site.contradictions_text();
-        self.put_back(site, done)
+        kept.site.end_answer();
+        self.put_in(kept);
+        Outcome::done(0)
     }
 
-    /// The version vector becomes the answer, as text. Refusals: `Memory` (65), `Empty` (70).
-    pub fn vector_text(&mut self, alloc: Global) -> Outcome
-        ensures { IsCalled refused_as (λ site. IsAsked (Ok (held_text site.core.arrivals)) site)
-            self.old.handle.held result self.new.handle.held }
+    /// Copies why the last call was refused, if it fits, and says the length of that text. It is empty if that call was not
+    /// refused. Refusals: `Memory` (65), `Empty` (70).
+    pub fn why(&mut self, alloc: Global, out: &mut [u8]) -> Outcome
+        ensures called { IsCalled refused_as (Says out.old out.new) self.old.handle.held result self.new.handle.held }
+        ensures unwritten { result.ok ≡ false → out.new ≡ out.old }
     {
-        let Some(mut site) = self.take_out(alloc) else {
-            return Outcome::refused(EmbedFault::Empty);
+        let Some(kept) = self.take_out(alloc) else {
+            return Outcome::refused(&EmbedFault::Empty);
         };
-        let done = site.vector_text();
-        self.put_back(site, done)
-    }
-
-    /// The delta above a version vector of text becomes the answer. Refusals: `BadVector` (72), `Memory` (65), `Empty` (70).
-    pub fn cut(&mut self, alloc: Global, vector: &[u8]) -> Outcome
-        ensures { IsCalled refused_as (λ site. IsAsked (cut_answer vector.now site.core.arrivals) site)
-            self.old.handle.held result self.new.handle.held }
-    {
-        let Some(mut site) = self.take_out(alloc) else {
-            return Outcome::refused(EmbedFault::Empty);
-        };
-        let done = site.cut(vector);
-        self.put_back(site, done)
-    }
-
-    /// The delta above a vector of counts becomes the answer, that of origin 1 first. An origin after them counts 0.
-    /// Refusals: `BadSite` (44), `Memory` (65), `Empty` (70).
-    pub fn cut_above(&mut self, alloc: Global, counts: &[u64]) -> Outcome
-        ensures { IsCalled refused_as (λ site. IsAsked (cut_above_answer counts.now site.core.arrivals) site)
-            self.old.handle.held result self.new.handle.held }
-    {
-        let Some(mut site) = self.take_out(alloc) else {
-            return Outcome::refused(EmbedFault::Empty);
-        };
-        let done = site.cut_above(counts);
-        self.put_back(site, done)
-    }
-
-    /// The lines of one transfer become the answer, as the status text has them. Refusals: `BadArgument` (73), 1 for the bank and 2 for the identification; `Memory` (65); `Empty` (70).
-    pub fn transfer_text(&mut self, alloc: Global, bank: &[u8], tx: &[u8]) -> Outcome
-        ensures { IsCalled refused_as (λ site. IsAsked (transfer_answer bank.now tx.now (messages_of site.core.arrivals)) site)
-            self.old.handle.held result self.new.handle.held }
-    {
-        let Some(mut site) = self.take_out(alloc) else {
-            return Outcome::refused(EmbedFault::Empty);
-        };
-        let done = site.transfer_text(bank, tx);
-        self.put_back(site, done)
-    }
-
-    /// The messages on one transfer become the answer, as the archive text has them. Refusals: `BadArgument` (73), 1 for the bank and 2 for the identification; `Memory` (65); `Empty` (70).
-    pub fn messages_text(&mut self, alloc: Global, bank: &[u8], tx: &[u8]) -> Outcome
-        ensures { IsCalled refused_as (λ site. IsAsked (messages_answer bank.now tx.now (messages_of site.core.arrivals)) site)
-            self.old.handle.held result self.new.handle.held }
-    {
-        let Some(mut site) = self.take_out(alloc) else {
-            return Outcome::refused(EmbedFault::Empty);
-        };
-        let done = site.messages_text(bank, tx);
-        self.put_back(site, done)
-    }
-
-    /// The line of one bank becomes the answer, as the totals text has it. Refusals: `BadArgument` (73) with 1 for the bank; `Memory` (65); `Empty` (70).
-    pub fn bank_totals(&mut self, alloc: Global, bank: &[u8]) -> Outcome
-        ensures { IsCalled refused_as (λ site. IsAsked (bank_answer bank.now (messages_of site.core.arrivals)) site)
-            self.old.handle.held result self.new.handle.held }
-    {
-        let Some(mut site) = self.take_out(alloc) else {
-            return Outcome::refused(EmbedFault::Empty);
-        };
-        let done = site.bank_totals(bank);
-        self.put_back(site, done)
-    }
-
-    /// The report on a bank's list for a settlement day becomes the answer. Refusals: `BadArgument` (73), 1 for the bank and 2 for the day; `BadList` (48); `Memory` (65); `Empty` (70).
-    pub fn report(&mut self, alloc: Global, bank: &[u8], day: &[u8], list: &[u8]) -> Outcome
-        ensures { IsCalled refused_as (λ site. IsAsked (report_answer bank.now day.now list.now (messages_of site.core.arrivals)) site)
-            self.old.handle.held result self.new.handle.held }
-    {
-        let Some(mut site) = self.take_out(alloc) else {
-            return Outcome::refused(EmbedFault::Empty);
-        };
-        let done = site.report(bank, day, list);
-        self.put_back(site, done)
-    }
-
-    /// What changed since the call before becomes the answer: a line for each transfer. The first call begins the watch.
-    /// Refusals: `Memory` (65), `Empty` (70).
-    pub fn changes_text(&mut self, alloc: Global) -> Outcome
-        ensures { IsCalled refused_as Changes self.old.handle.held result self.new.handle.held }
-    {
-        let Some(mut site) = self.take_out(alloc) else {
-            return Outcome::refused(EmbedFault::Empty);
-        };
-        let done = site.changes_text();
-        self.put_back(site, done)
+        let outcome = say(alloc, &kept, out);
+        self.put_in(kept);
+        outcome
     }
 }

@@ -1,10 +1,11 @@
-//! Calls of the site of a place: it opens and closes, takes and accepts, and its counts and its answer are copied out.
+//! Calls of the site of a place: it opens and closes, takes and accepts, and its counts are copied out.
 
 ghost use Rattle.std.specs.Prelude.{◌≡◌, None, false};
 ghost use Rattle.sct_embed.specs.Outcomes.{refused_accept, refused_as, refused_lines, refused_take};
-ghost use Rattle.sct_embed.specs.Places.{Accepts, Copies, Counts, IsCalled, IsFilledWith, Opens, Restores, Takes, TakesLines};
+ghost use Rattle.sct_embed.specs.Places.{Accepts, Counts, IsCalled, IsFilledWith, Opens, Restores, Takes, TakesLines};
 
 use crate::faults::EmbedFault;
+use crate::kept::KeptSite;
 use crate::outcomes::{AcceptOutcome, LinesOutcome, Outcome, TakeOutcome};
 use crate::place::Place;
 use crate::site::EmbeddedSite;
@@ -17,15 +18,15 @@ impl Place {
     {
         let site = match opened {
             Ok(site) => site,
-            Err(fault) => return Outcome::refused(fault),
+            Err(fault) => return Outcome::refused(&fault),
         };
         let length = site.answer().len();
-        match Box::new(alloc, site) {
-            Ok(site) => {
-                self.put_in(site);
+        match Box::new(alloc, KeptSite { site, why: None }) {
+            Ok(kept) => {
+                self.put_in(kept);
                 Outcome::done(length)
             }
-            Err(_) => Outcome::refused(EmbedFault::Memory),
+            Err(_) => Outcome::refused(&EmbedFault::Memory),
         }
     }
 
@@ -35,7 +36,7 @@ impl Place {
         ensures { Opens number group self.old.handle.held result self.new.handle.held }
     {
         if self.is_full() {
-            return Outcome::refused(EmbedFault::Full);
+            return Outcome::refused(&EmbedFault::Full);
         }
         self.fill(alloc, EmbeddedSite::open(alloc, number, group))
     }
@@ -53,7 +54,7 @@ impl Place {
         ensures { Restores number group journal.now text.now self.old.handle.held result self.new.handle.held }
     {
         if self.is_full() {
-            return Outcome::refused(EmbedFault::Full);
+            return Outcome::refused(&EmbedFault::Full);
         }
         self.fill(
             alloc,
@@ -72,11 +73,13 @@ impl Place {
     pub fn take(&mut self, alloc: Global, json: &[u8]) -> TakeOutcome
         ensures { IsCalled refused_take (Takes json.now) self.old.handle.held result self.new.handle.held }
     {
-        let Some(mut site) = self.take_out(alloc) else {
-            return TakeOutcome::refused(EmbedFault::Empty);
+        let Some(mut kept) = self.take_out(alloc) else {
+            return TakeOutcome::refused(&EmbedFault::Empty);
         };
-        let outcome = TakeOutcome::of(site.take(json));
-        self.put_in(site);
+        let done = kept.site.take(json);
+        let outcome = TakeOutcome::of(&done);
+        kept.keep_why(done);
+        self.put_in(kept);
         outcome
     }
 
@@ -85,12 +88,13 @@ impl Place {
     pub fn take_lines(&mut self, alloc: Global, text: &[u8]) -> LinesOutcome
         ensures { IsCalled refused_lines (TakesLines text.now) self.old.handle.held result self.new.handle.held }
     {
-        let Some(mut site) = self.take_out(alloc) else {
-            return LinesOutcome::refused(EmbedFault::Empty);
+        let Some(mut kept) = self.take_out(alloc) else {
+            return LinesOutcome::refused(&EmbedFault::Empty);
         };
-        let done = site.take_lines(text);
-        let outcome = LinesOutcome::of(done, site.answer().len());
-        self.put_in(site);
+        let done = kept.site.take_lines(text);
+        let outcome = LinesOutcome::of(&done, kept.site.answer().len());
+        kept.keep_why(done);
+        self.put_in(kept);
         outcome
     }
 
@@ -98,11 +102,13 @@ impl Place {
     pub fn accept(&mut self, alloc: Global, text: &[u8]) -> AcceptOutcome
         ensures { IsCalled refused_accept (Accepts text.now) self.old.handle.held result self.new.handle.held }
     {
-        let Some(mut site) = self.take_out(alloc) else {
-            return AcceptOutcome::refused(EmbedFault::Empty);
+        let Some(mut kept) = self.take_out(alloc) else {
+            return AcceptOutcome::refused(&EmbedFault::Empty);
         };
-        let outcome = AcceptOutcome::of(site.accept(text));
-        self.put_in(site);
+        let done = kept.site.accept(text);
+        let outcome = AcceptOutcome::of(&done);
+        kept.keep_why(done);
+        self.put_in(kept);
         outcome
     }
 
@@ -112,27 +118,11 @@ impl Place {
         ensures called { IsCalled refused_as (Counts out.old out.new) self.old.handle.held result self.new.handle.held }
         ensures unwritten { result.ok ≡ false → out.new ≡ out.old }
     {
-        let Some(site) = self.take_out(alloc) else {
-            return Outcome::refused(EmbedFault::Empty);
+        let Some(kept) = self.take_out(alloc) else {
+            return Outcome::refused(&EmbedFault::Empty);
         };
-        let outcome = Outcome::of(site.counts(out), 0);
-        self.put_in(site);
+        let outcome = Outcome::of(&kept.site.counts(out), 0);
+        self.put_in(kept);
         outcome
-    }
-
-    /// Copies the answer, if it fits, and says its length. Refusal: `Empty` (70).
-    pub fn answer(&mut self, alloc: Global, out: &mut [u8]) -> Outcome
-        ensures called { IsCalled refused_as (Copies out.old out.new) self.old.handle.held result self.new.handle.held }
-        ensures unwritten { result.ok ≡ false → out.new ≡ out.old }
-    {
-        let Some(site) = self.take_out(alloc) else {
-            return Outcome::refused(EmbedFault::Empty);
-        };
-        let length = site.answer().len();
-        if length <= out.len() {
-            out[..length].copy_from_slice(site.answer());
-        }
-        self.put_in(site);
-        Outcome::done(length)
     }
 }

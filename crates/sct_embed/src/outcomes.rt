@@ -19,6 +19,8 @@ pub struct Outcome {
     pub place: u64,
     /// The length of the answer.
     pub length: usize,
+    /// 0.
+    pub reserved: u64,
 }
 
 /// What a take came to.
@@ -35,6 +37,8 @@ pub struct TakeOutcome {
     pub place: u64,
     /// The number of a new message among the site's own, from 1; 0 for a repeat.
     pub number: u64,
+    /// 0.
+    pub reserved: u64,
 }
 
 /// What a take of many lines came to.
@@ -45,6 +49,8 @@ pub struct LinesOutcome {
     pub ok: bool,
     /// If not, the number of the fault, else 0.
     pub code: u8,
+    /// Where the fault is, from 1, else 0.
+    pub place: u64,
     /// The messages that are new.
     pub fresh: u64,
     /// The messages that were held already, or that the text has again.
@@ -53,6 +59,8 @@ pub struct LinesOutcome {
     pub refused: u64,
     /// The length of the answer, which names these lines.
     pub length: usize,
+    /// 0.
+    pub reserved: u64,
 }
 
 /// What an accept came to.
@@ -67,35 +75,39 @@ pub struct AcceptOutcome {
     pub place: u64,
     /// How many entries are new.
     pub fresh: u64,
+    /// 0.
+    pub reserved: u64,
 }
 
 impl Outcome {
     /// The call did what it says, and the answer has this length.
     pub(crate) fn done(length: usize) -> Outcome
-        ensures { result ≡ record { ok = true; code = 0; place = 0; length = length } }
+        ensures { result ≡ record { ok = true; code = 0; place = 0; length = length; reserved = 0 } }
     {
         Outcome {
             ok: true,
             code: 0,
             place: 0,
             length,
+            reserved: 0,
         }
     }
 
     /// The call is refused.
-    pub(crate) fn refused(fault: EmbedFault) -> Outcome
-        ensures { result ≡ refused_as fault }
+    pub(crate) fn refused(fault: &EmbedFault) -> Outcome
+        ensures { result ≡ refused_as fault.now }
     {
         Outcome {
             ok: false,
             code: fault.number(),
             place: fault.place(),
             length: 0,
+            reserved: 0,
         }
     }
 
-    pub(crate) fn of(done: Result<(), EmbedFault>, length: usize) -> Outcome
-        ensures { result ≡ done_as done length }
+    pub(crate) fn of(done: &Result<(), EmbedFault>, length: usize) -> Outcome
+        ensures { result ≡ done_as done.now length }
     {
         match done {
             Ok(()) => Outcome::done(length),
@@ -105,8 +117,8 @@ impl Outcome {
 }
 
 impl TakeOutcome {
-    pub(crate) fn refused(fault: EmbedFault) -> TakeOutcome
-        ensures { result ≡ refused_take fault }
+    pub(crate) fn refused(fault: &EmbedFault) -> TakeOutcome
+        ensures { result ≡ refused_take fault.now }
     {
         TakeOutcome {
             ok: false,
@@ -114,11 +126,12 @@ impl TakeOutcome {
             is_repeat: false,
             place: fault.place(),
             number: 0,
+            reserved: 0,
         }
     }
 
-    pub(crate) fn of(done: Result<Took, EmbedFault>) -> TakeOutcome
-        ensures { result ≡ take_as done }
+    pub(crate) fn of(done: &Result<Took, EmbedFault>) -> TakeOutcome
+        ensures { result ≡ take_as done.now }
     {
         match done {
             Ok(Took::Taken { n }) => TakeOutcome {
@@ -126,7 +139,8 @@ impl TakeOutcome {
                 code: 0,
                 is_repeat: false,
                 place: 0,
-                number: n,
+                number: *n,
+                reserved: 0,
             },
             Ok(Took::Repeat) => TakeOutcome {
                 ok: true,
@@ -134,6 +148,7 @@ impl TakeOutcome {
                 is_repeat: true,
                 place: 0,
                 number: 0,
+                reserved: 0,
             },
             Err(fault) => TakeOutcome::refused(fault),
         }
@@ -141,30 +156,34 @@ impl TakeOutcome {
 }
 
 impl LinesOutcome {
-    pub(crate) fn refused(fault: EmbedFault) -> LinesOutcome
-        ensures { result ≡ refused_lines fault }
+    pub(crate) fn refused(fault: &EmbedFault) -> LinesOutcome
+        ensures { result ≡ refused_lines fault.now }
     {
         LinesOutcome {
             ok: false,
             code: fault.number(),
+            place: fault.place(),
             fresh: 0,
             repeats: 0,
             refused: 0,
             length: 0,
+            reserved: 0,
         }
     }
 
-    pub(crate) fn of(done: Result<TakenLines, EmbedFault>, length: usize) -> LinesOutcome
-        ensures { result ≡ lines_as done length }
+    pub(crate) fn of(done: &Result<TakenLines, EmbedFault>, length: usize) -> LinesOutcome
+        ensures { result ≡ lines_as done.now length }
     {
         match done {
             Ok(taken) => LinesOutcome {
                 ok: true,
                 code: 0,
+                place: 0,
                 fresh: taken.fresh,
                 repeats: taken.repeats,
                 refused: taken.refused,
                 length,
+                reserved: 0,
             },
             Err(fault) => LinesOutcome::refused(fault),
         }
@@ -172,19 +191,20 @@ impl LinesOutcome {
 }
 
 impl AcceptOutcome {
-    pub(crate) fn refused(fault: EmbedFault) -> AcceptOutcome
-        ensures { result ≡ refused_accept fault }
+    pub(crate) fn refused(fault: &EmbedFault) -> AcceptOutcome
+        ensures { result ≡ refused_accept fault.now }
     {
         AcceptOutcome {
             ok: false,
             code: fault.number(),
             place: fault.place(),
             fresh: 0,
+            reserved: 0,
         }
     }
 
-    pub(crate) fn of(done: Result<Accepted, EmbedFault>) -> AcceptOutcome
-        ensures { result ≡ accept_as done }
+    pub(crate) fn of(done: &Result<Accepted, EmbedFault>) -> AcceptOutcome
+        ensures { result ≡ accept_as done.now }
     {
         match done {
             Ok(accepted) => AcceptOutcome {
@@ -192,6 +212,7 @@ impl AcceptOutcome {
                 code: 0,
                 place: 0,
                 fresh: accepted.fresh,
+                reserved: 0,
             },
             Err(fault) => AcceptOutcome::refused(fault),
         }

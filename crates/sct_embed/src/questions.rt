@@ -1,22 +1,170 @@
-//! Questions to an embedded site on one transfer, one bank or a list, and on what changed.
+//! The answers of an embedded site.
 
-ghost use Rattle.std.specs.Prelude.{◌≡◌, Some, length, IfErr, OnErr, OnOk};
+ghost use Rattle.std.specs.Prelude.{◌≡◌, IfErr, Ok, OnErr, OnOk, Some, length};
 ghost use Rattle.sct_delta.specs.Entries.{messages_of};
-ghost use Rattle.sct_embed.specs.Questions.{Answers, bank_answer, changes_since, messages_answer, report_answer, transfer_answer};
-ghost use Rattle.sct_embed.specs.declared.faults.EmbedFault.TheVariants as fault;
+ghost use Rattle.sct_exchange.specs.Sites.{held_text};
+ghost use Rattle.sct_set.specs.Archive.{archive_text_of};
+ghost use Rattle.sct_view.specs.StatusText.{status_text_of};
+ghost use Rattle.sct_view.specs.TotalsText.{totals_text_of};
+ghost use Rattle.sct_embed.specs.Asking.{answer_to, journal_text, newest_text, watched_after};
+ghost use Rattle.sct_embed.specs.Calls.{cut_above_answer, cut_answer};
+ghost use Rattle.sct_embed.specs.Questions.{Answers, bank_answer, changes_since, contradictions_text_of, messages_answer, report_answer, transfer_answer};
+ghost use Rattle.sct_embed.specs.Reading.{reading_text_of};
 
 use crate::arguments::transfer_of;
 use crate::changes::{Watch, text_of_changes};
+use crate::counts::vector_of;
+use crate::entries::{text_of_entries, text_of_own_entries};
 use crate::faults::EmbedFault;
+use crate::identities::push_identities;
+use crate::question::Question;
+use crate::reading::read_text;
 use crate::site::EmbeddedSite;
+use sct_delta::read_vector;
+use sct_exchange::{write_cut, write_held};
 use sct_reconcile::{List, bank_of, day_of, reconcile_alone};
 
 impl EmbeddedSite {
-    /// Has the lines of one transfer as the answer, as the status text has them: its T line, an F line for each finding, an R
-    /// line for each recall. A transfer without messages has the status `UNKNOWN`. It is named by its originator bank and its
-    /// identification. What is new is evaluated; then O(messages on the transfer).
-    /// Errors: `BadArgument` (73), 1 for the bank and 2 for the identification; `Memory` (65).
-    pub fn transfer_text(&mut self, bank: &[u8], tx: &[u8]) -> Result<(), EmbedFault>
+    /// Asks a question. The text becomes the answer. Errors: the refusals of the question, and `Memory` (65).
+    pub fn ask(&mut self, question: Question<'_>) -> Result<(), EmbedFault>
+        ensures answer { Answers (answer_to question.entry self.old) result self.new.answer }
+        ensures core { self.new.core ≡ self.old.core }
+        ensures watched { OnOk result (self.new.watched ≡ watched_after question.entry self.old) }
+        ensures unchanged { OnErr result (self.new ≡ self.old) }
+    {
+        match question {
+            Question::Archive => self.archive_text(),
+            Question::Status => self.status_text(),
+            Question::Totals => self.totals_text(),
+            Question::Contradictions => self.contradictions_text(),
+            Question::Vector => self.vector_text(),
+            Question::Cut(vector) => self.cut(vector),
+            Question::CutAbove(counts) => self.cut_above(counts),
+            Question::Journal(above) => self.journal_text(above),
+            Question::Newest(count) => self.newest_text(count),
+            Question::Reading(text) => self.reading_text(text),
+            Question::Transfer { bank, tx } => self.transfer_text(bank, tx),
+            Question::Messages { bank, tx } => self.messages_text(bank, tx),
+            Question::Bank(bank) => self.bank_totals(bank),
+            Question::Report { bank, day, list } => self.report(bank, day, list),
+            Question::Changes => self.changes_text(),
+        }
+    }
+
+    fn archive_text(&mut self) -> Result<(), EmbedFault>
+        ensures answer { Answers (Ok (archive_text_of (messages_of self.old.core.arrivals))) result self.new.answer }
+        ensures core { self.new.core ≡ self.old.core }
+        ensures watched { self.new.watched ≡ self.old.watched }
+        ensures unchanged { OnErr result (self.new ≡ self.old) }
+    {
+        self.answer = self.core.archive().text()?;
+        Ok(())
+    }
+
+    fn status_text(&mut self) -> Result<(), EmbedFault>
+        ensures answer { Answers (Ok (status_text_of (messages_of self.old.core.arrivals))) result self.new.answer }
+        ensures core { self.new.core ≡ self.old.core }
+        ensures watched { self.new.watched ≡ self.old.watched }
+        ensures unchanged { OnErr result (self.new ≡ self.old) }
+    {
+        self.showing.show_all(self.alloc, self.core.arrivals())?;
+        self.answer = self.showing.view.status_text()?;
+        Ok(())
+    }
+
+    fn totals_text(&mut self) -> Result<(), EmbedFault>
+        ensures answer { Answers (Ok (totals_text_of (messages_of self.old.core.arrivals))) result self.new.answer }
+        ensures core { self.new.core ≡ self.old.core }
+        ensures watched { self.new.watched ≡ self.old.watched }
+        ensures unchanged { OnErr result (self.new ≡ self.old) }
+    {
+        self.showing.show_all(self.alloc, self.core.arrivals())?;
+        self.answer = self.showing.view.totals_text()?;
+        Ok(())
+    }
+
+    #[tactic(auto, unfolding(crate::specs::Questions::contradictions_text_of))]
+    fn contradictions_text(&mut self) -> Result<(), EmbedFault>
+        ensures answer { Answers (Ok (contradictions_text_of (messages_of self.old.core.arrivals))) result self.new.answer }
+        ensures core { self.new.core ≡ self.old.core }
+        ensures watched { self.new.watched ≡ self.old.watched }
+        ensures unchanged { OnErr result (self.new ≡ self.old) }
+    {
+        let identities = self.core.archive().contradictions()?;
+        let mut text = String::new(self.alloc);
+        push_identities(&mut text, &identities)?;
+        self.answer = text.into_bytes();
+        Ok(())
+    }
+
+    fn vector_text(&mut self) -> Result<(), EmbedFault>
+        ensures answer { Answers (Ok (held_text self.old.core.arrivals)) result self.new.answer }
+        ensures core { self.new.core ≡ self.old.core }
+        ensures watched { self.new.watched ≡ self.old.watched }
+        ensures unchanged { OnErr result (self.new ≡ self.old) }
+    {
+        self.answer = write_held(self.alloc, &self.core)?.into_bytes();
+        Ok(())
+    }
+
+    fn cut(&mut self, vector: &[u8]) -> Result<(), EmbedFault>
+        ensures answer { Answers (cut_answer vector.now self.old.core.arrivals) result self.new.answer }
+        ensures core { self.new.core ≡ self.old.core }
+        ensures watched { self.new.watched ≡ self.old.watched }
+        ensures unchanged { OnErr result (self.new ≡ self.old) }
+    {
+        let Some(vector) = read_vector(self.alloc, vector)? else {
+            return Err(EmbedFault::BadVector);
+        };
+        self.answer = write_cut(self.alloc, &self.core, &vector)?;
+        Ok(())
+    }
+
+    fn cut_above(&mut self, counts: &[u64]) -> Result<(), EmbedFault>
+        ensures answer { Answers (cut_above_answer counts.now self.old.core.arrivals) result self.new.answer }
+        ensures core { self.new.core ≡ self.old.core }
+        ensures watched { self.new.watched ≡ self.old.watched }
+        ensures unchanged { OnErr result (self.new ≡ self.old) }
+    {
+        let vector = vector_of(self.alloc, counts)?;
+        self.answer = write_cut(self.alloc, &self.core, &vector)?;
+        Ok(())
+    }
+
+    fn journal_text(&mut self, above: u64) -> Result<(), EmbedFault>
+        ensures answer { Answers (Ok (journal_text above self.old.core)) result self.new.answer }
+        ensures core { self.new.core ≡ self.old.core }
+        ensures watched { self.new.watched ≡ self.old.watched }
+        ensures unchanged { OnErr result (self.new ≡ self.old) }
+    {
+        let number = self.core.number();
+        self.answer = text_of_own_entries(self.alloc, number, above, self.core.arrivals())?;
+        Ok(())
+    }
+
+    fn newest_text(&mut self, count: u64) -> Result<(), EmbedFault>
+        ensures answer { Answers (Ok (newest_text count self.old.core.arrivals)) result self.new.answer }
+        ensures core { self.new.core ≡ self.old.core }
+        ensures watched { self.new.watched ≡ self.old.watched }
+        ensures unchanged { OnErr result (self.new ≡ self.old) }
+    {
+        let arrivals = self.core.arrivals();
+        let first = arrivals.len().saturating_sub(count as usize);
+        self.answer = text_of_entries(self.alloc, &arrivals[first..])?;
+        Ok(())
+    }
+
+    fn reading_text(&mut self, text: &[u8]) -> Result<(), EmbedFault>
+        ensures answer { Answers (Ok (reading_text_of text.now)) result self.new.answer }
+        ensures core { self.new.core ≡ self.old.core }
+        ensures watched { self.new.watched ≡ self.old.watched }
+        ensures unchanged { OnErr result (self.new ≡ self.old) }
+    {
+        self.answer = read_text(self.alloc, &mut self.reader, text)?;
+        Ok(())
+    }
+
+    fn transfer_text(&mut self, bank: &[u8], tx: &[u8]) -> Result<(), EmbedFault>
         ensures answer { Answers (transfer_answer bank.now tx.now (messages_of self.old.core.arrivals)) result self.new.answer }
         ensures core { self.new.core ≡ self.old.core }
         ensures watched { self.new.watched ≡ self.old.watched }
@@ -28,10 +176,7 @@ impl EmbeddedSite {
         Ok(())
     }
 
-    /// Has the messages on one transfer as the answer: their lines of the archive text. What is new is evaluated; then
-    /// O(n log n) in the messages on the transfer.
-    /// Errors: `BadArgument` (73), 1 for the bank and 2 for the identification; `Memory` (65).
-    pub fn messages_text(&mut self, bank: &[u8], tx: &[u8]) -> Result<(), EmbedFault>
+    fn messages_text(&mut self, bank: &[u8], tx: &[u8]) -> Result<(), EmbedFault>
         ensures answer { Answers (messages_answer bank.now tx.now (messages_of self.old.core.arrivals)) result self.new.answer }
         ensures core { self.new.core ≡ self.old.core }
         ensures watched { self.new.watched ≡ self.old.watched }
@@ -43,9 +188,7 @@ impl EmbeddedSite {
         Ok(())
     }
 
-    /// Has the line of one bank as the answer, as the totals text has it, also if all its numbers are 0. What is new is
-    /// evaluated; then expected O(1). Errors: `BadArgument` (73) with 1 for the bank; `Memory` (65).
-    pub fn bank_totals(&mut self, bank: &[u8]) -> Result<(), EmbedFault>
+    fn bank_totals(&mut self, bank: &[u8]) -> Result<(), EmbedFault>
         ensures answer { Answers (bank_answer bank.now (messages_of self.old.core.arrivals)) result self.new.answer }
         ensures core { self.new.core ≡ self.old.core }
         ensures watched { self.new.watched ≡ self.old.watched }
@@ -59,10 +202,7 @@ impl EmbeddedSite {
         Ok(())
     }
 
-    /// Has the report on a bank's list for a settlement day as the answer. What is new is evaluated; then O(n log n) in the
-    /// transfers held and the rows of the list.
-    /// Errors: `BadArgument` (73), 1 for the bank and 2 for the day; `BadList` (48) with the first wrong record; `Memory` (65).
-    pub fn report(&mut self, bank: &[u8], day: &[u8], list: &[u8]) -> Result<(), EmbedFault>
+    fn report(&mut self, bank: &[u8], day: &[u8], list: &[u8]) -> Result<(), EmbedFault>
         ensures answer { Answers (report_answer bank.now day.now list.now (messages_of self.old.core.arrivals)) result self.new.answer }
         ensures core { self.new.core ≡ self.old.core }
         ensures watched { self.new.watched ≡ self.old.watched }
@@ -81,15 +221,10 @@ impl EmbeddedSite {
         Ok(())
     }
 
-    /// Has what changed as the answer: a line such as `BANKDEFFXXX|TX1` for each transfer that the arrivals since the call
-    /// before touch, ascending. Every other transfer has the lines that it had then. The first call begins the watch, and its
-    /// answer is empty. O(n log n) in what is new and in the transfers that changed. From the first call on, each question
-    /// also keeps the names of the transfers that it finds changed, until this call. Error: `Memory` (65).
-    pub fn changes_text(&mut self) -> Result<(), EmbedFault>
-        ensures text { OnOk result (self.new.answer ≡ changes_since self.old.watched self.old.core.arrivals) }
-        ensures watched { OnOk result (self.new.watched ≡ Some (length self.old.core.arrivals)) }
+    fn changes_text(&mut self) -> Result<(), EmbedFault>
+        ensures answer { Answers (Ok (changes_since self.old.watched self.old.core.arrivals)) result self.new.answer }
         ensures core { self.new.core ≡ self.old.core }
-        ensures err { IfErr result (λ e. e ≡ fault.Memory) }
+        ensures watched { OnOk result (self.new.watched ≡ Some (length self.old.core.arrivals)) }
         ensures unchanged { OnErr result (self.new ≡ self.old) }
     {
         self.showing.show_all(self.alloc, self.core.arrivals())?;

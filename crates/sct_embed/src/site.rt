@@ -1,29 +1,22 @@
 //! A site of a group, and the text that it was asked for last.
 
-ghost use Rattle.std.specs.Prelude.{◌≡◌, ◌≢◌, ◌<◌, ◌≤◌, [], None, length, true, false, IfErr, IfOk, OnErr, OnOk};
-ghost use Rattle.sct_delta.specs.Entries.{messages_of};
+ghost use Rattle.std.specs.Prelude.{◌≡◌, ◌≢◌, ◌<◌, [], None, length, true, false, IfErr, IfOk, OnErr, OnOk};
 ghost use Rattle.sct_delta.specs.declared.fault.DeltaFault.TheVariants as delta;
 ghost use Rattle.sct_lines.specs.Lines.{messages_read, refusals_told, told_text_of};
-ghost use Rattle.sct_set.specs.Archive.{archive_text_of};
 ghost use Rattle.sct_site.specs.Cores.{is_open};
-ghost use Rattle.sct_view.specs.StatusText.{status_text_of};
-ghost use Rattle.sct_view.specs.TotalsText.{totals_text_of};
-ghost use Rattle.sct_embed.specs.Calls.{IsAccepted, IsCutFor, IsTaken, RefusesDelta, RefusesMessage, RefusesVector};
-ghost use Rattle.sct_embed.specs.Counts.{AreCounts, counted};
-ghost use Rattle.sct_exchange.specs.Sites.{cut_text, held_text};
-ghost use Rattle.sct_embed.specs.Questions.{contradictions_text_of};
+ghost use Rattle.sct_embed.specs.Calls.{IsAccepted, IsTaken, RefusesDelta, RefusesMessage};
+ghost use Rattle.sct_embed.specs.Counts.{AreCounts};
 ghost use Rattle.sct_embed.specs.Restoring.{core_restored, restored_text};
 ghost use Rattle.sct_embed.specs.Taking.{ArePartlyTaken, AreTaken};
 ghost use Rattle.sct_embed.specs.declared.faults.EmbedFault.TheVariants as fault;
 
-use crate::counts::{put_counts, vector_of};
+use crate::counts::put_counts;
 use crate::faults::EmbedFault;
-use crate::identities::push_identities;
 use crate::restoring::files_offered;
 use crate::showing::Showing;
 use crate::taking::{TakenLines, take_all};
-use sct_delta::{DeltaFault, MOST_SITES, read_delta, read_vector};
-use sct_exchange::{Exchanged, exchange, write_cut, write_held, write_refused_files};
+use sct_delta::{DeltaFault, MOST_SITES, read_delta};
+use sct_exchange::{Exchanged, exchange, write_refused_files};
 use sct_json::MessageReader;
 use sct_lines::{Intake, read_lines_after};
 use sct_site::{Accepted, SiteCore, Took};
@@ -40,7 +33,7 @@ pub struct EmbeddedSite {
     pub(crate) alloc: Global,
     pub(crate) core: SiteCore,
     pub(crate) showing: Showing,
-    reader: MessageReader,
+    pub(crate) reader: MessageReader,
     pub(crate) answer: Vec<u8>,
 }
 
@@ -120,6 +113,22 @@ impl EmbeddedSite {
         &self.answer
     }
 
+    /// Has the empty text as the answer, and frees the memory of the text that it was.
+    pub fn end_answer(&mut self)
+        ensures { self.new ≡ record { core = self.old.core; answer = []; watched = self.old.watched } }
+    {
+        self.answer = Vec::new(self.alloc);
+    }
+
+    /// Evaluates what is new, so that the next question finds it done. Each answer is what it is without this call.
+    /// O(messages that are new, and those of the transfers that they touch). Error: `Memory` (65).
+    pub fn evaluate(&mut self) -> Result<(), EmbedFault>
+        ensures same { self.new ≡ self.old }
+        ensures err { IfErr result (λ e. e ≡ fault.Memory) }
+    {
+        self.showing.show_all(self.alloc, self.core.arrivals())
+    }
+
     /// Takes the message that one JSON object is a form of. The cost is that of the object, and of one addition.
     /// Errors: the first reason why the bytes are a form of no message (31 to 38, 46, 56), or `Memory` (65).
     pub fn take(&mut self, json: &[u8]) -> Result<Took, EmbedFault>
@@ -147,92 +156,6 @@ impl EmbeddedSite {
         Ok(self.core.accept(&delta)?)
     }
 
-    /// Has the archive text as the answer. O(n log n) in the messages held. Error: `Memory` (65).
-    pub fn archive_text(&mut self) -> Result<(), EmbedFault>
-        ensures text { OnOk result (self.new.answer ≡ archive_text_of (messages_of self.old.core.arrivals)) }
-        ensures core { self.new.core ≡ self.old.core }
-        ensures watched { self.new.watched ≡ self.old.watched }
-        ensures err { IfErr result (λ e. e ≡ fault.Memory) }
-        ensures unchanged { OnErr result (self.new ≡ self.old) }
-    {
-        self.answer = self.core.archive().text()?;
-        Ok(())
-    }
-
-    /// Has the status text as the answer. What is new is evaluated, and the text is written: O(n log n) in the transfers held.
-    /// Error: `Memory` (65).
-    pub fn status_text(&mut self) -> Result<(), EmbedFault>
-        ensures text { OnOk result (self.new.answer ≡ status_text_of (messages_of self.old.core.arrivals)) }
-        ensures core { self.new.core ≡ self.old.core }
-        ensures watched { self.new.watched ≡ self.old.watched }
-        ensures err { IfErr result (λ e. e ≡ fault.Memory) }
-        ensures unchanged { OnErr result (self.new ≡ self.old) }
-    {
-        self.showing.show_all(self.alloc, self.core.arrivals())?;
-        self.answer = self.showing.view.status_text()?;
-        Ok(())
-    }
-
-    /// Has the totals text as the answer. What is new is evaluated, and the text is written: O(n log n) in the banks held.
-    /// Error: `Memory` (65).
-    pub fn totals_text(&mut self) -> Result<(), EmbedFault>
-        ensures text { OnOk result (self.new.answer ≡ totals_text_of (messages_of self.old.core.arrivals)) }
-        ensures core { self.new.core ≡ self.old.core }
-        ensures watched { self.new.watched ≡ self.old.watched }
-        ensures err { IfErr result (λ e. e ≡ fault.Memory) }
-        ensures unchanged { OnErr result (self.new ≡ self.old) }
-    {
-        self.showing.show_all(self.alloc, self.core.arrivals())?;
-        self.answer = self.showing.view.totals_text()?;
-        Ok(())
-    }
-
-    /// Has the contradicted identities as the answer: those that two different messages held have. There is a line for each,
-    /// ascending, such as `BANKDEFFXXX|pacs.008|M1`. O(messages held). Error: `Memory` (65).
-    #[tactic(auto, unfolding(crate::specs::Questions::contradictions_text_of))]
-    pub fn contradictions_text(&mut self) -> Result<(), EmbedFault>
-        ensures text { OnOk result (self.new.answer ≡ contradictions_text_of (messages_of self.old.core.arrivals)) }
-        ensures core { self.new.core ≡ self.old.core }
-        ensures watched { self.new.watched ≡ self.old.watched }
-        ensures err { IfErr result (λ e. e ≡ fault.Memory) }
-        ensures unchanged { OnErr result (self.new ≡ self.old) }
-    {
-        let identities = self.core.archive().contradictions()?;
-        let mut text = String::new(self.alloc);
-        push_identities(&mut text, &identities)?;
-        self.answer = text.into_bytes();
-        Ok(())
-    }
-
-    /// Has the text of the version vector as the answer: how many entries of each origin the site holds. Error: `Memory` (65).
-    pub fn vector_text(&mut self) -> Result<(), EmbedFault>
-        ensures text { OnOk result (self.new.answer ≡ held_text self.old.core.arrivals) }
-        ensures core { self.new.core ≡ self.old.core }
-        ensures watched { self.new.watched ≡ self.old.watched }
-        ensures err { IfErr result (λ e. e ≡ fault.Memory) }
-        ensures unchanged { OnErr result (self.new ≡ self.old) }
-    {
-        self.answer = write_held(self.alloc, &self.core)?.into_bytes();
-        Ok(())
-    }
-
-    /// Has as the answer the delta text, of form 2, of the entries that are numbered above a version vector. The vector is a
-    /// text such as `1:2,3:1`, or `-`. O(entries cut), plus one look at each origin.
-    /// Errors: `BadVector` (72) if the text is not a version vector, or `Memory` (65).
-    pub fn cut(&mut self, vector: &[u8]) -> Result<(), EmbedFault>
-        ensures cut { OnOk result (IsCutFor self.old.core vector.now self.new.answer) }
-        ensures core { self.new.core ≡ self.old.core }
-        ensures watched { self.new.watched ≡ self.old.watched }
-        ensures err { IfErr result (RefusesVector vector.now) }
-        ensures unchanged { OnErr result (self.new ≡ self.old) }
-    {
-        let Some(vector) = read_vector(self.alloc, vector)? else {
-            return Err(EmbedFault::BadVector);
-        };
-        self.answer = write_cut(self.alloc, &self.core, &vector)?;
-        Ok(())
-    }
-
     /// Writes how many entries of each origin the site holds, that of origin 1 first. `out` may have any length up to 1024.
     /// Error: `BadSite` (44) if it is longer; then nothing is written.
     pub fn counts(&self, out: &mut [u64]) -> Result<(), EmbedFault>
@@ -244,22 +167,6 @@ impl EmbeddedSite {
             return Err(EmbedFault::Delta(DeltaFault::BadSite));
         }
         put_counts(self.core.vector(), out);
-        Ok(())
-    }
-
-    /// As [`EmbeddedSite::cut`], above a vector of counts, that of origin 1 first. An origin past them counts 0.
-    /// Errors: `BadSite` (44) if there are more than 1024 counts; `Memory` (65).
-    pub fn cut_above(&mut self, counts: &[u64]) -> Result<(), EmbedFault>
-        ensures cut { OnOk result (self.new.answer ≡ cut_text (counted counts.now) self.old.core.arrivals) }
-        ensures fits { OnOk result (length counts.now ≤ 1024) }
-        ensures core { self.new.core ≡ self.old.core }
-        ensures watched { self.new.watched ≡ self.old.watched }
-        ensures err { IfErr result (λ e. e ≢ fault.Memory
-            → (e ≡ fault.Delta delta.BadSite) × (1024 < length counts.now)) }
-        ensures unchanged { OnErr result (self.new ≡ self.old) }
-    {
-        let vector = vector_of(self.alloc, counts)?;
-        self.answer = write_cut(self.alloc, &self.core, &vector)?;
         Ok(())
     }
 

@@ -1,5 +1,5 @@
 -- Sites with the same messages, vector and cuts answer questions alike. Proof plumbing.
-use Rattle.std.proofs.Common.{◌≡◌, ◌∙◌, ap, sym, ℕ, false, refl, List}
+use Rattle.std.proofs.Common.{◌≡◌, ◌∙◌, ap, sym, ℕ, false, refl, List, []}
 use Rattle.std.specs.Prelude.{codes, Bool, Option, None, Some, Result, Ok, Err, if◌then◌else◌}
 use Rattle.sct_element.specs.Text.{is_text}
 use Rattle.sct_message.specs.Sets.{MessageSet}
@@ -25,6 +25,7 @@ named_by vector held name last changes =
     else if is_text name (codes "totals") then Ok (totals_text_of held)
     else if is_text name (codes "archive") then Ok (archive_text_of held)
     else if is_text name (codes "contradictions") then Ok (contradictions_text_of held)
+    else if is_text name (codes "evaluate") then Ok []
     else if last then changes
     else Err fault.NoQuestion
 

@@ -1,9 +1,17 @@
 pub mod AlikeLemmas
 pub mod AnswerLemmas
 pub mod AskLemmas
+pub mod CatchUpLemmas
+pub mod EmbeddedEqualLemmas
+pub mod EmbeddedJournalLemmas
+pub mod EmbeddedLemmas
+pub mod EmbeddedTakeLemmas
 pub mod EqualLemmas
+pub mod GrowLemmas
 pub mod HonestLemmas
 pub mod LastLemmas
 pub mod LifeLemmas
 pub mod NumberLemmas
 pub mod OwnLogLemmas
+pub mod PeerLemmas
+pub mod RestoreLemmas

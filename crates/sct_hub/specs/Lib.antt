@@ -1,4 +1,7 @@
--- The definitions of hubs of sites that last.
+-- The definitions of hubs of sites that last, and of hubs of programs that embed a site.
+pub mod Embedded
+pub mod EmbeddedLaws
 pub mod Hubs
 pub mod Laws
 pub mod Lives
+pub mod Restored

@@ -1,4 +1,4 @@
-//! Laws of hubs of sites that last.
+//! Laws of hubs of sites that last, of sites that are restored, and of hubs of programs that embed a site.
 //!
 //! A *keeper* is a process with the number of a site and a journal on its disk. It is given lines, records those that bring its
 //! site an entry, and cuts deltas, which the transport gives other keepers: in any order, late, again, or never. It may stop
@@ -6,4 +6,6 @@
 //! is honest in the sense of `sct_exchange`, what its sites hold and answer, and what lasts.
 #![tactic(auto)]
 
+pub mod embedded;
 pub mod laws;
+pub mod restored;

@@ -14,7 +14,7 @@ ghost use Rattle.sct_requests.specs.Steps.{answers_to, brought, core_after, core
 
 use crate::fault::KeeperError;
 use crate::opening::{open_journal, open_site};
-use sct_embed::EmbeddedSite;
+use sct_embed::{EmbeddedSite, Question};
 use sct_journal::Journal;
 use sct_requests::{Answer, Given, Said, ask, give_all};
 use sqlite_disk::Disk;
@@ -105,16 +105,16 @@ impl<D: Disk> Keeper<D> {
         ensures keeper { IsKeeper D.Disk.seen D.Disk.may_leave D.Disk.is_usable D.Disk.is_clean self.new }
         ensures disk { keeper_disk self.new ≡ keeper_disk self.old }
     {
-        match self.site.vector_text() {
+        match self.site.ask(Question::Vector) {
             Ok(()) => Ok(()),
             Err(_) => Err(AllocError),
         }
     }
 
     /// Answers a question about what the site holds: `vector`, `cut HAVE`, `status`, `totals`, `archive`, `contradictions`,
-    /// `changes`, `transfer BANK TX`, `messages BANK TX`, `bank BANK` or `report BANK DAY LIST`, in which tabs stand for the
-    /// line feeds of the list. [`Keeper::text`] is then the text that was asked for. The cost is that of the call of
-    /// [`EmbeddedSite`] with that name. The question may be refused. The error is that it is out of memory.
+    /// `evaluate`, `changes`, `transfer BANK TX`, `messages BANK TX`, `bank BANK` or `report BANK DAY LIST`, in which tabs are
+    /// the line feeds of the list. [`Keeper::text`] is then the text that was asked for. The cost is that of the [`Question`] of
+    /// that name. The question may be refused. The error is that it is out of memory.
     pub fn ask(&mut self, alloc: Global, question: &[u8]) -> Result<Said, AllocError>
         requires keeper { IsKeeper D.Disk.seen D.Disk.may_leave D.Disk.is_usable D.Disk.is_clean self.old }
         ensures says { Says (answer_asked (standing_of self.old) question.now) result (text_of self.new) }

@@ -1,5 +1,5 @@
 -- The questions of a keeper, each a line that begins with `? `, and their answers. Read by an auditor.
-use Rattle.std.specs.Prelude.{ℕ, ◌≡◌, ◌+◌, List, codes, drop, take, length, position, Option, None, Some, Result, Ok, Err, if◌then◌else◌, ⊤}
+use Rattle.std.specs.Prelude.{ℕ, ◌≡◌, ◌+◌, List, [], codes, drop, take, length, position, Option, None, Some, Result, Ok, Err, if◌then◌else◌, ⊤}
 use Rattle.sct_element.specs.Text.{is_text}
 use Rattle.sct_message.specs.Sets.{MessageSet}
 use Rattle.sct_set.specs.Archive.{archive_text_of}
@@ -46,7 +46,7 @@ abbrev pub about : {X : Type 0} → Option X → (X → Result (List ℕ) EmbedF
 about None answer = Err fault.NoQuestion
 about (Some words) answer = answered (answer words)
 
--- questions of one word
+-- Questions of one word. The one that evaluates what is new has an empty answer, and the next question does not have to wait for that.
 abbrev pub answer_named : Standing → List ℕ → Result (List ℕ) QuestionFault
 answer_named standing name =
     if is_text name (codes "vector") then Ok (held_text standing.core.arrivals)
@@ -54,6 +54,7 @@ answer_named standing name =
     else if is_text name (codes "totals") then Ok (totals_text_of (messages_of standing.core.arrivals))
     else if is_text name (codes "archive") then Ok (archive_text_of (messages_of standing.core.arrivals))
     else if is_text name (codes "contradictions") then Ok (contradictions_text_of (messages_of standing.core.arrivals))
+    else if is_text name (codes "evaluate") then Ok []
     else if is_text name (codes "changes") then Ok (changes_since standing.watched standing.core.arrivals)
     else Err fault.NoQuestion
 
@@ -81,7 +82,7 @@ abbrev pub answer_in : Standing → List ℕ → Option (List ℕ × List ℕ) �
 answer_in standing text None = answer_named standing text
 answer_in standing text (Some parts) = answer_about standing parts.0 parts.1
 
--- the answer to a question: `vector`, `cut HAVE`, `status`, `totals`, `archive`, `contradictions`, `changes`,
+-- the answer to a question: `vector`, `cut HAVE`, `status`, `totals`, `archive`, `contradictions`, `evaluate`, `changes`,
 -- `transfer BANK TX`, `messages BANK TX`, `bank BANK` or `report BANK DAY LIST`
 unfoldable pub answer_asked : Standing → List ℕ → Result (List ℕ) QuestionFault
 answer_asked standing question = answer_in standing question (two_parts question)

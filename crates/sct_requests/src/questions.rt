@@ -1,19 +1,15 @@
 //! Questions about what a site holds.
-ghost use Rattle.std.specs.Prelude.{◌≡◌, ℕ, List, Ok, Result, Some, codes, length, OnOk, if◌then◌else◌};
+ghost use Rattle.std.specs.Prelude.{◌≡◌, [], Ok, Some, length, OnOk};
 ghost use Rattle.sct_delta.specs.Entries.{messages_of};
+ghost use Rattle.sct_embed.specs.Asking as asked;
+ghost use Rattle.sct_embed.specs.Asking.{answer_to};
 ghost use Rattle.sct_embed.specs.Calls.{cut_answer};
-ghost use Rattle.sct_embed.specs.Questions.{Answers, bank_answer, changes_since, contradictions_text_of, messages_answer, transfer_answer};
-ghost use Rattle.sct_exchange.specs.Sites.{held_text};
-ghost use Rattle.sct_set.specs.Archive.{archive_text_of};
-ghost use Rattle.sct_view.specs.StatusText.{status_text_of};
-ghost use Rattle.sct_view.specs.TotalsText.{totals_text_of};
-ghost use Rattle.sct_embed.specs.declared.faults.EmbedFault.{EmbedFault as Reason};
+ghost use Rattle.sct_embed.specs.Questions.{bank_answer, changes_since, messages_answer, transfer_answer};
 ghost use Rattle.sct_requests.specs.Questions.{Says, about, answer_about, answer_asked, answer_named, answered, one_word, report_asked, two_parts, watched_after};
-ghost use Rattle.sct_requests.specs.Standings.{Standing};
 
 use crate::steps::with_feeds;
 use crate::words::{one_word, two_parts};
-use sct_embed::{EmbedFault, EmbeddedSite};
+use sct_embed::{EmbedFault, EmbeddedSite, Question};
 use std::alloc::{AllocError, Global};
 
 /// Why a question is not answered.
@@ -28,72 +24,27 @@ pub enum QuestionFault {
 /// What a question came to: the site has its answer, or refuses it.
 pub type Said = Result<(), QuestionFault>;
 
-// What a question to the site came to. The error is that it is out of memory.
-fn said(done: Result<(), EmbedFault>) -> Result<Said, AllocError>
-    ensures { (asked : Result (List ℕ) Reason) (answer : List ℕ) → Answers asked done answer → Says (answered asked) result answer }
+// Asks the site. The error is that it is out of memory.
+fn put(site: &mut EmbeddedSite, question: Question<'_>) -> Result<Said, AllocError>
+    ensures says { Says (answered (answer_to question.entry site.old)) result site.new.answer }
+    ensures core { site.new.core ≡ site.old.core }
+    ensures watched { asked.watched_after question.entry site.old ≡ site.old.watched → site.new.watched ≡ site.old.watched }
 {
-    match done {
+    match site.ask(question) {
         Ok(()) => Ok(Ok(())),
         Err(EmbedFault::Memory) => Err(AllocError),
         Err(reason) => Ok(Err(QuestionFault::Refused(reason))),
     }
 }
 
-// Asks for the version vector.
-fn ask_vector(site: &mut EmbeddedSite) -> Result<Said, AllocError>
-    ensures says { Says (Ok (held_text site.old.core.arrivals)) result site.new.answer }
+// Asks to evaluate what is new. The answer is empty.
+fn ask_to_evaluate(site: &mut EmbeddedSite) -> Result<Said, AllocError>
+    ensures says { Says (Ok []) result site.new.answer }
     ensures core { site.new.core ≡ site.old.core }
     ensures watched { site.new.watched ≡ site.old.watched }
 {
-    match site.vector_text() {
-        Ok(()) => Ok(Ok(())),
-        Err(_) => Err(AllocError),
-    }
-}
-
-// Asks for the status text.
-fn ask_status(site: &mut EmbeddedSite) -> Result<Said, AllocError>
-    ensures says { Says (Ok (status_text_of (messages_of site.old.core.arrivals))) result site.new.answer }
-    ensures core { site.new.core ≡ site.old.core }
-    ensures watched { site.new.watched ≡ site.old.watched }
-{
-    match site.status_text() {
-        Ok(()) => Ok(Ok(())),
-        Err(_) => Err(AllocError),
-    }
-}
-
-// Asks for the totals text.
-fn ask_totals(site: &mut EmbeddedSite) -> Result<Said, AllocError>
-    ensures says { Says (Ok (totals_text_of (messages_of site.old.core.arrivals))) result site.new.answer }
-    ensures core { site.new.core ≡ site.old.core }
-    ensures watched { site.new.watched ≡ site.old.watched }
-{
-    match site.totals_text() {
-        Ok(()) => Ok(Ok(())),
-        Err(_) => Err(AllocError),
-    }
-}
-
-// Asks for the archive text.
-fn ask_archive(site: &mut EmbeddedSite) -> Result<Said, AllocError>
-    ensures says { Says (Ok (archive_text_of (messages_of site.old.core.arrivals))) result site.new.answer }
-    ensures core { site.new.core ≡ site.old.core }
-    ensures watched { site.new.watched ≡ site.old.watched }
-{
-    match site.archive_text() {
-        Ok(()) => Ok(Ok(())),
-        Err(_) => Err(AllocError),
-    }
-}
-
-// Asks for the contradicted identities.
-fn ask_contradictions(site: &mut EmbeddedSite) -> Result<Said, AllocError>
-    ensures says { Says (Ok (contradictions_text_of (messages_of site.old.core.arrivals))) result site.new.answer }
-    ensures core { site.new.core ≡ site.old.core }
-    ensures watched { site.new.watched ≡ site.old.watched }
-{
-    match site.contradictions_text() {
+    site.end_answer();
+    match site.evaluate() {
         Ok(()) => Ok(Ok(())),
         Err(_) => Err(AllocError),
     }
@@ -105,7 +56,7 @@ fn ask_changes(site: &mut EmbeddedSite) -> Result<Said, AllocError>
     ensures core { site.new.core ≡ site.old.core }
     ensures watched { OnOk result (site.new.watched ≡ Some (length site.old.core.arrivals)) }
 {
-    match site.changes_text() {
+    match site.ask(Question::Changes) {
         Ok(()) => Ok(Ok(())),
         Err(_) => Err(AllocError),
     }
@@ -118,15 +69,17 @@ fn ask_named(site: &mut EmbeddedSite, name: &[u8]) -> Result<Said, AllocError>
     ensures watched { OnOk result (site.new.watched ≡ watched_after (record { core = site.old.core; watched = site.old.watched }) name.now) }
 {
     if name == b"vector".as_slice() {
-        ask_vector(site)
+        put(site, Question::Vector)
     } else if name == b"status".as_slice() {
-        ask_status(site)
+        put(site, Question::Status)
     } else if name == b"totals".as_slice() {
-        ask_totals(site)
+        put(site, Question::Totals)
     } else if name == b"archive".as_slice() {
-        ask_archive(site)
+        put(site, Question::Archive)
     } else if name == b"contradictions".as_slice() {
-        ask_contradictions(site)
+        put(site, Question::Contradictions)
+    } else if name == b"evaluate".as_slice() {
+        ask_to_evaluate(site)
     } else if name == b"changes".as_slice() {
         ask_changes(site)
     } else {
@@ -147,7 +100,14 @@ fn ask_report(alloc: Global, site: &mut EmbeddedSite, words: &[u8]) -> Result<Sa
         return Ok(Err(QuestionFault::NoQuestion));
     };
     let list = with_feeds(alloc, list)?;
-    said(site.report(bank, day, &list))
+    put(
+        site,
+        Question::Report {
+            bank,
+            day,
+            list: &list,
+        },
+    )
 }
 
 // Asks for the delta above a version vector.
@@ -159,7 +119,7 @@ fn ask_cut(site: &mut EmbeddedSite, words: &[u8]) -> Result<Said, AllocError>
     let Some(have) = one_word(words) else {
         return Ok(Err(QuestionFault::NoQuestion));
     };
-    said(site.cut(have))
+    put(site, Question::Cut(have))
 }
 
 // Asks for the line of a bank.
@@ -171,7 +131,7 @@ fn ask_bank(site: &mut EmbeddedSite, words: &[u8]) -> Result<Said, AllocError>
     let Some(bank) = one_word(words) else {
         return Ok(Err(QuestionFault::NoQuestion));
     };
-    said(site.bank_totals(bank))
+    put(site, Question::Bank(bank))
 }
 
 // Asks for the lines of a transfer.
@@ -183,7 +143,7 @@ fn ask_transfer(site: &mut EmbeddedSite, words: &[u8]) -> Result<Said, AllocErro
     let Some((bank, tx)) = two_parts(words) else {
         return Ok(Err(QuestionFault::NoQuestion));
     };
-    said(site.transfer_text(bank, tx))
+    put(site, Question::Transfer { bank, tx })
 }
 
 // Asks for the messages on a transfer.
@@ -195,7 +155,7 @@ fn ask_messages(site: &mut EmbeddedSite, words: &[u8]) -> Result<Said, AllocErro
     let Some((bank, tx)) = two_parts(words) else {
         return Ok(Err(QuestionFault::NoQuestion));
     };
-    said(site.messages_text(bank, tx))
+    put(site, Question::Messages { bank, tx })
 }
 
 // Asks a question about the words after its name.

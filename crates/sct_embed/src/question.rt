@@ -1,0 +1,67 @@
+//! What a site is asked for.
+
+/// A question to a site. Its answer is a text.
+#[derive(Drop)]
+pub enum Question<'a> {
+    /// The archive text. O(n log n) in the messages held.
+    Archive,
+    /// The status text. What is new is evaluated, and the text is written: O(n log n) in the transfers held.
+    Status,
+    /// The totals text. What is new is evaluated, and the text is written: O(n log n) in the banks held.
+    Totals,
+    /// The identities that two different messages held have: a line for each, ascending, such as `BANKDEFFXXX|pacs.008|M1`.
+    /// O(messages held).
+    Contradictions,
+    /// The text of the version vector: how many entries of each origin the site holds.
+    Vector,
+    /// The delta text, of form 2, of the entries that are numbered above a version vector, a text such as `1:2,3:1`, or `-`.
+    /// O(entries cut), plus one look at each origin. Refusal: `BadVector` (72) if the text is not a version vector.
+    Cut(&'a [u8]),
+    /// The same above a vector of counts, that of origin 1 first. An origin after them counts 0.
+    /// Refusal: `BadSite` (44) if there are more than 1024 counts.
+    CutAbove(&'a [u64]),
+    /// The site's own messages numbered above a count, each on a line: what a journal lacks that has so many.
+    /// O(entries that came after the last own one that is left out).
+    Journal(u64),
+    /// The messages that came last, at most so many, each on a line, in the order in which they came. O(these messages).
+    Newest(u64),
+    /// What the site reads in a text of messages, one on each line: the line of each as the archive text has it, or the line
+    /// that reports why it is refused, such as `line 8: 36 InstgAgt 1`. None of them is taken. O(bytes of the text).
+    Reading(&'a [u8]),
+    /// The lines of one transfer, as the status text has them: its T line, an F line for each finding, an R line for each
+    /// recall. A transfer without messages has the status `UNKNOWN`. What is new is evaluated; then O(messages on the transfer).
+    /// Refusal: `BadArgument` (73), 1 for the bank and 2 for the identification.
+    Transfer {
+        /// The originator bank.
+        bank: &'a [u8],
+        /// The identification.
+        tx: &'a [u8],
+    },
+    /// The messages on one transfer: their lines of the archive text. What is new is evaluated; then O(n log n) in these.
+    /// Refusal: `BadArgument` (73), 1 for the bank and 2 for the identification.
+    Messages {
+        /// The originator bank.
+        bank: &'a [u8],
+        /// The identification.
+        tx: &'a [u8],
+    },
+    /// The line of one bank, as the totals text has it, also if all its numbers are 0. What is new is evaluated; then expected
+    /// O(1). Refusal: `BadArgument` (73) with 1 for the bank.
+    Bank(&'a [u8]),
+    /// The report on a bank's list for a settlement day. What is new is evaluated; then O(n log n) in the transfers held and the
+    /// rows of the list.
+    /// Refusals: `BadArgument` (73), 1 for the bank and 2 for the day; `BadList` (48) with the first wrong record.
+    Report {
+        /// The bank.
+        bank: &'a [u8],
+        /// The settlement day.
+        day: &'a [u8],
+        /// The list.
+        list: &'a [u8],
+    },
+    /// What changed: a line such as `BANKDEFFXXX|TX1` for each transfer that the arrivals since the call before touch, ascending.
+    /// Every other transfer has the lines that it had then. The first call begins the watch, and its answer is empty. O(n log n)
+    /// in what is new and in the transfers that changed. From the first call on, each question also keeps the names of the
+    /// transfers that it finds changed, until this one.
+    Changes,
+}

@@ -1,0 +1,2 @@
+-- The version as a number.
+pub mod Numbers
