@@ -2,8 +2,10 @@
 
 `rt ci` checks a static library and builds none, and `rt lib` takes no library of `rt ci` by itself: it would prove all crates below again,
 which takes most of an hour. So the libraries that the gate proved and kept are put where `rt lib` looks for them, each under the key
-by which `rt ci` itself finds it again: the sum of its sources, of its line in crates.txt and of the libraries below it. What was not kept,
-`rt lib` proves. It proves the static library in each case. The page is made in the same way, of another static library (web/build).
+by which `rt ci` itself finds it again: the sum of its sources, of its line in crates.txt and of the libraries below it. An older toolchain
+keeps nothing, and leaves what it proved in the folders of the crates without that key: such a library gets its key if it is newer than all that
+it is made of. What was not kept, `rt lib` proves. It proves the static library in each case. The page is made in the same way, of another
+static library (web/build).
 """
 import contextlib, hashlib, importlib.machinery, importlib.util, io, os, pathlib, shutil, subprocess, sys
 
@@ -57,9 +59,34 @@ def take(module, kept, crate):
     return True
 
 
+def newest(crate):
+    """When the newest file was written that a library is made of."""
+    return max(path.stat().st_mtime for part in ("src", "specs", "proofs") for path in pathlib.Path(crate.folder, part).rglob("*") if path.is_file())
+
+
+def give_keys(module, name):
+    """Gives each library below a crate its key that `rt ci` proved and left without one. Returns whether each has one then."""
+    rtlib = sys.modules["rtlib"]
+    made = rtlib.Crate.__init__
+
+    def make(self, *given, **named):
+        made(self, *given, **named)
+        module.read_files(self)
+    rtlib.Crate.__init__ = make
+    crates = rtlib.crates_below(str(TOP))
+    below = next(crate for crate in crates if crate.name == name).below()
+    for crate in below:
+        stamp = pathlib.Path(crate.folder, "out", "rlib", "stamp")
+        if os.path.isdir(crate.rlib) and not stamp.exists() and os.path.getmtime(crate.rlib) > max(map(newest, [crate, *crate.below()])):
+            stamp.write_text(crate.stamp(), encoding="utf-8")
+    return all(crate.is_built() for crate in below)
+
+
 def take_all(name, rt):
     """Puts each library below a crate that was kept where `rt lib` looks for it. Returns whether each is there then."""
     module = module_of(rt)
+    if not hasattr(module, "Kept"):
+        return give_keys(module, name)
     module.Crate.allowed = module.handles_of(str(TOP))
     crates = module.crates_of(str(TOP))
     kept = module.Kept(crates)

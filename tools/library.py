@@ -3,8 +3,9 @@
 Usage: tools/library.py FOLDER
 
 The archive has one object: the library, and the code of the toolchain that calls malloc, realloc and free. So a program needs nothing
-but the C library. The shared library is made of it. Both give away the names that begin with `sct_` and no other. The same inputs
-make the same bytes. It needs gcc and binutils. `rt lib` makes the static library first, if it is not there or not of these sources
+but the C library. The shared library is made of it. Both give away `sct_version` and the names that begin with `sct_raw_`, and no
+other. In the shared library these names have the version of the interface, such as NILUPPANG_0.2. The same inputs make the same bytes.
+It needs gcc and binutils. `rt lib` makes the static library first, if it is not there or not of these sources
 (kept.py). The variable SCT_C names another one.
 """
 import os, pathlib, shutil, subprocess, sys, tempfile
@@ -13,9 +14,19 @@ from tools import kept
 
 TOP = kept.TOP
 VERSION = (TOP / "VERSION").read_text(encoding="utf-8").strip()
-SONAME = "libniluppang.so." + ".".join(VERSION.split(".")[:2])
-EXPORTS = "{ global: sct_*; local: *; };\n"
+INTERFACE = ".".join(VERSION.split(".")[:2])
+SONAME = f"libniluppang.so.{INTERFACE}"
+NAMES = ["sct_version", "sct_raw_*"]
+EXPORTS = f"NILUPPANG_{INTERFACE} {{ global: {'; '.join(NAMES)}; local: *; }};\n"
 NEEDED = ["gcc", "ld", "objcopy", "ar"]
+
+
+def pkg_config(prefix, libraries):
+    """What pkg-config reads of the library, for a prefix and the folder of libraries below it."""
+    lines = [f"prefix={prefix}", f"libdir=${{prefix}}/{libraries}", "includedir=${prefix}/include", "", "Name: niluppang",
+             "Description: The proved site of a clearing hub for SEPA Instant Credit Transfers", f"Version: {VERSION}",
+             "Libs: -L${libdir} -lniluppang", "Cflags: -I${includedir}"]
+    return "\n".join(lines) + "\n"
 
 
 class Missing(Exception):
@@ -66,8 +77,8 @@ def make_archive(folder, proves=True):
     library, heap = check_there(proves)
     with tempfile.TemporaryDirectory() as place:
         run("ld", "-r", "-z", "noexecstack", "-o", "niluppang.o", "--whole-archive", library.resolve(), heap, folder=place)
-        run("objcopy", "--enable-deterministic-archives", "--strip-debug", "--wildcard", "--keep-global-symbol=sct_*", "niluppang.o",
-            folder=place)
+        kept_names = [f"--keep-global-symbol={name}" for name in NAMES]
+        run("objcopy", "--enable-deterministic-archives", "--strip-debug", "--wildcard", *kept_names, "niluppang.o", folder=place)
         run("ar", "rcsD", "libniluppang.a", "niluppang.o", folder=place)
         shutil.copy(pathlib.Path(place, "libniluppang.a"), folder)
     return pathlib.Path(folder, "libniluppang.a")

@@ -2,17 +2,28 @@
 
 Usage: tools/package.py [FOLDER]   (out)
 
-It makes FOLDER/niluppang-VERSION-x86_64-linux.tar.gz; FOLDER/niluppang.html, the page; and FOLDER/SHA256SUMS, the sums of both, which is
-the list of the release. The archive has one folder of its name:
+It makes FOLDER/niluppang-VERSION-x86_64-linux.tar.gz; FOLDER/niluppang.html, the page; the packages for Debian 12; a wheel for pip, with
+the Python package and the library (bindings.py); and FOLDER/SHA256SUMS, the sums of all of them, which is the list of the release. The
+archive has one folder of its name:
 
     bin/sct_sites                    the program
     lib/, include/                   the libraries, the C header, and niluppang.pc for pkg-config
     share/man/, share/doc/           the manual page; all pages and examples, as they are in the repository; and BUILD
     share/niluppang/python/          the Python package
-    share/niluppang/java/            the Java package
+    share/niluppang/java/            the Java package, and niluppang.jar of it
     share/niluppang/services/        the sites of a hub as a service, and answers on parts of an input
     share/niluppang/niluppang.html   the page
     SHA256SUMS                       the sums of all other files: `sha256sum -c SHA256SUMS`
+
+The packages have the same files, at the places that Debian has for them (debian.py):
+
+    niluppang_VERSION-1_amd64.deb         the program, its manual page, the tools of the desk, the page, all pages and examples
+    libniluppang0.2_VERSION-1_amd64.deb   the shared library
+    libniluppang-dev_VERSION-1_amd64.deb  the C header, the library for static programs, and niluppang.pc
+    python3-niluppang_VERSION-1_all.deb   the Python package
+    niluppang-hub_VERSION-1_all.deb       the sites of a hub as a service, with a unit of systemd and examples for operators
+
+There is no package for Java. On a machine without a JDK the archive is made without niluppang.jar: build.sh beside the sources makes it.
 
 BUILD says which version it is, of which commit, and the toolchain that proved it. The same commit and the same built files make the same
 bytes: times are those of the commit, and all is sorted. Run the gate before: the libraries and the page are made of what it proved, if
@@ -21,24 +32,17 @@ they are not there. The variables SCT_SITES and SCT_C name another program and a
 import gzip, hashlib, io, os, pathlib, subprocess, sys, tarfile, tempfile
 sys.path.insert(0, str(pathlib.Path(__file__).resolve().parents[1]))
 from tests.documents import man_page
-from tools import library, page
+from tools import bindings, debian, library, page
 from tools.library import TOP, VERSION, Missing
 
 NAME = f"niluppang-{VERSION}-x86_64-linux"
 SUMS = "SHA256SUMS"
+PAGE, BUILD = "share/niluppang/" + page.PAGE.name, "share/doc/niluppang/BUILD"
+JAR = "share/niluppang/java/niluppang.jar"
 PAGES = ["README.md", "CHANGELOG.md", "CONTRIBUTING.md", "SECURITY.md"]
 PYTHON = ["pyproject.toml", "README.md"]
 LEFT_OUT = ("target", "__pycache__", ".gitignore", "Cargo.lock")
-PKG_CONFIG = f"""prefix=${{pcfiledir}}/../..
-libdir=${{prefix}}/lib
-includedir=${{prefix}}/include
-
-Name: niluppang
-Description: The proved site of a clearing hub for SEPA Instant Credit Transfers
-Version: {VERSION}
-Libs: -L${{libdir}} -lniluppang
-Cflags: -I${{includedir}}
-"""
+PKG_CONFIG = library.pkg_config("${pcfiledir}/../..", "lib")
 
 
 def program():
@@ -89,20 +93,38 @@ def read(path):
     return (TOP / path).read_bytes()
 
 
+def commit_time():
+    """The time of the commit, which all files of the release have."""
+    return int(os.environ.get("SOURCE_DATE_EPOCH") or said("git", "log", "-1", "--format=%ct") or 0)
+
+
+def jar():
+    """niluppang.jar, by its path, or nothing on a machine that cannot make it. A line says so."""
+    try:
+        return {JAR: bindings.jar(commit_time())}
+    except Missing as missing:
+        print(f"package: the archive has no niluppang.jar: {missing}", file=sys.stderr)
+        return {}
+
+
 def sums_of(found):
     """The sums of files, as sha256sum reads them."""
     return "".join(f"{hashlib.sha256(found[path]).hexdigest()}  {path}\n" for path in sorted(found)).encode()
 
 
-def files(folder, html):
-    """The path of each file in the archive, with its bytes. The libraries are made in a folder."""
+def built(folder):
+    """The files of the release that are built, by path. The libraries are made in a folder."""
+    html = page_made()
     library.make(folder)
+    return {"bin/sct_sites": program().read_bytes(), BUILD: built_of().encode(), PAGE: html, **jar(),
+            **{"lib/" + name: pathlib.Path(folder, name).read_bytes() for name in ("libniluppang.a", library.SONAME)}}
+
+
+def files(built_ones):
+    """The path of each file in the archive, with its bytes: of those that are built, and of those of the repository."""
     doc, python = "share/doc/niluppang/", "share/niluppang/python/"
-    found = {"bin/sct_sites": program().read_bytes(), "include/niluppang.h": read("include/niluppang.h"),
-             "lib/pkgconfig/niluppang.pc": PKG_CONFIG.encode(), "share/man/man1/sct_sites.1": man_page.made().encode(),
-             doc + "BUILD": built_of().encode(), doc + "VERSION": read("VERSION"), "share/niluppang/" + page.PAGE.name: html}
-    for name in ("libniluppang.a", library.SONAME):
-        found["lib/" + name] = pathlib.Path(folder, name).read_bytes()
+    found = {**built_ones, "include/niluppang.h": read("include/niluppang.h"), "lib/pkgconfig/niluppang.pc": PKG_CONFIG.encode(),
+             "share/man/man1/sct_sites.1": man_page.made().encode(), doc + "VERSION": read("VERSION")}
     for path in [*PAGES, *below("docs")]:
         found[doc + path] = read(path)
     for name in PYTHON:
@@ -133,7 +155,7 @@ def put(tar, found, time):
     link = "lib/libniluppang.so"
     for path in sorted({*found, *folders, link}):
         info = entry("" if path == "." else path, time)
-        info.mode = 0o755 if path in folders or path == "bin/sct_sites" or ".so" in path else 0o644
+        info.mode = 0o755 if path in folders or path == "bin/sct_sites" or ".so" in path or path.endswith(".sh") else 0o644
         if path in folders:
             info.type = tarfile.DIRTYPE
             tar.addfile(info)
@@ -145,21 +167,30 @@ def put(tar, found, time):
             tar.addfile(info, io.BytesIO(found[path]))
 
 
+def archive(found, time):
+    """The bytes of the archive."""
+    file = io.BytesIO()
+    with gzip.GzipFile("", "wb", 9, file, mtime=time) as packed, tarfile.open(fileobj=packed, mode="w", format=tarfile.GNU_FORMAT) as tar:
+        put(tar, found, time)
+    return file.getvalue()
+
+
+def release(built_ones):
+    """The files of the release by name: the archive, the page, the packages, and the list of their sums."""
+    found, time = files(built_ones), commit_time()
+    shipped = {NAME + ".tar.gz": archive(found, time), page.PAGE.name: found[PAGE], **bindings.wheel(found, time),
+               **debian.made(found, time)}
+    return {**shipped, SUMS: sums_of(shipped)}
+
+
 def make(folder):
     """Makes the release in a folder, and returns the path of its archive."""
-    html = page_made()
     with tempfile.TemporaryDirectory() as place:
-        found = files(place, html)
-    time = int(os.environ.get("SOURCE_DATE_EPOCH") or said("git", "log", "-1", "--format=%ct") or 0)
-    path = pathlib.Path(folder, NAME + ".tar.gz")
-    path.parent.mkdir(parents=True, exist_ok=True)
-    with open(path, "wb") as file, gzip.GzipFile("", "wb", 9, file, mtime=time) as packed:
-        with tarfile.open(fileobj=packed, mode="w", format=tarfile.GNU_FORMAT) as tar:
-            put(tar, found, time)
-    shipped = {page.PAGE.name: html, path.name: path.read_bytes()}
-    path.with_name(page.PAGE.name).write_bytes(html)
-    path.with_name(SUMS).write_bytes(sums_of(shipped))
-    return path
+        shipped = release(built(place))
+    pathlib.Path(folder).mkdir(parents=True, exist_ok=True)
+    for name, data in shipped.items():
+        pathlib.Path(folder, name).write_bytes(data)
+    return pathlib.Path(folder, NAME + ".tar.gz")
 
 
 def main():

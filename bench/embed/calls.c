@@ -3,9 +3,9 @@
  *     calls FILE MORE
  *
  * FILE has messages, one a line. All but the last 2 * MORE are taken one by one, and then held. MORE messages are taken after that, each
- * followed by the lines of its transfer or by what changed, in turn. MORE others come from a second site, in a delta of one message
- * each. It prints a line for each measure: a name, a number and its unit. Times are those of the thread's processor, in the median of a
- * call.
+ * followed by its line of the journal, and by the lines of its transfer or by what changed, in turn. MORE others come from a second site,
+ * in a delta of one message each. It prints a line for each measure: a name, a number and its unit. Times are those of the thread's
+ * processor, in the median of a call.
  */
 #define _GNU_SOURCE
 #include <malloc.h>
@@ -101,7 +101,12 @@ static struct text answer_of(sct_site *site, sct_outcome made) {
     return text;
 }
 
-static void take(sct_site *site, struct text line) { must(sct_site_take(site, line.bytes, line.length).ok, "a message is refused"); }
+/* Takes a message, and returns its number. */
+static uint64_t take(sct_site *site, struct text line) {
+    sct_taken taken = sct_site_take(site, line.bytes, line.length);
+    must(taken.ok, "a message is refused");
+    return taken.number;
+}
 
 /* Takes messages one by one, and prints what that cost. */
 static void takes(sct_site *site, const struct text *lines, size_t many) {
@@ -131,15 +136,21 @@ static struct text transfer_of(sct_site *site, struct text line) {
     return answer_of(site, sct_site_transfer_text(site, bank.bytes, bank.length, tx.bytes, tx.length));
 }
 
-/* Takes, each followed by the lines of its transfer, or by what changed, in turn. */
+/* Takes, each followed by its line of the journal, and by the lines of its transfer, or by what changed, in turn. */
 static void followed(sct_site *site, const struct text *lines, size_t many) {
-    double *took = malloc(many * sizeof *took), *asked = malloc(many * sizeof *asked), *changed = malloc(many * sizeof *changed);
-    must(took != NULL && asked != NULL && changed != NULL && sct_site_changes(site).ok, "the watch does not begin");
+    double *took = malloc(many * sizeof *took), *kept = malloc(many * sizeof *kept);
+    double *asked = malloc(many * sizeof *asked), *changed = malloc(many * sizeof *changed);
+    must(took != NULL && kept != NULL && asked != NULL && changed != NULL && sct_site_changes(site).ok, "the watch does not begin");
     for (size_t place = 0; place < many; place++) {
         bool is_even = place % 2 == 0;
         double began = now();
-        take(site, lines[place]);
+        uint64_t number = take(site, lines[place]);
         took[place] = now() - began;
+        began = now();
+        struct text line = answer_of(site, sct_site_journal_text(site, number - 1));
+        kept[place] = now() - began;
+        must(line.length > 0, "a message has no line of the journal");
+        free(line.bytes);
         began = now();
         struct text text = is_even ? transfer_of(site, lines[place]) : answer_of(site, sct_site_changes(site));
         (is_even ? asked : changed)[place / 2] = now() - began;
@@ -147,9 +158,11 @@ static void followed(sct_site *site, const struct text *lines, size_t many) {
         free(text.bytes);
     }
     print("a take, all held", median(took, many), "us");
+    print("then its line of the journal", median(kept, many), "us");
     print("then the lines of its transfer", median(asked, (many + 1) / 2), "us");
     print("then what changed", median(changed, many / 2), "us");
     free(took);
+    free(kept);
     free(asked);
     free(changed);
 }

@@ -2,10 +2,10 @@
 
 Usage: bench/embed/calls.py [MESSAGES] [MORE]   (100000 1000)
 
-A site holds MESSAGES messages of bench/generate/messages.py, which it took one by one. Then MORE are taken, each followed by the lines
-of its transfer or by what changed, in turn. MORE others come from a second site, in a delta of one message each. Times are those of
-the processor. Those of single calls are medians. calls.c measures the same in C, with the libraries that tools/library.py makes. A call
-from Python has the cost of the call in C and of ctypes.
+A site holds MESSAGES messages of bench/generate/messages.py, which it took one by one. Then MORE are taken, each followed by its line of
+the journal, and by the lines of its transfer or by what changed, in turn. MORE others come from a second site, in a delta of one message
+each. Times are those of the processor. Those of single calls are medians. calls.c measures the same in C, with the libraries that
+tools/library.py makes. A call from Python has the cost of the call in C and of ctypes.
 """
 import json, os, pathlib, statistics, subprocess, sys, tempfile, time
 sys.path.insert(0, str(pathlib.Path(__file__).resolve().parents[2]))
@@ -50,11 +50,14 @@ def in_python(lines, more):
         yield "first status text", timed(site.status_text)[1], "s"
         yield "status text again", timed(site.status_text)[1], "s"
         site.changes()
-        found = [(timed(site.take, line), timed(site.changes) if place % 2 else timed(site.transfer, *transfer_of(line)))
-                 for place, line in enumerate(after)]
-        yield "a take, all held", each(took for took, _ in found), "us"
-        yield "then the lines of its transfer", each(asked for _, asked in found[::2]), "us"
-        yield "then what changed", each(asked for _, asked in found[1::2]), "us"
+        number = site.counts()[0]
+        found = [(timed(site.take, line), timed(site.journal, number + place),
+                  timed(site.changes) if place % 2 else timed(site.transfer, *transfer_of(line))) for place, line in enumerate(after)]
+        took, kept, asked = zip(*found)
+        yield "a take, all held", each(took), "us"
+        yield "then its line of the journal", each(kept), "us"
+        yield "then the lines of its transfer", each(asked[::2]), "us"
+        yield "then what changed", each(asked[1::2]), "us"
         deltas = []
         for place, line in enumerate(others):
             second.take(line)

@@ -1,11 +1,15 @@
 """c_answers.py: the library answers the examples to the byte, refuses by each number, and holds sites 1 to 1024, in 256 KB of stack.
 
-- The examples of examples/: the answers that their files have, of messages taken at once, one by one, and restored from a journal.
+- The examples of examples/: the answers that their files have, of messages taken at once, one by one, and restored from a journal. What
+  the site reads in their lines, its journal and its newest messages are the lines of these files.
 - The three sites of hub-morning, which exchange deltas, and the cases of examples/exchange that one delta decides.
-- Each number of the header once, with its place, and each call on a handle without a site.
+- Each number of the header once, with its place and with why, and each call on a handle without a site.
+- Why a call was refused, until the next call; parts of an answer; an evaluation; the name and the meaning of each of 256 numbers.
+- Texts and rooms without bytes, at an address and at none.
 - Sites 1 to 1024 of the largest group. Each gives its message to site 1, and three are given all.
 - What needs the most stack: 99,999 opening brackets, a recall of 100 transactions, and 20,000 messages.
-- The library gives away the names of the header and no other, needs nothing but the C library, and no stack whose bytes run.
+- The structures have their sizes. The library gives away the names of the header and no other, in the shared one under its version. It
+  needs nothing but the C library, and no stack whose bytes run.
 """
 import json, re
 from bench.generate import messages, samples
@@ -19,14 +23,22 @@ from tests.oracle import status
 CALLED = {"malloc", "realloc", "free", "memcpy", "memmove", "memset", "memcmp"}
 OF_COMPILER = {"__udivti3", "__umodti3"}  # of the library that each compiler of C links
 BANK, DAY, STACK = b"BANKDEFF", b"2024-05-02", 256 * 1024
-MOST_SITES, LONG = 1024, 20_000
+MOST_SITES, LONG, MOST = 1024, 20_000, 2 ** 64 - 1
+HELD = 200, 6000  # messages
 EMPTY_DELTA = b"delta 2\nend 0\n"
+# the size of each structure, and where its fields are, in the order of the header
+LAYOUT = b"""sct_site 16
+sct_outcome 32 0 1 8 16 24
+sct_taken 32 0 1 2 8 16 24
+sct_lines 56 0 1 8 16 24 32 40 48
+sct_accepted 32 0 1 8 16 24
+"""
 
 
-def right(name, program, requests, wanted):
+def right(name, program, requests, wanted, words=()):
     """Whether the replies to requests have these fields and texts. What a wanted reply does not name may be anything."""
     try:
-        found = driving.asked(program, requests)
+        found = driving.asked(program, requests, words=words)
     except driving.Failed as failed:
         return reported(name, False, str(failed))
     for one, reply, (fields, text) in zip(requests, found, wanted):
@@ -36,18 +48,18 @@ def right(name, program, requests, wanted):
     return reported(name, len(found) == len(wanted))
 
 
-def as_modelled(name, program, requests):
+def as_modelled(name, program, requests, words=()):
     """Whether the replies to requests are those of the model."""
     handles, wanted = {}, []
     for call, handle, *arguments in requests:
         fields, text = handles.setdefault(handle, model.Handle()).call(call, *arguments)
         wanted.append(({field: fields[field] for field in driving.FIELDS[call] if field in fields}, text))
-    return right(name, program, requests, wanted)
+    return right(name, program, requests, wanted, words)
 
 
 # ---- the examples
 
-OK = {"ok": 1, "code": 0, "place": 0}
+OK = {"ok": 1, "code": 0, "place": 0, "reserved": 0}
 
 
 def answers_of(stem):
@@ -77,6 +89,25 @@ def example(program, stem):
     for way, begin in ways.items():
         requests, wanted = zip(*begin, *answers_of(stem))
         yield right(f"{stem}, {way}", program, list(requests), list(wanted))
+    yield lines_of_example(program, stem, lines, refused)
+
+
+def lines_of_example(program, stem, lines, refused):
+    """What a site reads in the lines of an example, takes of them into its journal, and has as its newest messages."""
+    held = (EXAMPLES / (stem + ".archive")).read_bytes().splitlines(keepends=True)
+    requests = [("open", 0, 1, 1), ("reading_text", 0, lines), ("vector_text", 0), ("take_lines", 0, lines), ("journal_text", 0, 0),
+                ("journal_text", 0, 2), ("newest_text", 0, MOST), ("newest_text", 0, 2), ("journal_text", 0, len(held)),
+                ("newest_text", 0, 0)]
+    texts = [reply.text for reply in driving.asked(program, requests)]
+    found = texts[1].splitlines(keepends=True)
+    messages = [line for line in found if line.startswith(b"{")]
+    journal = list(dict.fromkeys(messages))
+    is_read = sorted(journal) == sorted(held) and b"".join(line for line in found if line not in journal) == refused
+    places = [int(number) for number in re.findall(rb"^line (\d+):", texts[1], re.M)]
+    numbers = [number for number, _ in status.lines_of(lines)]
+    in_place = [number for number, line in zip(numbers, found) if not line.startswith(b"{")] == places and len(numbers) == len(found)
+    wanted = [b"-", refused, b"".join(journal), b"".join(journal[2:]), b"".join(journal), b"".join(journal[-2:]), b"", b""]
+    return reported(f"{stem}, line by line", is_read and in_place and texts[2:] == wanted, f"{texts}"[:2000])
 
 
 def hub(program):
@@ -94,8 +125,9 @@ def hub(program):
         wanted = (EXAMPLES / f"hub-morning.{suffix}").read_bytes()
         found = driving.asked(program, [*requests, *((name, site) for site in (1, 2, 3))])[-3:]
         yield reported(f"three sites of hub-morning, {name}", all(reply.text == wanted for reply in found))
+    looks = [("vector_text",), ("counts", 4), ("journal_text", 1), ("newest_text", 7)]
     yield as_modelled("three sites of hub-morning, as the definitions say", program,
-                      [*requests, *(("vector_text", site) for site in (1, 2, 3)), *(("counts", site, 4) for site in (1, 2, 3))])
+                      [*requests, *((name, site, *words) for name, *words in looks for site in (1, 2, 3))])
 
 
 def exchanged(program):
@@ -115,60 +147,153 @@ def exchanged(program):
 # ---- refusals
 
 def refused_takes():
-    """An object for each number that refuses an object, with the number and the place."""
+    """An object for each number that refuses an object, with the place, and with why."""
     of = lambda **more: samples.line(samples.instruction(**more)).encode()
     without = {key: value for key, value in samples.instruction().items() if key != "TxId"}
     recall = lambda *transactions: samples.line({**samples.recall([{}]), "TxInf": list(transactions)}).encode()
     one, other = samples.transaction(), samples.transaction(CxlId="R2")
-    return [(b"{", 31, 0), (b"", 31, 0), (b"\xff", 31, 0), (b"[]", 32, 0), (b"{}", 33, 0), (samples.line(without).encode(), 34, 0),
-            (of(TxId=1), 35, 0), (of(TxId="a_b"), 36, 0), (of(Purp="SALA"), 37, 0), (of(Ccy="USD"), 38, 0), (recall(), 46, 0),
-            (recall(one, 7), 46, 2), (recall(one, {**other, "Rsn": "fraud"}), 56, 2), (recall({**one, "CxlId": None}), 56, 1)]
+    less = {key: value for key, value in one.items() if key != "CxlId"}
+    return [(b"{", 0, "31"), (b"", 0, "31"), (b"\xff", 0, "31"), (b"[]", 0, "32"), (b"{}", 0, "33"),
+            (samples.line(without).encode(), 0, "34 TxId"), (of(TxId=1), 0, "35 TxId"), (of(TxId="a_b"), 0, "36 TxId 3"),
+            (of(DbtrAcct="DE1"), 0, "36 DbtrAcct 2"), (of(Purp="SALA"), 0, '37 "Purp"'), (of(**{'a "b"\n': ""}), 0, r'37 "a \"b\"\n"'),
+            (of(**{"\u00e9\u0001": ""}), 0, '37 "\u00e9\\u0001"'), (of(Ccy="USD"), 0, "38 11"), (recall(), 0, "46 0"),
+            (recall(one, 7), 2, "46 2"), (recall(one, {**other, "Rsn": "fraud"}), 2, "56 2 36 Rsn 9"),
+            (recall({**one, "CxlId": None}), 1, "56 1 35 CxlId"), (recall(one, other, less), 3, "56 3 34 CxlId"),
+            (recall({**one, "Purp": "SALA"}), 1, '56 1 37 "Purp"'), (recall(one, one), 0, "38 22")]
 
 
 def refused_calls():
     """A call for each other number, or several: on handle 0, which holds two messages of site 1 of 3, on handle 1, which holds one of
-    site 2 and the first of site 1, and on handle 2, which is empty. Each with the number and the place."""
+    site 2 and the first of site 1, and on handle 2, which is empty. Each with the number, the place, and why: None at no site."""
     header, items = b"DbtrAgt,TxId,Amt,Sts\n", [0] * (MOST_SITES + 1)
-    yield from [(("accept", 1, delta(1, 3, 4)), 41, 0), (("accept", 1, delta(1, 1, 2)), 42, 0), (("accept", 0, delta(1, 3, 4)), 43, 0),
-                (("accept", 0, delta(4, 1, 4)), 44, 0), (("accept", 0, b""), 45, 1), (("accept", 0, EMPTY_DELTA[:-2]), 45, 2)]
-    yield from [(("counts", 0, len(items)), 44, 0), (("cut_above", 0, items), 44, 0), (("cut", 0, b"1"), 72, 0), (("cut", 0, b""), 72, 0)]
-    yield from [(("open", 0, 1, 1), 71, 0), (("restore", 0, 1, 1, b"", EMPTY_DELTA), 71, 0)]
-    yield from [(("report", 0, BANK, DAY, b""), 48, 1), (("report", 0, BANK, DAY, header + b"\nx\n"), 48, 2),
-                (("report", 0, b"bankdeff", DAY, header), 73, 1), (("report", 0, BANK, b"today", header), 73, 2)]
-    yield from [(("transfer_text", 0, b"", b"T1"), 73, 1), (("transfer_text", 0, BANK, b""), 73, 2),
-                (("messages_text", 0, b"BANK", b"T1"), 73, 1), (("messages_text", 0, BANK, b"T//1"), 73, 2),
-                (("bank_totals", 0, b"X"), 73, 1), (("restore", 2, 0, 1, b"", EMPTY_DELTA), 44, 0)]
+    yield from [(("accept", 1, delta(1, 3, 4)), 41, 0, "41 1 1 3"), (("accept", 1, delta(1, 1, 2)), 42, 0, "42 1 1"),
+                (("accept", 0, delta(1, 3, 4)), 43, 0, "43 3"), (("accept", 0, delta(1, 2, 2, 4)), 43, 0, "43 3"),
+                (("accept", 0, delta(4, 1, 4)), 44, 0, "44"), (("accept", 0, b""), 45, 1, "45 1"),
+                (("accept", 0, EMPTY_DELTA[:-2]), 45, 2, "45 2")]
+    yield from [(("counts", 0, len(items)), 44, 0, "45 2"), (("cut_above", 0, items), 44, 0, "44"), (("cut", 0, b"1"), 72, 0, "72"),
+                (("cut", 0, b""), 72, 0, "72")]
+    yield from [(("open", 0, 1, 1), 71, 0, "72"), (("restore", 0, 1, 1, b"", EMPTY_DELTA), 71, 0, "72")]
+    yield from [(("report", 0, BANK, DAY, b""), 48, 1, "48 1"), (("report", 0, BANK, DAY, header + b"\nx\n"), 48, 2, "48 2"),
+                (("report", 0, b"bankdeff", DAY, header), 73, 1, "73 1"), (("report", 0, BANK, b"today", header), 73, 2, "73 2")]
+    yield from [(("transfer_text", 0, b"", b"T1"), 73, 1, "73 1"), (("transfer_text", 0, BANK, b""), 73, 2, "73 2"),
+                (("messages_text", 0, b"BANK", b"T1"), 73, 1, "73 1"), (("messages_text", 0, BANK, b"T//1"), 73, 2, "73 2"),
+                (("bank_totals", 0, b"X"), 73, 1, "73 1"), (("restore", 2, 0, 1, b"", EMPTY_DELTA), 44, 0, None)]
     for number, group in ((0, 1), (2, 1), (1, 0), (1025, 1025), (1, 1025), (65535, 65535)):
-        yield ("open", 2, number, group), 44, 0
+        yield ("open", 2, number, group), 44, 0, None
     for name, words in on_no_site():
-        yield (name, 2, *words), 70, 0
+        yield (name, 2, *words), 70, 0, None
+
+
+def wanted_of(code, place, why):
+    """What a refused call comes to, and then what the question why comes to."""
+    yield {"ok": 0, "code": code, "place": place, "length": 0, "reserved": 0}, b""
+    if why is None:
+        yield {"ok": 0, "code": 70, "place": 0, "length": 0, "reserved": 0}, b""
+    else:
+        yield {**OK, "length": len(why.encode())}, why.encode()
+
+
+def zeros(fields, name):
+    """The fields that the result of a call has, and what is not given of them is 0."""
+    return {field: fields.get(field, 0) for field in driving.FIELDS[name]}
 
 
 def refusals(program):
-    """Each number once, with its place, and what a refusal leaves as it was."""
+    """Each number once, with its place and with why, and what a refusal leaves as it was."""
     kept = [("open", 0, 1, 3), ("take", 0, instruction(1).encode()), ("take", 0, instruction(2).encode()),
             ("open", 1, 2, 3), ("take", 1, instruction(3).encode()), ("accept", 1, delta(1, 1, 1)), ("status_text", 0)]
-    refused = [*((("take", 0, json), code, place) for json, code, place in refused_takes()), *refused_calls()]
+    refused = [*((("take", 0, json), int(why[:2]), place, why) for json, place, why in refused_takes()), *refused_calls()]
     length = driving.asked(program, kept)[-1].fields["length"]
     after = [("answer", 0, length), ("counts", 0, 3), ("counts", 1, 3), ("archive_text", 0), ("archive_text", 1)]
     as_was = driving.asked(program, [*kept, *after])[len(kept):]
-    requests = kept + [one for one, _, _ in refused] + after
+    requests = kept + [ask for one, *_ in refused for ask in (one, ("why", one[1], 1 << 10))] + after
     wanted = [({"ok": 1}, None)] * len(kept)
-    wanted += [({"ok": 0, "code": code, **({} if one[0] == "take_lines" else {"place": place})}, b"") for one, code, place in refused]
+    wanted += [one for _, *which in refused for one in wanted_of(*which)]
     wanted += [(reply.fields, reply.text) for reply in as_was]
+    wanted = [(fields if fields.get("ok") else zeros(fields, one[0]), text) for one, (fields, text) in zip(requests, wanted)]
     yield right(f"{len(refused)} refusals, which change nothing", program, requests, wanted)
     numbers = set(map(int, re.findall(r"^ \*     (\d+) [A-Z]", (TOP / "include" / "niluppang.h").read_text(), re.M)))
-    met = {code for _, code, _ in refused} | {65}  # memory runs out in c_growths.py
+    met = {code for _, code, *_ in refused} | {65}  # memory runs out in c_growths.py
     yield reported("each number of the header is met", met == numbers, f"{sorted(met ^ numbers)}")
 
 
 def on_no_site():
     """Each call that needs a site."""
     words = {"take": [b"{}"], "take_lines": [b""], "accept": [EMPTY_DELTA], "counts": [1], "cut": [b"-"], "cut_above": [[]],
-             "report": [BANK, DAY, b""], "transfer_text": [BANK, b"T1"], "messages_text": [BANK, b"T1"], "bank_totals": [BANK],
-             "answer": [0]}
-    texts = ["vector_text", "archive_text", "status_text", "totals_text", "contradictions_text", "changes"]
+             "journal_text": [0], "newest_text": [1], "reading_text": [b"{}"], "report": [BANK, DAY, b""], "transfer_text": [BANK, b"T1"],
+             "messages_text": [BANK, b"T1"], "bank_totals": [BANK], "answer": [0], "answer_part": [0, 1], "why": [10]}
+    texts = ["vector_text", "archive_text", "status_text", "totals_text", "contradictions_text", "changes", "evaluate", "answer_end"]
     return [*words.items(), *((name, []) for name in texts)]
+
+
+# ---- why, parts, evaluations, numbers, and nothing
+
+def reasons(program):
+    """Why the last call was refused: until the next one, and through the calls that leave it."""
+    ask, none, told = ("why", 0, 100), ({**OK, "length": 0}, b""), ({**OK, "length": 7}, b"35 TxId")
+    wrong = samples.line(samples.instruction(TxId=1)).encode()
+    silent = [("answer", 0, 0), ("answer_part", 0, 0, 1), ("answer_end", 0), ("counts", 0, 1), ("counts", 0, 1025), ("open", 0, 1, 1),
+              ("restore", 0, 1, 1, b"", b""), ("code_name", 0, 35, 0), ("why", 0, 6), ("take", 1, b"{}"), ("status_text", 1)]
+    done = [("take", 0, instruction(1).encode()), ("take", 0, instruction(1).encode()), ("take_lines", 0, b"{"), ("accept", 0, EMPTY_DELTA),
+            ("cut", 0, b"-"), ("cut_above", 0, []), ("report", 0, BANK, DAY, b"DbtrAgt,TxId,Amt,Sts\n"), ("transfer_text", 0, BANK, b"T1"),
+            ("messages_text", 0, BANK, b"T1"), ("bank_totals", 0, BANK), ("journal_text", 0, 0), ("newest_text", 0, 0), ("evaluate", 0),
+            ("reading_text", 0, b"{}"), *((name, 0) for name in ("vector_text", "archive_text", "status_text", "totals_text",
+                                                                 "contradictions_text", "changes"))]
+    well, refused = ({"ok": 1}, None), (("take", 0, wrong), ({"ok": 0}, None))
+    begin = [(("open", 0, 1, 1), well), (ask, none), (("open", 1, 1, 1), well)]
+    kept = [pair for one in silent for pair in ((one, ({}, None)), (ask, told))]
+    cleared = [pair for one in done for pair in (refused, (ask, told), (one, well), (ask, none))]
+    again = [refused, (("close", 0), ({}, None)), (("restore", 0, 1, 1, b"{", b"x"), well), (ask, none)]
+    pairs = [*begin, refused, (ask, told), (("why", 0, 6), ({**OK, "length": 7}, b"")), (("why", 0, 7), told), *kept, *cleared, *again]
+    yield right(f"why, through {len(silent)} calls that leave it and {len(done)} that do not", program, *map(list, zip(*pairs)))
+
+
+def parts(program):
+    """Parts of an answer of 16 bytes, the end of it, and what an evaluation leaves."""
+    whole = b"1:1,2:18,3:7,4:9"
+    numbers = {1: 1, 2: 18, 3: 7, 4: 9}
+    begin = [("open", 0, 5, 5)] + [("accept", 0, delta(origin, 1, *range(100 * origin, 100 * origin + many)))
+                                   for origin, many in numbers.items()] + [("vector_text", 0)]
+    pieces = [(0, 16), (0, 17), (0, 5), (3, 4), (12, 4), (12, 5), (15, 1), (15, 9), (16, 0), (16, 9), (17, 9), (MOST, 9), (5, 0), (0, 0)]
+    pairs = [(("answer_part", 0, *one), ({**OK, "length": len(whole[one[0]:][:one[1]])}, whole[one[0]:][:one[1]])) for one in pieces]
+    asked = [(("evaluate", 0), ({**OK, "length": 16}, b"")), (("answer", 0, 16), ({**OK, "length": 16}, whole)),
+             (("answer_end", 0), ({**OK, "length": 0}, b"")), (("answer", 0, 16), ({**OK, "length": 0}, b"")),
+             (("answer_part", 0, 0, 9), ({**OK, "length": 0}, b"")), (("evaluate", 0), ({**OK, "length": 0}, b"")),
+             (("vector_text", 0), ({**OK, "length": 16}, whole))]
+    requests, wanted = map(list, zip(*pairs, *asked))
+    yield right("parts of an answer, and its end", program, begin + requests, [({"ok": 1}, None)] * len(begin) + wanted)
+    takes = [("take", 0, instruction(number).encode()) for number in range(1, 4)]
+    evaluated = [*takes[:2], ("evaluate", 0), ("evaluate", 0), takes[2], ("evaluate", 0)]
+    questions = [("changes", 0), ("transfer_text", 0, BANK, b"T1"), ("status_text", 0), ("changes", 0)]
+    yield as_modelled("answers after an evaluation", program, [("open", 0, 1, 1), ("changes", 0), *evaluated, *questions])
+
+
+def numbers(program):
+    """The name and the meaning of each number, in ample, in just enough and in too little room."""
+    requests = [(name, 0, code, room) for name, place in (("code_name", 0), ("code_text", 1)) for code in range(256)
+                for room in (200, len(model.CODES.get(code, ("", ""))[place]), max(0, len(model.CODES.get(code, ("", ""))[place]) - 1))]
+    yield as_modelled("the names and the meanings of 256 numbers", program, requests)
+    names = [reply.text for reply in driving.asked(program, [("code_name", 0, code, 99) for code in (31, 46, 73, 30, 255)])]
+    yield reported("three of the names", names == [b"NotJson", b"BadTransactions", b"BadArgument", b"", b""], f"{names}")
+
+
+def nothing(program):
+    """Each call that takes a pointer, with nothing there."""
+    texts = [("take",), ("take_lines",), ("accept",), ("cut",), ("reading_text",), ("bank_totals",), ("transfer_text", b""),
+             ("transfer_text", BANK), ("messages_text", b""), ("messages_text", BANK), ("report", b"", b""), ("report", BANK, b""),
+             ("report", BANK, DAY), ("report", b"", DAY)]
+    rooms = [("answer", 0), ("answer_part", 0, 0), ("answer_part", 9, 0), ("why", 0), ("counts", 0), ("cut_above", [])]
+    requests = [("open", 0, 1, 2), ("take", 0, instruction(1).encode()), ("restore", 1, 2, 2, b"", b""),
+                ("restore", 2, 1, 2, instruction(1).encode(), b""), ("restore", 3, 1, 2, b"", delta(2, 1, 2)), ("answer", 1, 0)]
+    requests += [(name, 0, *words, b"") for name, *words in texts] + [("status_text", 0)]
+    requests += [(name, 0, *words) for name, *words in rooms] + [("answer_end", 0)] + [(name, 0, *words) for name, *words in rooms]
+    requests += [("code_name", 0, 31, 0), ("code_text", 0, 31, 0), ("code_text", 0, 1, 0)] + [("vector_text", site) for site in range(4)]
+    for name, words in (("an address", ()), ("a null pointer", ("null",))):
+        yield as_modelled(f"nothing at {name}", program, requests, words)
+
+
+def sizes(program):
+    yield right("the sizes of the structures", program, [("layout", 0)], [({}, LAYOUT)])
 
 
 # ---- many sites, little stack
@@ -200,7 +325,8 @@ def deepest():
     yield "take_lines", 0, "".join(messages.lines(LONG)).encode()
     transactions = [samples.transaction(OrgnlTxId=f"T{place}", CxlId=f"R{place}") for place in range(100)]
     yield "take", 0, json.dumps(samples.recall(transactions)).encode()
-    yield from (("changes", 0), ("status_text", 0), ("totals_text", 0), ("archive_text", 0), ("contradictions_text", 0))
+    yield from (("evaluate", 0), ("changes", 0), ("status_text", 0), ("totals_text", 0), ("archive_text", 0), ("contradictions_text", 0))
+    yield from (("journal_text", 0, 1), ("newest_text", 0, LONG), ("reading_text", 0, "".join(messages.lines(LONG)).encode()))
     rows = "".join(f"BANKDEFF,T{place},1.00,PENDING\n" for place in range(5000))
     yield "report", 0, BANK, DAY, ("DbtrAgt,TxId,Amt,Sts\n" + rows).encode()
 
@@ -222,16 +348,43 @@ def little_stack(program):
 
 def names(folder):
     """What the libraries give away and need."""
-    declared = set(re.findall(r"\b(sct_\w+)\(", re.sub(r"/\*.*?\*/", "", (TOP / "include" / "niluppang.h").read_text(), flags=re.S)))
+    declared = set(re.findall(r"^\w+ (sct_version|sct_raw_\w+)\(", (TOP / "include" / "niluppang.h").read_text(), re.M))
+    version = "NILUPPANG_" + ".".join((TOP / "VERSION").read_text().split(".")[:2])
     for path, words, outside in (("libniluppang.a", ["--extern-only"], CALLED | OF_COMPILER), ("libniluppang.so", ["--dynamic"], CALLED)):
         lines = harness.run(["nm", *words, folder / path]).text.decode().splitlines()
         found = [line.split()[-2:] for line in lines if re.search(r" [A-Za-z] \S+$", line)]
         given = {name for kind, name in found if kind in "TDBRV"}
         needed = {name.partition("@")[0] for kind, name in found if kind == "U"}
-        yield reported(f"{path} has the names of the header alone", given == declared, f"{sorted(given ^ declared)}")
-        yield reported(f"{path} needs the C library alone", needed <= outside, f"{sorted(needed - outside)}")
+        wanted = {f"{name}@@{version}" if words == ["--dynamic"] else name for name in declared}
+        yield reported(f"{path} has the names of the header alone", given == wanted, f"{sorted(given ^ wanted)}")
+        if not driving.stands_in():
+            yield reported(f"{path} needs the C library alone", needed <= outside, f"{sorted(needed - outside)}")
+    versions = harness.run(["readelf", "--version-info", "--wide", folder / "libniluppang.so"]).text.decode()
+    defined = re.findall(r"Index: \d+ +Cnt: 1 +Name: (\S+)", versions)  # the first is the soname
+    soname = harness.run(["readelf", "--dynamic", "--wide", folder / "libniluppang.so"]).text.decode()
+    is_named = f"Library soname: [libniluppang.so.{version.partition('_')[2]}]" in soname and defined[1:] == [version]
+    yield reported("the version of the names, and the soname", is_named, versions + soname)
     headers = harness.run(["readelf", "--program-headers", "--wide", folder / "libniluppang.so"]).text.decode()
     yield reported("the shared library needs no stack that runs", re.search(r"GNU_STACK.* RW +0x", headers) is not None, headers)
+
+
+def asked_for(program, held):
+    """How often questions about one transfer ask for memory, after a take at a site that holds some messages."""
+    lines = "".join(messages.lines(held)).encode()
+    questions = [("transfer_text", 0, BANK, b"T1"), ("bank_totals", 0, BANK), ("changes", 0)]
+    taken = [(("take", 0, instruction(number).encode()), question) for number, question in enumerate(questions, 1)]
+    requests = [("open", 0, 1, 1), ("take_lines", 0, lines), ("changes", 0), *(request for pair in taken for request in pair)]
+    replies = driving.asked(program, requests)
+    whole = replies[1].fields["ok"] == 1 and replies[1].fields["fresh"] == held
+    return whole, [reply.asked for reply in replies[4::2]]
+
+
+def costs(program):
+    """A question after a take evaluates what is new, and not what is held. A long text is taken whole."""
+    (few_whole, few), (many_whole, many) = (asked_for(program, held) for held in HELD)
+    yield reported(f"all {HELD} messages of a text are taken", few_whole and many_whole)
+    grown = all(after <= 2 * before + 9 for before, after in zip(few, many))
+    yield reported(f"questions ask for memory {few} times with {HELD[0]} messages, and {many} times with {HELD[1]}", grown)
 
 
 def examples(program):
@@ -252,7 +405,7 @@ def main():
     driving.end_if_missing()
     with driving.libraries() as folder:
         program = driving.built_driver(folder)
-        checks = examples, hub, exchanged, refusals, most_sites, little_stack
+        checks = examples, hub, exchanged, refusals, reasons, parts, numbers, nothing, sizes, most_sites, little_stack, costs
         found = [one for check in checks for one in done(check, program)]
         harness.end_of([*found, *names(folder)])
 

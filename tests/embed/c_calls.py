@@ -4,9 +4,10 @@ Usage: python3 -m tests.embed.c_calls [--seed N] [--cases N] [--long]   (default
 
 A day is some hundred calls on the handles of a small group. Sites take and accept messages that confirm, recall and contradict each
 other, lines that are refused, deltas that are late, repeated, damaged and of another life of a site. They are asked all questions at any
-time, closed, opened anew and restored, and called on when they are closed. The address sanitizer checks driver.c and what it gives the
-library, and finds memory that is lost. model.py has what each call must come to: no crate is in it. A tenth of a usual number of calls is
-made under valgrind too, which sees each access of the library itself. Each call has to be met, and each number but 65.
+time, closed, opened anew and restored, and called on when they are closed. After each refusal they are asked why. In every second run a
+text or a room without bytes is a null pointer. The address sanitizer checks driver.c and what it gives the library, and finds memory that
+is lost. model.py has what each call must come to: no crate is in it. A tenth of a usual number of calls is made under valgrind too, which
+sees each access of the library itself. Each call has to be met, and each number but 65, both as it is and as a why.
 """
 import argparse, collections, concurrent.futures, os, random, shutil
 from tests import harness
@@ -20,13 +21,15 @@ from tests.property.worlds import refused_list, refused_text
 USUAL, LONG, OF_VALGRIND, DAYS_OF_A_RUN = 20_000, 1_000_000, 2_000, 10
 CALLS = {"take": 24, "take_lines": 6, "accept": 16, "changes": 6, "transfer_text": 6, "messages_text": 4, "status_text": 5,
          "archive_text": 3, "totals_text": 4, "contradictions_text": 3, "bank_totals": 4, "report": 4, "counts": 3, "vector_text": 3,
-         "cut": 4, "cut_above": 3, "answer": 4, "close": 2, "open": 4, "restore": 4}
+         "cut": 4, "cut_above": 3, "journal_text": 4, "newest_text": 4, "reading_text": 4, "evaluate": 4, "answer": 4, "answer_part": 6,
+         "answer_end": 2, "why": 8, "code_name": 1, "code_text": 1, "close": 2, "open": 4, "restore": 4}
 NUMBERS = [31, 32, 33, 34, 35, 36, 37, 38, 41, 42, 43, 44, 45, 46, 48, 56, 70, 71, 72, 73]
+REASONS = [f"why {number}" for number in NUMBERS if number not in (70, 71)]
 DAYS = ["2024-05-02", "2024-05-02", "2024-05-03", "2024-5-2", ""]
 WRONG_BANKS, WRONG_NAMES = ["", "bankdeff", "BANKDEFFXX", "BANKDEFF\n", "\xff"], ["", "a_b", "/T1", "T1\n", "T" * 36]
 
-# a request, the fields and the text that it must come to, and for changes what was held before and is held now
-Call = collections.namedtuple("Call", "request fields text held", defaults=[None])
+# a request, and the fields and the text that it must come to
+Call = collections.namedtuple("Call", "request fields text")
 
 
 class Day:
@@ -37,7 +40,7 @@ class Day:
         self.messages = [self.pool.message() for _ in range(r.randint(3, 40))]
         self.lines = [shuffled(r, message) for message in self.messages]
         self.handles = [model.Handle() for _ in range(self.group + 1)]  # the last has the number of the first: a second life
-        self.deltas, self.maker = [b"delta 2\nend 0\n"], {}
+        self.deltas = [b"delta 2\nend 0\n"]
         for place in range(len(self.handles)):
             self.call(place, "open", *self.site(place))
         for _ in range(r.randint(40, 160)):
@@ -51,17 +54,12 @@ class Day:
         return [place % self.group + 1, self.group]
 
     def call(self, place, name, *arguments):
-        """Makes a call: what it must come to is noted."""
-        handle = self.handles[place]
-        before = handle.watched
-        fields, text = handle.call(name, *arguments)
-        fields = {field: fields[field] for field in driving.FIELDS[name] if field in fields}
-        held = (before, frozenset(handle.site.messages)) if name == "changes" and fields["ok"] else None
-        if name == "answer" and self.maker.get(place) == "changes":
-            fields, text = {"ok": fields["ok"]}, None
-        if text is not None and name not in ("answer", "counts"):
-            self.maker[place] = name
-        self.calls.append(Call((name, place, *arguments), fields, text, held))
+        """Makes a call: what it must come to is noted. After a refusal the handle is asked why."""
+        found, text = self.handles[place].call(name, *arguments)
+        fields = {field: found[field] for field in driving.FIELDS[name]}
+        self.calls.append(Call((name, place, *arguments), fields, text))
+        if not found["ok"] and name != "why":
+            self.call(place, "why", 1 << 12)
 
     # ---- arguments
 
@@ -134,11 +132,36 @@ class Day:
             self.r.choice(rows)[self.r.randrange(4)] = self.r.choice(["", "x", "-1"])
         text = "".join(",".join(f'"{field}"' if "," in field else field for field in row) + "\n" for row in rows)
         header = ",".join(model.HEADER) + "\n" if self.r.random() < 0.95 else ""
-        return [self.bank(), self.r.choice(DAYS).encode(), (header + text).encode()]
+        data = (header + text).encode()
+        return [self.bank(), self.r.choice(DAYS).encode(), data if self.r.random() < 0.95 else data.replace(b"PEND", b"PEND\xff", 1)]
+
+    def reading_text(self):
+        return self.take_lines()
+
+    def journal_text(self, place):
+        site = self.handles[place].site
+        return [self.r.choice([0, 1, site.have(site.own) if site else 5, self.r.randint(0, 9), 2 ** 64 - 1])]
+
+    def newest_text(self, place):
+        return [self.r.choice([0, 1, self.handles[place].many() if self.handles[place].site else 5, self.r.randint(0, 9), 2 ** 64 - 1])]
+
+    def room(self, text):
+        return self.r.choice([0, max(0, len(text) - 1), len(text), len(text) + 1, len(text) + 100])
 
     def answer(self, place):
+        return [self.room(self.handles[place].answer)]
+
+    def answer_part(self, place):
         length = len(self.handles[place].answer)
-        return [self.r.choice([0, max(0, length - 1), length, length + 1, length + 100])]
+        return [self.r.choice([0, self.r.randint(0, length), length, length + 1, 2 ** 64 - 1]), self.r.choice([0, 1, 20, length + 9])]
+
+    def why(self, place):
+        return [self.room(self.handles[place].refused)]
+
+    def code_name(self):
+        return [self.r.choice([self.r.choice(NUMBERS), self.r.randrange(256)]), self.r.choice([0, 6, 200])]
+
+    code_text = code_name
 
     def open(self, place):
         if self.handles[place].site is None and self.r.random() < 0.2:
@@ -155,16 +178,13 @@ class Day:
         return [*self.site(place), b"\n".join(journal), self.accept(place)[0]]
 
 
-PLACED = ["accept", "answer", "open", "restore"]  # calls whose arguments go by what the handle has
+# calls whose arguments go by what the handle has
+PLACED = ["accept", "answer", "answer_part", "why", "journal_text", "newest_text", "open", "restore"]
 
 
 def wrong(call, reply):
     """What differs, or None."""
-    if call.held is not None:
-        right = reply.fields["ok"] and model.is_right_about_changes(*call.held, reply.text)
-        return None if right else f"{call.request}: after {call.held[0] and len(call.held[0])} messages\n found {reply}"
-    named = {field: reply.fields.get(field) for field in call.fields}
-    if named != call.fields or call.text is not None and call.text != reply.text:
+    if reply.fields != call.fields or call.text is not None and call.text != reply.text:
         return f"{call.request}\n wanted {call.fields} {call.text}\n found {reply}"
     return None
 
@@ -173,8 +193,10 @@ def ran(program, before, seed, days):
     """What some days met, and what is wrong or None."""
     calls = [call for day in days for call in Day(random.Random(f"{seed} {day}")).calls]
     met = collections.Counter(call.request[0] for call in calls) + collections.Counter(call.fields.get("code") for call in calls)
+    met += collections.Counter(f"why {call.text[:2].decode()}" for call in calls if call.request[0] == "why" and call.text)
+    words = ["null"] if days.start // DAYS_OF_A_RUN % 2 else []
     try:
-        replies = driving.asked(program, [call.request for call in calls], before)
+        replies = driving.asked(program, [call.request for call in calls], before, words)
     except driving.Failed as failed:
         return len(calls), met, f"days {days}: {failed}"
     differ = [text for text in map(wrong, calls, replies) if text]
@@ -197,10 +219,11 @@ def tried(program, before, seed, many):
 def checked(name, program, before, seed, many):
     """How many calls passed, and how many runs of them failed. All has to be met if there are as many calls as usual, or more."""
     made, met, failures = tried(program, before, seed, many)
-    print(f"{made} calls {name}: " + ", ".join(f"{thing} {met[thing]}" for thing in [*CALLS, *NUMBERS]), flush=True)
+    things = [*CALLS, *NUMBERS, *REASONS]
+    print(f"{made} calls {name}: " + ", ".join(f"{thing} {met[thing]}" for thing in things), flush=True)
     for failure in failures[:3]:
         print(failure, flush=True)
-    missing = [thing for thing in [*CALLS, *NUMBERS] if not met[thing]] if many >= USUAL else []
+    missing = [thing for thing in things if not met[thing]] if many >= USUAL else []
     if missing:
         print(f"not met: {missing}", flush=True)
     return made if not failures else 0, len(failures) + len(missing)

@@ -1,21 +1,22 @@
 """c_examples.py: the examples in C and in Rust are built without a warning, and print what three sites together answer.
 
 examples/embed/hub.c is built by gcc, and by clang if it is there. It runs under the address sanitizer too, and so does the program of
-docs/users/embedding.md. The Rust one is built by cargo, without a crate of a registry. The header is read as C99, as C11 and as C++. Each
-compiler that is missing is named.
+docs/users/embedding.md. The Rust one is built by cargo, without a crate of a registry. The header is read as C99, as C11 and as C++. The
+programs of header_alone.py, which were written from it alone, print what the definitions have. Each compiler that is missing is named.
 """
 import os, re, shutil
 from tests import harness
 from tests.documents.pages import Page
-from tests.embed import driving
+from tests.embed import driving, header_alone
 from tests.harness import EXAMPLES, TOP, reported
 
 FOLDER = EXAMPLES / "embed"
 FILES = sorted(EXAMPLES.glob("hub-morning.site*"))
-READ = '#include <niluppang.h>\nint main(void) { sct_site site = SCT_SITE_EMPTY; sct_site_close(&site); return sct_version() == 0; }\n'
-# how the header is read: the compiler, the words, and the ending of the file
-READERS = [("gcc", ["-std=c99"], "c"), ("gcc", ["-std=c11"], "c"), ("g++", ["-std=c++11"], "cc"), ("clang", ["-std=c99"], "c"),
-           ("clang++", ["-std=c++17"], "cc")]
+READ = "#include <niluppang.h>\nint main(void) { sct_site site = SCT_SITE_EMPTY; sct_site_close(&site); return sct_version() == 0; }\n"
+DROPPED = "#include <niluppang.h>\nvoid drop(sct_site *site); void drop(sct_site *site) { sct_site_open(site, 1, 1); }\n"
+# how the header is read: the compiler, the standard, and the ending of the file
+READERS = [("gcc", "c99", "c"), ("gcc", "c11", "c"), ("g++", "c++98", "cc"), ("g++", "c++11", "cc"), ("g++", "c++20", "cc"),
+           ("clang", "c99", "c"), ("clang", "c11", "c"), ("clang++", "c++11", "cc"), ("clang++", "c++17", "cc")]
 PACKAGES = {"clang++": "clang", "rustc": "cargo"}
 
 
@@ -28,15 +29,15 @@ def has(command):
 
 
 def refused_lines():
-    """The refused lines of each site, as `run` writes them: the number of the file and that of the line, and why."""
+    """The refused lines of each site, as `run` writes them: the number of the file, and the rest with why."""
     text = (EXAMPLES / "hub-morning.run-refused").read_text()
-    return re.findall(r"^file (\d+) (line (\d+): (\d+).*)$", text, re.M)
+    return re.findall(r"^file (\d+) (line .*)$", text, re.M)
 
 
 def of_c():
     """What the C example writes to standard error."""
     lines, last = [], None
-    for file, line, _, _ in refused_lines():
+    for file, line in refused_lines():
         lines += [f"site {file}:\n"] * (file != last) + [line + "\n"]
         last = file
     return "".join(lines).encode()
@@ -80,27 +81,30 @@ def rust_example(folder):
     made = harness.run(["cargo", "build", "--offline", "--quiet", "--jobs", "2"], cwd=place, env=variables)
     yield reported("the Rust example is built", made.status == 0, made.errors.decode(errors="replace"))
     if made.status == 0:
-        numbers = sorted((file, line, number) for file, _, line, number in refused_lines())
-        found = lambda errors: sorted(re.findall(r"^site (\d+) line (\d+): refused: (\d+),", errors.decode(), re.M))
-        yield is_hub("the Rust example", folder / "target" / "debug" / "hub", lambda errors: found(errors) == numbers)
+        lines = sorted(f"site {file} {line}" for file, line in refused_lines())
+        found = lambda errors: sorted(line for line in errors.decode().splitlines() if " line " in line)
+        yield is_hub("the Rust example", folder / "target" / "debug" / "hub", lambda errors: found(errors) == lines)
 
 
 def header(folder):
-    """The header, read by itself in each way."""
-    for compiler, words, ending in READERS:
+    """The header, read by itself in each way. A result that is dropped is a warning, and so an error here."""
+    for compiler, standard, ending in READERS:
         if has(compiler):
-            source = folder / f"read.{ending}"
+            source, dropped = folder / f"read.{ending}", folder / f"dropped.{ending}"
             source.write_text(READ)
-            words = [*words, "-Wall", "-Wextra", "-pedantic", "-Wconversion", "-Werror", f"-I{TOP / 'include'}"]
-            made = harness.run([compiler, *words, source, folder / "libniluppang.a", "-o", folder / "read"])
+            dropped.write_text(DROPPED)
+            words = [compiler, f"-std={standard}", *driving.WARNINGS, "-Wconversion", "-Wshadow", f"-I{TOP / 'include'}"]
+            made = harness.run([*words, source, folder / "libniluppang.a", "-lpthread", "-o", folder / "read"])
+            refused = harness.run([*words, "-c", dropped, "-o", folder / "dropped.o"])
             right = made.status == 0 and harness.run([folder / "read"]).status == 0
-            yield reported(f"the header by {compiler} {words[0]}", right, made.errors.decode(errors="replace"))
+            right = right and refused.status != 0 and b"unused-result" in refused.errors
+            yield reported(f"the header by {compiler} {standard}", right, (made.errors + refused.errors).decode(errors="replace"))
 
 
 def main():
     driving.end_if_missing()
     with driving.libraries() as folder:
-        harness.end_of([*c_example(folder), *page(folder), *rust_example(folder), *header(folder)])
+        harness.end_of([*c_example(folder), *page(folder), *rust_example(folder), *header(folder), *header_alone.checks(folder)])
 
 
 if __name__ == "__main__":

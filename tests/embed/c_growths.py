@@ -2,9 +2,10 @@
 
 The site of each trial has taken and accepted messages that meet one another. Its view lags behind, its changes are watched, and it has
 an answer. Of each call it is counted how often it asks for memory. Then that time is refused, once alone and once with all that follow.
-The call must answer 65, or what it answers with ample memory. After 65 the counts, the answer and all texts are as before. Only
-`take_lines` may have taken its first messages. Made again, the call comes to what it comes to with ample memory, and so do all texts.
-A call that has to ask for memory and never does has failed, and so has one that asks for some and must not.
+The call must answer 65, or what it answers with ample memory. After 65 the counts, the answer and all texts are as before, and why is 65.
+After a `why` that was refused, why is what it was. Only `take_lines` may have taken its first messages. Made again, the call comes to
+what it comes to with ample memory, and so do all texts. A call that has to ask for memory and never does has failed, and so has one that
+asks for some and must not.
 """
 import collections, os
 from concurrent.futures import ThreadPoolExecutor
@@ -16,7 +17,7 @@ from tests.inputs import delta, instruction
 from tests.oracle import exchange
 
 MEMORY, FOR_EVER = 65, 1 << 40
-WITHOUT_MEMORY = {"counts", "answer", "close"}
+WITHOUT_MEMORY = {"counts", "answer", "answer_part", "answer_end", "code_name", "code_text", "close"}
 GROUP, HANDLE = 3, 0
 
 # a call that is tried: its name, its arguments, and whether it is on the site, or on an empty handle
@@ -35,6 +36,8 @@ LINES = b"\n".join([line(samples.refusal()), b"{", line(samples.payback(RtrId="X
                     *(instruction(number).encode() for number in range(20, 60))]) + b"\n"
 LIST = "DbtrAgt,TxId,Amt,Sts\n" + "".join(f"BANKDEFF,T{place},1.00,PENDING\n" for place in range(1, 40))
 FRESH = line(samples.recall([{**one, "CxlId": f"Q{place}"} for place, one in enumerate(RECALLED)], MsgId="K7"))
+EXTRA = "x" * 3000
+REFUSED = line(samples.instruction(**{EXTRA: ""}))
 TEXTS = ["archive_text", "status_text", "totals_text", "contradictions_text", "vector_text"]
 
 CALLS = [
@@ -45,7 +48,10 @@ CALLS = [
     Tried("archive_text", [], True), Tried("status_text", [], True), Tried("totals_text", [], True),
     Tried("contradictions_text", [], True), Tried("report", [b"BANKDEFF", b"2024-05-02", LIST.encode()], True),
     Tried("transfer_text", [b"BANKDEFF", b"T1"], True), Tried("messages_text", [b"BANKDEFF", b"T1"], True),
-    Tried("bank_totals", [b"BANKDEFF"], True), Tried("changes", [], True), Tried("answer", [1 << 12], True), Tried("close", [], True)]
+    Tried("bank_totals", [b"BANKDEFF"], True), Tried("changes", [], True), Tried("journal_text", [2], True),
+    Tried("newest_text", [6], True), Tried("reading_text", [LINES], True), Tried("evaluate", [], True), Tried("why", [1 << 12], True),
+    Tried("answer", [1 << 12], True), Tried("answer_part", [9, 1 << 12], True), Tried("answer_end", [], True),
+    Tried("code_name", [35, 99], True), Tried("code_text", [35, 99], True), Tried("close", [], True)]
 
 
 def site_of(tried):
@@ -54,7 +60,15 @@ def site_of(tried):
         return []
     takes = lambda lines: [("take", HANDLE, one) for one in lines]
     return [("open", HANDLE, 1, GROUP), *takes(EARLIER[:2]), ("changes", HANDLE), ("status_text", HANDLE), *takes(EARLIER[2:]),
-            ("accept", HANDLE, delta(2, 1, 4, 5)), ("transfer_text", HANDLE, b"BANKDEFF", b"T2"), *takes(LATER), ("cut", HANDLE, b"1:3")]
+            ("accept", HANDLE, delta(2, 1, 4, 5)), ("transfer_text", HANDLE, b"BANKDEFF", b"T2"), *takes(LATER), ("cut", HANDLE, b"1:3"),
+            *takes([REFUSED] if tried.name == "why" else [])]
+
+
+def reason_after(tried):
+    """Why the last call of the site was refused, after memory was refused to the call."""
+    if not tried.on_site:
+        return 0, 70, b""
+    return 1, 0, f'37 "{EXTRA}"'.encode() if tried.name == "why" else b"65"
 
 
 def seen():
@@ -109,20 +123,22 @@ class Trial:
         return what([reply]) == what([self.reply]) and what(after) == self.after
 
     def requests(self, first, last):
-        """Requests that refuse these times of the call, and look at the site. On another site, they then make the call again."""
-        refuse, close = ("refuse", HANDLE, first, last), ("close", HANDLE)
-        return [*self.begin, refuse, self.call, *seen(), close, *self.begin, refuse, self.call, self.call, *seen(), close]
+        """Requests that refuse these times of the call, ask why, and look at the site. On another site, they then make the call again."""
+        refuse, close, why = ("refuse", HANDLE, first, last), ("close", HANDLE), ("why", HANDLE, 1 << 12)
+        return [*self.begin, refuse, self.call, why, *seen(), close, *self.begin, refuse, self.call, self.call, *seen(), close]
 
     def judged(self, first, replies):
         """How a call did, by the replies to such requests: 'refused', 'no harm', or what is wrong."""
         many, looks = len(self.begin), len(seen())
-        reply, again = replies[many], replies[many + 1:many + 1 + looks]
+        reply, why, again = replies[many], replies[many + 1], replies[many + 2:many + 2 + looks]
         if not reply.refused:
             return f"nothing is refused at {first}"
         if what([reply]) == what([self.reply]):
             return "no harm" if what(again) == self.after else f"{first}: an answer without memory left another state"
         if (reply.fields["ok"], reply.fields["code"], reply.text) != (0, MEMORY, b""):
             return f"{first}: {reply}"
+        if (why.fields["ok"], why.fields["code"], why.text) != reason_after(self.tried):
+            return f"{first}: the refused call has another why: {why}"
         if not self.is_as_before(again):
             return f"{first}: a refused call changed something"
         reply, *after = replies[-looks - 2:-1]

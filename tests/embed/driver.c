@@ -1,18 +1,21 @@
 /* driver.c: makes the calls that standard input asks for, and writes what each came to. tests/embed/driving.py is the other side.
  *
- * A request is a line: a call without `sct_site_`, the number of a handle, then each argument. A number is itself. A text is its
+ * A request is a line: a call without `sct_site_` or `sct_`, the number of a handle, then each argument. A number is itself. A text is its
  * length, and its bytes follow the line. Counts are a text of 8 bytes each. A reply is a line: the fields of the result, then how
- * often the call asked for memory, how often it was refused, and how many bytes follow: the answer that the call made, or counts.
+ * often the call asked for memory, how often it was refused, and how many bytes follow: what the call copied or wrote, or its answer.
  *
  *     refuse 0 FIRST LAST    refuses what the next call asks for from its time FIRST on up to its time LAST
  *     stack 0                the most bytes of the stack that were used so far; not under valgrind
+ *     layout 0               the size of each structure, and where its fields are
  *
- * All runs on a thread with 256 KB of stack. Each text is in memory of just its length. What is written has bytes around it that
- * have to stay. The end closes all handles, so that memory which is left was lost.
+ * All runs on a thread with 256 KB of stack. Each text is in memory of just its length. A text or a room without bytes has an address, and
+ * none if the driver is started with the word `null`. What is written has bytes around it that have to stay. The end closes all
+ * handles, so that memory which is left was lost.
  */
 #define _GNU_SOURCE
 #include <niluppang.h>
 #include <pthread.h>
+#include <stddef.h>
 #include <stdio.h>
 #include <stdlib.h>
 #include <string.h>
@@ -29,23 +32,29 @@ struct bytes {
 };
 
 struct result {
-    unsigned long fields[6];
+    unsigned long fields[8];
     int count;
     struct bytes bytes;
 };
 
-/* a call, how many of its arguments are numbers, and how many are texts after them */
+/* a call, how many of its arguments are numbers, how many are texts after them, and whether it makes an answer */
 static const struct form {
     const char *name;
     int numbers, texts;
+    bool makes_answer;
 } forms[] = {
-    {"open", 2, 0},        {"restore", 2, 2},     {"close", 0, 0},       {"take", 0, 1},          {"take_lines", 0, 1},
-    {"accept", 0, 1},      {"counts", 1, 0},      {"vector_text", 0, 0}, {"cut", 0, 1},           {"cut_above", 0, 1},
-    {"archive_text", 0, 0}, {"status_text", 0, 0}, {"totals_text", 0, 0}, {"contradictions_text", 0, 0}, {"report", 0, 3},
-    {"transfer_text", 0, 2}, {"messages_text", 0, 2}, {"bank_totals", 0, 1}, {"changes", 0, 0},   {"answer", 1, 0},
-    {"version", 0, 0},     {"refuse", 2, 0},      {"stack", 0, 0},
+    {"open", 2, 0, false},        {"restore", 2, 2, true},       {"close", 0, 0, false},        {"take", 0, 1, false},
+    {"take_lines", 0, 1, true},   {"accept", 0, 1, false},       {"counts", 1, 0, false},       {"vector_text", 0, 0, true},
+    {"cut", 0, 1, true},          {"cut_above", 0, 1, true},     {"journal_text", 1, 0, true},  {"newest_text", 1, 0, true},
+    {"reading_text", 0, 1, true}, {"evaluate", 0, 0, false},     {"archive_text", 0, 0, true},  {"status_text", 0, 0, true},
+    {"totals_text", 0, 0, true},  {"contradictions_text", 0, 0, true}, {"report", 0, 3, true},  {"transfer_text", 0, 2, true},
+    {"messages_text", 0, 2, true}, {"bank_totals", 0, 1, true},  {"changes", 0, 0, true},       {"answer", 1, 0, false},
+    {"answer_part", 2, 0, false}, {"answer_end", 0, 0, true},    {"why", 1, 0, false},          {"code_name", 2, 0, false},
+    {"code_text", 2, 0, false},   {"version", 0, 0, false},      {"layout", 0, 0, false},       {"refuse", 2, 0, false},
+    {"stack", 0, 0, false},
 };
 
+static bool gives_null;
 static sct_site handles[HANDLES];
 static uint8_t *stack;
 
@@ -79,9 +88,11 @@ void *__wrap_realloc(void *old, size_t size) { return is_refused() ? NULL : __re
 
 /* ---- texts */
 
-/* Bytes of standard input, in memory of just this length. Also no bytes have an address. */
+/* Bytes of standard input, in memory of just this length. */
 static struct bytes bytes_in(size_t length) {
-    struct bytes bytes = {malloc(length > 0 ? length : 1), length};
+    struct bytes bytes = {NULL, 0};
+    if (length == 0 && gives_null) return bytes;
+    bytes = (struct bytes){malloc(length > 0 ? length : 1), length};
     must(bytes.at != NULL && fread(bytes.at, 1, length, stdin) == length, "the input ends early");
     return bytes;
 }
@@ -108,10 +119,28 @@ static void check_guards(struct bytes bytes) {
 
 static void let_go(struct bytes guarded) { free(guarded.at - GUARD); }
 
+/* Where a call is to write into a room. */
+static uint8_t *room_of(struct bytes guarded) { return guarded.length == 0 && gives_null ? NULL : guarded.at; }
+
 /* ---- calls */
 
 static struct result of_outcome(sct_outcome made) {
-    return (struct result){{made.ok, made.code, made.place, made.length}, 4, {NULL, 0}};
+    return (struct result){{made.ok, made.code, made.place, made.length, made.reserved}, 5, {NULL, 0}};
+}
+
+/* Three parts of a third of the answer each, and one after its end, are the answer. */
+static void check_parts(sct_site *site, struct bytes answer) {
+    size_t third = answer.length / 3 + 1;
+    for (size_t from = 0; from <= answer.length; from += third) {
+        struct bytes part = guarded(third);
+        size_t wanted = answer.length - from < third ? answer.length - from : third;
+        sct_outcome copied = sct_site_answer_part(site, from, part.at, part.length);
+        must(copied.ok && copied.length == wanted && memcmp(part.at, answer.at + from, wanted) == 0, "a part is not of the answer");
+        must(is_untouched(part.at + wanted, third - wanted), "more was written than a part");
+        check_guards(part);
+        let_go(part);
+    }
+    must(sct_site_answer_part(site, answer.length, NULL, 0).length == 0, "there is a part at the end of the answer");
 }
 
 /* The answer that a call made. In too little room it writes nothing. */
@@ -124,21 +153,27 @@ static struct bytes answer_of(sct_site *site, size_t length) {
         let_go(little);
     }
     struct bytes bytes = guarded(length);
-    sct_outcome copied = sct_site_answer(site, bytes.at, bytes.length);
+    sct_outcome copied = sct_site_answer(site, room_of(bytes), bytes.length);
     must(copied.ok && copied.code == 0 && copied.length == length, "an answer was not copied");
     check_guards(bytes);
+    check_parts(site, bytes);
     return bytes;
 }
 
 static bool is(const char *name, const char *other) { return strcmp(name, other) == 0; }
 
-/* A call that makes an answer. */
+/* A call that returns an outcome and writes nothing. */
 static sct_outcome outcome_of(const char *name, sct_site *site, const unsigned long *n, const struct bytes *t) {
     if (is(name, "restore"))
         return sct_site_restore(site, (uint16_t)n[0], (uint16_t)n[1], t[0].at, t[0].length, t[1].at, t[1].length);
     if (is(name, "vector_text")) return sct_site_vector_text(site);
     if (is(name, "cut")) return sct_site_cut(site, t[0].at, t[0].length);
     if (is(name, "cut_above")) return sct_site_cut_above(site, (const uint64_t *)(void *)t[0].at, t[0].length / sizeof(uint64_t));
+    if (is(name, "journal_text")) return sct_site_journal_text(site, n[0]);
+    if (is(name, "newest_text")) return sct_site_newest_text(site, n[0]);
+    if (is(name, "reading_text")) return sct_site_reading_text(site, t[0].at, t[0].length);
+    if (is(name, "evaluate")) return sct_site_evaluate(site);
+    if (is(name, "answer_end")) return sct_site_answer_end(site);
     if (is(name, "archive_text")) return sct_site_archive_text(site);
     if (is(name, "status_text")) return sct_site_status_text(site);
     if (is(name, "totals_text")) return sct_site_totals_text(site);
@@ -155,7 +190,7 @@ static sct_outcome outcome_of(const char *name, sct_site *site, const unsigned l
 static struct result counts_of(sct_site *site, size_t items) {
     struct bytes bytes = guarded(items * sizeof(uint64_t));
     is_counting = true;
-    struct result result = of_outcome(sct_site_counts(site, (uint64_t *)(void *)bytes.at, items));
+    struct result result = of_outcome(sct_site_counts(site, (uint64_t *)(void *)room_of(bytes), items));
     is_counting = false;
     check_guards(bytes);
     must(result.fields[0] || is_untouched(bytes.at, bytes.length), "refused counts were written");
@@ -164,17 +199,56 @@ static struct result counts_of(sct_site *site, size_t items) {
     return result;
 }
 
-static struct result copied(sct_site *site, size_t room) {
-    struct bytes bytes = guarded(room);
-    is_counting = true;
-    struct result result = of_outcome(sct_site_answer(site, bytes.at, room));
-    is_counting = false;
-    check_guards(bytes);
-    size_t written = result.fields[0] && result.fields[3] <= room ? result.fields[3] : 0;
-    must(is_untouched(bytes.at + written, room - written), "more was written than the answer");
-    bytes.length = written;
-    result.bytes = bytes;
+/* A result with what was written into a room, which are the first bytes. */
+static struct result written(struct result result, struct bytes room, size_t length) {
+    check_guards(room);
+    must(length <= room.length && is_untouched(room.at + length, room.length - length), "more was written than the length says");
+    room.length = length;
+    result.bytes = room;
     return result;
+}
+
+/* A call that copies a text, or a part of one. */
+static struct result copied(const char *name, sct_site *site, const unsigned long *n) {
+    bool is_part = is(name, "answer_part");
+    struct bytes room = guarded(n[is_part]);
+    uint8_t *at = room_of(room);
+    sct_outcome made;
+    is_counting = true;
+    if (is_part)
+        made = sct_site_answer_part(site, n[0], at, room.length);
+    else if (is(name, "why"))
+        made = sct_site_why(site, at, room.length);
+    else
+        made = sct_site_answer(site, at, room.length);
+    is_counting = false;
+    return written(of_outcome(made), room, made.ok && made.length <= room.length ? made.length : 0);
+}
+
+/* A call that copies a text of a number. */
+static struct result of_code(const char *name, const unsigned long *n) {
+    struct bytes room = guarded(n[1]);
+    uint8_t *at = room_of(room);
+    is_counting = true;
+    size_t length = is(name, "code_name") ? sct_code_name((uint8_t)n[0], at, room.length) : sct_code_text((uint8_t)n[0], at, room.length);
+    is_counting = false;
+    return written((struct result){{length}, 1, {NULL, 0}}, room, length <= room.length ? length : 0);
+}
+
+/* The size of each structure, and where its fields are. */
+static struct result layout(void) {
+    struct bytes text = guarded(256);
+    text.length = (size_t)snprintf((char *)text.at, text.length,
+        "sct_site %zu\nsct_outcome %zu %zu %zu %zu %zu %zu\nsct_taken %zu %zu %zu %zu %zu %zu %zu\n"
+        "sct_lines %zu %zu %zu %zu %zu %zu %zu %zu %zu\nsct_accepted %zu %zu %zu %zu %zu %zu\n",
+        sizeof(sct_site), sizeof(sct_outcome), offsetof(sct_outcome, ok), offsetof(sct_outcome, code), offsetof(sct_outcome, place),
+        offsetof(sct_outcome, length), offsetof(sct_outcome, reserved), sizeof(sct_taken), offsetof(sct_taken, ok),
+        offsetof(sct_taken, code), offsetof(sct_taken, is_repeat), offsetof(sct_taken, place), offsetof(sct_taken, number),
+        offsetof(sct_taken, reserved), sizeof(sct_lines), offsetof(sct_lines, ok), offsetof(sct_lines, code), offsetof(sct_lines, place),
+        offsetof(sct_lines, fresh), offsetof(sct_lines, repeats), offsetof(sct_lines, refused), offsetof(sct_lines, length),
+        offsetof(sct_lines, reserved), sizeof(sct_accepted), offsetof(sct_accepted, ok), offsetof(sct_accepted, code),
+        offsetof(sct_accepted, place), offsetof(sct_accepted, fresh), offsetof(sct_accepted, reserved));
+    return (struct result){{0}, 0, text};
 }
 
 static size_t stack_used(void) {
@@ -193,13 +267,14 @@ static struct result called(const char *name, sct_site *site, const unsigned lon
         sct_site_close(site);
     } else if (is(name, "take")) {
         sct_taken took = sct_site_take(site, t[0].at, t[0].length);
-        result = (struct result){{took.ok, took.code, took.is_repeat, took.place, took.number}, 5, {NULL, 0}};
+        result = (struct result){{took.ok, took.code, took.is_repeat, took.place, took.number, took.reserved}, 6, {NULL, 0}};
     } else if (is(name, "accept")) {
         sct_accepted accepted = sct_site_accept(site, t[0].at, t[0].length);
-        result = (struct result){{accepted.ok, accepted.code, accepted.place, accepted.fresh}, 4, {NULL, 0}};
+        result = (struct result){{accepted.ok, accepted.code, accepted.place, accepted.fresh, accepted.reserved}, 5, {NULL, 0}};
     } else if (is(name, "take_lines")) {
         sct_lines lines = sct_site_take_lines(site, t[0].at, t[0].length);
-        result = (struct result){{lines.ok, lines.code, lines.fresh, lines.repeats, lines.refused, lines.length}, 6, {NULL, 0}};
+        result = (struct result){{lines.ok, lines.code, lines.place, lines.fresh, lines.repeats, lines.refused, lines.length,
+                                  lines.reserved}, 8, {NULL, 0}};
     } else if (is(name, "version")) {
         result = (struct result){{sct_version()}, 1, {NULL, 0}};
     } else {
@@ -210,13 +285,14 @@ static struct result called(const char *name, sct_site *site, const unsigned lon
 }
 
 /* What a request comes to. */
-static struct result done(const char *name, sct_site *site, const unsigned long *n, const struct bytes *t) {
-    if (is(name, "stack")) return (struct result){{stack_used()}, 1, {NULL, 0}};
-    if (is(name, "counts")) return counts_of(site, n[0]);
-    if (is(name, "answer")) return copied(site, n[0]);
-    struct result result = called(name, site, n, t);
-    bool makes_answer = result.count >= 4 && !is(name, "open") && !is(name, "take") && !is(name, "accept");
-    if (makes_answer && result.fields[0]) result.bytes = answer_of(site, result.fields[result.count - 1]);
+static struct result done(const struct form *form, sct_site *site, const unsigned long *n, const struct bytes *t) {
+    if (is(form->name, "stack")) return (struct result){{stack_used()}, 1, {NULL, 0}};
+    if (is(form->name, "layout")) return layout();
+    if (is(form->name, "counts")) return counts_of(site, n[0]);
+    if (is(form->name, "answer") || is(form->name, "answer_part") || is(form->name, "why")) return copied(form->name, site, n);
+    if (is(form->name, "code_name") || is(form->name, "code_text")) return of_code(form->name, n);
+    struct result result = called(form->name, site, n, t);
+    if (form->makes_answer && result.fields[0]) result.bytes = answer_of(site, result.fields[result.count - 2]); /* before `reserved` */
     return result;
 }
 
@@ -256,7 +332,7 @@ static bool served(void) {
     }
     for (int place = 0; place < form->texts; place++) texts[place] = bytes_in(texts[place].length);
     asked = refused = 0;
-    write_reply(done(name, &handles[handle], numbers, texts));
+    write_reply(done(form, &handles[handle], numbers, texts));
     first_refused = last_refused = 0;
     for (int place = 0; place < form->texts; place++) free(texts[place].at);
     return true;
@@ -268,9 +344,10 @@ static void *serve(void *nothing) {
     return nothing;
 }
 
-int main(void) {
+int main(int words, char **word) {
     pthread_t thread;
     pthread_attr_t attributes;
+    gives_null = words == 2 && is(word[1], "null");
     stack = mmap(NULL, STACK, PROT_READ | PROT_WRITE, MAP_PRIVATE | MAP_ANONYMOUS | MAP_STACK, -1, 0);
     must(stack != MAP_FAILED, "there is no stack");
     memset(stack, UNTOUCHED, STACK);

@@ -1,32 +1,44 @@
 """driving.py: builds driver.c, writes its requests, and reads its replies.
 
 The library is the one that tools/library.py makes: of crates/sct_c/out/libsct_c.a, or of the static library that the variable SCT_C
-names. A program is built in a temporary folder, which has the libraries too.
+names. If the variable NILUPPANG_STANDIN is 1, it is tests/standin/library.c, a stand-in of the definitions. That tries the checks
+themselves: nothing is said of the library then. A program is built in a temporary folder, which has the libraries too.
 """
-import collections, contextlib, pathlib, shlex, shutil, struct, tempfile
+import collections, contextlib, os, pathlib, shlex, shutil, struct, tempfile
 from tests import harness
 from tests.harness import TOP
 from tools import library
 
 SOURCES = pathlib.Path(__file__).resolve().parent
-STRICT = ["-std=c99", "-Wall", "-Wextra", "-pedantic", "-Werror"]
+WARNINGS = ["-Wall", "-Wextra", "-pedantic", "-Wcast-qual", "-Werror"]
+STANDARDS = {"gcc": ["-std=c99"], "clang": ["-std=c99"], "g++": ["-std=c++11", "-x", "c++"], "clang++": ["-std=c++11", "-x", "c++"]}
 WRAPPED = ["-Wl,--wrap=malloc,--wrap=realloc"]
 CHECKED = ["-O1", "-g", "-fsanitize=address,undefined", "-fno-sanitize-recover=all"]
 VALGRIND = ["valgrind", "--quiet", "--leak-check=full", "--show-leak-kinds=all", "--errors-for-leak-kinds=all", "--error-exitcode=9"]
 
-OUTCOME = ("ok", "code", "place", "length")
+OUTCOME = ("ok", "code", "place", "length", "reserved")
 FIELDS = collections.defaultdict(lambda: OUTCOME, {
-    "take": ("ok", "code", "is_repeat", "place", "number"), "take_lines": ("ok", "code", "fresh", "repeats", "refused", "length"),
-    "accept": ("ok", "code", "place", "fresh"), "close": (), "version": ("version",), "stack": ("bytes",)})
+    "take": ("ok", "code", "is_repeat", "place", "number", "reserved"),
+    "take_lines": ("ok", "code", "place", "fresh", "repeats", "refused", "length", "reserved"),
+    "accept": ("ok", "code", "place", "fresh", "reserved"), "close": (), "version": ("version",), "stack": ("bytes",), "layout": (),
+    "code_name": ("length",), "code_text": ("length",)})
 
 # the fields of the result of a call by their names, how often it asked for memory and was refused, and what it wrote
 Reply = collections.namedtuple("Reply", "fields asked refused text")
 
 
+def stands_in():
+    """Whether the library is the stand-in."""
+    return os.environ.get("NILUPPANG_STANDIN") == "1"
+
+
 def end_if_missing(*commands):
     """Ends the check with one line if something is missing that it needs."""
     try:
-        library.check_there()
+        if stands_in():
+            print("program: the stand-in tests/standin/library.c of the definitions, since NILUPPANG_STANDIN is 1", flush=True)
+        else:
+            library.check_there()
     except library.Missing as missing:
         skip(missing)
     for name in commands:
@@ -40,22 +52,33 @@ def skip(why):
     harness.end(0, 0)
 
 
+def make_stand_in(folder):
+    """Makes both libraries of the stand-in in a folder."""
+    source = harness.STAND_IN.parent
+    words = ["-std=gnu11", "-O1", "-Wall", "-Wextra", "-Werror", "-fPIC", f"-I{TOP / 'include'}", f'-DSERVER="{source / "library.py"}"']
+    steps = [["gcc", *words, "-c", source / "library.c", "-o", "library.o"], ["ar", "rcsD", "libniluppang.a", "library.o"]]
+    for step in steps:
+        made = harness.run(step, cwd=folder)
+        if made.status:
+            harness.stop(f"the stand-in is not built:\n{made.errors.decode(errors='replace')}")
+    library.make_shared(folder)
+
+
 @contextlib.contextmanager
 def libraries():
     """A temporary folder with both libraries."""
     with tempfile.TemporaryDirectory() as folder:
-        library.make(folder)
+        (make_stand_in if stands_in() else library.make)(folder)
         yield pathlib.Path(folder)
 
 
 def built(folder, source, *words, name=None, wraps=WRAPPED, compiler="gcc"):
-    """The program that a compiler makes of a source and the archive in a folder."""
+    """The program that a compiler makes of a source and the archive in a folder. Each warning is an error."""
     path = folder / (name or pathlib.Path(source).stem)
-    standard = STRICT if compiler == "gcc" else STRICT[1:]
-    made = harness.run([compiler, *standard, *words, f"-I{TOP / 'include'}", source, folder / "libniluppang.a", *wraps, "-lpthread",
-                        "-o", path])
+    made = harness.run([compiler, *STANDARDS[compiler], *WARNINGS, *words, f"-I{TOP / 'include'}", source, "-x", "none",
+                        folder / "libniluppang.a", *wraps, "-lpthread", "-o", path])
     if made.status:
-        harness.stop(f"{source} is not built:\n{made.errors.decode(errors='replace')}")
+        harness.stop(f"{source} is not built by {compiler}:\n{made.errors.decode(errors='replace')}")
     return path
 
 
@@ -90,9 +113,9 @@ def replies(names, data):
     return found, data[place:]
 
 
-def asked(program, requests, before=()):
+def asked(program, requests, before=(), words=()):
     """The replies to requests, each a tuple of a name, a handle and arguments. The driver must end well, and write no more."""
-    answer = harness.run([*before, program], b"".join(request(*one) for one in requests))
+    answer = harness.run([*before, program, *words], b"".join(request(*one) for one in requests))
     names = [one[0] for one in requests if one[0] != "refuse"]
     try:
         found, rest = replies(names, answer.text)

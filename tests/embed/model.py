@@ -1,12 +1,12 @@
 """model.py: what each call of the C interface must come to, by the definitions alone.
 
-A handle has a site of tests/oracle/exchange.py, its journal, the answer that was made last, and what it held when its changes were asked
-for last.
-Each call returns the fields of its result by their names, and the text that it makes or None. Memory never runs out here.
+A handle has a site of tests/oracle/exchange.py, its journal, the answer that was made last, why the last call was refused, and what it
+held when its changes were asked for last. Each call returns the fields of its result by their names, and the text that it makes or copies,
+or None. Memory never runs out here.
 """
 import csv, io, struct
 from tests.oracle import exchange, status
-from tests.oracle.status import Refused, by_transfer, contradicted, lines_of, standing, transfers
+from tests.oracle.status import by_transfer, contradicted, lines_of, standing, transfers
 from tests.property.views import touched
 
 HEADER = ["DbtrAgt", "TxId", "Amt", "Sts"]
@@ -14,29 +14,62 @@ REPORT_HEADER = ["DbtrAgt", "TxId", "Result", "ListAmt", "ListSts", "Amt", "Sts"
 WORDS = ["ACCEPTED", "REJECTED", "RETURNED", "PENDING", "INVESTIGATED"]
 MOST_ITEMS = 1024
 
+# the name and the meaning of each number
+CODES = {
+    31: ("NotJson", "the bytes are not one JSON text in UTF-8"),
+    32: ("NotObject", "the JSON text is not an object"),
+    33: ("UnknownKind", "MsgNmId is not a name of one of the six kinds of message"),
+    34: ("Missing", "a key that the kind needs is absent"),
+    35: ("NotText", "the value of a key is not a text"),
+    36: ("Element", "the text of a key is not of the key's type"),
+    37: ("Extra", "the object has a key that the kind does not have"),
+    38: ("Rule", "a rule of the kind is broken"),
+    41: ("Gap", "the delta begins after what the site holds of its origin"),
+    42: ("Fork", "the delta has another message under a number that the site holds"),
+    43: ("OwnAhead", "the delta has messages of this site that it does not hold: its journal lost some"),
+    44: ("BadSite", "there is no such site in a group of 1 to 1024 sites"),
+    45: ("BadDelta", "the text is not a delta: the place is that of its first wrong line"),
+    46: ("BadTransactions", "TxInf is not a list of 1 to 100 objects: the place is that of the first one that is no object, or 0"),
+    48: ("BadList", "the list is not valid: the place is that of its first wrong record, from 1 with the header"),
+    56: ("At", "the transaction of TxInf at the place has a fault"),
+    65: ("Memory", "out of memory; the call can be made again"),
+    70: ("Empty", "the handle has no site"),
+    71: ("Full", "the handle has a site already"),
+    72: ("BadVector", "the text is not a version vector"),
+    73: ("BadArgument", "a bank, an identification or a day is not valid: the place is that of the argument, from 1"),
+}
+PLACED = {45, 46, 48, 56, 73}  # the numbers that a place follows
+
+# all fields that a result may have
+FIELDS = ["place", "length", "is_repeat", "number", "fresh", "repeats", "refused", "reserved"]
+# the calls that need no site, and those after which the site says the same of why
+WITHOUT_SITE = {"open", "restore", "close", "code_name", "code_text"}
+SILENT = WITHOUT_SITE | {"counts", "answer", "answer_part", "answer_end", "why"}
+
 
 class Refusal(Exception):
-    """A call is refused, with a number and a place."""
+    """A call is refused. The text says why: a number, and what follows it."""
 
-    def __init__(self, code, place=0):
-        super().__init__(code, place)
-        self.code, self.place = code, place
+    def __init__(self, why):
+        super().__init__(why)
+        code, *more = why.split(" ")
+        self.code = int(code)
+        self.place = int(more[0]) if self.code in PLACED else 0
 
 
 def read(line):
     """The message of a JSON object."""
-    try:
-        return status.read_message(line)
-    except Refused as refused:
-        number, *more = str(refused).split()
-        raise Refusal(int(number), int(more[0]) if number in ("46", "56") else 0)
+    message, why = exchange.message_in(line)
+    if why is not None:
+        raise Refusal(why)
+    return message
 
 
 def element(kind, text, place):
     """An element in its written form, which is an argument in this place of a call."""
     found = kind(text.decode("latin-1"))
     if found is None:
-        raise Refusal(73, place)
+        raise Refusal(f"73 {place}")
     return found
 
 
@@ -63,15 +96,16 @@ def all_lines(messages):
 
 def rows_in(text):
     """The rows of a list, each a transfer, cents and a word."""
-    records = [record for record in csv.reader(io.StringIO(text.decode("utf-8-sig"), newline="")) if record]
+    lines = io.StringIO(text.decode("utf-8-sig", "surrogateescape"), newline="")  # no element has a byte that is not of UTF-8
+    records = [record for record in csv.reader(lines) if record]
     if not records or records[0] != HEADER:
-        raise Refusal(48, 1)
+        raise Refusal("48 1")
     rows = []
     for place, record in enumerate(records[1:], 2):
         kinds = status.bic, status.id35, status.amount, lambda word: word if word in WORDS else None
         found = [kind(field) for kind, field in zip(kinds, record)]
         if len(record) != 4 or None in found:
-            raise Refusal(48, place)
+            raise Refusal(f"48 {place}")
         rows.append(((found[0].encode(), found[1].encode()), found[2], found[3]))
     return rows
 
@@ -112,23 +146,71 @@ def report_text(messages, bank, day, rows):
     return text.getvalue()
 
 
+# ---- a site
+
+class Site(exchange.Site):
+    """A site that keeps the order in which its entries came."""
+
+    def __init__(self, own, group):
+        super().__init__(own, group)
+        self.arrivals = []
+
+    def hold(self, origin, message):
+        super().hold(origin, message)
+        self.arrivals.append(message)
+
+    def join(self, text):
+        """Accepts a delta text."""
+        try:
+            runs = exchange.delta_in(text)
+        except exchange.BadDelta as bad:
+            raise Refusal(f"45 {bad.args[0]}")
+        refusal = self.refusal(runs)
+        if refusal:
+            raise Refusal(" ".join(map(str, refusal)))
+        self.accept(runs)
+
+
+def lines_with(messages):
+    """The lines of messages, in their order, as the archive text has them."""
+    return "".join(status.written(message) + "\n" for message in messages)
+
+
+def names_text(keys):
+    return b"".join(b"|".join(key) + b"\n" for key in keys)
+
+
+def changes_text(before, now):
+    """The names of the transfers that arrivals touch, if these were held before them and after them. Nothing is held before the watch."""
+    return names_text([] if before is None else sorted(touched(set(before), set(now) - set(before))))
+
+
+def is_right_about_changes(before, now, text):
+    """Whether a text names the transfers that arrivals touch."""
+    return text == changes_text(before, now)
+
+
 # ---- a handle
 
 class Handle:
     """A handle, and what it must answer."""
 
     def __init__(self):
-        self.site, self.answer, self.watched, self.journal = None, b"", None, []
+        self.site, self.answer, self.refused, self.watched, self.journal = None, b"", b"", None, []
 
     def call(self, name, *arguments):
-        """The fields of the result of a call, and the text that it makes or None."""
+        """The fields of the result of a call, and the text that it makes or copies, or None."""
+        fields = dict.fromkeys(FIELDS, 0)
         try:
-            if self.site is None and name not in ("open", "restore", "close"):
-                raise Refusal(70)
-            fields, text = getattr(self, "copied" if name == "answer" else name)(*arguments)
-            return {"ok": 1, "code": 0, **fields}, text
+            if self.site is None and name not in WITHOUT_SITE:
+                raise Refusal("70")
+            found, text = getattr(self, "copied" if name == "answer" else name)(*arguments)
+            fields, why = {"ok": 1, "code": 0, **fields, **found}, b""
         except Refusal as refusal:
-            return {"ok": 0, "code": refusal.code, "place": refusal.place}, None
+            fields, why, text = {**fields, "ok": 0, "code": refusal.code, "place": refusal.place}, str(refusal).encode(), None
+        if name not in SILENT:
+            self.refused = why
+        return fields, text
 
     def made(self, text):
         """What a call comes to that makes an answer."""
@@ -137,25 +219,36 @@ class Handle:
 
     def begin(self, number, group):
         if self.site is not None:
-            raise Refusal(71)
+            raise Refusal("71")
         if not 1 <= number <= group <= exchange.MOST_SITES:
-            raise Refusal(44)
-        self.answer, self.watched, self.journal = b"", None, []
+            raise Refusal("44")
+        self.site = Site(number, group)
+        self.answer, self.refused, self.watched, self.journal = b"", b"", None, []
 
     def open(self, number, group):
         self.begin(number, group)
-        self.site = exchange.Site(number, group)
         return {}, None
 
     def restore(self, number, group, journal, delta):
         self.begin(number, group)
-        self.site, refused, _ = exchange.exchanged(number, group, journal, [delta] if delta else [])
+        refused = exchange.taken(self.site, journal)
+        try:
+            if delta:
+                self.site.join(delta)
+        except Refusal as refusal:
+            refused.append(f"file 2: {refusal}\n")
         self.journal = [line for _, line in lines_of(journal)]
         return self.made("".join(refused))
 
     def close(self):
         self.site = None
         return {}, None
+
+    def starved(self):
+        """A call that finds no memory."""
+        raise Refusal("65")
+
+    # ---- messages and deltas in
 
     def take(self, json):
         message = read(json)
@@ -178,23 +271,18 @@ class Handle:
         return {"fresh": fresh, "repeats": len(lines) - len(refused) - fresh, "refused": len(refused), **fields}, answer
 
     def accept(self, text):
-        try:
-            runs = exchange.delta_in(text)
-        except exchange.BadDelta as bad:
-            raise Refusal(45, bad.args[0])
-        refusal = self.site.refusal(runs)
-        if refusal:
-            raise Refusal(refusal[0])
         before = self.many()
-        self.site.accept(runs)
+        self.site.join(text)
         return {"fresh": self.many() - before}, None
 
     def many(self):
-        return sum(map(len, self.site.logs.values()))
+        return len(self.site.arrivals)
+
+    # ---- what the site holds, and deltas out
 
     def counts(self, items):
         if items > MOST_ITEMS:
-            raise Refusal(44)
+            raise Refusal("44")
         return {}, struct.pack(f"={items}Q", *(self.site.have(origin) for origin in range(1, items + 1)))
 
     def vector_text(self):
@@ -204,12 +292,30 @@ class Handle:
         try:
             return self.made(exchange.delta_text(self.site.above(exchange.vector_in(vector.decode("latin-1")))))
         except exchange.Fault:
-            raise Refusal(72)
+            raise Refusal("72")
 
     def cut_above(self, counts):
         if len(counts) > MOST_ITEMS:
-            raise Refusal(44)
+            raise Refusal("44")
         return self.made(exchange.delta_text(self.site.above(dict(enumerate(counts, 1)))))
+
+    def journal_text(self, above):
+        return self.made(lines_with(self.site.logs.get(self.site.own, [])[above:]))
+
+    def newest_text(self, count):
+        return self.made(lines_with(self.site.arrivals[max(0, self.many() - count):]))
+
+    # ---- reading
+
+    def reading_text(self, text):
+        read_lines = [(number, *exchange.message_in(line)) for number, line in lines_of(text)]
+        return self.made("".join(status.written(message) + "\n" if why is None else f"line {number}: {why}\n"
+                                 for number, message, why in read_lines))
+
+    # ---- answers on everything held, on one transfer and on one bank
+
+    def evaluate(self):
+        return {"length": len(self.answer)}, None
 
     def archive_text(self):
         return self.made(status.archive_text(self.site.messages))
@@ -242,25 +348,31 @@ class Handle:
         return self.made(found[0] if found else f"{bank}|0|0.00|0.00|0|0|0|0|0|0.00|0.00\n")
 
     def changes(self):
-        """The transfers that have to be named. A right answer may name more: `is_right_about_changes` judges it."""
         before, self.watched = self.watched, frozenset(self.site.messages)
-        old, new = all_lines(before or frozenset()), all_lines(self.watched)
-        changed = [] if before is None else sorted(key for key in new if old.get(key) != new[key])
-        return self.made(names_text(changed))
+        return self.made(changes_text(before, self.watched))
+
+    # ---- the answer, why a call was refused, and numbers
 
     def copied(self, room):
-        return {"length": len(self.answer)}, self.answer if len(self.answer) <= room else b""
+        return whole(self.answer, room)
+
+    def answer_part(self, start, room):
+        part = self.answer[start:start + room]
+        return {"length": len(part)}, part
+
+    def answer_end(self):
+        return self.made(b"")
+
+    def why(self, room):
+        return whole(self.refused, room)
+
+    def code_name(self, code, room):
+        return whole(CODES.get(code, ("", ""))[0].encode(), room)
+
+    def code_text(self, code, room):
+        return whole(CODES.get(code, ("", ""))[1].encode(), room)
 
 
-def names_text(keys):
-    return b"".join(b"|".join(key) + b"\n" for key in keys)
-
-
-def is_right_about_changes(before, now, text):
-    """Whether the names of changed transfers ascend, have all whose lines differ, and no other than those that a new message touches."""
-    named = [tuple(line.split(b"|")) for line in text.splitlines()]
-    if before is None:
-        return text == b""
-    old, new = all_lines(before), all_lines(now)
-    must = {key for key in new if old.get(key) != new[key]}
-    return text == names_text(named) and named == sorted(set(named)) and must <= set(named) <= touched(set(before), set(now) - set(before))
+def whole(text, room):
+    """What a call comes to that copies a text if it fits."""
+    return {"length": len(text)}, text if len(text) <= room else b""

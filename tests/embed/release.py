@@ -2,25 +2,43 @@
 
 tools/package.py makes it twice. It is unpacked into a temporary folder. Its sums hold, BUILD names the version and the toolchain, and the
 program answers an example. By pkg-config and the release alone, the C example is built with each library and answers. Python imports the
-package from its place in the release, and finds the library there. The service of sites there runs on the program of the release.
+package from its place in the release, and finds the library there. It also imports it from the wheel beside the archive. A program in Java
+runs on niluppang.jar. The service of sites there runs on the program of the release.
 """
-import os, pathlib, re, shutil, tarfile, tempfile
+import os, pathlib, re, shutil, tarfile, tempfile, zipfile
 from tests import harness
 from tests.embed import driving
 from tests.harness import EXAMPLES, reported
 from tests.hub import sites
 from tools import library, package
 
-ASK = "import niluppang; site = niluppang.Site(1, 1); site.take_lines(open(0, 'rb').read()); print(site.status_text(), end='')"
+ASK = """import niluppang, sys
+with niluppang.Site(1, 1) as site:
+    site.take_lines(sys.stdin.buffer.read())
+    print(site.status_text(), end='')
+"""
+IN_JAVA = """import niluppang.Site;
+
+public class Status {
+    public static void main(String[] words) throws Exception {
+        try (Site site = new Site(1, 1)) {
+            site.takeLines(System.in.readAllBytes());
+            site.statusStream().transferTo(System.out);
+        }
+    }
+}
+"""
+JNA = "/usr/share/java/jna.jar"
 
 
 def made(folder):
-    """The release, made twice, and whether both are the same bytes."""
+    """The archive of the release, which is made twice, and whether all is the same bytes."""
     try:
         first, second = (package.make(folder / name) for name in ("first", "second"))
     except library.Missing as missing:
         driving.skip(missing)
-    return first, reported("the release made twice", first.read_bytes() == second.read_bytes())
+    one, other = ({path.name: path.read_bytes() for path in archive.parent.iterdir()} for archive in (first, second))
+    return first, reported("the release made twice", one == other)
 
 
 def unpacked(path, folder):
@@ -68,13 +86,57 @@ def built(place, folder):
         yield reported(f"what it prints with the {name} library", right, str(answer.errors))
 
 
+def answered(name, words, **more):
+    """Whether a program prints the statuses of the bank's day, which it reads."""
+    answer = harness.run(words, (EXAMPLES / "bank-day.jsonl").read_bytes(), **more)
+    return reported(name, answer == ((EXAMPLES / "bank-day.status").read_bytes(), b"", 0), answer.errors.decode(errors="replace"))
+
+
 def python(place, folder):
     """The Python package at its place in the release."""
     path = str(place / "share" / "niluppang" / "python")
-    data, variables = (EXAMPLES / "bank-day.jsonl").read_bytes(), without_repository(PYTHONPATH=path)
-    answer = harness.run(["python3", "-c", ASK], data, cwd=folder, env=variables)
-    right = answer.text == (EXAMPLES / "bank-day.status").read_bytes()
-    return reported("the Python package", right, answer.errors.decode(errors="replace"))
+    return answered("the Python package", ["python3", "-W", "error", "-c", ASK], cwd=folder, env=without_repository(PYTHONPATH=path))
+
+
+def wheel(archive, place, folder):
+    """The wheel beside the archive: it is on the list of the release, has the library of the archive, and works where it is unpacked."""
+    names = sorted(path.name for path in archive.parent.iterdir() if path.suffix == ".whl")
+    pattern = rf"niluppang-{re.escape(library.VERSION)}-py3-none-manylinux_2_\d+_x86_64\.whl"
+    yield reported("one wheel", re.fullmatch(pattern, " ".join(names)) is not None, f"{names}")
+    if not names:
+        return
+    sums = harness.run(["sha256sum", "--check", "--strict", "SHA256SUMS"], cwd=archive.parent)
+    yield reported("its sum", sums.status == 0 and f"{names[0]}: OK" in sums.text.decode(), sums.errors.decode())
+    with zipfile.ZipFile(archive.parent / names[0]) as its:
+        its.extractall(folder / "wheel")
+    same = (folder / "wheel/niluppang/libniluppang.so").read_bytes() == (place / "lib" / library.SONAME).read_bytes()
+    yield reported("its library is that of the archive", same)
+    alone = without_repository(PYTHONPATH=str(folder / "wheel"))
+    yield answered("its package", ["python3", "-W", "error", "-c", ASK], cwd=folder, env=alone)
+
+
+def java(place, folder):
+    """A program in Java on niluppang.jar of the release, and on the one that build.sh makes of the sources there."""
+    its, made = place / "share" / "niluppang" / "java", folder / "java"
+    if not shutil.which("javac") or not os.path.isfile(JNA):
+        yield reported("no jar without a JDK", not (its / "niluppang.jar").exists())
+        print("skipped: there is no JDK or no JNA on this machine: apt-get install openjdk-17-jdk-headless libjna-java", flush=True)
+        return
+    if not (its / "niluppang.jar").exists():
+        yield reported("niluppang.jar is there", False)
+        return
+    made.mkdir()
+    done = harness.run(["sh", its / "build.sh", made])
+    yield reported("build.sh", done.status == 0, done.errors.decode(errors="replace"))
+    (folder / "Status.java").write_text(IN_JAVA)
+    for name, jar in (("niluppang.jar", its / "niluppang.jar"), ("the jar of build.sh", made / "niluppang.jar")):
+        words = ["java", f"-Dniluppang.library={place / 'lib' / library.SONAME}", "-cp", f"{jar}:{JNA}", "Status.java"]
+        yield answered(name, words, cwd=folder, env=without_repository())
+    with zipfile.ZipFile(its / "niluppang.jar") as one, zipfile.ZipFile(made / "niluppang.jar") as other:
+        classes = {name: other.read(name) for name in other.namelist() if name.endswith(".class")}
+        right = ["META-INF/MANIFEST.MF", *sorted(classes)]
+        same = one.namelist() == right and all(one.read(name) == data for name, data in classes.items())
+        yield reported("what niluppang.jar has", same and len({entry.date_time for entry in one.filelist}) == 1, f"{one.namelist()}")
 
 
 def service(place, folder):
@@ -93,7 +155,8 @@ def main():
         folder = pathlib.Path(name)
         path, is_same = made(folder)
         place = unpacked(path, folder)
-        harness.end_of([is_same, *contents(place), *built(place, folder), python(place, folder), service(place, folder)])
+        harness.end_of([is_same, *contents(place), *built(place, folder), python(place, folder), *wheel(path, place, folder),
+                        *java(place, folder), service(place, folder)])
 
 
 if __name__ == "__main__":

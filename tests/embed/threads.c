@@ -2,8 +2,9 @@
  *
  *     threads ROUNDS FILE..
  *
- * In each round, site N takes the messages of the Nth file on a thread of its own. The main thread has them exchange what they hold. Then
- * each site makes its status text, on another thread. All texts of all rounds must be equal, and one is printed.
+ * In each round, site N takes the messages of the Nth file on a thread of its own, and evaluates them. The main thread has them exchange
+ * what they hold. Then each site refuses a message, says why, and makes its status text, on another thread. All texts of all rounds must
+ * be equal, and one is printed.
  */
 #include <niluppang.h>
 #include <pthread.h>
@@ -60,11 +61,22 @@ static void *take(void *worker_of_thread) {
     struct worker *worker = worker_of_thread;
     must(sct_site_open(&worker->site, worker->number, worker->group).ok, "a site is not opened");
     must(sct_site_take_lines(&worker->site, worker->lines.bytes, worker->lines.length).ok, "lines are not taken");
+    must(sct_site_evaluate(&worker->site).ok, "a site is not evaluated");
     return NULL;
+}
+
+/* A message that is refused, and why. */
+static void refuse(sct_site *site) {
+    uint8_t why[8], name[8];
+    must(sct_site_take(site, (const uint8_t *)"{}", 2).code == SCT_UNKNOWN_KIND, "a message is not refused");
+    sct_outcome told = sct_site_why(site, why, sizeof why);
+    must(told.ok && told.length == 2 && memcmp(why, "33", 2) == 0, "a message is refused for another reason");
+    must(sct_code_name(SCT_GAP, name, sizeof name) == 3 && memcmp(name, "Gap", 3) == 0, "a number has another name");
 }
 
 static void *ask(void *worker_of_thread) {
     struct worker *worker = worker_of_thread;
+    refuse(&worker->site);
     worker->status = answer_of(&worker->site, sct_site_status_text(&worker->site));
     sct_site_close(&worker->site);
     return NULL;

@@ -1,10 +1,14 @@
 /* library.c: a stand-in for libniluppang.so, of the definitions. Each call is handed to a process of library.py, which answers it.
  *
- * A request is a line: a call without `sct_site_`, the number of a site, two numbers, and the lengths of three texts, which follow the line.
+ * A request is a line: a call without `sct_raw_`, the number of a site, two numbers, and the lengths of three texts, which follow the line.
  * A reply is a line of the fields ok, code, place, length, is_repeat, number, fresh, repeats and refused, and the length of a text, which
  * follows. SERVER is the path of library.py. It is for tests of bindings where nothing is proved: it is slow, and ends the process after
- * any fault of its own.
+ * any fault of its own. It ends the process after a null pointer too, which no function of the library is given.
+ *
+ * A call that may be refused with 65 asks malloc for memory once, and is refused if it gets none. What else it needs, calloc gives.
  */
+#define _GNU_SOURCE
+#include <fcntl.h>
 #include <niluppang.h>
 #include <pthread.h>
 #include <spawn.h>
@@ -12,6 +16,8 @@
 #include <stdlib.h>
 #include <string.h>
 #include <unistd.h>
+
+#define MOST ((size_t)1 << 62) /* room for any text */
 
 extern char **environ;
 
@@ -33,9 +39,9 @@ struct reply {
 };
 
 static pthread_mutex_t lock = PTHREAD_MUTEX_INITIALIZER;
-static FILE *to, *from;
+static int to = -1, from = -1;
 static long sites;
-static const struct text none = {0, 0};
+static const struct text none = {"", 0};
 
 static void must(bool holds) {
     if (!holds) abort();
@@ -46,77 +52,150 @@ static void begin(void) {
     pid_t process;
     posix_spawn_file_actions_t actions;
     char *words[] = {"python3", SERVER, 0};
-    if (to) return;
-    must(!pipe(in) && !pipe(out) && !posix_spawn_file_actions_init(&actions));
+    if (to >= 0) return;
+    must(!pipe2(in, O_CLOEXEC) && !pipe2(out, O_CLOEXEC) && !posix_spawn_file_actions_init(&actions));
     posix_spawn_file_actions_adddup2(&actions, in[0], 0);
     posix_spawn_file_actions_adddup2(&actions, out[1], 1);
-    posix_spawn_file_actions_addclose(&actions, in[1]);
-    posix_spawn_file_actions_addclose(&actions, out[0]);
     must(!posix_spawnp(&process, words[0], &actions, 0, words, environ));
+    posix_spawn_file_actions_destroy(&actions);
     close(in[0]);
     close(out[1]);
-    to = fdopen(in[1], "wb");
-    from = fdopen(out[0], "rb");
-    must(to && from);
+    to = in[1];
+    from = out[0];
 }
 
-static struct reply asked(const char *call, long site, unsigned long first, unsigned long second, struct text a, struct text b, struct text c) {
-    struct reply it;
-    struct text texts[] = {a, b, c};
-    int place;
-    begin();
-    fprintf(to, "%s %ld %lu %lu %zu %zu %zu\n", call, site, first, second, a.length, b.length, c.length);
-    for (place = 0; place < 3; place++)
-        if (texts[place].length) fwrite(texts[place].at, 1, texts[place].length, to);
-    fflush(to);
-    must(fscanf(from, "%lu %lu %lu %lu %lu %lu %lu %lu %lu %zu", &it.ok, &it.code, &it.place, &it.length, &it.is_repeat, &it.number, &it.fresh,
-                &it.repeats, &it.refused, &it.size) == 10 && getc(from) == '\n');
-    it.text = malloc(it.size + 1);
-    must(it.text && fread(it.text, 1, it.size, from) == it.size);
-    return it;
-}
-
-/* A call at a site. The text that it makes is the answer of the site. */
-static struct reply called(sct_site *site, const char *call, unsigned long first, struct text a, struct text b, struct text c) {
-    struct held *held = site->address;
-    struct reply it = {0, SCT_EMPTY, 0, 0, 0, 0, 0, 0, 0, 0, 0};
-    if (!site->is_full) return it;
-    pthread_mutex_lock(&lock);
-    it = asked(call, held->number, first, 0, a, b, c);
-    if (it.ok) {
-        free(held->answer);
-        held->answer = it.text;
-        held->length = it.size;
-    } else {
-        free(it.text);
+static void write_all(const void *at, size_t length) {
+    while (length) {
+        ssize_t wrote = write(to, at, length);
+        must(wrote > 0);
+        at = (const char *)at + wrote;
+        length -= (size_t)wrote;
     }
-    pthread_mutex_unlock(&lock);
-    return it;
+}
+
+static void read_all(void *at, size_t length) {
+    while (length) {
+        ssize_t had = read(from, at, length);
+        must(had > 0);
+        at = (char *)at + had;
+        length -= (size_t)had;
+    }
+}
+
+/* The first line of a reply. */
+static void read_line(char *line, size_t room) {
+    size_t length = 0;
+    do {
+        must(length < room);
+        read_all(line + length, 1);
+    } while (line[length++] != '\n');
+    line[length - 1] = 0;
 }
 
 static struct text of(const void *at, size_t length) {
     struct text it = {at, length};
+    must(at != 0);
+    return it;
+}
+
+/* The reply to a request. Its text is freed by who asks. */
+static struct reply asked(const char *call, long site, unsigned long first, unsigned long second, const struct text *texts) {
+    struct reply it;
+    int place;
+    char line[256];
+    begin();
+    place = snprintf(line, sizeof line, "%s %ld %lu %lu %zu %zu %zu\n", call, site, first, second, texts[0].length, texts[1].length,
+                     texts[2].length);
+    write_all(line, (size_t)place);
+    for (place = 0; place < 3; place++) write_all(texts[place].at, texts[place].length);
+    read_line(line, sizeof line);
+    must(sscanf(line, "%lu %lu %lu %lu %lu %lu %lu %lu %lu %zu", &it.ok, &it.code, &it.place, &it.length, &it.is_repeat, &it.number,
+                &it.fresh, &it.repeats, &it.refused, &it.size) == 10);
+    it.text = calloc(it.size + 1, 1);
+    must(it.text != 0);
+    read_all(it.text, it.size);
+    return it;
+}
+
+static bool is_out_of_memory(void) {
+    void *volatile memory = malloc(1);
+    free(memory);
+    return memory == 0;
+}
+
+static struct reply refused(uint8_t code) {
+    struct reply it = {0, code, 0, 0, 0, 0, 0, 0, 0, 0, 0};
+    return it;
+}
+
+/* The reply to a call at a site. */
+static struct reply told(sct_site *site, const char *call, unsigned long first, struct text a, struct text b, struct text c) {
+    const struct held *held = site->private_address;
+    const struct text texts[] = {a, b, c};
+    struct reply it;
+    if (!site->private_is_full) return refused(SCT_EMPTY);
+    pthread_mutex_lock(&lock);
+    it = asked(call, held->number, first, 0, texts);
+    pthread_mutex_unlock(&lock);
+    return it;
+}
+
+/* The reply to a call that is refused if there is no memory. */
+static struct reply tried(sct_site *site, const char *call, unsigned long first, struct text a, struct text b, struct text c) {
+    return told(site, site->private_is_full && is_out_of_memory() ? "starved" : call, first, a, b, c);
+}
+
+/* A call at a site that makes no text. */
+static struct reply called(sct_site *site, const char *call, struct text text) {
+    struct reply it = tried(site, call, 0, text, none, none);
+    free(it.text);
+    it.text = 0;
+    return it;
+}
+
+/* The answer of a site becomes a text, which was allocated. */
+static void answers(sct_site *site, uint8_t *text, size_t length) {
+    struct held *held = site->private_address;
+    free(held->answer);
+    held->answer = text;
+    held->length = length;
+}
+
+/* A call at a site that makes an answer. */
+static struct reply made(sct_site *site, const char *call, unsigned long first, struct text a, struct text b, struct text c) {
+    struct reply it = tried(site, call, first, a, b, c);
+    if (it.ok)
+        answers(site, it.text, it.size);
+    else
+        free(it.text);
+    it.text = 0;
     return it;
 }
 
 static sct_outcome outcome(struct reply it) {
-    sct_outcome found = {it.ok, it.code, it.place, it.length};
+    sct_outcome found = {it.ok, it.code, it.place, it.length, 0};
     return found;
 }
 
+static sct_outcome made_of(sct_site *site, const char *call, struct text a, struct text b, struct text c) {
+    return outcome(made(site, call, 0, a, b, c));
+}
+
 static sct_outcome begun(sct_site *site, const char *call, uint16_t number, uint16_t group, struct text journal, struct text delta) {
-    struct reply it = {0, SCT_FULL, 0, 0, 0, 0, 0, 0, 0, 0, 0};
+    const struct text texts[] = {journal, delta, none};
+    struct reply it;
     struct held *held;
-    if (site->is_full) return outcome(it);
+    if (site->private_is_full) return outcome(refused(SCT_FULL));
+    if (is_out_of_memory()) return outcome(refused(SCT_MEMORY));
     pthread_mutex_lock(&lock);
-    held = malloc(sizeof *held);
+    held = calloc(1, sizeof *held);
     must(held != 0);
     held->number = ++sites;
-    it = asked(call, held->number, number, group, journal, delta, none);
+    it = asked(call, held->number, number, group, texts);
     held->answer = it.text;
     held->length = it.size;
-    site->is_full = it.ok;
-    site->address = it.ok ? held : 0;
+    site->private_is_full = it.ok;
+    site->private_address = it.ok ? held : 0;
     if (!it.ok) {
         free(it.text);
         free(held);
@@ -126,99 +205,98 @@ static sct_outcome begun(sct_site *site, const char *call, uint16_t number, uint
 }
 
 uint32_t sct_version(void) {
-    return SCT_VERSION_MAJOR * 1000000 + SCT_VERSION_MINOR * 1000 + SCT_VERSION_PATCH;
+    return SCT_VERSION_NUMBER;
 }
 
-sct_outcome sct_site_open(sct_site *site, uint16_t number, uint16_t group) {
+sct_outcome sct_raw_open(sct_site *site, uint16_t number, uint16_t group) {
     return begun(site, "open", number, group, none, none);
 }
 
-sct_outcome sct_site_restore(sct_site *site, uint16_t number, uint16_t group, const uint8_t *journal, size_t journal_length,
-                             const uint8_t *delta, size_t delta_length) {
+sct_outcome sct_raw_restore(sct_site *site, uint16_t number, uint16_t group, const uint8_t *journal, size_t journal_length,
+                            const uint8_t *delta, size_t delta_length) {
     return begun(site, "restore", number, group, of(journal, journal_length), of(delta, delta_length));
 }
 
-void sct_site_close(sct_site *site) {
-    if (!site->is_full) return;
-    called(site, "close", 0, none, none, none);
-    free(((struct held *)site->address)->answer);
-    free(site->address);
-    site->address = 0;
-    site->is_full = false;
+void sct_raw_close(sct_site *site) {
+    struct reply it = told(site, "close", 0, none, none, none);
+    if (!site->private_is_full) return;
+    free(it.text);
+    free(((struct held *)site->private_address)->answer);
+    free(site->private_address);
+    site->private_address = 0;
+    site->private_is_full = false;
 }
 
-sct_taken sct_site_take(sct_site *site, const uint8_t *json, size_t length) {
-    struct held *held = site->address;
-    struct reply it = {0, SCT_EMPTY, 0, 0, 0, 0, 0, 0, 0, 0, 0};
-    sct_taken found;
-    if (site->is_full) {
-        pthread_mutex_lock(&lock);
-        it = asked("take", held->number, 0, 0, of(json, length), none, none);
-        free(it.text);
-        pthread_mutex_unlock(&lock);
-    }
-    found = (sct_taken){it.ok, it.code, it.is_repeat, it.place, it.number};
+sct_taken sct_raw_take(sct_site *site, const uint8_t *json, size_t length) {
+    struct reply it = called(site, "take", of(json, length));
+    sct_taken found = {it.ok, it.code, it.is_repeat, it.place, it.number, 0};
     return found;
 }
 
-sct_lines sct_site_take_lines(sct_site *site, const uint8_t *text, size_t length) {
-    struct reply it = called(site, "take_lines", 0, of(text, length), none, none);
-    return (sct_lines){it.ok, it.code, it.fresh, it.repeats, it.refused, it.length};
+sct_lines sct_raw_take_lines(sct_site *site, const uint8_t *text, size_t length) {
+    struct reply it = made(site, "take_lines", 0, of(text, length), none, none);
+    sct_lines found = {it.ok, it.code, it.place, it.fresh, it.repeats, it.refused, it.length, 0};
+    return found;
 }
 
-sct_accepted sct_site_accept(sct_site *site, const uint8_t *text, size_t length) {
-    struct held *held = site->address;
-    struct reply it = {0, SCT_EMPTY, 0, 0, 0, 0, 0, 0, 0, 0, 0};
-    if (site->is_full) {
-        pthread_mutex_lock(&lock);
-        it = asked("accept", held->number, 0, 0, of(text, length), none, none);
-        free(it.text);
-        pthread_mutex_unlock(&lock);
-    }
-    return (sct_accepted){it.ok, it.code, it.place, it.fresh};
+sct_accepted sct_raw_accept(sct_site *site, const uint8_t *text, size_t length) {
+    struct reply it = called(site, "accept", of(text, length));
+    sct_accepted found = {it.ok, it.code, it.place, it.fresh, 0};
+    return found;
 }
 
-sct_outcome sct_site_counts(sct_site *site, uint64_t *counts, size_t items) {
-    struct held *held = site->address;
-    struct reply it = {0, SCT_EMPTY, 0, 0, 0, 0, 0, 0, 0, 0, 0};
-    if (site->is_full) {
-        pthread_mutex_lock(&lock);
-        it = asked("counts", held->number, items, 0, none, none, none);
-        if (it.ok) memcpy(counts, it.text, it.size);
-        free(it.text);
-        pthread_mutex_unlock(&lock);
-    }
+sct_outcome sct_raw_counts(sct_site *site, uint64_t *counts, size_t items) {
+    struct reply it = told(site, "counts", items, none, none, none);
+    must(counts != 0);
+    if (it.ok) memcpy(counts, it.text, it.size);
+    free(it.text);
     return outcome(it);
 }
 
-sct_outcome sct_site_cut(sct_site *site, const uint8_t *vector, size_t length) {
-    return outcome(called(site, "cut", 0, of(vector, length), none, none));
+sct_outcome sct_raw_cut(sct_site *site, const uint8_t *vector, size_t length) {
+    return made_of(site, "cut", of(vector, length), none, none);
 }
 
-sct_outcome sct_site_cut_above(sct_site *site, const uint64_t *counts, size_t items) {
-    return outcome(called(site, "cut_above", 0, of(counts, 8 * items), none, none));
+sct_outcome sct_raw_cut_above(sct_site *site, const uint64_t *counts, size_t items) {
+    return made_of(site, "cut_above", of(counts, 8 * items), none, none);
 }
 
-sct_outcome sct_site_report(sct_site *site, const uint8_t *bank, size_t bank_length, const uint8_t *day, size_t day_length,
-                            const uint8_t *list, size_t list_length) {
-    return outcome(called(site, "report", 0, of(bank, bank_length), of(day, day_length), of(list, list_length)));
+sct_outcome sct_raw_journal_text(sct_site *site, uint64_t above) {
+    return outcome(made(site, "journal_text", above, none, none, none));
 }
 
-sct_outcome sct_site_transfer_text(sct_site *site, const uint8_t *bank, size_t bank_length, const uint8_t *tx, size_t tx_length) {
-    return outcome(called(site, "transfer_text", 0, of(bank, bank_length), of(tx, tx_length), none));
+sct_outcome sct_raw_newest_text(sct_site *site, uint64_t count) {
+    return outcome(made(site, "newest_text", count, none, none, none));
 }
 
-sct_outcome sct_site_messages_text(sct_site *site, const uint8_t *bank, size_t bank_length, const uint8_t *tx, size_t tx_length) {
-    return outcome(called(site, "messages_text", 0, of(bank, bank_length), of(tx, tx_length), none));
+sct_outcome sct_raw_reading_text(sct_site *site, const uint8_t *text, size_t length) {
+    return made_of(site, "reading_text", of(text, length), none, none);
 }
 
-sct_outcome sct_site_bank_totals(sct_site *site, const uint8_t *bank, size_t bank_length) {
-    return outcome(called(site, "bank_totals", 0, of(bank, bank_length), none, none));
+sct_outcome sct_raw_evaluate(sct_site *site) {
+    return outcome(called(site, "evaluate", none));
+}
+
+sct_outcome sct_raw_report(sct_site *site, const uint8_t *bank, size_t bank_length, const uint8_t *day, size_t day_length,
+                           const uint8_t *list, size_t list_length) {
+    return made_of(site, "report", of(bank, bank_length), of(day, day_length), of(list, list_length));
+}
+
+sct_outcome sct_raw_transfer_text(sct_site *site, const uint8_t *bank, size_t bank_length, const uint8_t *tx, size_t tx_length) {
+    return made_of(site, "transfer_text", of(bank, bank_length), of(tx, tx_length), none);
+}
+
+sct_outcome sct_raw_messages_text(sct_site *site, const uint8_t *bank, size_t bank_length, const uint8_t *tx, size_t tx_length) {
+    return made_of(site, "messages_text", of(bank, bank_length), of(tx, tx_length), none);
+}
+
+sct_outcome sct_raw_bank_totals(sct_site *site, const uint8_t *bank, size_t bank_length) {
+    return made_of(site, "bank_totals", of(bank, bank_length), none, none);
 }
 
 #define TEXT(name) \
-    sct_outcome sct_site_##name(sct_site *site) { \
-        return outcome(called(site, #name, 0, none, none, none)); \
+    sct_outcome sct_raw_##name(sct_site *site) { \
+        return made_of(site, #name, none, none, none); \
     }
 TEXT(vector_text)
 TEXT(archive_text)
@@ -227,14 +305,59 @@ TEXT(totals_text)
 TEXT(contradictions_text)
 TEXT(changes)
 
-sct_outcome sct_site_answer(sct_site *site, uint8_t *out, size_t room) {
-    struct held *held = site->address;
-    struct reply it = {0, SCT_EMPTY, 0, 0, 0, 0, 0, 0, 0, 0, 0};
-    if (site->is_full) {
-        it.ok = 1;
-        it.code = 0;
-        it.length = held->length;
-        if (held->length <= room) memcpy(out, held->answer, held->length);
-    }
+sct_outcome sct_raw_answer_end(sct_site *site) {
+    struct reply it = told(site, "answer_end", 0, none, none, none);
+    if (it.ok) answers(site, it.text, 0);
     return outcome(it);
+}
+
+sct_outcome sct_raw_answer(sct_site *site, uint8_t *out, size_t room) {
+    const struct held *held = site->private_address;
+    sct_outcome found = {true, 0, 0, 0, 0};
+    must(out != 0);
+    if (!site->private_is_full) return outcome(refused(SCT_EMPTY));
+    found.length = held->length;
+    if (held->length <= room) memcpy(out, held->answer, held->length);
+    return found;
+}
+
+sct_outcome sct_raw_answer_part(sct_site *site, size_t start, uint8_t *out, size_t room) {
+    const struct held *held = site->private_address;
+    sct_outcome found = {true, 0, 0, 0, 0};
+    must(out != 0);
+    if (!site->private_is_full) return outcome(refused(SCT_EMPTY));
+    if (start < held->length) found.length = held->length - start < room ? held->length - start : room;
+    if (found.length) memcpy(out, held->answer + start, found.length);
+    return found;
+}
+
+sct_outcome sct_raw_why(sct_site *site, uint8_t *out, size_t room) {
+    struct reply it;
+    must(out != 0);
+    if (site->private_is_full && is_out_of_memory()) return outcome(refused(SCT_MEMORY));
+    it = told(site, "why", MOST, none, none, none);
+    if (it.ok && it.size <= room) memcpy(out, it.text, it.size);
+    free(it.text);
+    return outcome(it);
+}
+
+/* Copies what the definitions have for a number. */
+static size_t of_code(const char *call, uint8_t code, uint8_t *out, size_t room) {
+    const struct text texts[] = {none, none, none};
+    struct reply it;
+    must(out != 0);
+    pthread_mutex_lock(&lock);
+    it = asked(call, 0, code, MOST, texts);
+    pthread_mutex_unlock(&lock);
+    if (it.size <= room) memcpy(out, it.text, it.size);
+    free(it.text);
+    return it.size;
+}
+
+size_t sct_raw_code_name(uint8_t code, uint8_t *out, size_t room) {
+    return of_code("code_name", code, out, room);
+}
+
+size_t sct_raw_code_text(uint8_t code, uint8_t *out, size_t room) {
+    return of_code("code_text", code, out, room);
 }

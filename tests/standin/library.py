@@ -4,10 +4,11 @@ sys.path.insert(0, str(pathlib.Path(__file__).resolve().parents[2]))
 from tests.embed.model import Handle
 
 FIELDS = ["ok", "code", "place", "length", "is_repeat", "number", "fresh", "repeats", "refused"]
-# the arguments of each call, of two numbers and three texts
-NUMBERS, COUNTS = {"open": 2, "restore": 2, "counts": 1}, "cut_above"
-TEXTS = {"restore": 2, "take": 1, "take_lines": 1, "accept": 1, "cut": 1, "cut_above": 1, "report": 3, "transfer_text": 2, "messages_text": 2,
-         "bank_totals": 1}
+# the arguments of each call, of two numbers and three texts; the texts that a call copies are copied whole
+NUMBERS = {"open": 2, "restore": 2, "counts": 1, "journal_text": 1, "newest_text": 1, "why": 1, "code_name": 2, "code_text": 2}
+TEXTS = {"restore": 2, "take": 1, "take_lines": 1, "accept": 1, "cut": 1, "cut_above": 1, "reading_text": 1, "report": 3,
+         "transfer_text": 2, "messages_text": 2, "bank_totals": 1}
+COUNTS = "cut_above"
 
 
 def main():

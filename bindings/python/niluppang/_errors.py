@@ -1,58 +1,64 @@
-"""The errors of a site: each has the number, the name and the place that the library reports."""
-from typing import Dict
+"""The errors of a site. Each has the number, the place and the reason that the library reports, and the library's name of the number."""
+from typing import Dict, Tuple, Type
 
-NAMES: Dict[int, str] = {
-    31: "NotJson", 32: "NotObject", 33: "UnknownKind", 34: "Missing", 35: "NotText", 36: "Element", 37: "Extra", 38: "Rule",
-    41: "Gap", 42: "Fork", 43: "OwnAhead", 44: "BadSite", 45: "BadDelta", 46: "BadTransactions", 48: "BadList", 56: "At",
-    65: "Memory", 70: "Empty", 71: "Full", 72: "BadVector", 73: "BadArgument",
-}
-
-MEANINGS: Dict[int, str] = {
-    31: "the bytes are not one JSON text in UTF-8",
-    32: "the JSON text is not an object",
-    33: "MsgNmId is not a name of one of the six kinds",
-    34: "a key that the kind needs is absent",
-    35: "the value of a key is not a text",
-    36: "the text of a key is not of the key's type",
-    37: "the object has a key that the kind does not have",
-    38: "a rule of the kind is broken",
-    41: "the delta begins after what the site holds of its origin",
-    42: "the delta has another message under a number that the site holds",
-    43: "the delta has messages of this very site that the site does not hold: its journal lost some",
-    44: "there is no such site in a group of 1 to 1024 sites",
-    45: "the text is not a delta; the place is its first wrong line",
-    46: "TxInf is not a list of 1 to 100 objects; the place is the one that is no object, or 0",
-    48: "the list is not a valid list; the place is its first wrong record",
-    56: "the transaction at the place has a fault",
-    65: "out of memory",
-    70: "the site is closed",
-    71: "the handle has a site already",
-    72: "the text is not a version vector",
-    73: "the argument at the place is not valid",
-}
+# the name and the meaning of each number, which the library has; they are read when it is opened
+WORDS: Dict[int, Tuple[str, str]] = {}
+UNKNOWN = ("Unknown", "a number of a later version")
 
 
 class NiluppangError(Exception):
     """A call was refused, and changed nothing.
 
-    `number` and `name` say why (docs/users/codes.md). `place` is the line, the record, the transaction or the argument that is wrong,
-    from 1, or 0 if the number has no place.
+    `number` and `name` say why, and `meaning` says it in some words (docs/users/codes.md has a remedy). `place` is the line, the record,
+    the transaction or the argument that is wrong, from 1, or 0 if the number has no place. `reason` is what the program prints, such as
+    `36 InstgAgt 1`. It is empty if there is no site to ask: it was not opened, or is closed. It is also empty if the call was not made.
     """
 
-    def __init__(self, number: int, place: int = 0) -> None:
-        super().__init__(number, place)
+    def __init__(self, number: int, place: int = 0, reason: str = "") -> None:
+        super().__init__(number, place, reason)
         self.number = number
         self.place = place
-
-    @property
-    def name(self) -> str:
-        """The name of the number."""
-        return NAMES.get(self.number, "Unknown")
+        self.reason = reason
+        self.name, self.meaning = WORDS.get(number, UNKNOWN)
 
     def __str__(self) -> str:
-        place = f", place {self.place}" if self.place else ""
-        return f"{self.number} {self.name}{place}: {MEANINGS.get(self.number, 'a number of a later version')}"
+        more = self.reason if self.reason != str(self.number) else ""
+        if self.place and not more:
+            more = f"place {self.place}"
+        return f"{self.number} {self.name}: {self.meaning}" + (f" ({more})" if more else "")
+
+
+class Refused(NiluppangError, ValueError):
+    """What came in is wrong: a message, a delta, a list, a vector or another argument. Numbers 31 to 38, 41 to 46, 48, 56, 72 and 73."""
+
+
+class MessageRefused(Refused):
+    """The object that `take` was given is not a message. Who sent it corrects it. Numbers 31 to 38, 46 and 56."""
+
+
+class DeltaRefused(Refused):
+    """The delta that `accept` was given is not accepted. Numbers 41 to 45."""
+
+
+class OutOfMemory(NiluppangError, MemoryError):
+    """The library was refused memory, and the call can be made again. Number 65."""
+
+
+class Closed(NiluppangError):
+    """The site is closed. Number 70."""
 
 
 class LibraryError(OSError):
     """The shared library is not found, or it is of another version than this package."""
+
+
+MEMORY, EMPTY = 65, 70
+INPUT = {*range(31, 39), *range(41, 47), 48, 56, 72, 73}
+OF_NUMBERS: Dict[int, Type[NiluppangError]] = {MEMORY: OutOfMemory, EMPTY: Closed}
+OF_CALLS: Dict[str, Type[NiluppangError]] = {"take": MessageRefused, "accept": DeltaRefused}
+
+
+def error_of(call: str, number: int, place: int, reason: str) -> NiluppangError:
+    """The error by which a call is refused."""
+    of_input = OF_CALLS.get(call, Refused) if number in INPUT else NiluppangError
+    return OF_NUMBERS.get(number, of_input)(number, place, reason)

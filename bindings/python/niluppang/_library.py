@@ -3,9 +3,9 @@ import ctypes
 import os
 import pathlib
 import threading
-from typing import Dict, Iterator, List, Optional
+from typing import Any, Dict, Iterator, List, Optional, Tuple
 
-from ._errors import LibraryError
+from ._errors import WORDS, LibraryError
 from ._version import __version__
 
 VARIABLE = "NILUPPANG_LIBRARY"
@@ -14,41 +14,51 @@ SONAME = FILE + "." + ".".join(__version__.split(".")[:2])
 
 
 class Handle(ctypes.Structure):
-    """What C calls sct_site. It is empty at first, and only the library writes into it."""
-    _fields_ = [("address", ctypes.c_void_p), ("is_full", ctypes.c_bool)]
+    """What C calls sct_site. It is empty at first. Only the library reads and writes what is in it."""
+    _fields_ = [("private_address", ctypes.c_void_p), ("private_is_full", ctypes.c_bool)]
 
 
 class Outcome(ctypes.Structure):
-    _fields_ = [("ok", ctypes.c_bool), ("code", ctypes.c_uint8), ("place", ctypes.c_uint64), ("length", ctypes.c_size_t)]
+    _fields_ = [("ok", ctypes.c_bool), ("code", ctypes.c_uint8), ("place", ctypes.c_uint64), ("length", ctypes.c_size_t),
+                ("reserved", ctypes.c_uint64)]
 
 
 class TakenOutcome(ctypes.Structure):
     _fields_ = [("ok", ctypes.c_bool), ("code", ctypes.c_uint8), ("is_repeat", ctypes.c_bool), ("place", ctypes.c_uint64),
-                ("number", ctypes.c_uint64)]
+                ("number", ctypes.c_uint64), ("reserved", ctypes.c_uint64)]
 
 
 class LinesOutcome(ctypes.Structure):
-    _fields_ = [("ok", ctypes.c_bool), ("code", ctypes.c_uint8), ("fresh", ctypes.c_uint64), ("repeats", ctypes.c_uint64),
-                ("refused", ctypes.c_uint64), ("length", ctypes.c_size_t)]
+    _fields_ = [("ok", ctypes.c_bool), ("code", ctypes.c_uint8), ("place", ctypes.c_uint64), ("fresh", ctypes.c_uint64),
+                ("repeats", ctypes.c_uint64), ("refused", ctypes.c_uint64), ("length", ctypes.c_size_t), ("reserved", ctypes.c_uint64)]
 
 
 class AcceptedOutcome(ctypes.Structure):
-    _fields_ = [("ok", ctypes.c_bool), ("code", ctypes.c_uint8), ("place", ctypes.c_uint64), ("fresh", ctypes.c_uint64)]
+    _fields_ = [("ok", ctypes.c_bool), ("code", ctypes.c_uint8), ("place", ctypes.c_uint64), ("fresh", ctypes.c_uint64),
+                ("reserved", ctypes.c_uint64)]
 
 
 # a text goes in as its address and its length; c_char_p passes the address of the bytes themselves, so nothing is copied
 TEXT = [ctypes.c_char_p, ctypes.c_size_t]
+ROOM = [ctypes.c_void_p, ctypes.c_size_t]
 COUNTS = [ctypes.POINTER(ctypes.c_uint64), ctypes.c_size_t]
 GROUP = [ctypes.c_uint16, ctypes.c_uint16]
 
-# of each call on a handle: the type of its result, and those of its arguments after the handle
+# of each call on a handle, without sct_raw_: the type of its result, and those of its arguments after the handle
 CALLS: Dict[str, List[object]] = {
     "open": [Outcome, *GROUP], "restore": [Outcome, *GROUP, *TEXT, *TEXT], "close": [None],
     "take": [TakenOutcome, *TEXT], "take_lines": [LinesOutcome, *TEXT], "accept": [AcceptedOutcome, *TEXT],
     "counts": [Outcome, *COUNTS], "vector_text": [Outcome], "cut": [Outcome, *TEXT], "cut_above": [Outcome, *COUNTS],
-    "archive_text": [Outcome], "status_text": [Outcome], "totals_text": [Outcome], "contradictions_text": [Outcome],
-    "report": [Outcome, *TEXT, *TEXT, *TEXT], "transfer_text": [Outcome, *TEXT, *TEXT], "messages_text": [Outcome, *TEXT, *TEXT],
-    "bank_totals": [Outcome, *TEXT], "changes": [Outcome], "answer": [Outcome, ctypes.c_void_p, ctypes.c_size_t],
+    "journal_text": [Outcome, ctypes.c_uint64], "newest_text": [Outcome, ctypes.c_uint64], "reading_text": [Outcome, *TEXT],
+    "evaluate": [Outcome], "archive_text": [Outcome], "status_text": [Outcome], "totals_text": [Outcome],
+    "contradictions_text": [Outcome], "report": [Outcome, *TEXT, *TEXT, *TEXT], "transfer_text": [Outcome, *TEXT, *TEXT],
+    "messages_text": [Outcome, *TEXT, *TEXT], "bank_totals": [Outcome, *TEXT], "changes": [Outcome],
+    "answer": [Outcome, *ROOM], "answer_part": [Outcome, ctypes.c_size_t, *ROOM], "answer_end": [Outcome], "why": [Outcome, *ROOM],
+}
+# of each other function, without sct_: the type of its result, and those of its arguments
+OTHERS: Dict[str, List[object]] = {
+    "version": [ctypes.c_uint32], "raw_code_name": [ctypes.c_size_t, ctypes.c_uint8, *ROOM],
+    "raw_code_text": [ctypes.c_size_t, ctypes.c_uint8, *ROOM],
 }
 
 _loading = threading.Lock()
@@ -88,13 +98,18 @@ def version_of(library: ctypes.CDLL) -> str:
     return f"{number // 1000000}.{number // 1000 % 1000}.{number % 1000}"
 
 
+def typed(function: Any, result: object, *arguments: object) -> None:
+    """Gives a function of the library its types."""
+    function.restype, function.argtypes = result, arguments
+
+
 def declared(library: ctypes.CDLL) -> ctypes.CDLL:
     """The library with the types of its functions. Its first two numbers must be those of this package."""
     try:
-        library.sct_version.restype, library.sct_version.argtypes = ctypes.c_uint32, []
+        for name, types in OTHERS.items():
+            typed(getattr(library, "sct_" + name), *types)
         for name, (result, *arguments) in CALLS.items():
-            call = getattr(library, "sct_site_" + name)
-            call.restype, call.argtypes = result, [ctypes.POINTER(Handle), *arguments]
+            typed(getattr(library, "sct_raw_" + name), result, ctypes.POINTER(Handle), *arguments)
     except AttributeError as error:
         raise LibraryError(f"the library has not every function of this package: {error}") from None
     version = version_of(library)
@@ -103,12 +118,28 @@ def declared(library: ctypes.CDLL) -> ctypes.CDLL:
     return library
 
 
+def word_of(function: Any, number: int) -> str:
+    """What a function says of a number, or nothing if it has no such number."""
+    length = function(number, ctypes.byref(ctypes.c_char()), 0)
+    room = ctypes.create_string_buffer(length + 1)
+    function(number, room, length)
+    return room.raw[:length].decode()
+
+
+def words_of(library: ctypes.CDLL) -> Dict[int, Tuple[str, str]]:
+    """The name and the meaning of each number that the library has."""
+    names = {number: word_of(library.sct_raw_code_name, number) for number in range(1 << 8)}
+    return {number: (name, word_of(library.sct_raw_code_text, number)) for number, name in names.items() if name}
+
+
 def library() -> ctypes.CDLL:
     """The library, which is opened once."""
     global _loaded
     with _loading:
         if _loaded is None:
-            _loaded = declared(opened())
+            found = declared(opened())
+            WORDS.update(words_of(found))
+            _loaded = found
         return _loaded
 
 

@@ -1,18 +1,25 @@
 """The site of a hub, in a program."""
 import ctypes
+import io
+import mmap
 import operator
 import threading
+import warnings
 from dataclasses import dataclass
-from typing import Any, Callable, Generic, Iterable, List, NamedTuple, Optional, Tuple, Type, TypeVar, Union
+from typing import Any, Callable, Generic, Iterable, Iterator, List, NamedTuple, Optional, Tuple, Type, TypeVar, Union
 
-from ._errors import NiluppangError
+from ._errors import EMPTY, Closed, Refused, error_of
 from ._library import Handle, library
 
 Text = TypeVar("Text", str, bytes)
-Given = Union[str, bytes, bytearray, memoryview]
+Given = Union[str, bytes, bytearray, memoryview, mmap.mmap]
 Self = TypeVar("Self", bound="BaseSite[Any]")
 
 BAD_SITE, BAD_VECTOR = 44, 72
+BYTES = (bytes, bytearray, memoryview, mmap.mmap)
+MOST = (1 << 64) - 1
+PART = 1 << 16  # bytes of an answer that are read at once, while its lines are iterated over
+REPLACED = "a call made another answer while the lines of this one were read"
 
 
 class Taken(NamedTuple):
@@ -44,51 +51,94 @@ class Transfer(NamedTuple):
     tx: str
 
 
-def bytes_of(text: Given) -> bytes:
-    """The bytes of a text. Those of bytes are not copied. A lone surrogate becomes bytes that are not UTF-8, and are refused as such."""
+# ---- what goes in
+
+def lent(text: Given) -> Tuple[Any, int]:
+    """A text as two arguments of a call: where its bytes are, and how many they are.
+
+    Nothing is copied of bytes and of memory that can be written. Memory that can only be read, or has gaps, is copied. A lone surrogate
+    of a str becomes bytes that are not UTF-8, and are refused as such.
+    """
     if isinstance(text, str):
-        return text.encode("utf-8", "surrogatepass")
-    return text if isinstance(text, bytes) else memoryview(text).tobytes()
-
-
-def passed(*texts: Given) -> List[Any]:
-    """Texts as arguments of a call: of each its bytes and their length."""
-    return [argument for data in map(bytes_of, texts) for argument in (data, len(data))]
+        text = text.encode("utf-8", "surrogatepass")
+    if isinstance(text, bytes):
+        return text, len(text)
+    with memoryview(text) as view:
+        length = view.nbytes
+        if length == 0 or view.readonly or not view.c_contiguous:
+            return view.tobytes(), length
+    return ctypes.byref(ctypes.c_char.from_buffer(text)), length
 
 
 def site_number(number: int) -> int:
     """A number that fits into 16 bits. The library refuses those that are no site."""
     number = operator.index(number)
     if not 0 <= number < 1 << 16:
-        raise NiluppangError(BAD_SITE)
+        raise Refused(BAD_SITE)
     return number
 
 
 def counted(counts: Iterable[int]) -> Tuple[Any, int]:
-    """Counts as arguments of a call."""
+    """Counts as two arguments of a call."""
     items = [operator.index(count) for count in counts]
-    if any(not 0 <= count < 1 << 64 for count in items):
-        raise NiluppangError(BAD_VECTOR)
+    if any(not 0 <= count <= MOST for count in items):
+        raise Refused(BAD_VECTOR)
     return (ctypes.c_uint64 * max(1, len(items)))(*items), len(items)
+
+
+def how_many(count: int) -> Tuple[int]:
+    """A number of messages as an argument of a call. One that has no place in 64 bits is a ValueError."""
+    count = operator.index(count)
+    if not 0 <= count <= MOST:
+        raise ValueError(f"a number of messages is 0 to 2**64 - 1, and not {count}")
+    return (count,)
+
+
+# ---- what comes out
+
+new_bytes = ctypes.pythonapi.PyBytes_FromStringAndSize
+new_bytes.restype, new_bytes.argtypes = ctypes.py_object, [ctypes.c_char_p, ctypes.c_ssize_t]
+
+
+class Parts(io.RawIOBase):
+    """The answer of a site as a file, of which parts are read. It fails when the site has another answer."""
+
+    def __init__(self, site: "BaseSite[Any]", answer: int) -> None:
+        super().__init__()
+        self._site, self._answer, self._place = site, answer, 0
+
+    def readable(self) -> bool:
+        return True
+
+    def readinto(self, room: Any) -> int:
+        length = self._site._part(self._answer, self._place, room)
+        self._place += length
+        return length
 
 
 class BaseSite(Generic[Text]):
     """What Site and BytesSite share. They differ in what a text is that a call returns: str or bytes."""
 
-    _read: Callable[[Callable[[Any, int], None], int], Text]
+    _text: Callable[[bytes], Text]
 
     def __init__(self, number: int, group: int) -> None:
         """Opens site `number` of a group of `group` sites, both 1 to 1024. It holds nothing. Refusals: 44, 65."""
-        self._begin(number, group)
-        self._checked(self._library.sct_site_open(self._handle, self.number, self.group))
+        self._begin("open", number, group)
 
-    def _begin(self, number: int, group: int) -> None:
+    def _begin(self, call: str, number: int, group: int, *texts: Given) -> int:
+        """Opens the site by a call. Returns the length of its answer."""
+        if hasattr(self, "_handle"):
+            raise RuntimeError("a site is opened once: another site is another object")
         self._library = library()
         self._refused: Optional[Text] = None
-        self.number = site_number(number)
-        self.group = site_number(group)
+        self._number, self._group = site_number(number), site_number(group)
+        self._turn = threading.Lock()  # for each call on the handle, since the library takes what is in it while it runs
+        self._answers = 0  # how many answers were made
+        self._is_closed = True
         self._handle = Handle()
-        self._turn = threading.Lock()
+        length = self._checked(call, self._called(call, *texts, plain=(self._number, self._group))).length
+        self._is_closed = False
+        return int(length)
 
     @classmethod
     def restore(cls: Type[Self], number: int, group: int, journal: Given, delta: Given = b"") -> Self:
@@ -98,11 +148,19 @@ class BaseSite(Generic[Text]):
         is a cut that it kept or that a peer made. What is refused of the two is left out, and `refused_text` has it. Refusals: 44, 65.
         """
         site = cls.__new__(cls)
-        site._begin(number, group)
-        place = (site._handle, site.number, site.group)
-        outcome = site._checked(site._library.sct_site_restore(*place, *passed(journal, delta)))
-        site._refused = site._copied(outcome.length)
+        length = site._begin("restore", number, group, journal, delta)
+        site._refused = site._copied(length)
         return site
+
+    @property
+    def number(self) -> int:
+        """The number of the site in its group."""
+        return self._number
+
+    @property
+    def group(self) -> int:
+        """How many sites the group has."""
+        return self._group
 
     @property
     def refused_text(self) -> Optional[Text]:
@@ -115,12 +173,16 @@ class BaseSite(Generic[Text]):
     def close(self) -> None:
         """Ends the site, and frees its memory. Each later call is refused by 70 Empty, but for another close."""
         with self._turn:
-            self._library.sct_site_close(self._handle)
+            self._end()
+
+    def _end(self) -> None:
+        self._called("close")
+        self._is_closed = True
 
     @property
     def is_closed(self) -> bool:
-        """Whether the site is closed."""
-        return not self._handle.is_full
+        """Whether the site is closed. The answer comes at once, also while another thread makes a call."""
+        return self._is_closed
 
     def __enter__(self: Self) -> Self:
         return self
@@ -128,38 +190,87 @@ class BaseSite(Generic[Text]):
     def __exit__(self, *error: object) -> None:
         self.close()
 
-    def __del__(self) -> None:
-        # nobody holds the lock of a site that nobody has, but a child of fork may have been made while a thread held it
-        turn = getattr(self, "_turn", None)
-        if turn is not None and turn.acquire(blocking=False):
-            self._library.sct_site_close(self._handle)
+    def __del__(self, warn: Callable[..., None] = warnings.warn) -> None:
+        if getattr(self, "_is_closed", True):
+            return
+        try:
+            warn(f"unclosed {self!r}", ResourceWarning, source=self)
+        finally:
+            # nobody holds the lock of a site that nobody has, but a child of fork may have been made while a thread held it
+            if self._turn.acquire(blocking=False):
+                self._end()
+                self._turn.release()
 
     def __reduce_ex__(self, protocol: Any) -> Any:
         raise TypeError("a site cannot be copied or pickled: keep its journal and a cut, and restore it")
 
     def __repr__(self) -> str:
-        state = "closed" if self.is_closed else "open"
-        return f"<{type(self).__name__} {self.number} of {self.group}, {state}>"
+        state = "closed" if self._is_closed else "open"
+        return f"<{type(self).__name__} {self._number} of {self._group}, {state}>"
 
-    # ---- what each call does
+    # ---- what each call does. But for `_answered` and `_lines`, these need the lock
 
-    @staticmethod
-    def _checked(outcome: Any) -> Any:
+    def _called(self, call: str, *texts: Given, plain: Tuple[Any, ...] = ()) -> Any:
+        """What a call comes to, by plain arguments and by texts. When it returns, the memory of no text is lent any more."""
+        arguments = [argument for text in texts for argument in lent(text)]
+        return getattr(self._library, "sct_raw_" + call)(self._handle, *plain, *arguments)
+
+    def _checked(self, call: str, outcome: Any) -> Any:
+        """What a call came to, unless it was refused."""
         if not outcome.ok:
-            raise NiluppangError(outcome.code, outcome.place)
+            raise error_of(call, outcome.code, outcome.place, self._why())
+        return outcome
+
+    def _why(self) -> str:
+        """Why the last call was refused. Nothing if there is no site, or no memory for the text."""
+        length = self._called("why", plain=(ctypes.byref(ctypes.c_char()), 0)).length
+        room = ctypes.create_string_buffer(length + 1)
+        is_copied = self._called("why", plain=(room, length)).ok
+        return room.raw[:length].decode(errors="replace") if is_copied else ""
+
+    def _made(self, call: str, *texts: Given, plain: Tuple[Any, ...] = ()) -> Any:
+        """What a call comes to that makes an answer."""
+        outcome = self._checked(call, self._called(call, *texts, plain=plain))
+        self._answers += 1
         return outcome
 
     def _copied(self, length: int) -> Text:
-        """The answer, whose length is known."""
-        return type(self)._read(lambda room, size: self._fill(room, size), length)
+        """The answer, whose length is known. Its bytes are written in place."""
+        room: bytes = new_bytes(None, length)
+        self._checked("answer", self._called("answer", plain=(room, length)))
+        return type(self)._text(room)
 
-    def _fill(self, room: Any, size: int) -> None:
-        self._checked(self._library.sct_site_answer(self._handle, room, size))
-
-    def _answered(self, call: Any, *arguments: Any) -> Text:
+    def _answered(self, call: str, *texts: Given, plain: Tuple[Any, ...] = ()) -> Text:
         """The answer that a call makes."""
         with self._turn:
-            return self._copied(self._checked(call(self._handle, *arguments)).length)
+            return self._copied(self._made(call, *texts, plain=plain).length)
+
+    # ---- lines
+
+    def _lines(self, call: str, *texts: Given, plain: Tuple[Any, ...] = ()) -> Iterator[Text]:
+        """The lines of the answer that a call makes, which is made now."""
+        with self._turn:
+            self._made(call, *texts, plain=plain)
+            return self._each_line(self._answers)
+
+    def _each_line(self, answer: int) -> Iterator[Text]:
+        for line in io.BufferedReader(Parts(self, answer), PART):
+            yield type(self)._text(line)
+            self._must_have(answer)
+
+    def _must_have(self, answer: int) -> None:
+        """Fails if the site has another answer than this one, which is counted."""
+        if self._is_closed:
+            raise Closed(EMPTY)
+        if self._answers != answer:
+            raise RuntimeError(REPLACED)
+
+    def _part(self, answer: int, place: int, room: Any) -> int:
+        """Copies what follows a place of an answer to some room. Returns how many bytes these are."""
+        with self._turn:
+            self._must_have(answer)
+            outcome = self._called("answer_part", plain=(place, ctypes.byref(ctypes.c_char.from_buffer(room)), len(room)))
+            return int(self._checked("answer_part", outcome).length)
 
     # ---- messages and deltas in
 
@@ -167,113 +278,150 @@ class BaseSite(Generic[Text]):
         """Takes the message that one JSON object is. If it is no repeat, it belongs into the journal, on one line, before it is
         acknowledged and before the next cut. Refusals: 31 to 38, 46, 56, 65."""
         with self._turn:
-            outcome = self._checked(self._library.sct_site_take(self._handle, *passed(message)))
+            outcome = self._checked("take", self._called("take", message))
         return Taken(outcome.is_repeat, None if outcome.is_repeat else outcome.number)
 
     def take_lines(self, text: Given) -> LinesTaken[Text]:
-        """Takes the messages of a text, one JSON object a line.
+        """Takes the messages of a text, one JSON object a line. `journal` has those that are new.
 
         Refusals: 65. After it some of the first messages may be taken; the text can be taken again.
         """
         with self._turn:
-            outcome = self._library.sct_site_take_lines(self._handle, *passed(text))
-            if not outcome.ok:
-                raise NiluppangError(outcome.code)
+            outcome = self._made("take_lines", text)
             return LinesTaken(outcome.fresh, outcome.repeats, outcome.refused, self._copied(outcome.length))
 
     def accept(self, delta: Given) -> Accepted:
-        """Accepts a delta text, whole or not at all. Refusals: 41 to 45, 65."""
+        """Accepts a delta text, whole or not at all. `newest` has what was new. Refusals: 41 to 45, 65."""
         with self._turn:
-            return Accepted(self._checked(self._library.sct_site_accept(self._handle, *passed(delta))).fresh)
+            return Accepted(self._checked("accept", self._called("accept", delta)).fresh)
+
+    def reading(self, text: Given) -> Text:
+        """What the site reads in a text of messages, one JSON object a line. It takes none of them.
+
+        It has a line for each line that is not blank: the message as the archive text has it, which begins with `{`, or why it is
+        refused, such as `line 8: 36 InstgAgt 1`. Refusals: 65.
+        """
+        return self._answered("reading_text", text)
 
     # ---- what the site holds, and deltas out
 
     def counts(self) -> List[int]:
         """How many messages of site 1, 2, .. of the group this site holds: its version vector."""
-        counts = (ctypes.c_uint64 * self.group)()
+        counts = (ctypes.c_uint64 * self._group)()
         with self._turn:
-            self._checked(self._library.sct_site_counts(self._handle, counts, self.group))
+            self._checked("counts", self._called("counts", plain=(counts, self._group)))
         return list(counts)
 
     def vector_text(self) -> Text:
         """The version vector as text, such as `1:20,3:7`, or `-` if nothing is held."""
-        return self._answered(self._library.sct_site_vector_text)
+        return self._answered("vector_text")
 
     def cut(self, above: Union[Given, Iterable[int]] = b"-") -> Text:
         """The delta of what the site holds above a version vector: a text, or counts of site 1 first. Refusals: 44, 65, 72."""
-        if isinstance(above, (str, bytes, bytearray, memoryview)):
-            return self._answered(self._library.sct_site_cut, *passed(above))
-        return self._answered(self._library.sct_site_cut_above, *counted(above))
+        if isinstance(above, (str, *BYTES)):
+            return self._answered("cut", above)
+        return self._answered("cut_above", plain=counted(above))
+
+    def cut_lines(self, above: Union[Given, Iterable[int]] = b"-") -> Iterator[Text]:
+        """The lines of a cut, as those of `archive_lines`."""
+        if isinstance(above, (str, *BYTES)):
+            return self._lines("cut", above)
+        return self._lines("cut_above", plain=counted(above))
+
+    def journal(self, above: int = 0) -> Text:
+        """The site's own messages that are numbered above a count, each on a line of the archive text: what a journal lacks that has so
+        many lines. Refusals: 65."""
+        return self._answered("journal_text", plain=how_many(above))
+
+    def journal_lines(self, above: int = 0) -> Iterator[Text]:
+        """The lines of `journal`, as those of `archive_lines`."""
+        return self._lines("journal_text", plain=how_many(above))
+
+    def newest(self, count: int) -> Text:
+        """The messages that came last, at most so many, each on a line of the archive text, in the order in which they came. After an
+        accept of `fresh` entries the newest `fresh` messages are those. Refusals: 65."""
+        return self._answered("newest_text", plain=how_many(count))
 
     # ---- answers on everything held
 
+    def evaluate(self) -> None:
+        """Evaluates what is new, so that the next question does not have to. Each answer is what it is without this call, and the
+        answer that the site keeps stays. Refusals: 65."""
+        with self._turn:
+            self._checked("evaluate", self._called("evaluate"))
+
     def archive_text(self) -> Text:
         """The archive text: each message held on a line."""
-        return self._answered(self._library.sct_site_archive_text)
+        return self._answered("archive_text")
+
+    def archive_lines(self) -> Iterator[Text]:
+        """The lines of the archive text, each with its line feed. They are read in parts: no second copy of the text is made.
+
+        The answer is made by this call, and is the answer of the site then. A take or an accept while the lines are read does not change
+        them. After a call that makes another answer the next line is a RuntimeError, and after a close it is refused by 70.
+        """
+        return self._lines("archive_text")
 
     def status_text(self) -> Text:
         """The status text: T, F and R lines of each transfer."""
-        return self._answered(self._library.sct_site_status_text)
+        return self._answered("status_text")
+
+    def status_lines(self) -> Iterator[Text]:
+        """The lines of the status text, as those of `archive_lines`."""
+        return self._lines("status_text")
 
     def totals_text(self) -> Text:
         """The totals text: a line for each bank."""
-        return self._answered(self._library.sct_site_totals_text)
+        return self._answered("totals_text")
 
     def contradictions_text(self) -> Text:
         """A line for each identity that two different messages have, such as `BANKDEFFXXX|pacs.008|M1`."""
-        return self._answered(self._library.sct_site_contradictions_text)
+        return self._answered("contradictions_text")
 
     def report(self, bank: Given, day: Given, rows: Given) -> Text:
         """The report on a bank's list for a settlement day, YYYY-MM-DD. Refusals: 48, 65, 73 (1: the bank, 2: the day)."""
-        return self._answered(self._library.sct_site_report, *passed(bank, day, rows))
+        return self._answered("report", bank, day, rows)
 
     # ---- answers on one transfer or bank
 
     def transfer(self, bank: Given, tx: Given) -> Text:
         """The T, F and R lines of one transfer. Refusals: 65, 73 (1: the bank, 2: the identification)."""
-        return self._answered(self._library.sct_site_transfer_text, *passed(bank, tx))
+        return self._answered("transfer_text", bank, tx)
 
     def messages(self, bank: Given, tx: Given) -> Text:
         """The lines of the archive text that have the messages on one transfer. Refusals: 65, 73 (1, 2)."""
-        return self._answered(self._library.sct_site_messages_text, *passed(bank, tx))
+        return self._answered("messages_text", bank, tx)
 
     def bank_totals(self, bank: Given) -> Text:
         """The line of one bank in the totals text, also if all its numbers are 0. Refusals: 65, 73 (1)."""
-        return self._answered(self._library.sct_site_bank_totals, *passed(bank))
+        return self._answered("bank_totals", bank)
 
     def changes(self) -> List[Transfer]:
-        """The transfers whose lines may have changed since the call before. The first call begins the watch, and returns none."""
-        text = bytes_of(self._answered(self._library.sct_site_changes))
-        return [Transfer(*line.split("|")) for line in text.decode().splitlines()]
+        """The transfers whose lines may have changed since the call before. The first call begins the watch, and returns none.
+
+        It is a list, and no iterator: the site names each change once, and a caller that stopped early would lose the rest.
+        """
+        with self._turn:
+            room: bytes = new_bytes(None, self._made("changes").length)
+            self._checked("answer", self._called("answer", plain=(room, len(room))))
+        return [Transfer(*line.split("|")) for line in room.decode().split("\n")[:-1]]
 
     # ---- the answer
 
     def answer(self) -> Text:
         """The text that was made last, once more."""
         with self._turn:
-            return self._copied(self._checked(self._library.sct_site_answer(self._handle, ctypes.byref(ctypes.c_uint8()), 0)).length)
+            nowhere = ctypes.byref(ctypes.c_char()), 0
+            return self._copied(self._checked("answer", self._called("answer", plain=nowhere)).length)
 
-
-def read_str(fill: Callable[[Any, int], None], length: int) -> str:
-    """A text as str."""
-    room = bytearray(max(1, length))
-    fill((ctypes.c_char * len(room)).from_buffer(room), length)
-    return room[:length].decode() if len(room) > length else room.decode()
-
-
-def read_bytes(fill: Callable[[Any, int], None], length: int) -> bytes:
-    """A text as bytes, which are written in place: nothing is copied again."""
-    room: bytes = new_bytes(None, length)
-    fill(room, length)
-    return room
-
-
-new_bytes = ctypes.pythonapi.PyBytes_FromStringAndSize
-new_bytes.restype, new_bytes.argtypes = ctypes.py_object, [ctypes.c_char_p, ctypes.c_ssize_t]
+    def answer_end(self) -> None:
+        """Frees the memory of the text that was made last. `answer` is empty then."""
+        with self._turn:
+            self._made("answer_end")
 
 
 class Site(BaseSite[str]):
-    """A site of a hub. Its texts are str. Texts that go in are str or bytes.
+    """A site of a hub. Its texts are str. Texts that go in are str, bytes or other memory, into which nobody writes during the call.
 
         with Site(1, 3) as site:
             site.take(message)
@@ -282,9 +430,9 @@ class Site(BaseSite[str]):
     Several threads may use one site: a lock lets one call in at a time. A call gives other threads the interpreter while it runs.
     Do not call a site from a signal handler, or in a child made by fork of a program with several threads.
     """
-    _read = staticmethod(read_str)
+    _text = staticmethod(bytes.decode)
 
 
 class BytesSite(BaseSite[bytes]):
     """A site whose texts are bytes. All else is as in Site."""
-    _read = staticmethod(read_bytes)
+    _text = staticmethod(bytes)

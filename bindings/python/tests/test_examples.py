@@ -4,7 +4,7 @@ import re
 import pytest
 from conftest import EXAMPLES, bytes_in
 
-from niluppang import BytesSite, NiluppangError, Site
+from niluppang import BytesSite, MessageRefused, Site
 
 STEMS = sorted(path.stem for path in EXAMPLES.glob("*.jsonl"))
 REPORTS = {"bank-day": ("LUTEFRPP", "2025-03-10"), "settlement-day": ("BANKDEFF", "2024-05-02"), "recall-batch": ("HANSDEHH", "2025-03-10")}
@@ -32,18 +32,37 @@ def test_lines_at_once(stem, kind):
         right(site, stem)
 
 
+def refused_in(stem):
+    """Why each refused line of an example is refused, by its number."""
+    return {int(number): why for number, why in re.findall(r"^line (\d+): (.*)$", bytes_in(stem + ".refused").decode(), re.M)}
+
+
 @pytest.mark.parametrize("stem", STEMS)
 def test_lines_one_by_one(stem):
-    why = dict(re.findall(r"^line (\d+): (\d+)", bytes_in(stem + ".refused").decode(), re.M))
+    found = {}
     with Site(1, 1) as site:
-        for place, line in enumerate(bytes_in(stem + ".jsonl").split(b"\n"), 1):
+        for number, line in enumerate(bytes_in(stem + ".jsonl").split(b"\n"), 1):
             if line.strip():
                 try:
                     site.take(line.decode())
-                    assert str(place) not in why
-                except NiluppangError as error:
-                    assert str(error.number) == why[str(place)]
+                except MessageRefused as error:
+                    assert str(error.number) == error.reason.split(" ")[0]
+                    found[number] = error.reason
+        assert found == refused_in(stem)
         right(site, stem)
+
+
+@pytest.mark.parametrize("stem", STEMS)
+def test_reading(stem):
+    why, lines = refused_in(stem), bytes_in(stem + ".jsonl").split(b"\n")
+    numbers = [number for number, line in enumerate(lines, 1) if line.strip()]
+    with Site(1, 1) as site:
+        found = site.reading(bytes_in(stem + ".jsonl")).split("\n")
+        assert found.pop() == "" and len(found) == len(numbers) and site.counts() == [0]
+    refused = {number: line for number, line in zip(numbers, found) if not line.startswith("{")}
+    assert refused == {number: f"line {number}: {text}" for number, text in why.items()}
+    messages = {line + "\n" for line in found if line.startswith("{")}
+    assert messages == set(bytes_in(stem + ".archive").decode().splitlines(keepends=True))
 
 
 @pytest.mark.parametrize("stem", STEMS)
@@ -54,7 +73,12 @@ def test_restored(stem):
 
 
 def test_hub_of_three_sites():
-    sites = [Site(number, 3) for number in (1, 2, 3)]
+    with Site(1, 3) as one, Site(2, 3) as two, Site(3, 3) as three:
+        exchange([one, two, three])
+
+
+def exchange(sites):
+    """The sites of hub-morning give each other what they have, and then answer alike."""
     for number, site in enumerate(sites, 1):
         site.take_lines(bytes_in(f"hub-morning.site{number}"))
     first, *others = sites

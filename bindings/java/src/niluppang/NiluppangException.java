@@ -1,27 +1,38 @@
 package niluppang;
 
-import java.util.Map;
-
 /**
- * A call was refused, and changed nothing. {@link #number()} says why (docs/users/codes.md), and {@link #place()} is the line, the
- * record, the transaction or the argument that is wrong, from 1, or 0 if the number has no place.
+ * A call was refused, and changed nothing. {@link #number()} says why (docs/users/codes.md has a remedy), and {@link #place()} is the
+ * line, the record, the transaction or the argument that is wrong, from 1, or 0 if the number has no place. {@link #reason()} is what the
+ * program prints, such as {@code 36 InstgAgt 1}. It is empty if there is no site to ask: it was not opened, or is closed. It is also empty
+ * if the call was not made.
  */
 public final class NiluppangException extends RuntimeException {
-    private static final long serialVersionUID = 1L;
-    private static final Map<Integer, String> NAMES = Map.ofEntries(
-        Map.entry(31, "NotJson"), Map.entry(32, "NotObject"), Map.entry(33, "UnknownKind"), Map.entry(34, "Missing"),
-        Map.entry(35, "NotText"), Map.entry(36, "Element"), Map.entry(37, "Extra"), Map.entry(38, "Rule"), Map.entry(41, "Gap"),
-        Map.entry(42, "Fork"), Map.entry(43, "OwnAhead"), Map.entry(44, "BadSite"), Map.entry(45, "BadDelta"),
-        Map.entry(46, "BadTransactions"), Map.entry(48, "BadList"), Map.entry(56, "At"), Map.entry(65, "Memory"),
-        Map.entry(70, "Empty"), Map.entry(71, "Full"), Map.entry(72, "BadVector"), Map.entry(73, "BadArgument"));
+    private static final long serialVersionUID = 2L;
 
     private final int number;
     private final long place;
+    private final String reason;
+    private final String name;
+    private final String meaning;
 
-    NiluppangException(int number, long place) {
-        super(number + " " + NAMES.getOrDefault(number, "Unknown") + (place == 0 ? "" : ", place " + Long.toUnsignedString(place)));
+    NiluppangException(int number, long place, String reason) {
+        this(number, place, reason, Library.name(number), Library.meaning(number));
+    }
+
+    private NiluppangException(int number, long place, String reason, String name, String meaning) {
+        super(number + " " + name + ": " + meaning + more(number, place, reason));
         this.number = number;
         this.place = place;
+        this.reason = reason;
+        this.name = name;
+        this.meaning = meaning;
+    }
+
+    private static String more(int number, long place, String reason) {
+        if (reason.isEmpty() || reason.equals(Integer.toString(number))) {
+            return place == 0 ? "" : " (place " + Long.toUnsignedString(place) + ")";
+        }
+        return " (" + reason + ")";
     }
 
     public int number() {
@@ -29,10 +40,18 @@ public final class NiluppangException extends RuntimeException {
     }
 
     public String name() {
-        return NAMES.getOrDefault(number, "Unknown");
+        return name;
+    }
+
+    public String meaning() {
+        return meaning;
     }
 
     public long place() {
         return place;
+    }
+
+    public String reason() {
+        return reason;
     }
 }

@@ -1,10 +1,14 @@
 package niluppang;
 
 import com.sun.jna.Memory;
+import java.io.IOException;
+import java.io.InputStream;
 import java.lang.ref.Cleaner;
 import java.nio.charset.StandardCharsets;
 import java.util.ArrayList;
+import java.util.Arrays;
 import java.util.List;
+import java.util.Objects;
 import java.util.function.Function;
 import java.util.function.Supplier;
 
@@ -24,15 +28,19 @@ import java.util.function.Supplier;
 public final class Site implements AutoCloseable {
     private static final int MEMORY = 65;
     private static final int BAD_SITE = 44;
+    private static final int BAD_VECTOR = 72;
+    private static final int PART = 1 << 16;
     private static final byte[] NOTHING = new byte[1];
     private static final long[] NO_COUNTS = new long[1];
     private static final Cleaner CLEANER = Cleaner.create();
 
     private final int number;
     private final int group;
-    private final Memory place = new Memory(Library.PLACE_BYTES);
+    private final Memory handle = new Memory(Library.HANDLE_BYTES);
     private final Cleaner.Cleanable end;
     private final byte[] refused;
+    private long answers;
+    private volatile boolean isClosed;
 
     /** What a take came to. The number is that of the message among the site's own, from 1, or 0 if the site held it already. */
     public record Taken(boolean isRepeat, long number) {
@@ -48,19 +56,19 @@ public final class Site implements AutoCloseable {
 
     /** Opens site {@code number} of a group of {@code group} sites, both 1 to 1024. It holds nothing. Refusals: 44, 65. */
     public Site(int number, int group) {
-        this(number, group, place -> Library.sct_site_open(place, (short) number, (short) group));
+        this(number, group, handle -> Library.sct_raw_open(handle, (short) number, (short) group));
     }
 
     private Site(int number, int group, Function<Memory, Library.Outcome> begin) {
         if (number < 0 || number > 0xffff || group < 0 || group > 0xffff) {
-            throw new NiluppangException(BAD_SITE, 0);
+            throw new NiluppangException(BAD_SITE, 0, "");
         }
         this.number = number;
         this.group = group;
-        place.clear();
-        Memory its = place;
-        end = CLEANER.register(this, () -> Library.sct_site_close(its));
-        refused = copied(checked(begin.apply(place)).length);
+        handle.clear();
+        Memory its = handle;
+        end = CLEANER.register(this, () -> Library.sct_raw_close(its));
+        refused = copied(checked(begin.apply(handle)).length);
     }
 
     /**
@@ -69,8 +77,8 @@ public final class Site implements AutoCloseable {
      * Without a delta, it is empty. Refusals: 44, 65.
      */
     public static Site restore(int number, int group, byte[] journal, byte[] delta) {
-        return new Site(number, group, place -> Library.sct_site_restore(place, (short) number, (short) group, given(journal), journal.length,
-            given(delta), delta.length));
+        return new Site(number, group, handle -> Library.sct_raw_restore(handle, (short) number, (short) group, given(journal),
+            journal.length, given(delta), delta.length));
     }
 
     /** The version of the library, such as 0.2.0. */
@@ -95,17 +103,23 @@ public final class Site implements AutoCloseable {
         return refused.clone();
     }
 
-    /** Ends the site, and frees its memory. Each later call is refused by 70, but for another close. */
+    /** Ends the site, and frees its memory. Each later call is refused by 70, but for another close. It waits for a call that runs. */
     @Override
     public synchronized void close() {
         end.clean();
+        isClosed = true;
+    }
+
+    /** Whether the site is closed. The answer comes at once, also while another thread makes a call. */
+    public boolean isClosed() {
+        return isClosed;
     }
 
     // ---- messages and deltas in
 
     /** Takes the message that one JSON object is. Refusals: 31 to 38, 46, 56, 65, 70. */
     public synchronized Taken take(byte[] json) {
-        Library.TakenOutcome done = Library.sct_site_take(place, given(json), json.length);
+        Library.TakenOutcome done = Library.sct_raw_take(handle, given(json), json.length);
         check(done.ok, done.code, done.place);
         return new Taken(done.isRepeat != 0, done.isRepeat != 0 ? 0 : done.number);
     }
@@ -114,18 +128,30 @@ public final class Site implements AutoCloseable {
         return take(bytes(json));
     }
 
-    /** Takes the messages of a text, one JSON object a line. Refusals: 65, after which it can be taken again, and 70. */
+    /** Takes the messages of a text, one JSON object a line. {@link #journal} has those that are new. Refusals: 65, after which it can be
+     * taken again, and 70. */
     public synchronized LinesTaken takeLines(byte[] text) {
-        Library.LinesOutcome done = Library.sct_site_take_lines(place, given(text), text.length);
-        check(done.ok, done.code, 0);
+        Library.LinesOutcome done = Library.sct_raw_take_lines(handle, given(text), text.length);
+        check(done.ok, done.code, done.place);
+        answers++;
         return new LinesTaken(done.fresh, done.repeats, done.refused, copied(done.length));
     }
 
-    /** Accepts a delta text, whole or not at all. The result is how many of its entries are new. Refusals: 41 to 45, 65, 70. */
+    /** Accepts a delta text, whole or not at all. The result is how many of its entries are new: {@link #newest} has them.
+     * Refusals: 41 to 45, 65, 70. */
     public synchronized long accept(byte[] delta) {
-        Library.AcceptedOutcome done = Library.sct_site_accept(place, given(delta), delta.length);
+        Library.AcceptedOutcome done = Library.sct_raw_accept(handle, given(delta), delta.length);
         check(done.ok, done.code, done.place);
         return done.fresh;
+    }
+
+    /**
+     * What the site reads in a text of messages, one JSON object a line. It takes none of them. The answer has a line for each line that
+     * is not blank: the message as the archive text has it, which begins with <code>{</code>, or why it is refused, such as
+     * {@code line 8: 36 InstgAgt 1}. Refusals: 65, 70.
+     */
+    public byte[] reading(byte[] text) {
+        return answered(() -> Library.sct_raw_reading_text(handle, given(text), text.length));
     }
 
     // ---- what the site holds, and deltas out
@@ -133,53 +159,104 @@ public final class Site implements AutoCloseable {
     /** How many messages of site 1, 2, .. of the group this site holds: its version vector. Refusal: 70. */
     public synchronized long[] counts() {
         long[] counts = new long[group];
-        checked(Library.sct_site_counts(place, counts, group));
+        checked(Library.sct_raw_counts(handle, counts, group));
         return counts;
     }
 
     /** The version vector as text, such as {@code 1:20,3:7}, or {@code -} if nothing is held. Refusals: 65, 70. */
     public byte[] vectorText() {
-        return answered(() -> Library.sct_site_vector_text(place));
+        return answered(() -> Library.sct_raw_vector_text(handle));
     }
 
     /** The delta of what the site holds above a version vector of text. Refusals: 65, 70, 72. */
     public byte[] cut(String vector) {
         byte[] text = bytes(vector);
-        return answered(() -> Library.sct_site_cut(place, given(text), text.length));
+        return answered(() -> Library.sct_raw_cut(handle, given(text), text.length));
     }
 
-    /** The delta of what the site holds above counts of site 1, 2, .. A site after the last count counts 0. Refusals: 44, 65, 70. */
+    /** A cut as a stream, as that of {@link #archiveStream}. */
+    public InputStream cutStream(String vector) {
+        byte[] text = bytes(vector);
+        return streamed(() -> Library.sct_raw_cut(handle, given(text), text.length));
+    }
+
+    /** The delta of what the site holds above counts of site 1, 2, .. A site after the last count counts 0.
+     * Refusals: 44, 65, 70, 72 (a count below 0). */
     public byte[] cutAbove(long... counts) {
-        return answered(() -> Library.sct_site_cut_above(place, counts.length == 0 ? NO_COUNTS : counts, counts.length));
+        if (Arrays.stream(counts).anyMatch(count -> count < 0)) {
+            throw new NiluppangException(BAD_VECTOR, 0, "");
+        }
+        return answered(() -> Library.sct_raw_cut_above(handle, counts.length == 0 ? NO_COUNTS : counts, counts.length));
+    }
+
+    /** The site's own messages that are numbered above a count, each on a line of the archive text: what a journal lacks that has so many
+     * lines. Refusals: 65, 70. */
+    public byte[] journal(long above) {
+        long from = atLeastNone(above);
+        return answered(() -> Library.sct_raw_journal_text(handle, from));
+    }
+
+    /** The text of {@link #journal} as a stream, as that of {@link #archiveStream}. */
+    public InputStream journalStream(long above) {
+        long from = atLeastNone(above);
+        return streamed(() -> Library.sct_raw_journal_text(handle, from));
+    }
+
+    /** The messages that came last, at most so many, each on a line of the archive text, in the order in which they came. After an accept
+     * of n entries the newest n messages are those. Refusals: 65, 70. */
+    public byte[] newest(long count) {
+        long many = atLeastNone(count);
+        return answered(() -> Library.sct_raw_newest_text(handle, many));
     }
 
     // ---- answers on everything held
 
+    /** Evaluates what is new, so that the next question does not have to. Each answer is what it is without this call, and the answer
+     * that the site keeps stays. Refusals: 65, 70. */
+    public synchronized void evaluate() {
+        checked(Library.sct_raw_evaluate(handle));
+    }
+
     /** The archive text: each message held on a line. Refusals: 65, 70. */
     public byte[] archiveText() {
-        return answered(() -> Library.sct_site_archive_text(place));
+        return answered(() -> Library.sct_raw_archive_text(handle));
+    }
+
+    /**
+     * The archive text as a stream, which is read in parts: no second copy of the text is made, and it may have more than 2 GiB.
+     *
+     * The answer is made by this call, and is the answer of the site then. A take or an accept while it is read does not change it. After a
+     * call that makes another answer, a read fails by IOException, and after a close by 70. Refusals: 65, 70.
+     */
+    public InputStream archiveStream() {
+        return streamed(() -> Library.sct_raw_archive_text(handle));
     }
 
     /** The status text: T, F and R lines of each transfer. Refusals: 65, 70. */
     public byte[] statusText() {
-        return answered(() -> Library.sct_site_status_text(place));
+        return answered(() -> Library.sct_raw_status_text(handle));
+    }
+
+    /** The status text as a stream, as that of {@link #archiveStream}. */
+    public InputStream statusStream() {
+        return streamed(() -> Library.sct_raw_status_text(handle));
     }
 
     /** The totals text: a line for each bank. Refusals: 65, 70. */
     public byte[] totalsText() {
-        return answered(() -> Library.sct_site_totals_text(place));
+        return answered(() -> Library.sct_raw_totals_text(handle));
     }
 
     /** A line for each identity that two different messages have, such as {@code BANKDEFFXXX|pacs.008|M1}. Refusals: 65, 70. */
     public byte[] contradictionsText() {
-        return answered(() -> Library.sct_site_contradictions_text(place));
+        return answered(() -> Library.sct_raw_contradictions_text(handle));
     }
 
     /** The report on a bank's list for a settlement day, YYYY-MM-DD. Refusals: 48, 65, 70, 73 (1: the bank, 2: the day). */
     public byte[] report(String bank, String day, byte[] list) {
         byte[] one = bytes(bank);
         byte[] two = bytes(day);
-        return answered(() -> Library.sct_site_report(place, given(one), one.length, given(two), two.length, given(list), list.length));
+        return answered(() -> Library.sct_raw_report(handle, given(one), one.length, given(two), two.length, given(list), list.length));
     }
 
     // ---- answers on one transfer or bank
@@ -188,32 +265,78 @@ public final class Site implements AutoCloseable {
     public byte[] transfer(String bank, String tx) {
         byte[] one = bytes(bank);
         byte[] two = bytes(tx);
-        return answered(() -> Library.sct_site_transfer_text(place, given(one), one.length, given(two), two.length));
+        return answered(() -> Library.sct_raw_transfer_text(handle, given(one), one.length, given(two), two.length));
     }
 
     /** The lines of the archive text that have the messages on one transfer. Refusals: 65, 70, 73 (1, 2). */
     public byte[] messages(String bank, String tx) {
         byte[] one = bytes(bank);
         byte[] two = bytes(tx);
-        return answered(() -> Library.sct_site_messages_text(place, given(one), one.length, given(two), two.length));
+        return answered(() -> Library.sct_raw_messages_text(handle, given(one), one.length, given(two), two.length));
     }
 
     /** The line of one bank in the totals text, also if all its numbers are 0. Refusals: 65, 70, 73 (1). */
     public byte[] bankTotals(String bank) {
         byte[] one = bytes(bank);
-        return answered(() -> Library.sct_site_bank_totals(place, given(one), one.length));
+        return answered(() -> Library.sct_raw_bank_totals(handle, given(one), one.length));
     }
 
     /** The transfers whose lines may have changed since the call before. The first call begins the watch, and returns none.
      * Refusals: 65, 70. */
     public List<Transfer> changes() {
         List<Transfer> found = new ArrayList<>();
-        String text = new String(answered(() -> Library.sct_site_changes(place)), StandardCharsets.UTF_8);
+        String text = new String(answered(() -> Library.sct_raw_changes(handle)), StandardCharsets.UTF_8);
         for (String line : text.isEmpty() ? new String[0] : text.split("\n")) {
             int bar = line.indexOf('|');
             found.add(new Transfer(line.substring(0, bar), line.substring(bar + 1)));
         }
         return found;
+    }
+
+    // ---- the answer
+
+    /** The text that was made last, once more. Refusal: 70. */
+    public synchronized byte[] answer() {
+        return copied(checked(Library.sct_raw_answer(handle, NOTHING, 0)).length);
+    }
+
+    /** Frees the memory of the text that was made last. {@link #answer} is empty then. Refusal: 70. */
+    public synchronized void answerEnd() {
+        checked(Library.sct_raw_answer_end(handle));
+        answers++;
+    }
+
+    /** An answer, which is read in parts. */
+    private final class Parts extends InputStream {
+        private final long its = answers;
+        private long from;
+
+        @Override
+        public int read() throws IOException {
+            byte[] one = new byte[1];
+            return read(one, 0, 1) < 0 ? -1 : Byte.toUnsignedInt(one[0]);
+        }
+
+        @Override
+        public int read(byte[] out, int place, int many) throws IOException {
+            Objects.checkFromIndexSize(place, many, out.length);
+            byte[] part = new byte[Math.min(many, PART)];
+            if (part.length == 0) {
+                return 0;
+            }
+            int length = part(its, from, part);
+            System.arraycopy(part, 0, out, place, length);
+            from += length;
+            return length == 0 ? -1 : length;
+        }
+    }
+
+    private synchronized int part(long answer, long from, byte[] out) throws IOException {
+        int length = (int) checked(Library.sct_raw_answer_part(handle, from, out, out.length)).length;
+        if (answer != answers) {
+            throw new IOException("a call made another answer while this one was read");
+        }
+        return length;
     }
 
     // ---- what each call does
@@ -227,28 +350,48 @@ public final class Site implements AutoCloseable {
         return text.getBytes(StandardCharsets.UTF_8);
     }
 
-    private static void check(byte ok, byte code, long place) {
+    private static long atLeastNone(long count) {
+        if (count < 0) {
+            throw new IllegalArgumentException("a number of messages is not below 0, as " + count + " is");
+        }
+        return count;
+    }
+
+    private void check(byte ok, byte code, long place) {
         if (ok == 0) {
-            throw new NiluppangException(Byte.toUnsignedInt(code), place);
+            throw new NiluppangException(Byte.toUnsignedInt(code), place, why());
         }
     }
 
-    private static Library.Outcome checked(Library.Outcome done) {
+    /** Why the last call was refused. Nothing if there is no site, or no memory for the text. */
+    private String why() {
+        return Library.text((out, room) -> Library.sct_raw_why(handle, out, room).length);
+    }
+
+    private Library.Outcome checked(Library.Outcome done) {
         check(done.ok, done.code, done.place);
         return done;
     }
 
     private synchronized byte[] answered(Supplier<Library.Outcome> call) {
-        return copied(checked(call.get()).length);
+        long length = checked(call.get()).length;
+        answers++;
+        return copied(length);
+    }
+
+    private synchronized InputStream streamed(Supplier<Library.Outcome> call) {
+        checked(call.get());
+        answers++;
+        return new Parts();
     }
 
     /** The answer, whose length is known. An array of Java has less than 2 GiB. */
     private byte[] copied(long length) {
         if (length > Integer.MAX_VALUE - 8) {
-            throw new NiluppangException(MEMORY, 0);
+            throw new NiluppangException(MEMORY, 0, "");
         }
         byte[] answer = new byte[(int) length];
-        checked(Library.sct_site_answer(place, given(answer), length));
+        checked(Library.sct_raw_answer(handle, given(answer), length));
         return answer;
     }
 }

@@ -1,18 +1,39 @@
 package niluppang;
 
+import java.io.ByteArrayOutputStream;
 import java.io.IOException;
+import java.io.InputStream;
 import java.nio.charset.StandardCharsets;
 import java.nio.file.Files;
 import java.nio.file.Path;
 import java.util.ArrayList;
 import java.util.Arrays;
 import java.util.List;
+import java.util.Map;
+import java.util.Set;
+import java.util.TreeMap;
+import java.util.TreeSet;
+import java.util.concurrent.CountDownLatch;
+import java.util.concurrent.TimeUnit;
+import java.util.function.Consumer;
+import java.util.regex.Matcher;
+import java.util.regex.Pattern;
 
-/** Compares what sites answer with the texts of examples/, byte for byte. The folder is the only argument. */
+/** Compares what sites answer with the texts of examples/ and with the header, byte for byte. The folder is the only argument. */
 public final class SiteTest {
     private static final String[] EXAMPLES = {"bank-day", "hub-morning", "recall-batch", "refusals", "settlement-day"};
+    private static final String BODY = "\"CreDtTm\":\"2024-05-02T10:00:00Z\",\"InstgAgt\":\"BANKDEFF\",\"IntrBkSttlmDt\":\"2024-05-02\","
+        + "\"SvcLvl\":\"SEPA\",\"LclInstrm\":\"INST\",\"EndToEndId\":\"E1\",\"IntrBkSttlmAmt\":\"1.00\",\"Ccy\":\"EUR\","
+        + "\"ChrgBr\":\"SLEV\",\"Dbtr\":\"Jürgen Größler\",\"DbtrAcct\":\"DE89370400440532013000\",\"DbtrAgt\":\"BANKDEFF\","
+        + "\"CdtrAgt\":\"BANQFRPP\",\"Cdtr\":\"Bo Maes\",\"CdtrAcct\":\"BE68539007547034\"";
+    private static final String RECALLED = "{\"CxlId\":\"R1\",\"OrgnlMsgId\":\"M1\",\"OrgnlMsgNmId\":\"pacs.008\",\"OrgnlTxId\":\"T1\","
+        + "\"OrgnlIntrBkSttlmAmt\":\"1.00\",\"Ccy\":\"EUR\",\"Rsn\":\"FRAD\",\"DbtrAgt\":\"BANKDEFF\"}";
+    private static final Set<Integer> MET = new TreeSet<>();
+    private static Map<Integer, String[]> table = new TreeMap<>();
     private static int passed;
     private static int failed;
+
+    // ---- what the checks share
 
     private static void is(String name, boolean right) {
         System.out.println(name + ": " + (right ? "ok" : "DIFFERS"));
@@ -24,18 +45,40 @@ public final class SiteTest {
         is(name, Arrays.equals(found, right));
     }
 
+    private static void same(String name, byte[] found, String right) {
+        same(name, found, bytes(right));
+    }
+
     private static String string(byte[] text) {
         return new String(text, StandardCharsets.UTF_8);
     }
 
-    /** A call must be refused by a number and a place. */
-    private static void refused(String name, int number, long place, Runnable call) {
+    private static byte[] bytes(String text) {
+        return text.getBytes(StandardCharsets.UTF_8);
+    }
+
+    /** A call that may fail. */
+    interface Call {
+        void run() throws IOException;
+    }
+
+    /** How a call fails, or null. */
+    private static Exception failure(Call call) {
         try {
             call.run();
-            is(name, false);
-        } catch (NiluppangException fault) {
-            is(name, fault.number() == number && fault.place() == place && !fault.name().equals("Unknown"));
+            return null;
+        } catch (IOException | RuntimeException fault) {
+            return fault;
         }
+    }
+
+    /** A call must be refused by a number, a place and a reason, with the name and the meaning of the header. */
+    private static void refused(String name, int number, long place, String reason, Call call) {
+        MET.add(number);
+        String[] words = table.get(number);
+        is(reason.isEmpty() ? name : name + ": " + reason, failure(call) instanceof NiluppangException fault && fault.number() == number
+            && fault.place() == place && fault.reason().equals(reason) && fault.name().equals(words[0]) && fault.meaning().equals(words[1])
+            && fault.getMessage().startsWith(number + " " + words[0] + ": " + words[1]) && fault.getMessage().contains(reason));
     }
 
     /** The lines of a text, each without its line feed. */
@@ -51,21 +94,50 @@ public final class SiteTest {
         return found;
     }
 
-    /** Refused lines without what follows the number of each fault. */
-    private static String shortened(byte[] refused) {
-        return string(refused).replaceAll("(?m)^(line \\d+: \\d+).*$", "$1");
+    private static String instruction(int number, String more) {
+        return "{\"MsgNmId\":\"pacs.008\",\"MsgId\":\"M" + number + "\",\"TxId\":\"T" + number + "\"," + BODY + more + "}";
     }
+
+    private static String instruction(int number) {
+        return instruction(number, "");
+    }
+
+    /** The line of the archive text of an instruction: keys ascend, and a bank has 11 characters. */
+    private static String archived(int number) {
+        return "{\"Ccy\":\"EUR\",\"Cdtr\":\"Bo Maes\",\"CdtrAcct\":\"BE68539007547034\",\"CdtrAgt\":\"BANQFRPPXXX\",\"ChrgBr\":\"SLEV\","
+            + "\"CreDtTm\":\"2024-05-02T10:00:00Z\",\"Dbtr\":\"Jürgen Größler\",\"DbtrAcct\":\"DE89370400440532013000\","
+            + "\"DbtrAgt\":\"BANKDEFFXXX\",\"EndToEndId\":\"E1\",\"InstgAgt\":\"BANKDEFFXXX\",\"IntrBkSttlmAmt\":\"1.00\","
+            + "\"IntrBkSttlmDt\":\"2024-05-02\",\"LclInstrm\":\"INST\",\"MsgId\":\"M" + number + "\",\"MsgNmId\":\"pacs.008\","
+            + "\"SvcLvl\":\"SEPA\",\"TxId\":\"T" + number + "\"}\n";
+    }
+
+    private static String recall(String transactions) {
+        return "{\"MsgNmId\":\"camt.056\",\"MsgId\":\"K1\",\"CreDtTm\":\"2024-05-03T09:00:00Z\",\"InstgAgt\":\"BANKDEFF\",\"TxInf\":["
+            + transactions + "]}";
+    }
+
+    /** A delta of instructions. */
+    private static byte[] delta(int origin, int first, int... numbers) {
+        StringBuilder text = new StringBuilder("delta 2\norigin " + origin + " " + first + " " + numbers.length + "\n");
+        for (int number : numbers) {
+            text.append(instruction(number)).append('\n');
+        }
+        return bytes(text + "end " + numbers.length + "\n");
+    }
+
+    // ---- the examples
 
     private static void example(Path folder, String name) throws IOException {
         byte[] text = Files.readAllBytes(folder.resolve(name + ".jsonl"));
+        byte[] right = Files.readAllBytes(folder.resolve(name + ".refused"));
         try (Site whole = new Site(1, 3); Site single = new Site(2, 3)) {
             Site.LinesTaken taken = whole.takeLines(text);
-            same(name + ", refused lines", taken.refusedText(), Files.readAllBytes(folder.resolve(name + ".refused")));
+            same(name + ", refused lines", taken.refusedText(), right);
             long fresh = 0;
             long repeats = 0;
             long refused = 0;
             boolean numbered = true;
-            StringBuilder codes = new StringBuilder();
+            StringBuilder reasons = new StringBuilder();
             List<byte[]> all = lines(text);
             for (int at = 0; at < all.size(); at++) {
                 if (string(all.get(at)).isBlank()) {
@@ -78,11 +150,12 @@ public final class SiteTest {
                     numbered &= one.number() == (one.isRepeat() ? 0 : fresh);
                 } catch (NiluppangException fault) {
                     refused++;
-                    codes.append("line ").append(at + 1).append(": ").append(fault.number()).append('\n');
+                    numbered &= fault.reason().split(" ")[0].equals(Integer.toString(fault.number()));
+                    reasons.append("line ").append(at + 1).append(": ").append(fault.reason()).append('\n');
                 }
             }
-            is(name + ", the numbers of takes", numbered && fresh > 0);
-            is(name + ", the refused lines one by one", codes.toString().equals(shortened(taken.refusedText())));
+            is(name + ", the numbers of takes and of refusals", numbered && fresh > 0);
+            same(name + ", the refused lines one by one", bytes(reasons.toString()), right);
             is(name + ", counts", taken.fresh() == fresh && whole.counts()[0] == fresh && single.counts()[1] == fresh
                     && taken.repeats() == repeats && taken.refused() == refused && whole.takeLines(text).repeats() == fresh + repeats);
             for (Site site : new Site[] {whole, single}) {
@@ -92,6 +165,7 @@ public final class SiteTest {
             }
             exchanged(name, whole, text);
         }
+        read(folder, name, text, right);
     }
 
     /** A peer accepts what a site cut, a site is restored of it, and all answer the same. */
@@ -103,72 +177,356 @@ public final class SiteTest {
             same(name + ", vector", peer.vectorText(), site.vectorText());
             same(name + ", archive of a peer", peer.archiveText(), site.archiveText());
         }
-        try (Site again = Site.restore(1, 3, text, delta); Site other = Site.restore(2, 3, new byte[0], delta)) {
+        try (Site again = Site.restore(1, 3, text, delta); Site other = Site.restore(2, 3, new byte[0], delta);
+                Site kept = Site.restore(1, 3, site.journal(0), delta)) {
             same(name + ", status of a restored site", again.statusText(), site.statusText());
             same(name + ", status of a site of a delta", other.statusText(), site.statusText());
             is(name + ", nothing refused of the delta", other.refusedText().length == 0);
+            same(name + ", cut of a site of its journal", kept.cut("-"), delta);
+            is(name + ", nothing refused of the journal", kept.refusedText().length == 0);
         }
     }
 
-    private static void questions(Path folder) throws IOException {
+    /** What a site reads in an example: the refused lines, and the messages of the archive text. It takes none. */
+    private static void read(Path folder, String name, byte[] text, byte[] refused) throws IOException {
+        try (Site site = new Site(1, 1)) {
+            StringBuilder faults = new StringBuilder();
+            Set<String> messages = new TreeSet<>();
+            for (byte[] line : lines(site.reading(text))) {
+                if (line[0] == '{') {
+                    messages.add(string(line));
+                } else {
+                    faults.append(string(line)).append('\n');
+                }
+            }
+            same(name + ", refused lines of a reading", bytes(faults.toString()), refused);
+            Set<String> right = new TreeSet<>();
+            lines(Files.readAllBytes(folder.resolve(name + ".archive"))).forEach(line -> right.add(string(line)));
+            is(name + ", messages of a reading", messages.equals(right) && site.counts()[0] == 0);
+        }
+    }
+
+    // ---- each number
+
+    /** The names and the meanings of numbers, as the header has them. */
+    private static void tabulate(Path header) throws IOException {
+        Matcher row = Pattern.compile("^ \\*     (\\d\\d) ([A-Z][a-z]\\w*) +(.*)$", Pattern.MULTILINE).matcher(Files.readString(header));
+        while (row.find()) {
+            table.put(Integer.parseInt(row.group(1)), new String[] {row.group(2), row.group(3)});
+        }
+        is("the header has 21 numbers", table.size() == 21);
+        for (int number = 0; number < 256; number++) {
+            String[] words = table.getOrDefault(number, new String[] {"Unknown", "a number of a later version"});
+            if (!Library.name(number).equals(words[0]) || !Library.meaning(number).equals(words[1])) {
+                is("the name and the meaning of " + number, false);
+            }
+        }
+    }
+
+    private static void messages(Site site) {
+        Map<String, String> faults = new TreeMap<>(Map.of("", "31", "[]", "32", "{}", "33"));
+        faults.put(instruction(1).replace("\"TxId\":\"T1\",", ""), "34 TxId");
+        faults.put(instruction(1).replace("\"T1\"", "1"), "35 TxId");
+        faults.put(instruction(1).replace("\"BANQFRPP\"", "\"B\""), "36 CdtrAgt 1");
+        faults.put(instruction(1, ",\"ä\\\"\":\"\""), "37 \"ä\\\"\"");
+        faults.put(instruction(1).replace("EUR", "USD"), "38 11");
+        faults.put(recall(""), "46 0");
+        faults.put(recall(RECALLED + ",7"), "46 2");
+        faults.put(recall(RECALLED + "," + RECALLED.replace("FRAD", "fraud")), "56 2 36 Rsn 9");
+        faults.forEach((json, reason) -> {
+            String[] words = reason.split(" ");
+            long place = words[0].equals("46") || words[0].equals("56") ? Long.parseLong(words[1]) : 0;
+            refused("a message", Integer.parseInt(words[0]), place, reason, () -> site.take(json));
+            same("the same line", site.takeLines(bytes(json.isEmpty() ? "x" : json)).refusedText(), "line 1: " + reason + "\n");
+        });
+    }
+
+    private static void deltas(Site site) {
+        refused("a delta", 41, 0, "41 1 1 3", () -> site.accept(delta(1, 3, 4)));
+        refused("a delta", 42, 0, "42 1 1", () -> site.accept(delta(1, 1, 2)));
+        refused("a delta", 43, 0, "43 2", () -> site.accept(delta(2, 2, 4)));
+        refused("a delta", 44, 0, "44", () -> site.accept(delta(4, 1, 4)));
+        refused("a delta", 45, 1, "45 1", () -> site.accept(new byte[0]));
+        refused("a delta", 45, 4, "45 4", () -> site.accept(Arrays.copyOf(delta(3, 1, 4), delta(3, 1, 4).length - 1)));
+    }
+
+    private static void questions(Site site) {
+        byte[] list = bytes("DbtrAgt,TxId,Amt,Sts\n\nx\n");
+        refused("a vector", 72, 0, "72", () -> site.cut("1:1:1"));
+        refused("a vector as a stream", 72, 0, "72", () -> site.cutStream(""));
+        refused("a count", 72, 0, "", () -> site.cutAbove(0, -1));
+        refused("counts", 44, 0, "44", () -> site.cutAbove(new long[1025]));
+        refused("a list", 48, 1, "48 1", () -> site.report("BANKDEFF", "2024-05-02", new byte[0]));
+        refused("a list", 48, 2, "48 2", () -> site.report("BANKDEFF", "2024-05-02", list));
+        refused("a bank", 73, 1, "73 1", () -> site.report("bank", "2024-05-02", list));
+        refused("a day", 73, 2, "73 2", () -> site.report("BANKDEFF", "today", list));
+        refused("a bank", 73, 1, "73 1", () -> site.transfer("", "T1"));
+        refused("an identification", 73, 2, "73 2", () -> site.transfer("BANKDEFF", ""));
+        refused("a bank", 73, 1, "73 1", () -> site.messages("bank", "T1"));
+        refused("an identification", 73, 2, "73 2", () -> site.messages("BANKDEFF", "T//1"));
+        refused("a bank", 73, 1, "73 1", () -> site.bankTotals("X"));
+        for (long number : new long[] {-1, Long.MIN_VALUE}) {
+            is("a number of messages below 0", failure(() -> site.journal(number)) instanceof IllegalArgumentException
+                && failure(() -> site.journalStream(number)) instanceof IllegalArgumentException
+                && failure(() -> site.newest(number)) instanceof IllegalArgumentException);
+        }
+    }
+
+    /** Each call after the site was closed. */
+    private static void closed(Site site) {
+        List<Call> calls = List.of(() -> site.take(""), () -> site.takeLines(bytes("")), () -> site.accept(bytes("")), site::counts,
+            () -> site.reading(bytes("")), site::vectorText, () -> site.cut("-"), () -> site.cutStream("-"), site::cutAbove,
+            () -> site.journal(0), () -> site.journalStream(0), () -> site.newest(1), site::evaluate, site::archiveText,
+            site::archiveStream, site::statusText, site::statusStream, site::totalsText, site::contradictionsText, site::changes,
+            site::answer, site::answerEnd,
+            () -> site.report("BANKDEFF", "2024-05-02", bytes("")), () -> site.transfer("BANKDEFF", "T1"),
+            () -> site.messages("BANKDEFF", "T1"), () -> site.bankTotals("BANKDEFF"));
+        for (Call call : calls) {
+            refused("a site that is closed", 70, 0, "", call);
+        }
+        site.close();
+        is("it is closed", site.isClosed());
+    }
+
+    private static void numbers() {
+        try (Site site = new Site(2, 3)) {
+            site.take(instruction(3));
+            site.accept(delta(1, 1, 1));
+            messages(site);
+            deltas(site);
+            byte[] answer = site.statusText();
+            questions(site);
+            same("the answer is as it was", site.answer(), answer);
+            is("and what is held", Arrays.equals(site.counts(), new long[] {1, 1, 0}) && !site.isClosed());
+            site.close();
+            closed(site);
+        }
+        for (int[] one : new int[][] {{3, 2}, {0, 1}, {1, 1025}, {70000, 2}, {1, -1}}) {
+            refused("a site", 44, 0, "", () -> new Site(one[0], one[1]));
+            refused("a site", 44, 0, "", () -> Site.restore(one[0], one[1], bytes("x"), bytes("")));
+        }
+        Set<Integer> all = new TreeSet<>(table.keySet());
+        all.removeAll(Set.of(65, 71));
+        is("each number is met", MET.equals(all));
+    }
+
+    // ---- questions
+
+    private static void answers(Path folder) throws IOException {
         try (Site site = new Site(1, 2)) {
             is("a watch begins", site.changes().isEmpty());
             site.takeLines(Files.readAllBytes(folder.resolve("bank-day.jsonl")));
             is("changes", site.changes().contains(new Site.Transfer("LUTEFRPPXXX", "LU,10")) && site.changes().isEmpty());
-            is("one transfer", string(site.transfer("LUTEFRPP", "LU,10")).equals("T|LUTEFRPPXXX|LU,10|INVESTIGATED\n"));
-            is("an unknown transfer", string(site.transfer("LUTEFRPP", "X")).equals("T|LUTEFRPPXXX|X|UNKNOWN\n"));
+            same("one transfer", site.transfer("LUTEFRPP", "LU,10"), "T|LUTEFRPPXXX|LU,10|INVESTIGATED\n");
+            same("an unknown transfer", site.transfer("LUTEFRPP", "X"), "T|LUTEFRPPXXX|X|UNKNOWN\n");
             is("messages", lines(site.messages("LUTEFRPPXXX", "LU20250310B6")).size() == 3);
             is("totals", string(site.totalsText()).contains(string(site.bankTotals("LUTEFRPP"))));
             is("contradictions", site.contradictionsText().length == 0);
             byte[] list = Files.readAllBytes(folder.resolve("bank-day.list"));
-            same("report", site.report("LUTEFRPP", "2025-03-10", list), Files.readAllBytes(folder.resolve("bank-day.report")));
-            refused("a bank that is none", 73, 1, () -> site.transfer("lute", "X"));
-            refused("an identification that is none", 73, 2, () -> site.transfer("LUTEFRPP", ""));
-            refused("a day that is none", 73, 2, () -> site.report("LUTEFRPP", "today", list));
-            refused("a list that is none", 48, 1, () -> site.report("LUTEFRPP", "2025-03-10", new byte[0]));
-            refused("a vector that is none", 72, 0, () -> site.cut("1:1:1"));
-            refused("a delta that is none", 45, 1, () -> site.accept(new byte[0]));
-            refused("no JSON", 31, 0, () -> site.take(new byte[0]));
-            site.close();
-            refused("a site that is closed", 70, 0, site::statusText);
+            byte[] report = Files.readAllBytes(folder.resolve("bank-day.report"));
+            same("report", site.report("LUTEFRPP", "2025-03-10", list), report);
+            site.evaluate();
+            same("the answer stays", site.answer(), report);
+            site.answerEnd();
+            same("until it ends", site.answer(), "");
         }
-        refused("a site that is none", 44, 0, () -> new Site(3, 2));
-        refused("a number that is none", 44, 0, () -> new Site(70000, 2));
+    }
+
+    /** The journal and arrivals of a site that takes messages and accepts others. */
+    private static void arrivals() {
+        try (Site site = new Site(2, 2)) {
+            same("no journal", site.journal(0), "");
+            site.take(instruction(7));
+            is("accepted", site.accept(delta(1, 1, 9, 7, 4)) == 3);
+            site.takeLines(bytes(instruction(3) + "\n" + instruction(9) + "\n" + instruction(1)));
+            String[] own = {archived(7), archived(3), archived(1)};
+            String[] came = {archived(7), archived(9), archived(7), archived(4), archived(3), archived(1)};
+            for (int many = 0; many <= 7; many++) {
+                int above = Math.min(many, own.length);
+                same("journal above " + many, site.journal(many), String.join("", Arrays.copyOfRange(own, above, own.length)));
+                int from = Math.max(0, came.length - many);
+                same("the newest " + many, site.newest(many), String.join("", Arrays.copyOfRange(came, from, came.length)));
+            }
+            same("journal above the most", site.journal(Long.MAX_VALUE), "");
+            same("the most", site.newest(Long.MAX_VALUE), String.join("", came));
+            String twice = "{\"MsgId\":\"M9\"," + instruction(4).substring(1);
+            same("a reading", site.reading(bytes(twice + "\n \n[]\n" + instruction(7))), archived(4) + "line 3: 32\n" + archived(7));
+        }
+    }
+
+    // ---- streams
+
+    /** What is read of a stream, in parts of a size. */
+    private static byte[] all(InputStream stream, int size) throws IOException {
+        ByteArrayOutputStream found = new ByteArrayOutputStream();
+        byte[] part = new byte[size + 2];
+        for (int length = stream.read(part, 1, size); length >= 0; length = stream.read(part, 1, size)) {
+            found.write(part, 1, length);
+        }
+        is("nothing is written beside a part", part[0] == 0 && part[size + 1] == 0);
+        return found.toByteArray();
+    }
+
+    private static void streams(Path folder) throws IOException {
+        byte[] status = Files.readAllBytes(folder.resolve("hub-morning.status"));
+        byte[] archive = Files.readAllBytes(folder.resolve("hub-morning.archive"));
+        try (Site site = new Site(1, 1)) {
+            is("nothing is at its end", site.statusStream().read() == -1);
+            site.takeLines(Files.readAllBytes(folder.resolve("hub-morning.jsonl")));
+            for (int size : new int[] {1, 7, 1 << 20}) {
+                same("archive in parts of " + size, all(site.archiveStream(), size), archive);
+                same("status in parts of " + size, all(site.statusStream(), size), status);
+                same("cut in parts of " + size, all(site.cutStream("1:50"), size), site.cut("1:50"));
+                same("journal in parts of " + size, all(site.journalStream(50), size), site.journal(50));
+            }
+            InputStream bytes = site.statusStream();
+            is("a byte, and none", bytes.read() == status[0] && bytes.read(new byte[1], 0, 0) == 0 && bytes.read() == status[1]);
+            for (int[] part : new int[][] {{1, 2}, {-1, 1}, {0, -1}, {3, 0}}) {
+                Exception fault = failure(() -> bytes.read(new byte[2], part[0], part[1]));
+                is("a part outside of an array", fault instanceof IndexOutOfBoundsException);
+            }
+            is("and the next byte", bytes.read() == status[2]);
+            InputStream stream = site.statusStream();
+            ByteArrayOutputStream found = new ByteArrayOutputStream();
+            List<Call> kept = List.of(() -> site.take(instruction(1)), site::counts, site::evaluate, site::answer,
+                () -> failure(() -> site.cut("x")), () -> site.accept(bytes("delta 2\nend 0\n")));
+            for (Call call : kept) {
+                found.write(stream.readNBytes(10));
+                call.run();
+            }
+            found.write(stream.readAllBytes());
+            same("calls that leave a stream", found.toByteArray(), status);
+            List<Call> others = List.of(site::totalsText, site::statusStream, () -> site.takeLines(bytes("")), site::answerEnd,
+                site::changes);
+            for (Call call : others) {
+                InputStream replaced = site.statusStream();
+                replaced.readNBytes(10);
+                call.run();
+                is("a call that replaces a stream", failure(replaced::read) instanceof IOException);
+            }
+            InputStream open = site.statusStream();
+            site.close();
+            refused("a stream of a site that is closed", 70, 0, "", open::read);
+        }
+    }
+
+    // ---- threads
+
+    private static void run(int many, Consumer<Integer> work) throws InterruptedException {
+        List<Thread> threads = new ArrayList<>();
+        for (int which = 0; which < many; which++) {
+            int its = which;
+            threads.add(new Thread(() -> work.accept(its)));
+        }
+        for (Thread thread : threads) {
+            thread.start();
+        }
+        for (Thread thread : threads) {
+            thread.join();
+        }
     }
 
     /** Several threads use one site. */
     private static void threads(Path folder) throws IOException, InterruptedException {
         List<byte[]> all = lines(Files.readAllBytes(folder.resolve("bank-day.archive")));
         try (Site site = new Site(1, 1)) {
-            List<Thread> threads = new ArrayList<>();
-            for (int which = 0; which < 4; which++) {
-                int first = which;
-                threads.add(new Thread(() -> {
-                    for (int at = 0; at < all.size(); at++) {
-                        site.take(all.get((at + 5 * first) % all.size()));
-                        site.statusText();
-                    }
-                }));
-            }
-            for (Thread thread : threads) {
-                thread.start();
-            }
-            for (Thread thread : threads) {
-                thread.join();
-            }
+            run(4, first -> {
+                for (int at = 0; at < all.size(); at++) {
+                    site.take(all.get((at + 5 * first) % all.size()));
+                    site.statusText();
+                }
+            });
             same("four threads", site.statusText(), Files.readAllBytes(folder.resolve("bank-day.status")));
             is("each message once", site.counts()[0] == all.size());
         }
     }
 
+    /** Each of several threads is told why its own call was refused. */
+    private static void reasons() throws InterruptedException {
+        String[] json = {"[]", instruction(1).replace("EUR", "USD"), instruction(1).replace("\"BANQFRPP\"", "\"B\"")};
+        String[] right = {"32", "38 11", "36 CdtrAgt 1"};
+        boolean[] isRight = {true, true, true};
+        try (Site site = new Site(1, 1)) {
+            run(3, which -> {
+                for (int round = 0; round < 100; round++) {
+                    isRight[which] &= failure(() -> site.take(json[which])) instanceof NiluppangException fault
+                        && fault.reason().equals(right[which]);
+                }
+            });
+        }
+        is("reasons of three threads", isRight[0] && isRight[1] && isRight[2]);
+    }
+
+    /** A site is closed while others use it: each of them is refused by 70 from then on, and by nothing else. */
+    private static void closing() throws InterruptedException {
+        Site site = new Site(1, 1);
+        CountDownLatch used = new CountDownLatch(20);
+        long latest = System.nanoTime() + TimeUnit.SECONDS.toNanos(30);
+        int[] numbers = new int[4];
+        run(4, which -> {
+            if (which == 3) {
+                await(used);
+                site.close();
+            }
+            Exception fault = null;
+            while (fault == null && System.nanoTime() < latest) {
+                fault = failure(() -> {
+                    site.take(instruction(which));
+                    site.statusText();
+                });
+                used.countDown();
+            }
+            numbers[which] = fault instanceof NiluppangException refused && site.isClosed() ? refused.number() : -1;
+        });
+        is("closed while others use it", Arrays.equals(numbers, new int[] {70, 70, 70, 70}));
+    }
+
+    private static boolean await(CountDownLatch latch) {
+        try {
+            return latch.await(10, TimeUnit.SECONDS);
+        } catch (InterruptedException interrupted) {
+            return false;
+        }
+    }
+
+    /** While a call runs, whoever asks whether the site is closed does not wait, and a close does. */
+    private static void waiting() throws InterruptedException {
+        Site site = new Site(1, 1);
+        CountDownLatch asked = new CountDownLatch(1);
+        CountDownLatch done = new CountDownLatch(1);
+        Thread asking = new Thread(() -> {
+            if (!site.isClosed()) {
+                asked.countDown();
+            }
+        });
+        Thread closing = new Thread(() -> {
+            site.close();
+            done.countDown();
+        });
+        synchronized (site) {
+            asking.start();
+            is("open to others while a call runs", await(asked));
+            closing.start();
+            is("a close waits for a call", !done.await(200, TimeUnit.MILLISECONDS) && !site.isClosed());
+        }
+        is("and then it is closed", await(done) && site.isClosed());
+    }
+
     public static void main(String[] words) throws IOException, InterruptedException {
         Path folder = Path.of(words[0]);
         is("version", Site.libraryVersion().startsWith("0.2."));
+        tabulate(folder.resolve("../include/niluppang.h"));
         for (String name : EXAMPLES) {
             example(folder, name);
         }
-        questions(folder);
+        numbers();
+        answers(folder);
+        arrivals();
+        streams(folder);
         threads(folder);
+        reasons();
+        closing();
+        waiting();
         System.out.println(passed + " passed, " + failed + " failed");
         System.exit(failed == 0 ? 0 : 1);
     }

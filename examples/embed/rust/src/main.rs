@@ -25,7 +25,7 @@ fn site_of(number: u16, group: u16, file: &str) -> Result<Site, Box<dyn Error>> 
             Ok(Taken::Fresh(_)) => {}
             Ok(Taken::Repeat) => repeats += 1,
             Err(refused) if refused.number == MEMORY => return Err(refused.into()),
-            Err(refused) => eprintln!("site {number} line {place}: {refused}"),
+            Err(refused) => eprintln!("site {number} line {place}: {refused}"), // such as `36 DbtrAcct 2`
         }
     }
     eprintln!("site {number}: {repeats} lines came again");

@@ -1,4 +1,6 @@
 //! A site of niluppang for Rust, by hand: what include/niluppang.h declares, and a struct that owns a site.
+//!
+//! The library gives away the functions that begin with `sct_raw_`. None of them is given a null pointer: the pointer of a slice never is.
 
 use std::fmt;
 
@@ -15,6 +17,7 @@ struct Outcome {
     code: u8,
     place: u64,
     length: usize,
+    reserved: u64,
 }
 
 #[repr(C)]
@@ -24,6 +27,7 @@ struct TakenOutcome {
     is_repeat: bool,
     place: u64,
     number: u64,
+    reserved: u64,
 }
 
 #[repr(C)]
@@ -32,29 +36,36 @@ struct AcceptedOutcome {
     code: u8,
     place: u64,
     fresh: u64,
+    reserved: u64,
 }
 
 extern "C" {
-    fn sct_site_open(site: *mut Handle, number: u16, group: u16) -> Outcome;
-    fn sct_site_close(site: *mut Handle);
-    fn sct_site_take(site: *mut Handle, json: *const u8, length: usize) -> TakenOutcome;
-    fn sct_site_accept(site: *mut Handle, text: *const u8, length: usize) -> AcceptedOutcome;
-    fn sct_site_vector_text(site: *mut Handle) -> Outcome;
-    fn sct_site_cut(site: *mut Handle, vector: *const u8, length: usize) -> Outcome;
-    fn sct_site_status_text(site: *mut Handle) -> Outcome;
-    fn sct_site_answer(site: *mut Handle, out: *mut u8, room: usize) -> Outcome;
+    fn sct_version() -> u32;
+    fn sct_raw_open(site: *mut Handle, number: u16, group: u16) -> Outcome;
+    fn sct_raw_close(site: *mut Handle);
+    fn sct_raw_take(site: *mut Handle, json: *const u8, length: usize) -> TakenOutcome;
+    fn sct_raw_accept(site: *mut Handle, text: *const u8, length: usize) -> AcceptedOutcome;
+    fn sct_raw_vector_text(site: *mut Handle) -> Outcome;
+    fn sct_raw_cut(site: *mut Handle, vector: *const u8, length: usize) -> Outcome;
+    fn sct_raw_status_text(site: *mut Handle) -> Outcome;
+    fn sct_raw_answer(site: *mut Handle, out: *mut u8, room: usize) -> Outcome;
+    fn sct_raw_why(site: *mut Handle, out: *mut u8, room: usize) -> Outcome;
 }
 
-/// Why a call was refused: the number, and the place or 0. docs/users/codes.md has each.
-#[derive(Clone, Copy, Debug, PartialEq, Eq)]
+/// The version of the library that this file declares, 0.2, as `sct_version` writes it without the last number.
+const VERSION: u32 = 2;
+
+/// Why a call was refused: the number, the place or 0, and the whole reason, such as `36 InstgAgt 1`. docs/users/codes.md has each number.
+#[derive(Clone, Debug, PartialEq, Eq)]
 pub struct Refused {
     pub number: u8,
     pub place: u64,
+    pub why: String,
 }
 
 impl fmt::Display for Refused {
     fn fmt(&self, out: &mut fmt::Formatter) -> fmt::Result {
-        write!(out, "refused: {}, place {}", self.number, self.place)
+        write!(out, "{}", self.why)
     }
 }
 
@@ -77,32 +88,30 @@ pub struct Site {
 // SAFETY: a site may pass from thread to thread. It has nothing to do with the thread that opened it.
 unsafe impl Send for Site {}
 
-fn checked(ok: bool, number: u8, place: u64) -> Result<(), Refused> {
-    if ok {
-        Ok(())
-    } else {
-        Err(Refused { number, place })
-    }
-}
-
 impl Site {
     /// Site `number` of a group. It holds nothing.
     pub fn open(number: u16, group: u16) -> Result<Site, Refused> {
-        let mut handle = Box::new(Handle {
+        // SAFETY: the function has no argument.
+        let version = unsafe { sct_version() };
+        assert_eq!(version / 1000, VERSION, "the library has another version");
+        let handle = Handle {
             address: std::ptr::null_mut(),
             is_full: false,
-        });
+        };
+        let mut site = Site {
+            handle: Box::new(handle),
+        };
         // SAFETY: the handle is empty. A call that is refused leaves it so.
-        let made = unsafe { sct_site_open(&mut *handle, number, group) };
-        checked(made.ok, made.code, made.place)?;
-        Ok(Site { handle })
+        let made = unsafe { sct_raw_open(&mut *site.handle, number, group) };
+        site.checked(made.ok, made.code, made.place)?;
+        Ok(site)
     }
 
     /// Takes the message that one JSON object is.
     pub fn take(&mut self, json: &[u8]) -> Result<Taken, Refused> {
         // SAFETY: the pointer of a slice is not null, and the length is its own. The same holds for each call below.
-        let taken = unsafe { sct_site_take(&mut *self.handle, json.as_ptr(), json.len()) };
-        checked(taken.ok, taken.code, taken.place)?;
+        let taken = unsafe { sct_raw_take(&mut *self.handle, json.as_ptr(), json.len()) };
+        self.checked(taken.ok, taken.code, taken.place)?;
         Ok(if taken.is_repeat {
             Taken::Repeat
         } else {
@@ -112,47 +121,67 @@ impl Site {
 
     /// Accepts a delta, and returns how many of its messages are new.
     pub fn accept(&mut self, delta: &[u8]) -> Result<u64, Refused> {
-        let accepted = unsafe { sct_site_accept(&mut *self.handle, delta.as_ptr(), delta.len()) };
-        checked(accepted.ok, accepted.code, accepted.place)?;
+        let accepted = unsafe { sct_raw_accept(&mut *self.handle, delta.as_ptr(), delta.len()) };
+        self.checked(accepted.ok, accepted.code, accepted.place)?;
         Ok(accepted.fresh)
     }
 
     /// The version vector, such as `1:20,3:7`.
     pub fn vector_text(&mut self) -> Result<Vec<u8>, Refused> {
-        let made = unsafe { sct_site_vector_text(&mut *self.handle) };
+        let made = unsafe { sct_raw_vector_text(&mut *self.handle) };
         self.made(made)
     }
 
     /// The delta of what the site holds above a version vector.
     pub fn cut(&mut self, vector: &[u8]) -> Result<Vec<u8>, Refused> {
-        let made = unsafe { sct_site_cut(&mut *self.handle, vector.as_ptr(), vector.len()) };
+        let made = unsafe { sct_raw_cut(&mut *self.handle, vector.as_ptr(), vector.len()) };
         self.made(made)
     }
 
     /// The status text.
     pub fn status_text(&mut self) -> Result<Vec<u8>, Refused> {
-        let made = unsafe { sct_site_status_text(&mut *self.handle) };
+        let made = unsafe { sct_raw_status_text(&mut *self.handle) };
         self.made(made)
+    }
+
+    /// Whether a call was done. If it was refused, the site says why.
+    fn checked(&mut self, ok: bool, number: u8, place: u64) -> Result<(), Refused> {
+        if ok {
+            return Ok(());
+        }
+        let why = self.why(number);
+        Err(Refused { number, place, why })
+    }
+
+    /// Why the last call was refused. It is the number alone if the handle has no site, or if there is no memory for the reason.
+    fn why(&mut self, number: u8) -> String {
+        let length = unsafe { sct_raw_why(&mut *self.handle, [].as_mut_ptr(), 0) }.length;
+        let mut text = vec![0; length];
+        let told = unsafe { sct_raw_why(&mut *self.handle, text.as_mut_ptr(), text.len()) };
+        match String::from_utf8(text) {
+            Ok(why) if told.ok && length > 0 => why,
+            _ => number.to_string(),
+        }
     }
 
     /// The answer that a call made.
     fn made(&mut self, made: Outcome) -> Result<Vec<u8>, Refused> {
-        checked(made.ok, made.code, made.place)?;
+        self.checked(made.ok, made.code, made.place)?;
         self.answer(made.length)
     }
 
     /// The answer, whose length is known.
     fn answer(&mut self, length: usize) -> Result<Vec<u8>, Refused> {
         let mut text = vec![0; length];
-        let copied = unsafe { sct_site_answer(&mut *self.handle, text.as_mut_ptr(), text.len()) };
-        checked(copied.ok, copied.code, copied.place)?;
+        let copied = unsafe { sct_raw_answer(&mut *self.handle, text.as_mut_ptr(), text.len()) };
+        self.checked(copied.ok, copied.code, copied.place)?;
         Ok(text)
     }
 }
 
 impl Drop for Site {
     fn drop(&mut self) {
-        // SAFETY: the handle has a site, which nobody else has.
-        unsafe { sct_site_close(&mut *self.handle) }
+        // SAFETY: the handle is empty, or has a site, which nobody else has.
+        unsafe { sct_raw_close(&mut *self.handle) }
     }
 }
