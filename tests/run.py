@@ -65,11 +65,20 @@ CHECKS = {
     },
     "hub": {
         "units": "tries parts of services/hub by themselves",
+        "first_steps": "does what the page of the hub shows, from a first look to three sites with TLS and roles",
+        "roles": "reads configurations and files of roles, right ones and wrong ones",
+        "records": "changes records of sites in each way, and audits them",
+        "senders": "posts lines in other names, and asks about transfers of others, as who means harm",
+        "xml": "reads messages in XML, right ones and those that attack",
+        "attackers": "does at sites with TLS and roles what each who may do, and what it may not",
         "kills": "kills three sites of services/hub, and their processes, while clients post",
         "troubles": "posts examples at sites of services/hub, and fills their disks",
         "journals": "takes lines from journals of sites, copies them, and makes them of older ones",
         "limits": "asks sites without a right, without an end, and more than they take",
         "peers": "gives sites peers that are odd, slow, or an hour ahead",
+        "clients": "tries the client of a hub and hubctl at odd sites and at one, and the OpenAPI text",
+        "operators": "does what an operator does with journals, and retires a number while others go on",
+        "mirrors": "compares a mirror in SQLite with the texts, while it and its site are killed",
         "page": "uses the page of a site in a browser",
         "java": "runs the Java package on the examples",
     },
@@ -90,6 +99,7 @@ CHECKS = {
         "c_examples": "builds and runs the examples in C and Rust",
         "python_package": "runs the tests of the Python package, judges its types and installs it",
         "release": "unpacks the release and builds the C example on it",
+        "packages": "installs the Debian packages, runs a hub of them, and removes them",
     },
     "page": {
         "browser": "compares the page in Chromium with the program, by its files and by its keys, and looks for connections",
@@ -101,9 +111,12 @@ CHECKS = {
 PACKAGES = {name: ["gcc"] for name in ["archive_growths", "view_growths", "desk_growths", "desk_pending", "forms", "allocations",
                                        "group_memory", "serve_allocations", "serve_lives"]}
 PACKAGES.update({name: ["gcc"] for name in CHECKS["embed"]})
-PACKAGES.update({name: ["python3-aiohttp"] for name in ["kills", "troubles", "journals", "peers"]})
-PACKAGES["release"] = ["gcc", "python3-aiohttp"]
-PACKAGES["limits"] = ["python3-aiohttp", "curl", "openssl"]
+PACKAGES.update({name: ["python3-aiohttp"] for name in ["troubles", "journals", "limits", "peers", "operators", "mirrors"]})
+PACKAGES["release"], PACKAGES["senders"], PACKAGES["clients"] = ["gcc", "python3-aiohttp"], ["gcc"], ["python3-aiohttp", "openssl"]
+PACKAGES.update({name: ["python3-aiohttp", "gcc", "openssl"] for name in ["kills", "attackers"]})
+PACKAGES["packages"] = ["gcc", "python3-aiohttp", "lintian", "systemd", "adduser", "nginx-light", "libnginx-mod-stream", "prometheus", "openssl",
+                        "pkg-config", "man-db"]
+PACKAGES["first_steps"] = ["python3-aiohttp", "gcc", "openssl", "curl"]
 PACKAGES["java"] = ["libjna-java", "openjdk-17-jdk-headless", "gcc"]
 PACKAGES["page"] = ["python3-aiohttp", "chromium"]
 PACKAGES["parts"] = ["python3-dask", "python3-distributed", "python3-cryptography", "openssl"]
@@ -111,8 +124,9 @@ PACKAGES["browser"], PACKAGES["shipped"], PACKAGES["worker"] = ["chromium"], ["g
 # what makes what a check needs, if it can in some minutes: it returns why it cannot
 MAKES = {"browser": page.make, "shipped": page.make}
 # the Debian packages without which a part of a check is skipped, which the check says by itself
-HELPFUL = {"c_calls": ["valgrind"], "c_threads": ["valgrind"], "c_examples": ["cargo", "clang", "g++"], "release": ["pkg-config"],
-           "python_package": ["mypy", "python3-pip", "python3-pytest", "python3-setuptools", "python3-wheel"]}
+HELPFUL = {"c_calls": ["valgrind"], "c_threads": ["valgrind"], "c_examples": ["cargo", "clang", "g++"],
+           "release": ["pkg-config", "openjdk-17-jdk-headless", "libjna-java"],
+           "python_package": ["mypy", "python3-pip", "python3-pytest", "python3-setuptools", "python3-venv", "python3-wheel"]}
 SECONDS = 3600  # a check that runs for longer is stopped
 SKIPPED = "skipped: "
 SEEDED = ["c_calls", "serve_lives", "serve_hub"]  # checks that make up cases as the property checks do

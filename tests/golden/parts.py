@@ -18,7 +18,7 @@ from concurrent.futures import ThreadPoolExecutor
 from bench.generate import messages, samples
 from tests import harness, inputs
 from tests.golden.shown import is_printed, place, shell, shown
-from tests.hub.limits import certificate
+from tests.hub.secure import certificate
 from tests.harness import EXAMPLES, SERVICES, TOP, reported
 from tests.oracle.status import Refused, read_message
 from tests.property.messages import Pool, shuffled, written_out
@@ -483,8 +483,8 @@ def all_made_up(many, python, program, folder):
 def over_tls(r, python, program, folder):
     """A cluster that speaks over TLS alone."""
     place = pathlib.Path(folder)
-    authority = certificate(place, "authority")
-    mine = [authority[0], *certificate(place, "mine", authority)]
+    certificate(place, "mine", "localhost", "127.0.0.1")
+    mine = [str(place / name) for name in ("authority.crt", "mine.crt", "mine.key")]
     path = place / "rows.list"
     lines = small_input(r)
     path.write_bytes(list_of(r, lines)[2])

@@ -3,8 +3,8 @@
 Usage: tests/oracle/serve.py serve SITE SITES JOURNAL
 
 It takes the words of the program, reads requests on standard input, and can stand in for the program. It has no help, and after
-`fault 64` no text of clap. `? changes` names the transfers that have to be named, and a right answer may name more. The site is a handle
-of tests/embed/model.py, so a question answers what the library's call of that name answers.
+`fault 64` no text of clap. The site is a handle of tests/embed/model.py, so a question answers what the library's call of that name
+answers.
 """
 import contextlib, fcntl, itertools, os, pathlib, stat, sys
 sys.path.insert(0, str(pathlib.Path(__file__).resolve().parents[2]))
@@ -18,8 +18,10 @@ LOCK_AT, LOCKED = 1 << 30, 512  # the bytes that SQLite locks of a database
 # the call of each question, and how many words it has; the last one of MORE is the rest of the line
 CALLS = {b"vector": ("vector_text", 0), b"cut": ("cut", 1), b"status": ("status_text", 0), b"totals": ("totals_text", 0),
          b"archive": ("archive_text", 0), b"contradictions": ("contradictions_text", 0), b"changes": ("changes", 0),
-         b"transfer": ("transfer_text", 2), b"messages": ("messages_text", 2), b"bank": ("bank_totals", 1), b"report": ("report", 3)}
+         b"evaluate": ("evaluate", 0), b"transfer": ("transfer_text", 2), b"messages": ("messages_text", 2), b"bank": ("bank_totals", 1),
+         b"report": ("report", 3)}
 MORE = [b"transfer", b"messages", b"report"]
+EVALUATE = b"evaluate"  # the question whose answer is empty
 
 
 # ---- requests and replies
@@ -74,6 +76,8 @@ class Serving:
         words = asked.split(b" ", many if name in MORE else -1)[1:]
         if call is None or len(words) != many:
             return b"REFUSED 64"
+        if name == EVALUATE:
+            return b"TEXT 0\n"
         if name == b"report":
             words[-1] = words[-1].replace(b"\t", b"\n")
         fields, text = self.handle.call(call, *words)

@@ -33,7 +33,9 @@ def shipped(folder):
     done = summed(folder)
     yield reported("the list of the release", done.status == 0, done.errors.decode())
     named = {line.split("  ")[1] for line in (folder / package.SUMS).read_text().splitlines()}
-    yield reported("what the list names", named == {"niluppang.html", archive.name}, str(named))
+    packages, wheels = ({path.name for path in folder.glob(f"*.{end}")} for end in ("deb", "whl"))
+    whole = named == {"niluppang.html", archive.name, *packages, *wheels}
+    yield reported("what the list names", len(packages) == 5 and len(wheels) == 1 and whole, str(named))
     lines = inside(archive, f"{package.NAME}/{package.SUMS}").decode().splitlines()
     sums = [line.split("  ")[0] for line in [*lines, *(folder / package.SUMS).read_text().splitlines()] if line.endswith("niluppang.html")]
     yield reported("one sum in both lists", len(sums) == 2 and sums[0] == sums[1], str(sums))

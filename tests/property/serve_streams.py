@@ -99,7 +99,7 @@ def kind_of(line, reply):
 
 
 def is_right(line, wanted, found, before, now):
-    """Whether a reply is right: to the byte, or as the changes between what was held when they were asked for before, and now."""
+    """Whether a reply is right, to the byte. Changes are those between what was held when they were asked for before, and now."""
     if line != b"? changes":
         return found == wanted
     head, _, text = found.partition(b"\n")

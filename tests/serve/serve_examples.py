@@ -70,6 +70,8 @@ def third(program, folder):
     status = b"T|BANKDEFFXXX|T1|ACCEPTED\n"
     data, text = CUT_LINE + b"\n? status\n", b"READY 1:2\nACCEPTED 0\nTEXT %d\n%s\n" % (len(status), status)
     yield "3: again, and the status", served(program, two, data, text, kept, (2, 2))
+    data, text = b"? evaluate\n? status\n? evaluate now\n", b"READY 1:2\nTEXT 0\n\nTEXT %d\n%s\nREFUSED 64\n" % (len(status), status)
+    yield "3: what is new is evaluated, without a text", served(program, two, data, text, kept, (2, 2))
 
 
 def fourth(program, folder):

@@ -86,4 +86,5 @@ class Requests:
         origins = sorted(self.r.sample(range(1, self.group + 2), self.r.randint(0, 2)))
         have = ",".join(f"{origin}:{self.r.randint(0, self.next)}" for origin in origins) or "-"
         return self.r.choice([b"? vector", b"? cut %s" % have.encode(), b"? status", b"? totals", b"? archive", b"? contradictions",
-                              b"? transfer BANKDEFF T%d" % number, b"? messages BANKDEFFXXX T%d" % number, b"? bank BANQFRPP", REPORT])
+                              b"? evaluate", b"? transfer BANKDEFF T%d" % number, b"? messages BANKDEFFXXX T%d" % number,
+                              b"? bank BANQFRPP", REPORT])
