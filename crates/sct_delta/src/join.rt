@@ -95,9 +95,9 @@ impl Logs {
 
     /// Joins a delta that fits the site `own`. Returns how many of its entries were not held. It does not
     /// allocate right after `reserve` of the delta.
-    /// A delta that does not fit is refused as by `fits`, and dropped. Further error: `Memory` (40), and the logs then
-    /// keep nothing for an origin that holds no message. After an error the entries held are unchanged.
-    /// O(entries of the delta).
+    /// A delta that does not fit is refused as by `fits`, and dropped: the logs are then as they were. Further error:
+    /// `Memory` (40). The entries held are then unchanged. After a join, and after that error, the logs keep nothing for an
+    /// origin that holds no message. O(entries of the delta and origins).
     pub fn join(&mut self, own: u16, delta: Delta) -> Result<u64, DeltaFault>
         ensures group { self.new.group ≡ self.old.group }
         ensures answer { IfOk result (λ fresh. fresh ≡ length (fresh_in (log_in self.old) delta)) }
@@ -109,7 +109,9 @@ impl Logs {
             (refusal ≡ fault.Memory) (λ first. refusal ≡ first)) }
         ensures unchanged { OnErr result (HoldSame self.new self.old) }
         ensures room { HasRoomFor self.old delta → IfErr result (λ refusal. refusal ≢ fault.Memory) }
+        ensures same { IfErr result (λ refusal. refusal ≢ fault.Memory → self.new ≡ self.old) }
         ensures filled { IfErr result (λ refusal. refusal ≡ fault.Memory → KeepsNoEmpty self.new) }
+        ensures kept { OnOk result (KeepsNoEmpty self.new) }
     {
         self.fits(own, &delta)?;
         self.reserve(&delta)?;
@@ -117,6 +119,7 @@ impl Logs {
         entries.retain(|entry| self.is_new(entry));
         let fresh = entries.len() as u64;
         self.append_each(entries);
+        self.drop_empty();
         Ok(fresh)
     }
 }

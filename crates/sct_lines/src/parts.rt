@@ -67,6 +67,7 @@ fn read_by_halves<R: Threads + Sync>(
     halvings: u32,
     shortage: &Shortage,
 ) -> Result<LinesRead, AllocError>
+    requires halved { halvings ≤ 16 }
     requires within { from ≤ length text.now }
     requires few { counted + length text.now < 2 ^ 64 }
     ensures { IfOk result (IsPartOf label.now counted text.now from) }
@@ -81,7 +82,7 @@ fn read_by_halves<R: Threads + Sync>(
     let (first, second) = join(
         rt,
         || -> Result<LinesRead, AllocError>
-            requires { IsSync R.row × (0 < halvings) × (from ≤ length front.now) × (counted + length front.now < 2 ^ 64) }
+            requires { IsSync R.row × (0 < halvings) × (halvings ≤ 16) × (from ≤ length front.now) × (counted + length front.now < 2 ^ 64) }
             ensures { IfOk result (IsPartOf label.entry.now counted front.entry.now from) }
         {
             shortage.noted(read_by_halves(
@@ -96,7 +97,7 @@ fn read_by_halves<R: Threads + Sync>(
             ))
         },
         || -> Result<LinesRead, AllocError>
-            requires { IsSync R.row × (0 < halvings) × (at < length text.now) × (counted + length text.now < 2 ^ 64) }
+            requires { IsSync R.row × (0 < halvings) × (halvings ≤ 16) × (at < length text.now) × (counted + length text.now < 2 ^ 64) }
             ensures { IfOk result (IsPartOf label.entry.now counted text.entry.now (at + 1)) }
         {
             shortage.noted(read_by_halves(
@@ -117,12 +118,18 @@ fn read_by_halves<R: Threads + Sync>(
 }
 
 // How many halvings give two parts for each processor.
-fn halvings<R: Threads>(rt: &R, input: &[u8]) -> u32 {
+fn halvings<R: Threads>(rt: &R, input: &[u8]) -> u32
+    ensures { result ≤ 16 }
+{
     if input.len() < WORTH_A_THREAD {
         return 0;
     }
     match available_parallelism(rt) {
-        Ok(processors) => processors.get().saturating_mul(2).ilog2(),
+        Ok(processors) => processors
+            .get()
+            .saturating_mul(2)
+            .ilog2()
+            .min(MOST_HALVINGS),
         Err(_) => 0,
     }
 }
@@ -173,7 +180,7 @@ pub fn read_file_lines<R: Threads + Sync>(
         ≡ told_after label.now (refusals_told input.now)) }
     ensures refused { IfOk result (λ intake. intake.refusals.count ≡ length (refusals_told input.now)) }
 {
-    let halvings = halvings(rt, input).min(MOST_HALVINGS);
+    let halvings = halvings(rt, input);
     let shortage = Shortage::none();
     let read = read_by_halves(rt, alloc, label, 0, input, 0, halvings, &shortage)?;
     Ok(read.into_intake())
@@ -192,7 +199,7 @@ impl LinesRead {
         ensures read { IfOk result (IsReadOn block.now self) }
     {
         let mut read = self;
-        let halvings = halvings(rt, block).min(MOST_HALVINGS);
+        let halvings = halvings(rt, block);
         let shortage = Shortage::none();
         let next = read_by_halves(rt, alloc, "", read.lines, block, 0, halvings, &shortage)?;
         read.append(next)?;

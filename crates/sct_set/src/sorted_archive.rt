@@ -1,7 +1,7 @@
 //! A set of messages with the order of its archive text, both built at the same time, and that text in pieces, each
 //! written in a thread of its own if a thread can be started.
 
-ghost use Rattle.std.specs.Prelude.{◌≡◌, ◌<◌, map, IfOk};
+ghost use Rattle.std.specs.Prelude.{◌≡◌, ◌<◌, ◌≤◌, map, IfOk};
 ghost use Rattle.std.specs.Thread.{IsSync};
 ghost use Rattle.sct_message.specs.Ascending.{ascending};
 ghost use Rattle.sct_message.specs.Keys.{identity_of};
@@ -22,6 +22,8 @@ use std::marker::Model;
 use std::sync::Arc;
 use std::thread::{Threads, available_parallelism, join};
 
+// The most halvings of a list.
+const MOST_HALVINGS: u32 = 16;
 // Fewer identities than this are written in one piece.
 const WORTH_A_THREAD: usize = 256;
 
@@ -57,6 +59,7 @@ fn pieces_by_halves<R: Threads + Sync>(
     identities: &[Identity],
     halvings: u32,
 ) -> Result<Vec<Vec<u8>>, AllocError>
+    requires { halvings ≤ 16 }
     ensures { IfOk result (λ pieces. AreWritten arrivals.now identities.now (joined pieces.items)) }
 {
     if halvings == 0 {
@@ -66,11 +69,11 @@ fn pieces_by_halves<R: Threads + Sync>(
     let (first, second) = join(
         rt,
         || -> Result<Vec<Vec<u8>>, AllocError>
-            requires { IsSync R.row × (0 < halvings) }
+            requires { IsSync R.row × (0 < halvings) × (halvings ≤ 16) }
             ensures { IfOk result (λ pieces. AreWritten arrivals.entry.now front.entry.now (joined pieces.items)) }
         { pieces_by_halves(rt, arrivals, front, halvings - 1) },
         || -> Result<Vec<Vec<u8>>, AllocError>
-            requires { IsSync R.row × (0 < halvings) }
+            requires { IsSync R.row × (0 < halvings) × (halvings ≤ 16) }
             ensures { IfOk result (λ pieces. AreWritten arrivals.entry.now back.entry.now (joined pieces.items)) }
         { pieces_by_halves(rt, arrivals, back, halvings - 1) },
     );
@@ -81,12 +84,18 @@ fn pieces_by_halves<R: Threads + Sync>(
 }
 
 // How often a list of identities is halved: so often that there are about two pieces for each processor.
-fn halvings<R: Threads>(rt: &R, identities: &[Identity]) -> u32 {
+fn halvings<R: Threads>(rt: &R, identities: &[Identity]) -> u32
+    ensures { result ≤ 16 }
+{
     if identities.len() < WORTH_A_THREAD {
         return 0;
     }
     match available_parallelism(rt) {
-        Ok(processors) => processors.get().saturating_mul(2).ilog2(),
+        Ok(processors) => processors
+            .get()
+            .saturating_mul(2)
+            .ilog2()
+            .min(MOST_HALVINGS),
         Err(_) => 0,
     }
 }

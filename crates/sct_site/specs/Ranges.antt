@@ -1,5 +1,5 @@
 -- Ranges of logs: entries by their origin and numbers, without their messages. Read by an auditor. Worlds use these words.
-use Rattle.std.specs.Prelude.{◌+◌, ◌-◌, ◌≤◌, ℕ, List, drop, take, length}
+use Rattle.std.specs.Prelude.{◌+◌, ◌-◌, ◌≤◌, ◌<◌, ℕ, List, drop, take, length}
 use Rattle.std.specs.List.{flat_map, sum_by, All}
 use Rattle.sct_message.specs.declared.draft.Draft.{Draft}
 use Rattle.sct_delta.specs.Entries.{Placed, numbered}
@@ -16,6 +16,10 @@ in_ranges log ranges = flat_map (in_range log) ranges
 -- the logs reach to the end of each range
 abbrev pub ReachEnds : (ℕ → List Draft) → List LogRange → Type 0
 ReachEnds log ranges = All (λ range. range.upto ≤ length (log range.origin)) ranges
+
+-- each range has an entry, if logs reach to its end
+abbrev pub AreFilled : List LogRange → Type 0
+AreFilled ranges = All (λ range. range.above < range.upto) ranges
 
 -- how many entries ranges have, if logs reach to their ends
 abbrev pub size_of : List LogRange → ℕ

@@ -6,7 +6,7 @@ ghost use Rattle.sct_delta.specs.Entries.{IsArrivals, IsDelta, held_from, messag
 ghost use Rattle.sct_delta.specs.Vectors.{count_in};
 ghost use Rattle.sct_delta.specs.declared.fault.DeltaFault.TheVariants as fault;
 ghost use Rattle.sct_site.specs.Cores.{Core, IsSite, is_open, took_by, arrivals_taken, refusal_by, fresh_of, arrivals_joined, entries_above, is_above, logs_of};
-ghost use Rattle.sct_site.specs.Ranges.{in_range, in_ranges, size_of, ReachEnds};
+ghost use Rattle.sct_site.specs.Ranges.{in_range, in_ranges, size_of, AreFilled, ReachEnds};
 
 use crate::answers::{Accepted, Took};
 use crate::ranges::{LogRange, push_range};
@@ -184,14 +184,15 @@ impl SiteCore {
         self.logs.cut(vector)
     }
 
-    /// The entries that `cut` has, as ranges of the site's logs. Logs only grow, so the ranges keep these entries.
-    /// Error: `Memory` (40). The cost is two look-ups for each site of the group.
+    /// The entries that `cut` has, as ranges of the site's logs, each with an entry. Logs only grow, so the ranges keep
+    /// these entries. Error: `Memory` (40). The cost is two look-ups for each site of the group.
     pub fn cut_ranges(&self, vector: &Vector) -> Result<Vec<LogRange>, DeltaFault>
         requires { IsSite self.now }
         ensures cut { IfOk result (λ ranges. in_ranges (logs_of self.now.arrivals) ranges.items
             ≡ entries_above (count_in vector.now) self.now.arrivals) }
         ensures shape { IfOk result (λ ranges. IsDelta (in_ranges (logs_of self.now.arrivals) ranges.items)) }
         ensures ends { IfOk result (λ ranges. ReachEnds (logs_of self.now.arrivals) ranges.items) }
+        ensures filled { IfOk result (λ ranges. AreFilled ranges.items) }
         ensures few { IfOk result (λ ranges. size_of ranges.items < 2 ^ 64) }
         ensures err { IfErr result (λ refusal. refusal ≡ fault.Memory) }
     {

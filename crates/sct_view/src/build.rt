@@ -1,6 +1,6 @@
 //! The archive and the tables of a view, built from all messages: in one thread, or in as many as there are processors.
 
-ghost use Rattle.std.specs.Prelude.{◌≡◌, ◌<◌, map, IfOk};
+ghost use Rattle.std.specs.Prelude.{◌≡◌, ◌<◌, ◌≤◌, map, IfOk};
 ghost use Rattle.std.specs.Thread.{IsSync};
 ghost use Rattle.indexmap.specs.IndexMap.{keys};
 ghost use Rattle.sct_message.specs.Sets.{messages_in};
@@ -20,6 +20,8 @@ use std::alloc::{AllocError, Global};
 use std::sync::Arc;
 use std::thread::{Threads, available_parallelism, join};
 
+// The most halvings of a list.
+const MOST_HALVINGS: u32 = 16;
 // Fewer transfers than this are evaluated in one part.
 const WORTH_A_THREAD: usize = 256;
 
@@ -68,7 +70,8 @@ fn planned_by_halves<R: Threads + Sync>(
     transfers: &[TransferKey],
     halvings: u32,
 ) -> Result<Vec<Planned>, AllocError>
-    requires { IsFiled archive.now index.now }
+    requires filed { IsFiled archive.now index.now }
+    requires few { halvings ≤ 16 }
     ensures { IfOk result (λ planned. map change_in planned.items ≡ changes_of archive.now transfers.now) }
 {
     if halvings == 0 {
@@ -78,12 +81,12 @@ fn planned_by_halves<R: Threads + Sync>(
     let (first, second) = join(
         rt,
         || -> Result<Vec<Planned>, AllocError>
-            requires { IsSync R.row × (0 < halvings) × IsFiled archive.now index.now }
+            requires { IsSync R.row × (0 < halvings) × (halvings ≤ 16) × IsFiled archive.now index.now }
             ensures { IfOk result (λ planned. map change_in planned.items
                 ≡ changes_of archive.entry.now front.entry.now) }
         { planned_by_halves(rt, alloc, archive, index, front, halvings - 1) },
         || -> Result<Vec<Planned>, AllocError>
-            requires { IsSync R.row × (0 < halvings) × IsFiled archive.now index.now }
+            requires { IsSync R.row × (0 < halvings) × (halvings ≤ 16) × IsFiled archive.now index.now }
             ensures { IfOk result (λ planned. map change_in planned.items
                 ≡ changes_of archive.entry.now back.entry.now) }
         { planned_by_halves(rt, alloc, archive, index, back, halvings - 1) },
@@ -95,12 +98,18 @@ fn planned_by_halves<R: Threads + Sync>(
 }
 
 // How often this many transfers are halved: so often that there are about two parts for each processor.
-pub(crate) fn halvings<R: Threads>(rt: &R, transfers: usize) -> u32 {
+pub(crate) fn halvings<R: Threads>(rt: &R, transfers: usize) -> u32
+    ensures { result ≤ 16 }
+{
     if transfers < WORTH_A_THREAD {
         return 0;
     }
     match available_parallelism(rt) {
-        Ok(processors) => processors.get().saturating_mul(2).ilog2(),
+        Ok(processors) => processors
+            .get()
+            .saturating_mul(2)
+            .ilog2()
+            .min(MOST_HALVINGS),
         Err(_) => 0,
     }
 }

@@ -1,6 +1,6 @@
 //! The status text of a view in pieces, each written in a thread of its own if a thread can be started.
 
-ghost use Rattle.std.specs.Prelude.{◌≡◌, ◌<◌, IfOk};
+ghost use Rattle.std.specs.Prelude.{◌≡◌, ◌<◌, ◌≤◌, IfOk};
 ghost use Rattle.std.specs.List.{flat_map};
 ghost use Rattle.std.specs.Thread.{IsSync};
 ghost use Rattle.sct_set.specs.Pieces.{joined};
@@ -33,6 +33,7 @@ impl View {
         transfers: &[TransferKey],
         halvings: u32,
     ) -> Result<Vec<Vec<u8>>, AllocError>
+        requires { halvings ≤ 16 }
         ensures { IfOk result (λ pieces. joined pieces.items ≡ flat_map (lines_on self.now) transfers.now) }
     {
         if halvings == 0 {
@@ -42,12 +43,12 @@ impl View {
         let (first, second) = join(
             rt,
             || -> Result<Vec<Vec<u8>>, AllocError>
-                requires { IsSync R.row × (0 < halvings) }
+                requires { IsSync R.row × (0 < halvings) × (halvings ≤ 16) }
                 ensures { IfOk result (λ pieces. joined pieces.items
                     ≡ flat_map (lines_on self.entry.now) front.entry.now) }
             { self.pieces_by_halves(rt, front, halvings - 1) },
             || -> Result<Vec<Vec<u8>>, AllocError>
-                requires { IsSync R.row × (0 < halvings) }
+                requires { IsSync R.row × (0 < halvings) × (halvings ≤ 16) }
                 ensures { IfOk result (λ pieces. joined pieces.items
                     ≡ flat_map (lines_on self.entry.now) back.entry.now) }
             { self.pieces_by_halves(rt, back, halvings - 1) },

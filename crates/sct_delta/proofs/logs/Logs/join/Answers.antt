@@ -23,7 +23,7 @@ append_each-requires c =
           (passed c.args.own c.args.self.now.group held c.args.delta c.in_ok-fits.ensures.ok).inside;
     }
 
-fresh : (c : goal.After-append_each) → c.retain.new.self.items ≡ fresh_in (log_in c.args.self.now) c.args.delta
+fresh : (c : goal.After-drop_empty) → c.retain.new.self.items ≡ fresh_in (log_in c.args.self.now) c.args.delta
 fresh c =
     kept_fresh c.args.own c.args.self.now.group (log_in c.args.self.now) (log_in c.reserve.new.self) c.args.delta _ _ c.in_ok-fits.ensures.ok c.in_ok-reserve.ensures.same c.into_entries-entries.ensures.entries
     (filter_same _ (is_new (log_in c.reserve.new.self)) _ (λ x b f' k. search rules) _ _ c.retain.ensures.filtered)
@@ -32,4 +32,4 @@ pub returns-clause-answer : goal.returns-clause-answer
 returns-clause-answer c = omega (arith, c.retain.new.self.ok, c.len-fresh.ensures, ap length (fresh c))
 
 pub returns-clause-ok : goal.returns-clause-ok
-returns-clause-ok c = λ o. c.append_each.ensures.logs o ∙ (λ i. c.in_ok-reserve.ensures.same o i ++ log_of o (fresh c i))
+returns-clause-ok c = λ o. c.drop_empty.ensures.same o ∙ c.append_each.ensures.logs o ∙ (λ i. c.in_ok-reserve.ensures.same o i ++ log_of o (fresh c i))

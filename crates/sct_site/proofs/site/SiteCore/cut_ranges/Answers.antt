@@ -26,7 +26,7 @@ returns-clause-shape c = subst (λ (ds : List Placed). IsDelta ds) (sym (all_are
 pub returns-clause-few : goal.returns-clause-few
 returns-clause-few c =
     let size : length (in_ranges (logs_of c.args.self.now.arrivals) c.loop-place.ranges.items) ≡ size_of c.loop-place.ranges.items
-    = length_ranges (logs_of c.args.self.now.arrivals) c.loop-place.ranges.items c.loop-place.invariant.1 in
+    = length_ranges (logs_of c.args.self.now.arrivals) c.loop-place.ranges.items c.loop-place.invariant.1.0 in
     let cut : length (in_ranges (logs_of c.args.self.now.arrivals) c.loop-place.ranges.items) ≡ length (entries_above (count_in c.args.vector.now) c.args.self.now.arrivals) = ap length (cut_is c) in
     let most : length (entries_above (count_in c.args.vector.now) c.args.self.now.arrivals) ≤ length c.args.self.now.arrivals = few_above (count_in c.args.vector.now) c.args.self.now.arrivals in
     let held : length c.self.inside.arrivals.items ≡ length c.args.self.now.arrivals = ap (λ (core : Core). length core.arrivals) c.self.view_is in
