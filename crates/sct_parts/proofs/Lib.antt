@@ -6,5 +6,6 @@ pub mod ManyLemmas
 pub mod Members
 pub mod RowLemmas
 pub mod SumsLemmas
+pub mod TogetherLemmas
 pub mod TransferLemmas
 pub mod TwiceLemmas

@@ -1,8 +1,9 @@
 -- Many parts that are apart. Proof plumbing.
 use Rattle.std.specs.FinSet as set
 use Rattle.std.specs.FinSet.{contains-empty}
-use Rattle.std.specs.Prelude.{◌⊎◌, Contains}
-use Rattle.std.proofs.Common.{◌≡◌, ◌∙◌, sym, ap, subst, inl, inr, ℕ, true, List, [], ◌∷◌}
+use Rattle.std.specs.Prelude.{◌⊎◌, Contains, if◌then◌else◌}
+use Rattle.std.specs.Cmp.{both_ways}
+use Rattle.std.proofs.Common.{◌≡◌, ◌∙◌, refl, sym, ap, subst, inl, inr, ℕ, true, List, [], ◌∷◌}
 use Rattle.std.proofs.lemmas.Bool.{false_from_ne_true, false≢true}
 use Rattle.sct_message.specs.Order.{message_order}
 use Rattle.sct_message.specs.Sets.{MessageSet}
@@ -10,7 +11,7 @@ use Rattle.sct_message.specs.Transfers.{keys_of}
 use Rattle.sct_message.specs.declared.draft.Draft.{Draft}
 use Rattle.sct_message.specs.declared.keys.Identity.{Identity}
 use Rattle.sct_message.specs.declared.keys.TransferKey.{TransferKey}
-use Rattle.sct_case.proofs.Membership.{first_or_later, here, later, nothing as not_there}
+use Rattle.sct_case.proofs.Membership.{first_or_later, flat_mapped_in, in_flat_map, here, later, nothing as not_there}
 use Rattle.sct_set.specs.Contradictions.{IsContradicted}
 use Rattle.sct_view.specs.Totals.{nothing, plus, share_of, totals_of}
 use Rattle.sct_view.proofs.BankLemmas.{number_of}
@@ -20,11 +21,14 @@ use Rattle.std.specs.List.{flat_map}
 use Rattle.std.proofs.Common.{◌++◌}
 use Rattle.std.proofs.lemmas.List.Elements.{Contains-append_cases, Contains-append_left, Contains-append_right}
 use Rattle.sct_message.specs.Ascending.{ascending}
-use Rattle.sct_set.specs.Archive.{archive_text_of, in_text_order, line_of, line_order}
+use Rattle.sct_set.specs.Archive.{added_of, added_where, archive_text_of, has_identity, in_text_order, line_of, line_order}
+use Rattle.sct_set.specs.declared.added.Added.TheVariants as added
+use Rattle.sct_message.specs.Keys.{identity_of}
+use Rattle.sct_message.proofs.SameValues.{identity_is}
 use Rattle.sct_set.specs.LineOrder.{line_order_total}
 use Rattle.sct_set.proofs.TextLemmas.{line_order_same}
 use Rattle.sct_parts.specs.Parts.{AreApart, ShareNothing}
-use Rattle.sct_parts.proofs.Members.{same_members, held_from, in_items, of_either, of_first, of_second, key_held, key_there, from_either, to_either}
+use Rattle.sct_parts.proofs.Members.{same_members, held_from, in_items, of_either, of_first, of_second, key_held, key_there, from_either, to_either, has_it, held_passing}
 use Rattle.sct_parts.proofs.ApartLemmas.{by_messages, from_both}
 use Rattle.sct_parts.proofs.TransferLemmas.{of_first_part, of_second_part}
 use Rattle.sct_parts.specs.Laws.{IsOfThePart, ManyPartsAnswerTogether}
@@ -36,20 +40,20 @@ use Rattle.sct_parts.proofs.RowLemmas.{row_alike, row_elsewhere, row_known}
 
 -- ---- one part and the others
 
-abbrev no_set : MessageSet
+abbrev pub no_set : MessageSet
 no_set = set.empty
 
-none_held : (m : Draft) → set.contains no_set m ≡ true → ⊥
+pub none_held : (m : Draft) → set.contains no_set m ≡ true → ⊥
 none_held m h = false≢true (sym (contains-empty message_order m) ∙ h)
 
 -- a part that is apart from each of the others is apart from all of them together
-apart_from_rest : (part : MessageSet) (parts : List MessageSet) → ((other : MessageSet) → Contains parts other → AreApart part other) → ShareNothing part (union_of parts)
+pub apart_from_rest : (part : MessageSet) (parts : List MessageSet) → ((other : MessageSet) → Contains parts other → AreApart part other) → ShareNothing part (union_of parts)
 apart_from_rest part [] each = λ one other held there. absurd (none_held other there)
 apart_from_rest part (next ∷ parts) each =
     from_both part next (union_of parts) (by_messages part next (each next (here next parts))) (apart_from_rest part parts (λ other h. each other (later next parts other h)))
 
 -- what is answered in a set as in its part, and in a larger set as in the set, is answered there as in the part
-in_turn : (part some all : MessageSet) (t : TransferKey) → IsOfThePart part some t → IsOfThePart some all t → IsOfThePart part all t
+pub in_turn : (part some all : MessageSet) (t : TransferKey) → IsOfThePart part some t → IsOfThePart some all t → IsOfThePart part all t
 in_turn part some all t first second = record {
   case = second.case ∙ first.case;
   answers = record {
@@ -99,7 +103,7 @@ key_of_whole (next ∷ parts) part t h key =
       | inr k ↦ inr (key_of_whole parts part t k key)
     ])
 
-key_in_a_part : (parts : List MessageSet) (t : TransferKey) → Contains (keys_of (union_of parts)) t
+pub key_in_a_part : (parts : List MessageSet) (t : TransferKey) → Contains (keys_of (union_of parts)) t
     → (part : MessageSet) × Contains parts part × Contains (keys_of part) t
 key_in_a_part [] t key = let m = key_held no_set t key in absurd (none_held m.0 m.1)
 key_in_a_part (next ∷ parts) t key =
@@ -108,7 +112,7 @@ key_in_a_part (next ∷ parts) t key =
       | inr h ↦ let r = key_in_a_part parts t h in (r.0, later next parts r.0 r.1, r.2)
     ]
 
-answered_in_whole : (parts : List MessageSet) → AreAllApart parts → (part : MessageSet) (t : TransferKey) → Contains parts part → Contains (keys_of part) t
+pub answered_in_whole : (parts : List MessageSet) → AreAllApart parts → (part : MessageSet) (t : TransferKey) → Contains parts part → Contains (keys_of part) t
     → IsOfThePart part (union_of parts) t
 answered_in_whole [] apart part t h key = absurd (not_there part h)
 answered_in_whole (next ∷ parts) apart part t h key =
@@ -123,7 +127,7 @@ answered_in_whole (next ∷ parts) apart part t h key =
 
 -- ---- totals
 
-no_totals : (bank : List ℕ) → totals_of no_set bank ≡ nothing
+pub no_totals : (bank : List ℕ) → totals_of no_set bank ≡ nothing
 no_totals bank =
     by_numbers (totals_of no_set bank) nothing (λ n is.
     number_of n is no_set bank
@@ -132,7 +136,7 @@ no_totals bank =
     (keys_of no_set)
     ∙ sym is.none)
 
-all_add_up : (parts : List MessageSet) → AreAllApart parts → (bank : List ℕ) → totals_of (union_of parts) bank ≡ totals_in parts bank
+pub all_add_up : (parts : List MessageSet) → AreAllApart parts → (bank : List ℕ) → totals_of (union_of parts) bank ≡ totals_in parts bank
 all_add_up [] apart bank = no_totals bank
 all_add_up (part ∷ parts) apart bank =
     add_up part (union_of parts) bank (apart_from_rest part parts apart.0)
@@ -166,6 +170,42 @@ text_of_all : (parts : List MessageSet) → archive_text_of (union_of parts) ≡
 unfolding archive_text_of in_text_order
 text_of_all parts = ap (flat_map line_of) (order_of_all parts)
 
+-- ---- the answer to a message
+
+-- a message of the whole is of a part, and one of a part is of the whole
+part_holding : (parts : List MessageSet) (m : Draft) → set.contains (union_of parts) m ≡ true → (part : MessageSet) × Contains parts part × (set.contains part m ≡ true)
+part_holding parts m e = let r = in_flat_map in_text_order parts m (in_parts parts m e) in (r.0, r.1, told_held r.0 m r.2)
+
+held_by_whole : (parts : List MessageSet) (part : MessageSet) (m : Draft) → Contains parts part → set.contains part m ≡ true → set.contains (union_of parts) m ≡ true
+held_by_whole parts part m h e = in_union parts m (flat_mapped_in in_text_order parts part m h (held_told part m e))
+
+module _ (parts : List MessageSet) (part : MessageSet) (m : Draft) (h : Contains parts part)
+    (alone : (other : MessageSet) → Contains parts other → has_identity other (identity_of m) ≡ true → other ≡ part) where
+  abbrev its : Identity
+  its = identity_of m
+
+  one_of_its : (other : MessageSet) (d : Draft) → Contains parts other → set.contains other d ≡ true → identity_of d ≡ its → set.contains part d ≡ true
+  one_of_its other d k held is = subst (λ (s : MessageSet). set.contains s d ≡ true) (alone other k (has_it other d its held is)) held
+
+  held_alike : set.contains (union_of parts) m ≡ set.contains part m
+  held_alike = both_ways _ _ (λ e. let r = part_holding parts m e in one_of_its r.0 m r.1 r.2 refl) (held_by_whole parts part m h)
+
+  had_alike : has_identity (union_of parts) its ≡ has_identity part its
+  had_alike =
+      both_ways _ _
+      (λ e.
+      let d = held_passing (union_of parts) _ e in
+      let is = identity_is (identity_of d.0) its d.2 in
+      let r = part_holding parts d.0 d.1 in
+      has_it part d.0 its (one_of_its r.0 d.0 r.1 r.2 is) is)
+      (λ e.
+      let d = held_passing part _ e in
+      has_it (union_of parts) d.0 its (held_by_whole parts part d.0 h d.1) (identity_is (identity_of d.0) its d.2))
+
+  answered_alike : added_of (union_of parts) m ≡ added_of part m
+  unfolding added_of
+  answered_alike = λ i. if held_alike i then added.Repeat else added_where (had_alike i)
+
 -- ---- the law
 
 pub many_parts : ManyPartsAnswerTogether
@@ -178,4 +218,5 @@ many_parts = record {
   own_rows = row_known;
   other_rows = row_elsewhere;
   archive = text_of_all;
+  answer = answered_alike;
 }

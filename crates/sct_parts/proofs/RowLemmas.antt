@@ -51,7 +51,7 @@ module _ (a b : MessageSet) (apart : ShareNothing a b) where
       ] refl
 
   module _ (bank day : List ℕ) (t : TransferKey) where
-    on_day_either : Contains (transfers_on_day (set.union a b) bank day) t → Contains (transfers_on_day a bank day) t ⊎ Contains (transfers_on_day b bank day) t
+    pub on_day_either : Contains (transfers_on_day (set.union a b) bank day) t → Contains (transfers_on_day a bank day) t ⊎ Contains (transfers_on_day b bank day) t
     on_day_either h =
         let k = in_filter (λ key. is_of_day day (instruction_of (set.union a b) key)) (transfers_of_bank (set.union a b) bank) t h in
         elim (of_bank_either a b apart bank t k.0) as (λ _. Contains (transfers_on_day a bank day) t ⊎ Contains (transfers_on_day b bank day) t) [
@@ -61,7 +61,7 @@ module _ (a b : MessageSet) (apart : ShareNothing a b) where
               (sym (ap (is_of_day day) (instruction_second a b apart t (bank_key_of b bank t p))) ∙ k.1))
         ]
 
-    on_day_from : Contains (transfers_on_day a bank day) t ⊎ Contains (transfers_on_day b bank day) t → Contains (transfers_on_day (set.union a b) bank day) t
+    pub on_day_from : Contains (transfers_on_day a bank day) t ⊎ Contains (transfers_on_day b bank day) t → Contains (transfers_on_day (set.union a b) bank day) t
     on_day_from (inl h) =
         let k = in_filter (λ key. is_of_day day (instruction_of a key)) (transfers_of_bank a bank) t h in
         filtered_in (λ key. is_of_day day (instruction_of (set.union a b) key)) (transfers_of_bank (set.union a b) bank) t (of_bank_from a b apart bank t (inl k.0))

@@ -126,7 +126,7 @@ key_bank : (s : MessageSet) (bank : List ℕ) (t : TransferKey) → Contains (ke
 unfolding transfers_of_bank
 key_bank s bank t h e = filtered_in (is_of s bank) (keys_of s) t h e
 
-banks_keys_rise : (s : MessageSet) (bank : List ℕ) → IsStrictlySortedBy transfer_order (transfers_of_bank s bank)
+pub banks_keys_rise : (s : MessageSet) (bank : List ℕ) → IsStrictlySortedBy transfer_order (transfers_of_bank s bank)
 unfolding transfers_of_bank
 banks_keys_rise s bank = IsStrictlySortedBy-filter transfer_order (is_of s bank) (keys_of s) (ascending_rises transfer_total transfers_same _)
 

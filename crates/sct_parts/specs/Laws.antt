@@ -1,6 +1,6 @@
 -- Laws of parts that are apart, for auditors. Each law is the contract of a function.
 use Rattle.std.specs.FinSet as set
-use Rattle.std.specs.Prelude.{◌≡◌, ◌≢◌, ◌↔◌, ◌⊎◌, ◌++◌, ℕ, false, List, Contains, None, map, flat_map}
+use Rattle.std.specs.Prelude.{◌≡◌, ◌≢◌, ◌↔◌, ◌⊎◌, ◌++◌, ℕ, true, false, List, ◌∷◌, Contains, None, map, flat_map}
 use Rattle.sct_message.specs.Ascending.{ascending}
 use Rattle.sct_message.specs.Keys.{identity_of}
 use Rattle.sct_message.specs.Order.{identity_order, transfer_order}
@@ -17,10 +17,11 @@ use Rattle.sct_view.specs.StatusText.{lines_on, status_text_of}
 use Rattle.sct_view.specs.Totals.{banks_of, plus, totals_of}
 use Rattle.sct_view.specs.TotalsText.{totals_line, totals_text_of}
 use Rattle.sct_view.specs.Touched.{IsToldAlike}
-use Rattle.sct_reconcile.specs.Reports.{listed_on, report_of, row_from, row_on, word_on}
+use Rattle.sct_reconcile.specs.Reports.{listed_on, report_of, row_from, row_on, transfers_on_day, word_on}
 use Rattle.sct_reconcile.specs.declared.rows.ListedRow.{ListedRow}
+use Rattle.sct_reconcile.specs.declared.rows.ReportRow.{ReportRow}
 use Rattle.sct_reconcile.specs.declared.words.StatusWord.TheVariants as word
-use Rattle.sct_parts.specs.Parts.{AreAllApart, AreApart, ShareNothing, banks_of_both, keys_of_both, keys_reported_of_both, lines_in_part, row_in_part, totals_in, union_of}
+use Rattle.sct_parts.specs.Parts.{AreAllApart, AreApart, IsReportedBy, ShareNothing, banks_of_all, banks_of_both, keys_of_all, keys_of_both, keys_reported_of_all, keys_reported_of_both, lines_in_its_part, lines_in_part, part_with, row_in_its_part, row_in_part, totals_in, union_of}
 
 -- ---- what is apart
 
@@ -107,7 +108,8 @@ pub record ArchiveIsThatOfTheParts : Type 0 where
 -- Many parts are apart, two by two. The whole contradicts an identity exactly if a part does. Its transfers are those
 -- of the parts, and each is answered as in its part and has its row. A row names an unknown status and no amount
 -- exactly if no message names the transfer: so it is with a transfer of the list in each part but its own. The totals
--- are the sums of those of the parts. The archive text has the lines of all parts.
+-- are the sums of those of the parts. The archive text has the lines of all parts. A message is answered as in one part
+-- if no other part has a message of its identity.
 pub record ManyPartsAnswerTogether : Type 0 where
   pub contradictions : (parts : List MessageSet) → AreAllApart parts → (identity : Identity)
       → IsContradicted (union_of parts) identity ↔ ((part : MessageSet) × Contains parts part × IsContradicted part identity)
@@ -124,6 +126,40 @@ pub record ManyPartsAnswerTogether : Type 0 where
       → row_on held list key ≡ row_from key (listed_on list key) word.Unknown None
   pub archive : (parts : List MessageSet)
       → archive_text_of (union_of parts) ≡ flat_map line_of (ascending line_order (flat_map in_text_order parts))
+  pub answer : (parts : List MessageSet) (part : MessageSet) (draft : Draft) → Contains parts part
+      → ((other : MessageSet) → Contains parts other → has_identity other (identity_of draft) ≡ true → other ≡ part)
+      → added_of (union_of parts) draft ≡ added_of part draft
+
+-- The whole lists what its parts list, each once, ascending. The lists are contradicted identities, transfers, those of a
+-- bank, those of a bank on a day, and the banks whose totals are not all zero. The status text has the lines of each
+-- transfer, as its part has them. The totals text has the line of each bank of a part, with the sums over all parts. A
+-- report has the row of each of its transfers, as the part of the transfer has it.
+pub record IsPutTogether (parts : List MessageSet) : Type 0 where
+  pub contradictions : contradicted_identities (union_of parts) ≡ ascending identity_order (flat_map contradicted_identities parts)
+  pub keys : keys_of (union_of parts) ≡ keys_of_all parts
+  pub status_text : status_text_of (union_of parts) ≡ flat_map (lines_in_its_part parts) (keys_of_all parts)
+  pub transfers : (bank : List ℕ)
+      → transfers_of_bank (union_of parts) bank ≡ ascending transfer_order (flat_map (λ part. transfers_of_bank part bank) parts)
+  pub banks : banks_of (union_of parts) ≡ banks_of_all parts
+  pub totals_text : totals_text_of (union_of parts) ≡ flat_map (λ bank. totals_line bank (totals_in parts bank)) (banks_of_all parts)
+  pub on_day : (bank day : List ℕ)
+      → transfers_on_day (union_of parts) bank day ≡ ascending transfer_order (flat_map (λ part. transfers_on_day part bank day) parts)
+  pub report : (bank day : List ℕ) (list : List ListedRow)
+      → report_of (union_of parts) bank day list ≡ map (row_in_its_part parts list) (keys_reported_of_all parts bank day list)
+
+-- The answers of the whole are put together from those of its parts, if these are apart. The part of a transfer is the one
+-- that has it, and the empty set if none has it. If there are parts, a report of the whole has a row exactly if a part
+-- reports that row, and this part or no part has its transfer.
+pub record ManyPartsArePutTogether : Type 0 where
+  pub whole : (parts : List MessageSet) → AreAllApart parts → IsPutTogether parts
+  pub its_part : (parts : List MessageSet) → AreAllApart parts → (part : MessageSet) (transfer : TransferKey)
+      → Contains parts part → Contains (keys_of part) transfer → part_with parts transfer ≡ part
+  pub no_part : (parts : List MessageSet) (transfer : TransferKey)
+      → (Contains (keys_of_all parts) transfer → ⊥) → part_with parts transfer ≡ set.empty
+  pub rows : (first : MessageSet) (others : List MessageSet) → AreAllApart (first ∷ others)
+      → (bank day : List ℕ) (list : List ListedRow) (row : ReportRow)
+      → Contains (report_of (union_of (first ∷ others)) bank day list) row
+      ↔ ((part : MessageSet) × IsReportedBy (first ∷ others) bank day list row part)
 
 -- ---- transfers that are in both sets
 

@@ -1,6 +1,6 @@
 -- Parts of a set of messages that have nothing in common, for auditors.
 use Rattle.std.specs.FinSet as set
-use Rattle.std.specs.Prelude.{◌≡◌, ◌≢◌, ◌++◌, ⊤, ℕ, true, Bool, List, [], ◌∷◌, Contains, map, if◌then◌else◌}
+use Rattle.std.specs.Prelude.{◌≡◌, ◌≢◌, ◌⊎◌, ◌++◌, ⊤, ℕ, true, Bool, List, [], ◌∷◌, Contains, map, flat_map, if◌then◌else◌}
 use Rattle.std.specs.List.{list_any}
 use Rattle.sct_message.specs.Ascending.{ascending}
 use Rattle.sct_message.specs.Keys.{identity_of, transfers_of}
@@ -14,7 +14,7 @@ use Rattle.sct_set.specs.Archive.{has_identity}
 use Rattle.sct_view.specs.StatusText.{lines_on}
 use Rattle.sct_view.specs.Totals.{banks_of, nothing, plus, totals_of}
 use Rattle.sct_view.specs.declared.totals.Totals.{Totals}
-use Rattle.sct_reconcile.specs.Reports.{row_on, transfers_on_day}
+use Rattle.sct_reconcile.specs.Reports.{report_of, row_on, transfers_on_day}
 use Rattle.sct_reconcile.specs.declared.rows.ListedRow.{ListedRow}
 use Rattle.sct_reconcile.specs.declared.rows.ReportRow.{ReportRow}
 
@@ -78,3 +78,35 @@ union_of (part ∷ parts) = set.union part (union_of parts)
 abbrev pub totals_in : List MessageSet → List ℕ → Totals
 totals_in [] bank = nothing
 totals_in (part ∷ parts) bank = plus (totals_of part bank) (totals_in parts bank)
+
+-- the transfers of all parts, each once, ascending
+abbrev pub keys_of_all : List MessageSet → List TransferKey
+keys_of_all parts = ascending transfer_order (flat_map keys_of parts)
+
+-- the part that has a transfer, or the empty set if no part has it
+abbrev pub part_with : List MessageSet → TransferKey → MessageSet
+part_with [] transfer = set.empty
+part_with (part ∷ parts) transfer = if has_key part transfer then part else part_with parts transfer
+
+-- the lines of a transfer in the part that has it
+abbrev pub lines_in_its_part : List MessageSet → TransferKey → List ℕ
+lines_in_its_part parts transfer = lines_on (part_with parts transfer) transfer
+
+-- the banks of all parts whose totals are not all zero, each once, ascending
+abbrev pub banks_of_all : List MessageSet → List (List ℕ)
+banks_of_all parts = ascending text_order (flat_map banks_of parts)
+
+-- the row of a transfer in the part that has it
+abbrev pub row_in_its_part : List MessageSet → List ListedRow → TransferKey → ReportRow
+row_in_its_part parts list key = row_on (part_with parts key) list key
+
+-- the transfers of a report: those of the list, and those of the bank on the day in each part
+abbrev pub keys_reported_of_all : List MessageSet → List ℕ → List ℕ → List ListedRow → List TransferKey
+keys_reported_of_all parts bank day list =
+    ascending transfer_order (map (λ row. row.key) list ++ flat_map (λ part. transfers_on_day part bank day) parts)
+
+-- One of the parts reports the row. This part has the transfer of the row, or no part has it.
+pub record IsReportedBy (parts : List MessageSet) (bank day : List ℕ) (list : List ListedRow) (row : ReportRow) (part : MessageSet) : Type 0 where
+  pub one_of_them : Contains parts part
+  pub reported : Contains (report_of part bank day list) row
+  pub its_own : Contains (keys_of part) row.key ⊎ (Contains (keys_of_all parts) row.key → ⊥)

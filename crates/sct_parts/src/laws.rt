@@ -1,6 +1,6 @@
 //! Laws of parts that are apart, for all messages. Each law is the contract of a function with an empty body.
 
-ghost use Rattle.sct_parts.specs.Laws.{ApartFromAll, ApartSetsShareNothing, ArchiveIsThatOfTheParts, ContradictionsAreThoseOfTheParts, LinesAreThoseOfTheirPart, ManyPartsAnswerTogether, RowsAreThoseOfTheirPart, SharedTransfersAreCountedTwice, TotalsAddUp, TransfersOfBanksAreThoseOfTheParts};
+ghost use Rattle.sct_parts.specs.Laws.{ApartFromAll, ApartSetsShareNothing, ArchiveIsThatOfTheParts, ContradictionsAreThoseOfTheParts, LinesAreThoseOfTheirPart, ManyPartsAnswerTogether, ManyPartsArePutTogether, RowsAreThoseOfTheirPart, SharedTransfersAreCountedTwice, TotalsAddUp, TransfersOfBanksAreThoseOfTheParts};
 
 /// Sets are apart exactly if no message of one has an identity or a transfer in common with a message of the other.
 pub fn apart_sets_share_nothing()
@@ -45,6 +45,11 @@ pub fn archive_is_that_of_the_parts()
 /// Many parts that are apart, two by two, answer together what each answers alone, and their totals add up.
 pub fn many_parts_answer_together()
     ensures { ManyPartsAnswerTogether }
+{}
+
+/// The lists, the texts and the reports of many parts that are apart, two by two, are put together from those of the parts.
+pub fn many_parts_are_put_together()
+    ensures { ManyPartsArePutTogether }
 {}
 
 /// If a transfer is in both sets, the totals of its originator bank do not add up.
