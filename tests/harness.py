@@ -16,6 +16,7 @@ STAND_IN = TOP / "tests" / "standin" / "sct_sites"
 PROCESSORS = [1, 2, 4, 8]
 COUNTS = struct.Struct("@LLL")
 SECONDS = 20  # a run with an allocation refused that lasts longer is stopped, and has failed
+LONGEST = 900  # seconds after which any run is stopped
 
 # what a process wrote to standard output and to standard error, and the status that it ended with
 Answer = collections.namedtuple("Answer", "text errors status")
@@ -90,7 +91,7 @@ def limits(processors, memory, room):
     return limit
 
 
-def run(words, data=None, processors=None, memory=None, room=None, seconds=None, **more):
+def run(words, data=None, processors=None, memory=None, room=None, seconds=LONGEST, **more):
     """The answer of a process to an input.
 
     It runs on so many processors, or on all if there are fewer. It may map so many bytes of memory to write in, its threads' stacks

@@ -12,7 +12,8 @@ is not made: a line that begins with 'skipped' says so. --install installs all s
 failed.
 
 A line that begins with 'program' says on what a check of the hub, of parts or of the desk ran: on the program, or where that is not built on
-a stand-in of the definitions. These checks never begin a proof. A check that runs for an hour is stopped, and has failed.
+a stand-in of the definitions. These checks never begin a proof. A check that runs for 25 minutes is stopped, and has failed. The first line
+says when the checks begin, and when the first and the last library below crates/ was made.
 """
 import argparse, contextlib, os, pathlib, re, shutil, signal, subprocess, sys, time
 if sys.version_info < (3, 8):
@@ -127,7 +128,7 @@ MAKES = {"browser": page.make, "shipped": page.make}
 HELPFUL = {"c_calls": ["valgrind"], "c_threads": ["valgrind"], "c_examples": ["cargo", "clang", "g++"],
            "release": ["pkg-config", "openjdk-17-jdk-headless", "libjna-java"],
            "python_package": ["mypy", "python3-pip", "python3-pytest", "python3-setuptools", "python3-venv", "python3-wheel"]}
-SECONDS = 3600  # a check that runs for longer is stopped
+SECONDS = 1500  # a check that runs for longer is stopped
 SKIPPED = "skipped: "
 SEEDED = ["c_calls", "serve_lives", "serve_hub"]  # checks that make up cases as the property checks do
 VARIABLES = ["SCT_SITES", "SCT_TEST_DRIVER", "SCT_C", "NILUPPANG_LIBRARY"]
@@ -222,9 +223,22 @@ def checked(name, kind, does, made_up, no_skips):
     return passed, failed
 
 
+def at(seconds):
+    """A moment, as a line has it."""
+    return time.strftime("%H:%M:%S", time.gmtime(seconds))
+
+
+def begins(count):
+    """The line that says when the checks begin, and when the proofs before them were made."""
+    made = sorted(path.stat().st_mtime for path in harness.TOP.glob("crates/*/out/rlib/*.rlib"))
+    before = f", after libraries made from {at(made[0])} to {at(made[-1])}" if made else ""
+    return f"{count} checks begin at {at(time.time())} UTC{before}"
+
+
 def main():
     asked = options()
     chosen = list(chosen_by(asked.words))
+    print(begins(len(chosen)), flush=True)
     packages = lacking(sorted({package for name, _, _ in chosen for package in PACKAGES.get(name, []) + HELPFUL.get(name, [])}))
     if asked.install and packages:
         install(packages)

@@ -31,7 +31,7 @@ def is_ready(folder, port, is_secure):
     """Whether the first site is well, as the desk asks it."""
     words = ["--cacert", "tls/authority.crt", "--cert", "tls/desk.crt", "--key", "tls/desk.key"] if is_secure else []
     scheme = "https" if is_secure else "http"
-    ask = lambda site: harness.run(["curl", "-s", *words, f"{scheme}://localhost:{port + site}/ready"], cwd=folder).text == b"ready\n"
+    ask = lambda site: harness.run(["curl", "-s", "--max-time", "10", *words, f"{scheme}://localhost:{port + site}/ready"], cwd=folder).text == b"ready\n"
     return all(map(ask, range(3)))
 
 
@@ -46,9 +46,19 @@ def with_port(text, port):
 def does(command, lines, folder, variables):
     """Whether a command ends well and prints what the page shows. What a site is asked may be there a moment later."""
     def once():
-        done = harness.run(["sh", "-c", command], cwd=folder, env=variables)
+        done = harness.run(["sh", "-c", command], cwd=folder, env=variables, seconds=60)
         return done.status == 0 and (not lines or done.text.decode().splitlines() == lines)
     return until(once, 10) if command.startswith("curl") and "--data" not in command else once()
+
+
+def ended(process):
+    """Ends a hub, which is stopped if it goes on for longer than a minute."""
+    process.send_signal(signal.SIGTERM)
+    try:
+        process.wait(60)
+    except subprocess.TimeoutExpired:
+        process.kill()
+        process.wait()
 
 
 def follows(python, program, library, sections):
@@ -70,8 +80,7 @@ def follows(python, program, library, sections):
                     yield f"{section}: {command}", does(command, lines, folder, variables)
         finally:
             for process in running:
-                process.send_signal(signal.SIGTERM)
-                process.wait()
+                ended(process)
 
 
 def check(python, program):
