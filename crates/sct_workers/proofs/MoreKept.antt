@@ -1,6 +1,6 @@
 -- More messages, and more receipts that are kept. Proof plumbing.
-use Rattle.std.proofs.Common.{◌≡◌, ◌∙◌, refl, sym, ap, subst, inl, inr, ℕ, suc, ◌+◌, Bool, true, false, ◌||◌, List, [], ◌∷◌, ◌++◌, length, arith}
-use Rattle.std.specs.Prelude.{Option, None, Some}
+use Rattle.std.proofs.Common.{◌≡◌, ◌∙◌, refl, sym, ap, subst, inl, inr, ℕ, suc, ◌+◌, ◌-◌, Bool, true, false, ◌||◌, List, [], ◌∷◌, ◌++◌, length, arith}
+use Rattle.std.specs.Prelude.{Option, Some, IfSome}
 use Rattle.std.specs.Arc.{arc_value}
 use Rattle.std.specs.FinSet as set
 use Rattle.std.specs.FinSet.{contains-empty}
@@ -66,24 +66,15 @@ first_of_one held m transfer taken is = ∣ record { message = m; taken = taken;
 
 -- ---- one message after the other
 
-same_place : (ms : List (Arc Draft Global)) (at n : ℕ) (x y : Arc Draft Global) → at ≡ n → slice_get ms n ≡ Some x → slice_get ms at ≡ Some y
-    → Some x ≡ Some y
-same_place ms at n x y same here there = sym here ∙ ap (slice_get ms) (sym same) ∙ there
-
-value_or : Draft → Option (Arc Draft Global) → Draft
-value_or d None = d
-value_or d (Some x) = arc_value x
-
-pub shown_to_next : (ms : List (Arc Draft Global)) (n : ℕ) (before after : List Told) (x : Arc Draft Global) → ShownTo n ms before
-    → ShowsMore before after → slice_get ms n ≡ Some x → is_shown after (arc_value x) ≡ true → ShownTo (n + 1) ms after
-unfolding value_or
-shown_to_next ms n before after x so_far more here shown at y low there =
+-- the message after those that are shown is shown too
+pub shown_at_next : (ms : List (Arc Draft Global)) (n k : ℕ) (before after : List Told) → ShownTo n ms before → ShowsMore before after
+    → k ≡ n + 1 → IfSome (slice_get ms (k - 1)) (λ m. is_shown after (arc_value m) ≡ true) → ShownTo (n + 1) ms after
+shown_at_next ms n k before after so_far more is here at y low there =
     elim (cases_lt at n) as (λ c. is_shown after (arc_value y) ≡ true) [
       | inl less ↦ more (arc_value y) (so_far at y less there)
       | inr past ↦
-          let same : at ≡ n = omega (arith, low, past) in
-          let is : arc_value x ≡ arc_value y = ap (value_or (arc_value x)) (same_place ms at n x y same here there) in
-          subst (λ (m : Draft). is_shown after m ≡ true) is shown
+          let place : k - 1 ≡ at = omega (arith, is, low, past) in
+          subst (λ (found : Option (Arc Draft Global)). IfSome found (λ m. is_shown after (arc_value m) ≡ true)) (ap (slice_get ms) place ∙ there) here
     ]
 
 each_held : (ms : List (Arc Draft Global)) (m : Draft) → list_any (λ d. same_message d m) (messages_in ms) ≡ true

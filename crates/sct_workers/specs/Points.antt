@@ -1,5 +1,5 @@
 -- The points that workers pass. Read by an auditor.
-use Rattle.std.specs.Prelude.{ℕ}
+use Rattle.std.specs.Prelude.{ℕ, ◌≡◌}
 use Rattle.sct_workers.specs.declared.gate.Point.{Point}
 use Rattle.sct_workers.specs.declared.gate.Point.TheVariants as point
 
@@ -9,8 +9,6 @@ site_of (point.Take site k) = site
 site_of (point.Accepted site) = site
 site_of (point.Answered site) = site
 
--- a message is taken after this point
-abbrev pub IsTake : Point → Type 0
-IsTake (point.Take site k) = Unit {0}
-IsTake (point.Accepted site) = ⊥
-IsTake (point.Answered site) = ⊥
+-- the k-th message of this site is taken after the point that was passed; messages count from 1
+abbrev pub IsTakeOf : ℕ → ℕ → Point → Type 0
+IsTakeOf site k passed = passed ≡ point.Take site k

@@ -78,6 +78,7 @@ pub(crate) fn accept_entries<J: Site + Takes, H: Wait + Drop, G: Gate, R: Wait>(
     site: u16,
     inbox: Receiver<NewEntry>,
 ) -> Result<Kept<J>, WorkFault>
+    requires { site ≡ J.number }
     ensures { IfErr result (WorkerEndsWhere (G.may_hold run.now.gate.now)) }
 {
     let mut kept = Kept::none(run.alloc);

@@ -2,7 +2,7 @@
 
 ghost use Rattle.std.specs.Arc.{arc_value};
 ghost use Rattle.std.specs.FinSet as set;
-ghost use Rattle.std.specs.Prelude.{◌≡◌, [], true, IfErr, IfOk, IfSome, OnOk};
+ghost use Rattle.std.specs.Prelude.{◌≡◌, ◌≤◌, ◌-◌, [], true, length, IfErr, IfOk, IfSome, OnOk};
 ghost use Rattle.std.specs.List.{slice_get};
 ghost use Rattle.sct_message.specs.Keys.{transfers_of};
 ghost use Rattle.sct_message.specs.Sets.{messages_in};
@@ -11,7 +11,7 @@ ghost use Rattle.sct_workers.specs.declared.fault.WorkFault.TheVariants as fault
 ghost use Rattle.sct_set.specs.Contents.{contents_of};
 ghost use Rattle.sct_workers.specs.Exchanging.{IsNumbered};
 ghost use Rattle.sct_workers.specs.Holds.{EndsWhere};
-ghost use Rattle.sct_workers.specs.Points.{IsTake};
+ghost use Rattle.sct_workers.specs.Points.{IsTakeOf};
 ghost use Rattle.sct_workers.specs.Shown.{ShowsMore};
 
 use crate::fault::WorkFault;
@@ -26,25 +26,29 @@ use sct_message::{Message, TransferKey};
 use sct_site::Took;
 use std::sync::{Arc, Wait};
 
-// Takes one of the site's messages after its point was passed, and keeps the receipt.
+// Takes the k-th of the site's messages after its point was passed, and keeps the receipt.
 #[tactic(auto, using(crate::proofs::MoreKept::shown_last, crate::proofs::MoreKept::shows_more, crate::proofs::Refusing::takes_number))]
 fn take_message<J: Site + Takes, H: Wait + Drop, G, R: Wait>(
     run: &Run<'_, G, R>,
     desk: &Desk<J, H>,
     passed: Passed,
-    message: &Arc<Message>,
+    k: u64,
+    messages: &[Arc<Message>],
     kept: &mut Kept<J>,
 ) -> Result<Took, WorkFault>
-    requires passed { IsTake passed.point }
-    requires taken { set.contains J.messages (arc_value message.now) ≡ true }
-    ensures shown { OnOk result (is_shown kept.new.receipts.items (arc_value message.now) ≡ true) }
+    requires passed { IsTakeOf J.number k passed.point }
+    requires place { (1 ≤ k) × (k ≤ length messages.now) }
+    requires messages { J.messages ≡ contents_of (messages_in messages.now) }
+    ensures shown { OnOk result (IfSome (slice_get messages.now (k - 1))
+        (λ message. is_shown kept.new.receipts.items (arc_value message) ≡ true)) }
     ensures more { OnOk result (ShowsMore kept.old.receipts.items kept.new.receipts.items) }
     ensures numbered { IfOk result IsNumbered }
     ensures memory { IfErr result (λ e. e ≡ fault.Memory) }
 {
     // The point is used up: it was passed for this take alone.
     drop(passed);
-    let (took, receipt) = take_for_receipt(run.rt, run.alloc, desk, message.clone()?)?;
+    let message = messages[(k - 1) as usize].clone()?;
+    let (took, receipt) = take_for_receipt(run.rt, run.alloc, desk, message)?;
     kept.push(receipt)?;
     Ok(took)
 }
@@ -95,23 +99,27 @@ fn publish_message<J: Site + Takes, H: Wait + Drop, G, R: Wait>(
     Ok(())
 }
 
-// Takes one of the site's messages after its point was passed, publishes it, and sends a new entry to the other sites.
+// Takes the k-th of the site's messages after its point was passed, publishes it, and sends a new entry to the other sites.
 fn take_and_send<J: Site + Takes, H: Wait + Drop, G, R: Wait>(
     run: &Run<'_, G, R>,
     desk: &Desk<J, H>,
     passed: Passed,
-    message: &Arc<Message>,
+    k: u64,
+    messages: &[Arc<Message>],
     senders: &Senders<J>,
     kept: &mut Kept<J>,
 ) -> Result<(), WorkFault>
-    requires passed { IsTake passed.point }
-    requires taken { set.contains J.messages (arc_value message.now) ≡ true }
-    ensures shown { OnOk result (is_shown kept.new.receipts.items (arc_value message.now) ≡ true) }
+    requires passed { IsTakeOf J.number k passed.point }
+    requires place { (1 ≤ k) × (k ≤ length messages.now) }
+    requires messages { J.messages ≡ contents_of (messages_in messages.now) }
+    ensures shown { OnOk result (IfSome (slice_get messages.now (k - 1))
+        (λ message. is_shown kept.new.receipts.items (arc_value message) ≡ true)) }
     ensures more { OnOk result (ShowsMore kept.old.receipts.items kept.new.receipts.items) }
     ensures memory { IfErr result (λ e. e ≡ fault.Memory) }
 {
     let site = passed.site();
-    let took = take_message(run, desk, passed, message, kept)?;
+    let took = take_message(run, desk, passed, k, messages, kept)?;
+    let message = &messages[(k - 1) as usize];
     publish_message(run, desk, message, senders, kept)?;
     senders.send_entry(run.rt, site, &took, message);
     Ok(())
@@ -126,16 +134,16 @@ pub(crate) fn take_messages<J: Site + Takes, H: Wait + Drop, G: Gate, R: Wait>(
     messages: &[Arc<Message>],
     senders: Senders<J>,
 ) -> Result<Kept<J>, WorkFault>
-    requires { J.messages ≡ contents_of (messages_in messages.now) }
+    requires site { site ≡ J.number }
+    requires messages { J.messages ≡ contents_of (messages_in messages.now) }
     ensures shown { IfOk result (λ kept. AllShown J.messages kept.receipts.items) }
     ensures ends { IfErr result (EndsWhere (G.may_hold run.now.gate.now)) }
 {
     let mut kept = Kept::none(run.alloc);
-    let mut k = 0;
-    for message in messages {
-        k += 1;
+    for place in 0..messages.len() {
+        let k = place as u64 + 1;
         let passed = pass(run, Point::Take { site, k })?;
-        take_and_send(run, desk, passed, message, &senders, &mut kept)?;
+        take_and_send(run, desk, passed, k, messages, &senders, &mut kept)?;
     }
     Ok(kept)
 }

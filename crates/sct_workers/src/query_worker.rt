@@ -28,10 +28,9 @@ fn query_note<J: Site + Takes>(
     query: &mut Query,
     note: &Note<J>,
 ) -> Result<Answer<Status>, WorkFault>
-    requires { query.old.book ≡ J.book }
+    requires { (query.old.book ≡ J.book) × (query.old.site ≡ J.number) }
     ensures same { (query.new.site ≡ query.old.site) × (query.new.book ≡ query.old.book) }
-    ensures learned { OnOk result (note.now.receipt.site ≡ query.old.site
-        → IsPrefix note.now.receipt.shown query.new.seen) }
+    ensures learned { OnOk result (IsPrefix note.now.receipt.shown query.new.seen) }
     ensures front { IfOk result (λ answer. answer.front ≡ length query.new.seen) }
     ensures value { IfOk result (λ answer. as_standing answer.value
         ≡ status_of (messages_of query.new.seen) note.now.transfer) }
@@ -49,9 +48,10 @@ fn answer_note<J: Site + Takes, G: Gate, R: Wait>(
     site: u16,
     note: Note<J>,
 ) -> Result<(Answer<Status>, Receipt), WorkFault>
-    requires { query.old.book ≡ J.book }
+    requires query { (query.old.book ≡ J.book) × (query.old.site ≡ J.number) }
+    requires site { site ≡ J.number }
     ensures same { (query.new.site ≡ query.old.site) × (query.new.book ≡ query.old.book) }
-    ensures learned { IfOk result (λ t. t.1.site ≡ query.old.site → IsPrefix t.1.shown query.new.seen) }
+    ensures learned { IfOk result (λ t. IsPrefix t.1.shown query.new.seen) }
     ensures front { IfOk result (λ t. t.0.front ≡ length query.new.seen) }
     ensures value { IfOk result (λ t. as_standing t.0.value ≡ status_of (messages_of query.new.seen) note.transfer) }
     ensures receipt { IfOk result (λ t. t.1 ≡ note.receipt) }
@@ -71,7 +71,8 @@ pub(crate) fn answer_notes<J: Site + Takes, G: Gate, R: Wait>(
     site: u16,
     notes: Receiver<Note<J>>,
 ) -> Result<Kept<J>, WorkFault>
-    requires { query.book ≡ J.book }
+    requires query { (query.book ≡ J.book) × (query.site ≡ J.number) }
+    requires site { site ≡ J.number }
     ensures { IfErr result (WorkerEndsWhere (G.may_hold run.now.gate.now)) }
 {
     let mut query = query;

@@ -43,7 +43,8 @@ impl<J: Site + Takes> Senders<J> {
     // Sends the entry of a message that the site took to the other sites. A repeat has no entry. An entry that cannot
     // be sent is left out, which is not a fault.
     pub(crate) fn send_entry<R: Wait>(&self, rt: &R, site: u16, took: &Took, message: &Arc<Message>)
-        requires { IsNumbered took.now }
+        requires site { site ≡ J.number }
+        requires numbered { IsNumbered took.now }
     {
         for sender in &self.entries {
             if let Some(entry) = NewEntry::of(site, took, message) {

@@ -49,7 +49,7 @@ fn open_desk<'a, J: Site, G, R: Wait>(
     requires history { history ≡ J.book }
     requires track { (track.book ≡ J.book) × (track.log ≡ []) }
     requires site { (member.number ≡ J.number) × (member.group ≡ J.group) }
-    ensures query { IfOk result (λ d. d.1.book ≡ J.book) }
+    ensures query { IfOk result (λ d. (d.1.book ≡ J.book) × (d.1.site ≡ J.number)) }
     ensures ends { IfErr result (EndsWhere (λ point. ⊥)) }
 {
     let (desk, queries) = Desk::<J, &'a R>::open(

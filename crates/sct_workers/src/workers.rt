@@ -116,7 +116,8 @@ pub(crate) fn run_workers<
     messages: &[Arc<Message>],
     channels: Channels,
 ) -> Result<Kept<J>, WorkFault>
-    requires query { query.book ≡ J.book }
+    requires query { (query.book ≡ J.book) × (query.site ≡ J.number) }
+    requires site { site ≡ J.number }
     requires messages { J.messages ≡ contents_of (messages_in messages.now) }
     ensures shown { IfOk result (λ kept. AllShown J.messages kept.receipts.items) }
     ensures ends { IfErr result (EndsWhere (G.may_hold run.now.gate.now)) }
@@ -132,7 +133,8 @@ pub(crate) fn run_workers<
         thread::scope_env(),
         rt,
         move |scope| -> Result<Kept<J>, WorkFault>
-            requires { (query.book ≡ J.book) × (J.messages ≡ contents_of (messages_in messages.now)) }
+            requires { (query.book ≡ J.book) × (query.site ≡ J.number) × (site ≡ J.number)
+                × (J.messages ≡ contents_of (messages_in messages.now)) }
             ensures { IfOk result (λ kept. AllShown J.messages kept.receipts.items)
                 × IfErr result (EndsWhere (G.may_hold gate.entry.now)) }
         {
@@ -142,6 +144,7 @@ pub(crate) fn run_workers<
                     of: PhantomData::<J>,
                 },
                 move || -> Result<Kept<J>, WorkFault>
+                    requires { site ≡ J.number }
                     ensures { IfErr result (WorkerEndsWhere (G.may_hold gate.entry.now)) }
                 { accept_entries(&Run { rt, alloc, gate }, desk, site, inbox) },
             );
@@ -151,7 +154,7 @@ pub(crate) fn run_workers<
                     of: PhantomData::<J>,
                 },
                 move || -> Result<Kept<J>, WorkFault>
-                    requires { query.book ≡ J.book }
+                    requires { (query.book ≡ J.book) × (query.site ≡ J.number) × (site ≡ J.number) }
                     ensures { IfErr result (WorkerEndsWhere (G.may_hold gate.entry.now)) }
                 { answer_notes::<J, G, R>(&Run { rt, alloc, gate }, query, site, notes) },
             );
