@@ -1,4 +1,4 @@
-"""hot_inputs.py: inputs in which one transfer, or one delta, has very many messages."""
+"""hot_inputs.py: inputs in which one transfer, or one delta, has very many messages, and one in which all lines are refused."""
 from bench.generate import messages, samples
 
 REFUSED = {"TxSts": "RJCT", "Rsn": "AC01"}
@@ -71,3 +71,8 @@ def repeated_deltas(many):
     words += ["cut 1 -\n"] * CUTS
     words += [f"hand {cut} {site}\n" for cut in range(1, CUTS + 1) for site in (2, 3, 4)]
     return "".join(words).encode()
+
+
+def refused_lines(many):
+    """So many lines of 60 bytes that are refused."""
+    return b"".join(b"%-59d\n" % number for number in range(many))
