@@ -45,6 +45,7 @@ CHECKS = {
         "desk_tools": "runs the desk's tools",
         "desk_converters": "runs the converters of the desk on right and wrong files",
         "too_long": "runs the program on inputs that are too long, and on folders",
+        "read_once": "runs the program on pipes and FIFOs in place of files, and at a terminal",
         "parts": "runs the program on parts of inputs, on the workers of Dask",
     },
     "faults": {
@@ -84,7 +85,7 @@ CHECKS = {
         "java": "runs the Java package on the examples",
     },
     "times": {
-        "growing_times": "times the program on a transfer, a script and a run of four times the size",
+        "growing_times": "times the program on a transfer, a script, a run and refused lines of four times the size, and on a long line",
         "two_ways": "times the program on objects of texts, and on the same objects with a number",
     },
     "property": {
@@ -95,6 +96,7 @@ CHECKS = {
     "embed": {
         "c_answers": "calls the library from C on the examples, for each refusal, at sites 1 to 1024 and in 256 KB of stack",
         "c_growths": "refuses memory to each call of the library, at each of its times",
+        "c_memory": "counts the memory that a site holds until it is closed, and after calls that bring nothing",
         "c_calls": "compares made-up calls from C with the definitions, under the address sanitizer and valgrind",
         "c_threads": "runs threads with a site each",
         "c_examples": "builds and runs the examples in C and Rust",

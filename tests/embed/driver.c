@@ -5,6 +5,8 @@
  * often the call asked for memory, how often it was refused, and how many bytes follow: what the call copied or wrote, or its answer.
  *
  *     refuse 0 FIRST LAST    refuses what the next call asks for from its time FIRST on up to its time LAST
+ *     held 0                 how many blocks of memory the library has, and their bytes. The driver has none while it waits for a request
+ *     move HANDLE FROM       the site of the handle FROM is at HANDLE from now on, and FROM is empty
  *     stack 0                the most bytes of the stack that were used so far; not under valgrind
  *     layout 0               the size of each structure, and where its fields are
  *
@@ -13,6 +15,7 @@
  * handles, so that memory which is left was lost.
  */
 #define _GNU_SOURCE
+#include <malloc.h>
 #include <niluppang.h>
 #include <pthread.h>
 #include <stddef.h>
@@ -51,7 +54,7 @@ static const struct form {
     {"messages_text", 0, 2, true}, {"bank_totals", 0, 1, true},  {"changes", 0, 0, true},       {"answer", 1, 0, false},
     {"answer_part", 2, 0, false}, {"answer_end", 0, 0, true},    {"why", 1, 0, false},          {"code_name", 2, 0, false},
     {"code_text", 2, 0, false},   {"version", 0, 0, false},      {"layout", 0, 0, false},       {"refuse", 2, 0, false},
-    {"stack", 0, 0, false},
+    {"stack", 0, 0, false},       {"held", 0, 0, false},         {"move", 1, 0, false},
 };
 
 static bool gives_null;
@@ -65,15 +68,19 @@ static void must(bool holds, const char *what) {
     abort();
 }
 
-/* ---- memory that is refused: the linker has malloc and realloc lead here */
+/* ---- memory that is refused, and memory that is held: the linker has malloc, calloc, realloc and free lead here */
 
 static bool is_counting;
-static unsigned long asked, refused, first_refused, last_refused;
+static unsigned long asked, refused, first_refused, last_refused, held_blocks, held_bytes;
 
 void *__real_malloc(size_t size);
+void *__real_calloc(size_t many, size_t size);
 void *__real_realloc(void *old, size_t size);
+void __real_free(void *old);
 void *__wrap_malloc(size_t size);
+void *__wrap_calloc(size_t many, size_t size);
 void *__wrap_realloc(void *old, size_t size);
+void __wrap_free(void *old);
 
 static bool is_refused(void) {
     if (!is_counting) return false;
@@ -83,8 +90,33 @@ static bool is_refused(void) {
     return true;
 }
 
-void *__wrap_malloc(size_t size) { return is_refused() ? NULL : __real_malloc(size); }
-void *__wrap_realloc(void *old, size_t size) { return is_refused() ? NULL : __real_realloc(old, size); }
+/* A block that is held from now on. */
+static void *held(void *block) {
+    if (block == NULL) return NULL;
+    held_blocks++;
+    held_bytes += malloc_usable_size(block);
+    return block;
+}
+
+static void *held_again(void *old, size_t size) {
+    size_t bytes = old == NULL ? 0 : malloc_usable_size(old);
+    void *block = __real_realloc(old, size);
+    if (block == NULL) return NULL;
+    held_bytes -= bytes;
+    held_blocks -= old != NULL;
+    return held(block);
+}
+
+void *__wrap_malloc(size_t size) { return is_refused() ? NULL : held(__real_malloc(size)); }
+void *__wrap_calloc(size_t many, size_t size) { return held(__real_calloc(many, size)); }
+void *__wrap_realloc(void *old, size_t size) { return is_refused() ? NULL : held_again(old, size); }
+
+void __wrap_free(void *old) {
+    if (old == NULL) return;
+    held_blocks--;
+    held_bytes -= malloc_usable_size(old);
+    __real_free(old);
+}
 
 /* ---- texts */
 
@@ -284,9 +316,19 @@ static struct result called(const char *name, sct_site *site, const unsigned lon
     return result;
 }
 
+/* The site of one handle goes to another, which is empty. */
+static struct result moved(sct_site *site, size_t from) {
+    must(from < HANDLES && site != &handles[from], "there is no such handle to move from");
+    memcpy(site, &handles[from], sizeof *site);
+    memset(&handles[from], 0, sizeof *site);
+    return (struct result){{0}, 0, {NULL, 0}};
+}
+
 /* What a request comes to. */
 static struct result done(const struct form *form, sct_site *site, const unsigned long *n, const struct bytes *t) {
     if (is(form->name, "stack")) return (struct result){{stack_used()}, 1, {NULL, 0}};
+    if (is(form->name, "held")) return (struct result){{held_blocks, held_bytes}, 2, {NULL, 0}};
+    if (is(form->name, "move")) return moved(site, n[0]);
     if (is(form->name, "layout")) return layout();
     if (is(form->name, "counts")) return counts_of(site, n[0]);
     if (is(form->name, "answer") || is(form->name, "answer_part") || is(form->name, "why")) return copied(form->name, site, n);

@@ -12,7 +12,7 @@ from tools import library
 SOURCES = pathlib.Path(__file__).resolve().parent
 WARNINGS = ["-Wall", "-Wextra", "-pedantic", "-Wcast-qual", "-Werror"]
 STANDARDS = {"gcc": ["-std=c99"], "clang": ["-std=c99"], "g++": ["-std=c++11", "-x", "c++"], "clang++": ["-std=c++11", "-x", "c++"]}
-WRAPPED = ["-Wl,--wrap=malloc,--wrap=realloc"]
+WRAPPED = ["-Wl,--wrap=malloc,--wrap=calloc,--wrap=realloc,--wrap=free"]
 CHECKED = ["-O1", "-g", "-fsanitize=address,undefined", "-fno-sanitize-recover=all"]
 VALGRIND = ["valgrind", "--quiet", "--leak-check=full", "--show-leak-kinds=all", "--errors-for-leak-kinds=all", "--error-exitcode=9"]
 
@@ -21,6 +21,7 @@ FIELDS = collections.defaultdict(lambda: OUTCOME, {
     "take": ("ok", "code", "is_repeat", "place", "number", "reserved"),
     "take_lines": ("ok", "code", "place", "fresh", "repeats", "refused", "length", "reserved"),
     "accept": ("ok", "code", "place", "fresh", "reserved"), "close": (), "version": ("version",), "stack": ("bytes",), "layout": (),
+    "held": ("blocks", "bytes"), "move": (),
     "code_name": ("length",), "code_text": ("length",)})
 
 # the fields of the result of a call by their names, how often it asked for memory and was refused, and what it wrote
