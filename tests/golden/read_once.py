@@ -5,8 +5,10 @@ again is empty, and a FIFO that is opened again has nobody who writes. So the an
 
 The input of each command that has one is typed at a terminal. Ctrl-D ends it on an empty line. In a line its second time does. A
 program that reads on waits for more. It is stopped then, and has failed.
+
+The input comes from a socket that gives one line to each read, and loses what is beyond the room. So each read must have room for a line.
 """
-import contextlib, os, pathlib, pty, subprocess, tempfile
+import contextlib, os, pathlib, pty, socket, subprocess, tempfile
 from tests import harness
 from tests.harness import EXAMPLES, SECONDS, Answer, reported
 from tests.inputs import exchanging, instruction, two_files
@@ -75,7 +77,7 @@ def is_read_once(program, folder, kind, command):
     return reported(f"{words[0]}, on {many} files that are {kind.__name__}", not different, f"{different[:1]}")
 
 
-# ---- a terminal
+# ---- a terminal, and a socket
 
 def typed(program, folder, words, keys):
     """The answer of the program if these keys are pressed at the terminal that its input comes from."""
@@ -86,6 +88,16 @@ def typed(program, folder, words, keys):
     finally:
         os.close(keyboard)
         os.close(terminal)
+
+
+def at_socket(program, words, lines):
+    """The answer of the program if each read of its input gives one of these lines, as far as there is room."""
+    ours, theirs = socket.socketpair(socket.AF_UNIX, socket.SOCK_SEQPACKET)
+    with ours, theirs:
+        for line in lines.splitlines(keepends=True):
+            ours.sendall(line)
+        ours.shutdown(socket.SHUT_WR)
+        return harness.run([program, *words], stdin=theirs, seconds=SECONDS)
 
 
 def inputs(folder):
@@ -103,13 +115,16 @@ def inputs(folder):
     yield ["replay"], script, Answer(text.encode(), refused.encode(), status)
 
 
-def at_terminals(program, folder):
+def at_each(program, folder):
     """Whether each command ends with its right answer. To `serve` a line without a line feed is no request."""
     site = restored(1, 2, [])
     served = Answer(site.ready() + site.reply(b"? vector")[0], b"", 0)
     asked = [("on an empty line", ["serve", "1", "2", "journal"], b"? vector\n" + END, served)]
     for words, lines, wanted in inputs(folder):
         asked += [("on an empty line", words, lines + END, wanted), ("twice in a line", words, lines[:-1] + END + END, wanted)]
+    for words, lines, wanted in inputs(folder):
+        found = at_socket(program, words, lines)
+        yield reported(f"{words[0]} at a socket", found == wanted, f"{found}")
     for way, words, keys, wanted in asked:
         found = typed(program, folder, words, keys)
         yield reported(f"{words[0]} at a terminal, Ctrl-D {way}", found == wanted, f"{found}")
@@ -119,7 +134,7 @@ def main():
     program = harness.program()
     with tempfile.TemporaryDirectory() as folder:
         right = [is_read_once(program, folder, kind, command) for kind in (pipes, fifos) for command in commands(folder)]
-        right += at_terminals(program, folder)
+        right += at_each(program, folder)
     harness.end_of(right)
 
 
