@@ -14,7 +14,7 @@ EXAMPLES = TOP / "examples"
 SERVICES = TOP / "services"
 STAND_IN = TOP / "tests" / "standin" / "sct_sites"
 PROCESSORS = [1, 2, 4, 8]
-COUNTS = struct.Struct("@LLL")
+COUNTS = struct.Struct("@LLLLL")
 SECONDS = 20  # a run with an allocation refused that lasts longer is stopped, and has failed
 LONGEST = 900  # seconds after which any run is stopped
 
@@ -26,8 +26,9 @@ NO_WORKER = Answer(b"", b"fault 67\n", 2)
 # what is run, in which folder and on which input, and what the program must write and end with
 Case = collections.namedtuple("Case", "name words input text refused status folder", defaults=[EXAMPLES])
 
-# a run with the allocation of one number refused: its answer, how many allocations came, from how many threads, and their bytes
-Refusing = collections.namedtuple("Refusing", "number answer allocations threads bytes")
+# a run with the allocation of one number refused: its answer, how many allocations came, from how many threads, and their bytes, how
+# many came before the first thread was to start, and how many were refused to the start of a thread
+Refusing = collections.namedtuple("Refusing", "number answer allocations threads bytes before_threads of_starts")
 
 
 # ---- programs and files

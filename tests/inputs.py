@@ -2,7 +2,7 @@
 import json, pathlib
 from bench.generate import messages, samples
 from tests.harness import case
-from tests.oracle.status import read_message, written
+from tests.oracle.status import answer, read_message, written
 
 
 def instruction(number):
@@ -65,6 +65,18 @@ def two_files(folder):
     texts = [(instruction(1) + confirmation(1)).encode(), instruction(2).encode()]
     text = b"T|BANKDEFFXXX|T1|ACCEPTED\nT|BANKDEFFXXX|T2|PENDING\n"
     return case("run of two files", ["run", *files_of(folder, "small", texts)], b"", text, b"")
+
+
+def lines_in_turn(folder, data, many):
+    """The lines of an input in turn in so many files of a run."""
+    lines = data.splitlines(keepends=True)
+    texts = [b"".join(lines[place::many]) for place in range(many)]
+    refused = ""
+    for file, part in enumerate(texts, start=1):
+        reported = answer("status", part)[1]
+        refused += "".join(f"file {file} {line}" for line in reported.splitlines(keepends=True))
+    words = ["run", *files_of(folder, "part", texts)]
+    return case(f"run of {many} files", words, b"", answer("status", data)[0].encode(), refused.encode())
 
 
 def exchanging(folder):

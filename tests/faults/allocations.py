@@ -2,9 +2,13 @@
 
 The first run of a round has none refused. Then each number has a run of its own, up to the greatest count that was seen, whichever
 thread allocates. What is allocated to start a thread counts too. A run must write the right text and its refused lines. If an
-allocation was refused, it may instead write nothing but `fault 65` and end with 3, and `run` `fault 67` with 2, if there is no thread
-for a worker. Some run of each command must do so. With several threads a number is another
-allocation from run to run, and may not come. On made-up transfers and in `run` several threads must have allocated.
+allocation was refused, it may instead write nothing but `fault 65` and end with 3. Some run of each command must do so. With several
+threads a number is another allocation from run to run, and may not come. On made-up transfers and in `run` several threads must have
+allocated.
+
+If it is a thread that `run` lacks, it writes `fault 67` and ends with 2. That is so if the allocation was refused to the start of a
+thread, and if it was the last one before the first start, which is for what the thread runs. Before that it must be 65. Later ones may
+be for what another thread runs too, but at most one in ten of them is. Runs of each kind must come.
 """
 import collections, tempfile
 from tests import harness
@@ -18,9 +22,10 @@ REPORTED = "settlement-day"
 REPLAYED = "hub-night"
 TRANSFERS = 256  # fewer are evaluated and written in one part, as fewer bytes than 65,536 are read in one
 ROUNDS = 8
+RUN, TEXT, MEMORY, THREAD = "run", "the right text", "fault 65", "fault 67"
 
-# what is run, in how many rounds, the right answer, what may be answered if an allocation was refused, and how many threads must allocate
-Command = collections.namedtuple("Command", "words input rounds right shortages threads", defaults=[2])
+# what is run, in how many rounds, the right answer, and how many threads must allocate
+Command = collections.namedtuple("Command", "words input rounds right threads", defaults=[2])
 
 
 def small_input():
@@ -44,28 +49,61 @@ def commands(folder):
     data = small_input()
     for word in definitions.TEXT:
         text, refused, status = definitions.answer(word, data)
-        yield Command([word], data, 1, Answer(text.encode(), refused.encode(), status), [OUT_OF_MEMORY])
+        yield Command([word], data, 1, Answer(text.encode(), refused.encode(), status))
     for one in small_cases():
-        yield Command(one.words, one.input, 1, Answer(one.text, one.refused, one.status), [OUT_OF_MEMORY], 1)
+        yield Command(one.words, one.input, 1, Answer(one.text, one.refused, one.status), 1)
     for words in exchanging(folder):
         text, refused, status = exchange.answer(words)
-        yield Command(words, b"", 1, Answer(text.encode(), refused.encode(), status), [OUT_OF_MEMORY], 1)
+        yield Command(words, b"", 1, Answer(text.encode(), refused.encode(), status), 1)
     run = two_files(folder)
-    yield Command(run.words, b"", ROUNDS, Answer(run.text, run.refused, run.status), [OUT_OF_MEMORY, NO_WORKER])
+    yield Command(run.words, b"", ROUNDS, Answer(run.text, run.refused, run.status))
 
 
-def mark_of(command, run):
+def shortages(command, run, first):
+    """What a run may be out of, if an allocation was refused. `first` is how many come before the first thread is to start."""
+    if command.words[0] != RUN:
+        return [OUT_OF_MEMORY]
+    if run.of_starts or run.number == first:
+        return [NO_WORKER]
+    return [OUT_OF_MEMORY] if run.number < first else [OUT_OF_MEMORY, NO_WORKER]
+
+
+def mark_of(command, run, first):
     """What a run wrote: the right text, or what it may be out of. None if it failed."""
     if run.answer == command.right:
-        return "the right text"
-    return run.answer.errors.decode().strip() if is_refused(run) and run.answer in command.shortages else None
+        return TEXT
+    is_short = is_refused(run) and run.answer in shortages(command, run, first)
+    return run.answer.errors.decode().strip() if is_short else None
 
 
-def print_failures(command, runs):
+def marked(command, runs):
+    """The runs of a round, each with its mark."""
+    [first] = [run.before_threads for run in runs if run.number == 0]
+    return [(run, mark_of(command, run, first)) for run in runs]
+
+
+def later_marks(marks):
+    """What runs of `run` wrote of which an allocation was refused after the first thread began, and not to the start of one."""
+    first = min(run.before_threads for run, _ in marks if run.number == 0)
+    return collections.Counter(mark for run, mark in marks if is_refused(run) and run.number > first and not run.of_starts)
+
+
+def have_own_numbers(command, marks):
+    """Whether a thread that cannot start and other memory that is missing have a number each, in runs of `run`."""
+    if command.words[0] != RUN:
+        return True
+    later = later_marks(marks)
+    starts = sum(mark == THREAD for run, mark in marks if run.of_starts)
+    print(f"{RUN}: {starts} runs without memory to start a thread, and with a later allocation refused: "
+          + ", ".join(f"{mark} {times}" for mark, times in later.items()))
+    return starts > 0 and later[MEMORY] > 0 and 10 * later[THREAD] <= later[MEMORY]
+
+
+def print_failures(command, marks):
     """Prints each answer of runs that failed, how many had it, and which allocation the first of them had refused."""
     numbers = collections.defaultdict(list)
-    for run in runs:
-        if mark_of(command, run) is None:
+    for run, mark in marks:
+        if mark is None:
             numbers[run.answer].append(run.number)
     for (text, errors, status), them in numbers.items():
         print(f"{command.words[0]}, {len(them)} runs, the first with {them[0]}: {text[:80]!r}, {errors[-80:]!r}, status {status}")
@@ -75,17 +113,17 @@ def tried(program, library, command):
     """How many runs of a command ended as they may, and how many failed. As many threads as the command has must allocate, and some run
     must report what it was out of."""
     words = [program, *command.words]
-    runs = [run for _ in range(command.rounds) for run in harness.each_refused(library, words, command.input)]
-    marks = collections.Counter(mark_of(command, run) for run in runs)
-    failed = marks.pop(None, 0)
-    short = sum(marks.values()) - marks["the right text"]
+    marks = [one for _ in range(command.rounds) for one in marked(command, harness.each_refused(library, words, command.input))]
+    runs, counts = [run for run, _ in marks], collections.Counter(mark for _, mark in marks)
+    failed = counts.pop(None, 0)
+    short = sum(counts.values()) - counts[TEXT]
     threads = min(run.threads for run in runs if run.number == 0)
     refused = sum(map(is_refused, runs))
-    print_failures(command, runs)
+    print_failures(command, marks)
     print(f"{command.words[0]}: up to {max(run.allocations for run in runs)} allocations, {threads} threads with none refused")
     print(f"{command.words[0]}: {refused} runs with one refused, {len(runs) - refused} with none: "
-          + ", ".join(f"{mark} {times}" for mark, times in marks.items()) + f", {failed} in another way", flush=True)
-    return len(runs) - failed, failed + (threads < command.threads) + (not short)
+          + ", ".join(f"{mark} {times}" for mark, times in counts.items()) + f", {failed} in another way", flush=True)
+    return len(runs) - failed, failed + (threads < command.threads) + (not short) + (not have_own_numbers(command, marks))
 
 
 def main():

@@ -7,7 +7,7 @@ has the right answers. On a machine with fewer processors all of them are used.
 import tempfile
 from tests import harness
 from tests.harness import PROCESSORS, case
-from tests.inputs import files_of, long_input
+from tests.inputs import lines_in_turn, long_input
 from tests.oracle import status as definitions
 
 LONG = 2000  # messages: about a megabyte, which is read in several parts
@@ -44,23 +44,10 @@ def block_cases():
         yield case(f"some blocks {command}", [command], padded, text.encode(), refused.encode())
 
 
-def sixteen_files(folder):
-    """The lines of the long input in turn in as many files as a run may have."""
-    data = long_input(LONG)
-    lines = data.splitlines(keepends=True)
-    texts = [b"".join(lines[place::FILES]) for place in range(FILES)]
-    text, _, _ = definitions.answer("status", data)
-    reported = ""
-    for file, part in enumerate(texts, start=1):
-        _, refused, _ = definitions.answer("status", part)
-        reported += "".join(f"file {file} {line}" for line in refused.splitlines(keepends=True))
-    return case(f"run of {FILES} files", ["run", *files_of(folder, "part", texts)], b"", text.encode(), reported.encode())
-
-
 def main():
     program = harness.program()
     with tempfile.TemporaryDirectory() as folder:
-        long = [*long_cases(), *block_cases(), sixteen_files(folder)]
+        long = [*long_cases(), *block_cases(), lines_in_turn(folder, long_input(LONG), FILES)]
         harness.end_of([harness.fits(program, one, processors) for processors in PROCESSORS for one in long])
 
 
