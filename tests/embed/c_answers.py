@@ -7,6 +7,7 @@
 - Why a call was refused, until the next call; parts of an answer; an evaluation; the name and the meaning of each of 256 numbers.
 - Texts and rooms without bytes, at an address and at none.
 - Sites 1 to 1024 of the largest group. Each gives its message to site 1, and three are given all.
+- A site that holds 1,000 messages takes 2,000 more, and accepts as many.
 - What needs the most stack: 99,999 opening brackets, a recall of 100 transactions, and 20,000 messages.
 - The structures have their sizes. The library gives away the names of the header and no other, in the shared one under its version. It
   needs nothing but the C library, and no stack whose bytes run.
@@ -379,6 +380,20 @@ def asked_for(program, held):
     return whole, [reply.asked for reply in replies[4::2]]
 
 
+def progress(program):
+    """A site that holds 1,000 messages takes 2,000 more, accepts as many, and is restored. No call is out of memory for long."""
+    lines = [instruction(number).encode() for number in range(1, 3002)]
+    whole, rest = delta(2, 1, *range(4001, 6001)), delta(2, 2001, 6001)
+    steps = [(("open", 0, 1, 2), {}), (("take_lines", 0, b"".join(lines[:1000])), {"fresh": 1000, "repeats": 0, "refused": 0}),
+             (("take_lines", 0, b"".join(lines[1:3000])), {"fresh": 2000, "repeats": 999, "refused": 0}),
+             (("take", 0, lines[3000]), {"number": 3001}), (("accept", 0, whole), {"fresh": 2000}), (("accept", 0, rest), {"fresh": 1}),
+             (("take_lines", 0, b"".join(lines)), {"fresh": 0, "repeats": 3001}), (("restore", 1, 1, 2, b"".join(lines), whole), {})]
+    wanted = [({"ok": 1, "code": 0, **fields}, b"" if call[0] != "open" else None) for call, fields in steps]
+    asked = [("counts", 0, 2), ("counts", 1, 2)]
+    counts = [({"ok": 1}, b"".join(many.to_bytes(8, "little") for many in held)) for held in ([3001, 2001], [3001, 2000])]
+    yield right("3,001 messages taken and 2,001 accepted, in parts", program, [call for call, _ in steps] + asked, wanted + counts)
+
+
 def costs(program):
     """A question after a take evaluates what is new, and not what is held. A long text is taken whole."""
     (few_whole, few), (many_whole, many) = (asked_for(program, held) for held in HELD)
@@ -405,7 +420,7 @@ def main():
     driving.end_if_missing()
     with driving.libraries() as folder:
         program = driving.built_driver(folder)
-        checks = examples, hub, exchanged, refusals, reasons, parts, numbers, nothing, sizes, most_sites, little_stack, costs
+        checks = examples, hub, exchanged, refusals, reasons, parts, numbers, nothing, sizes, most_sites, little_stack, progress, costs
         found = [one for check in checks for one in done(check, program)]
         harness.end_of([*found, *names(folder)])
 

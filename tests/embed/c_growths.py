@@ -4,8 +4,8 @@ The site of each trial has taken and accepted messages that meet one another. It
 an answer. Of each call it is counted how often it asks for memory. Then that time is refused, once alone and once with all that follow.
 The call must answer 65, or what it answers with ample memory. After 65 the counts, the answer and all texts are as before, and why is 65.
 After a `why` that was refused, why is what it was. Only `take_lines` may have taken its first messages. Made again, the call comes to
-what it comes to with ample memory, and so do all texts. A call that has to ask for memory and never does has failed, and so has one that
-asks for some and must not.
+what it comes to with ample memory, and so do all texts. The site is closed then, and holds no memory. A call that has to ask for memory
+and never does has failed, and so has one that asks for some and must not.
 """
 import collections, os
 from concurrent.futures import ThreadPoolExecutor
@@ -125,12 +125,15 @@ class Trial:
     def requests(self, first, last):
         """Requests that refuse these times of the call, ask why, and look at the site. On another site, they then make the call again."""
         refuse, close, why = ("refuse", HANDLE, first, last), ("close", HANDLE), ("why", HANDLE, 1 << 12)
-        return [*self.begin, refuse, self.call, why, *seen(), close, *self.begin, refuse, self.call, self.call, *seen(), close]
+        return [*self.begin, refuse, self.call, why, *seen(), close, ("held", HANDLE),
+                *self.begin, refuse, self.call, self.call, *seen(), close, ("held", HANDLE)]
 
     def judged(self, first, replies):
         """How a call did, by the replies to such requests: 'refused', 'no harm', or what is wrong."""
         many, looks = len(self.begin), len(seen())
         reply, why, again = replies[many], replies[many + 1], replies[many + 2:many + 2 + looks]
+        if any(any(replies[place].fields.values()) for place in (many + 3 + looks, -1)):
+            return f"{first}: a closed site holds memory"
         if not reply.refused:
             return f"nothing is refused at {first}"
         if what([reply]) == what([self.reply]):
@@ -141,7 +144,7 @@ class Trial:
             return f"{first}: the refused call has another why: {why}"
         if not self.is_as_before(again):
             return f"{first}: a refused call changed something"
-        reply, *after = replies[-looks - 2:-1]
+        reply, *after = replies[-looks - 3:-2]
         return "refused" if self.is_right_again(reply, after) else f"{first}: the call made again is wrong: {reply}"
 
     def ends(self):
