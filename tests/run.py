@@ -97,6 +97,7 @@ CHECKS = {
         "c_answers": "calls the library from C on the examples, for each refusal, at sites 1 to 1024 and in 256 KB of stack",
         "c_growths": "refuses memory to each call of the library, at each of its times",
         "c_memory": "counts the memory that a site holds until it is closed, and after calls that bring nothing",
+        "c_times": "times the library on what is new at a site that holds very many messages",
         "c_calls": "compares made-up calls from C with the definitions, under the address sanitizer and valgrind",
         "c_threads": "runs threads with a site each",
         "c_examples": "builds and runs the examples in C and Rust",
