@@ -209,10 +209,16 @@ def crates_of(heading):
 
 
 def check_edits(report, page, text):
-    """Whether the first line of each edit says what it does, which the page points to."""
-    for path in sorted(CRATES.glob("*/must-fail/*.edit")):
-        line = path.read_text(encoding="utf-8").split("\n")[0]
-        report.check(path, 1, re.fullmatch(r"# [^a-z].*\.", line) is not None, "the first line does not say what the edit does")
+    """Whether the first line of each edit says what it does, which the page points to, and whether the lines that it turns are there."""
+    for path in sorted(CRATES.glob("*/must-fail/*")):
+        lines = path.read_text(encoding="utf-8").splitlines()
+        report.check(path, 1, re.fullmatch(r"# [^a-z].*\.", lines[0]) is not None, "the first line does not say what the edit does")
+        text = ""
+        for number, line in enumerate(lines, 1):
+            if line.startswith("file: "):
+                text = (path.parents[1] / line[len("file: "):]).read_text(encoding="utf-8")
+            elif line.startswith("old: "):
+                report.check(path, number, text.count(line[len("old: "):]) == 1, "the line that the edit turns is not there once")
 
 
 def check_places(report, page, text):
