@@ -1,9 +1,9 @@
 //! Laws of journals, rounds and hubs. Each law is the contract of a function with an empty body.
 //!
 //! A *hub* is a list of runs on several machines. Each run names a site, its journal, and the texts that it is given. It is
-//! *honest* if all runs have one number of sites; the journals of a site are of whole lines, and each begins with the one
-//! before; and each text that a run is given is one that `cut` wrote in an earlier run. The texts may come from any site, in
-//! any order, again, or not at all.
+//! *honest* if five things hold of each run. Its site is one of the group, whose size is the same in all runs. Its journal is of
+//! whole lines. The journal begins with that of the site's run before. Each text that it is given is one that `cut` wrote in an
+//! earlier run. The text that it cuts is written whole. The texts may come from any site, in any order, again, or not at all.
 
 ghost use Rattle.sct_exchange.specs.Laws.{EqualVectorsHoldAlike, EqualVectorsWriteAlike, HoldsExactly, HubsNeverFork, JournalsMakeLogs, NumbersLast, OrderDoesNotMatter, OwnEntriesGoByTheJournal, RefusalsAreTheLast, RoundsExchange, RunsAgainEndAlike};
 
