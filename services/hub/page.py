@@ -1,7 +1,11 @@
-"""page.py: the page of the desk, and what it may do: its own script and style, and requests to its own site."""
+"""page.py: the page of the desk, and what it may do: its own script and style, and requests to its own site.
+
+The colors and the remedies of statuses and findings are those of meanings.json. The page for browsers has them too (web/build).
+"""
 import base64, hashlib, pathlib, re
 
-BODY = pathlib.Path(__file__).with_name("desk.html").read_bytes()
+HERE = pathlib.Path(__file__).parent
+BODY = (HERE / "desk.html").read_bytes().replace(b"@MEANINGS@", (HERE / "meanings.json").read_bytes())
 
 
 def sum_of(element):

@@ -1,17 +1,21 @@
 """codes.py: docs/users/codes.md has the numbers and names of the code and lines of the examples, and a manual page can be made of it.
 
 The numbers and names in the tables are those of the functions `number` of the code, and so are the numbers that the page says are not
-assigned. Each line that a table shows in its column Line or Example is a line of some file of examples/, or is `fault N` and N ends a
-run by the code. The manual page that man_page.py makes has each section of the page, and is well-formed: troff reads each of its
-lines and signs as it is meant.
+assigned. Each word of a status text or of a report has the remedy that services/hub/meanings.json has, which the pages show. Each line
+that a table shows in its column Line or Example is a line of some file of examples/, or is `fault N` and N ends a run by the code. The
+manual page that man_page.py makes has each section of the page, and is well-formed: troff reads each of its lines and signs as it is
+meant.
 """
-import re
+import json, re
 from tests import harness
 from tests.documents import man_page, pages
-from tests.harness import CRATES, EXAMPLES, reported
+from tests.harness import CRATES, EXAMPLES, SERVICES, reported
 
 SHOWN = ["Line", "Example"]
 MOST = 78  # the greatest number
+# the sections on words, each with the table of meanings.json that has them, and the colors of that table
+WORDS = {"Statuses of a transfer": "transfers", "Findings": "findings", "Statuses of a recall": "recalls", "Results of a report": "report"}
+COLORS = {"good", "wait", "bad"}
 # the requests and the signs of the manual page
 REQUESTS = {".\\\"", ".TH", ".SH", ".SS", ".PP", ".TP", ".IP", ".br", ".nf", ".fi", ".RS", ".RE", ".B"}
 SIGNS = re.compile(r"\\(?:[-e&]|f[BIR]|\((?:aq|ga|ti|ha|bu))")
@@ -68,6 +72,18 @@ def lines_shown(table, ends):
                 yield reported(f"codes.md shows {line}", right)
 
 
+def remedies(text):
+    """Whether the pages show the remedy of each word that this page has."""
+    meanings = json.loads((SERVICES / "hub/meanings.json").read_text(encoding="utf-8"))
+    sections = dict(part.split("\n", 1) for part in text.split("\n## ")[1:])
+    yield reported("meanings.json has the tables of words", set(meanings) == set(WORDS.values()))
+    for section, table in WORDS.items():
+        rows = {tuple(row.cells[:2]) for _, row in pages.tables(sections[section].splitlines())}
+        its = {(word, row["remedy"]) for word, row in meanings[table].items()}
+        yield reported(f"the remedies of {section}", rows == its, f"{rows ^ its}")
+        yield reported(f"the colors of {section}", {row["color"] for row in meanings[table].values()} <= COLORS)
+
+
 def manual(text):
     """Whether the manual page has each section of the page, and is well-formed."""
     lines = man_page.made().splitlines()
@@ -88,7 +104,7 @@ def manual(text):
 def main():
     text, (pairs, ends) = man_page.PAGE.read_text(encoding="utf-8"), numbers_of_code()
     table = [dict(zip(columns, row.cells)) for columns, row in pages.tables(text.splitlines())]
-    harness.end_of([*numbers(text, table, pairs), *lines_shown(table, ends), *manual(text)])
+    harness.end_of([*numbers(text, table, pairs), *lines_shown(table, ends), *remedies(text), *manual(text)])
 
 
 if __name__ == "__main__":

@@ -75,7 +75,7 @@ HAS = {
     "python3-niluppang": [f"usr/lib/python3/dist-packages/niluppang/{name}" for name in MODULES],
     "niluppang-hub": ["etc/niluppang", "usr/bin/niluppang-hub", "usr/bin/hubctl", "lib/systemd/system/niluppang-hub@.service",
                       "usr/share/man/man1/niluppang-hub.1.gz", "usr/share/man/man1/hubctl.1.gz",
-                      *(f"{SHARED}services/hub/{name}" for name in ("main.py", "hubctl.py", "desk.html")),
+                      *(f"{SHARED}services/hub/{name}" for name in ("main.py", "hubctl.py", "desk.html", "meanings.json")),
                       *(f"usr/share/doc/niluppang-hub/examples/{name}" for name in ("alerts.yml", "dashboard.json", "nginx.conf")),
                       *(f"usr/share/doc/niluppang-hub/examples/{name}" for name in ("certificates.sh", "roles.toml", "site.toml"))],
 }

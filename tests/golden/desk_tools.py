@@ -226,7 +226,7 @@ def explained(folder, commands):
         is_right = text.startswith(line + "\n") and [one.strip().partition(":")[0] for one in below] == right
         yield reported(f"explain {line[:60]}", is_right, text)
     for line, remedy in [("line 2: 36 DbtrAcct 2", "BadIban: remove spaces; ask the sender if the check digits are wrong"),
-                         ("F|BANKDEFFXXX|T1|TwoReturns", "ask the beneficiary bank what it paid back"),
+                         ("F|BANKDEFFXXX|T1|TwoReturns", "two returns differ: ask the beneficiary bank what it paid back"),
                          ("R|BANKDEFFXXX|T1|R1|CHASED", "remind the beneficiary bank"),
                          ("E|12|REFUSED|41|3|0|2", "hand it the earlier delta first"),
                          ('LUTEFRPPXXX,"LU,10",LISTED_TWICE,,,1.00,ACCEPTED', "leave one row")]:

@@ -29,6 +29,8 @@ def steps(post):
         {"do": 'document.getElementById("tx").focus()'},
         {"text": "LU20250310B6"}, {"key": "Enter"},
         f'/CONTRADICTED/.test({SEARCH}) && /BothConfirmed It is accepted and rejected/.test({SEARCH})',
+        f'/CONTRADICTED\\s+Read its F lines, and clear it with the banks\\./.test({SEARCH})',
+        'document.querySelector("#transfer .title .word").className === "word bad"',
         'location.hash === "#LUTEFRPPXXX/LU20250310B6"',
         'document.querySelectorAll("#transfer tbody tr").length === 3',
         f'{TIMES}.map(it => it.innerText).every((it, at, all) => !at || all[at - 1] <= it)',
