@@ -4,8 +4,8 @@
 which takes most of an hour. So the libraries that the gate proved and kept are put where `rt lib` looks for them, each under the key
 by which `rt ci` itself finds it again: the sum of its sources, of its line in crates.txt and of the libraries below it. An older toolchain
 keeps nothing, and leaves what it proved in the folders of the crates without that key: such a library gets its key if it is newer than all that
-it is made of. What was not kept, `rt lib` proves. It proves the static library in each case. The page is made in the same way, of another
-static library (web/build).
+it is made of. What was not kept, `rt lib` proves. It proves the static library in each case. The page is made of the same static library, for
+WebAssembly (web/build).
 """
 import contextlib, hashlib, importlib.machinery, importlib.util, io, os, pathlib, shutil, subprocess, sys
 

@@ -1,10 +1,12 @@
 // The page: it asks the worker, and shows what it answers.
 const at = (id) => document.getElementById(id);
 const CODES = JSON.parse(at("codes").textContent);
+const MEANINGS = JSON.parse(at("meanings").textContent); // of each table, the color and the remedy of each word
 const ROWS = 500;
+const PAUSE = 250; // milliseconds without a key, after which a search begins
 const TABLES = ["report", "transfers", "findings", "recalls", "totals", "refused"];
-const COLORS = { ACCEPTED: "good", MATCHED: "good", REJECTED: "good", RETURNED: "good", REFUSED: "good", CONTRADICTED: "bad", AMOUNT_DIFFERS: "bad",
-  STATUS_DIFFERS: "bad", LISTED_TWICE: "bad" };
+// of each table, the columns with words, each with the table of their meanings
+const WORDED = { report: { 2: "report", 4: "transfers", 6: "transfers" }, transfers: { 2: "transfers" }, findings: { 2: "findings" }, recalls: { 3: "recalls" } };
 const NUMBERS = { totals: [1, 2, 3, 4, 5, 6, 7, 8, 9, 10], report: [3, 5], refused: [0, 1] };
 const ENGLISH = { refused: [2, 3, 4] }; // the columns with sentences of docs/users/codes.md
 const FILES = { status: "status.txt", totals: "totals.txt", refused: "refused.txt", report: "report.csv", archive: "archive.jsonl" };
@@ -15,6 +17,7 @@ let shown = { table: "transfers", from: 0, words: [] };
 let busy = false, again = false; // whether files are read, and whether others were chosen meanwhile
 let read = null; // the file of messages that is answered
 let summary = null; // the line on what was answered, in the words that are chosen
+let typing; // the pause after a key
 let fault = () => ""; // the line on what went wrong
 
 const said = (text, ...parts) => text.replace(/\{(\d)\}/g, (_, place) => parts[place]);
@@ -153,7 +156,7 @@ function show_bars() {
   replace(at("bars"), (shown.table === "refused" ? [] : Object.entries(counts).sort(([, a], [, b]) => b - a)).map(([word, count]) => {
     const is_chosen = shown.words.length === 1 && shown.words[0] === word;
     const bar = made("button", "", { type: "button", onclick: () => choose(is_chosen ? [] : [word]) });
-    const line = made("i", "", { className: COLORS[word] ?? "wait" });
+    const line = made("i", "", { className: MEANINGS[shown.table]?.[word]?.color ?? "wait" });
     line.style.width = `${100 * count / most}%`;
     bar.setAttribute("aria-pressed", String(is_chosen));
     bar.append(made("span", word), line, made("b", counted(count)));
@@ -186,7 +189,7 @@ function row_of(table, fields) {
   heads.forEach((_, place) => {
     const word = cells[place] ?? "", cell = made("td", word);
     if ((NUMBERS[table] ?? []).includes(place)) cell.className = "number";
-    else if (word in COLORS) cell.className = COLORS[word];
+    else cell.className = MEANINGS[WORDED[table]?.[place]]?.[word]?.color ?? "";
     if (ENGLISH[table]?.includes(place)) cell.lang = "en";
     if (table === "transfers" && place === 4) cell.append(made("button", words.show, { type: "button", onclick: () => show_messages(fields[0], fields[1]) }));
     row.append(cell);
@@ -195,8 +198,16 @@ function row_of(table, fields) {
   return row;
 }
 
+// What to do about the word whose rows are shown.
+function show_remedy() {
+  const [word] = shown.words, remedy = MEANINGS[shown.table]?.[word]?.remedy;
+  at("remedy").hidden = shown.words.length !== 1 || !remedy;
+  at("remedy").firstElementChild.textContent = said(words.remedy, word);
+  at("remedy").lastElementChild.textContent = remedy;
+}
+
 async function show() {
-  show_bars(); show_choices();
+  show_bars(); show_choices(); show_remedy();
   const { table, from } = shown;
   const { rows, matched } = await ask("rows", { ...shown, search: at("search").value, bank: at("filter-bank").value.trim().toUpperCase(), count: ROWS });
   const heads = made("tr");
@@ -211,6 +222,12 @@ async function show() {
 const turn = (table) => { shown = { table, from: 0, words: [] }; show(); };
 const choose = (chosen) => { shown.words = chosen; shown.from = 0; show(); };
 const page = (step) => { shown.from = Math.max(0, shown.from + step * ROWS); show(); };
+
+// Searches when the typist pauses, unless another file is read by then.
+function search() {
+  clearTimeout(typing);
+  typing = setTimeout(() => { shown.from = 0; if (summary) show(); }, PAUSE);
+}
 
 async function show_messages(bank, transfer) {
   at("transfer-title").textContent = said(words.messages_on, bank, transfer);
@@ -245,7 +262,7 @@ async function begin() {
   at("language").onchange = (event) => speak(event.target.value);
   at("files").onsubmit = answer;
   at("messages").onchange = () => { if (at("messages").files.length) answer(); };
-  at("search").oninput = at("filter-bank").oninput = () => { shown.from = 0; show(); };
+  at("search").oninput = at("filter-bank").oninput = search;
   at("filter-word").onchange = (event) => choose(event.target.value ? [event.target.value] : []);
   at("lacks").onclick = () => choose(shown.words === LACKS ? [] : LACKS);
   at("before").onclick = () => page(-1);

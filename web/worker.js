@@ -1,4 +1,4 @@
-// The worker: it has the module, reads the files, keeps the texts, and answers the page's questions about their rows.
+// The worker: it has the module, reads the files, keeps a site and its texts, and answers the page's questions about their rows.
 "use strict";
 
 class Fault extends Error {
@@ -7,76 +7,188 @@ class Fault extends Error {
 
 // A file that cannot be read to its end, or has another length than when it was chosen.
 class Changed extends Error {
-  constructor(file) { super("changed"); this.which = file === input ? "messages" : "list"; }
+  constructor(which) { super("changed"); this.which = which; }
 }
 
-const decoded = (bytes) => new TextDecoder().decode(bytes);
-const MEMORY = 65, NO_ROOM = 74, PIECE = 1 << 24;
+const decoded = (bytes) => new TextDecoder().decode(bytes), encoded = (text) => new TextEncoder().encode(text);
+const MEMORY = 65, LINE_FEED = 10;
+const PIECE = 1 << 26; // bytes of a file of messages that are taken at once
+const SOME = 1 << 24; // bytes of a text that are decoded at once
+const PART = 1 << 20; // bytes of an answer that are copied at once
+// structures of include/niluppang.h: the bytes of a handle and of the longest result, and where the fields of results are
+const HANDLE = 16, RESULT = 56, CODE = 1, PLACE = 8, LENGTH = 16, LENGTH_OF_LINES = 40;
 let core; // the compiled module
-let input; // the file of messages
-const texts = {}; // the bytes of each text that can be saved
+let site; // the site with the messages of the file that is answered
+const texts = {}; // the pieces of bytes of each text that is kept; a piece ends at the end of a line
 let tables = {}; // how many rows each table has, and how many with each word
 
 // ---- calls of the module
 
-// An instance for each call: all of its memory goes back at the end.
-const opened = () => new WebAssembly.Instance(core, {}).exports;
+// A site of its own, in an instance of the module. All memory goes back when nobody has the site any more. A place in the module's memory
+// and a length are a BigInt each, and a text is both.
+class Site {
+  constructor() {
+    this.calls = new WebAssembly.Instance(core, {}).exports;
+    this.handle = this.taken(HANDLE);
+    this.result = this.taken(RESULT);
+    this.part = this.taken(PART);
+    this.bytes(this.handle, HANDLE).fill(0);
+    this.called("open", 1, 1);
+  }
 
-function taken(calls, size) {
-  const at = calls.heap_take(BigInt(Math.max(size, 1)));
-  if (at === 0n) throw new Fault(MEMORY, 0);
-  return at;
+  // The bytes at a place. They are of use until the module's memory grows.
+  bytes(at, length) { return new Uint8Array(this.calls.memory.buffer, Number(at), length); }
+
+  // The place of new bytes.
+  taken(length) {
+    const at = this.calls.heap_take(BigInt(Math.max(length, 1)));
+    if (at === 0n) throw new Fault(MEMORY, 0);
+    return at;
+  }
+
+  given(at) { this.calls.heap_give(at); }
+
+  put(bytes) {
+    const at = this.taken(bytes.length);
+    this.bytes(at, bytes.length).set(bytes);
+    return [at, BigInt(bytes.length)];
+  }
+
+  // Makes a call. Returns what it came to.
+  called(name, ...words) {
+    this.calls["sct_raw_" + name](this.result, this.handle, ...words);
+    const result = new DataView(this.calls.memory.buffer, Number(this.result), RESULT);
+    if (!result.getUint8(0)) throw new Fault(result.getUint8(CODE), Number(result.getBigUint64(PLACE, true)));
+    return result;
+  }
+
+  // The answer that the last call made. It is copied part by part, and ends then: the module has one copy of it, and not for long.
+  answer(length) {
+    const text = new Uint8Array(length);
+    for (let from = 0; from < length;) {
+      const copied = Number(this.called("answer_part", BigInt(from), this.part, BigInt(PART)).getBigUint64(LENGTH, true));
+      text.set(this.bytes(this.part, copied), from);
+      from += copied;
+    }
+    this.called("answer_end");
+    return text;
+  }
+
+  // The answer to a question with some texts, which are given back.
+  asked(name, ...its) {
+    try {
+      return this.answer(Number(this.called(name, ...its.flat()).getBigUint64(LENGTH, true)));
+    } finally {
+      for (const [at] of its) this.given(at);
+    }
+  }
+
+  // Takes lines of messages. Returns the lines about those that are refused.
+  take_lines(at, length) {
+    return this.answer(Number(this.called("take_lines", at, BigInt(length)).getBigUint64(LENGTH_OF_LINES, true)));
+  }
 }
 
-// The place and the length of bytes that are copied into the module's memory.
-function put(calls, bytes) {
-  const at = taken(calls, bytes.length);
-  new Uint8Array(calls.memory.buffer, Number(at), bytes.length).set(bytes);
-  return [at, BigInt(bytes.length)];
-}
+// ---- the reading of files
 
-// The same of a file, which goes piece by piece into the module's memory.
-async function streamed(calls, file) {
-  const at = taken(calls, file.size), reader = file.stream().getReader();
+// The bytes of a file, some at a time.
+async function* bytes_in(file, which) {
+  const reader = file.stream().getReader();
   let count = 0, shown = 0;
   for (;;) {
-    const { done, value } = await reader.read().catch(() => { throw new Changed(file); });
+    const { done, value } = await reader.read().catch(() => { throw new Changed(which); });
     if (done) break;
-    if (count + value.length > file.size) throw new Changed(file);
-    new Uint8Array(calls.memory.buffer, Number(at) + count, value.length).set(value);
     count += value.length;
+    if (count > file.size) throw new Changed(which);
+    yield value;
     if (count - shown > file.size / 50) { shown = count; postMessage({ read: count / file.size }); }
   }
-  if (count !== file.size) throw new Changed(file);
+  if (count !== file.size) throw new Changed(which);
   postMessage({ read: 1 });
-  return [at, BigInt(count)];
 }
 
-// Calls an export with room for a number of bytes, and again with more room if the texts are longer.
-function called(calls, name, words, room) {
-  const lengths = taken(calls, 32);
-  for (;;) {
-    const out = taken(calls, room);
-    const code = calls["sct_page_" + name](...words, out, BigInt(room), lengths);
-    const [refused, text, totals, place] = [...new BigUint64Array(calls.memory.buffer, Number(lengths), 4)].map(Number);
-    if (code === NO_ROOM) { calls.heap_give(out); room = refused + text + totals; continue; }
-    if (code !== 0) throw new Fault(code, place);
-    const part = (from, count) => new Uint8Array(calls.memory.buffer, Number(out) + from, count).slice();
-    return { refused: part(0, refused), text: part(refused, text), totals: part(refused + text, totals) };
+// The file of a list, as a text in the module's memory.
+async function list_in(file) {
+  const at = site.taken(file.size);
+  let end = 0;
+  try {
+    for await (const some of bytes_in(file, "list")) { site.bytes(Number(at) + end, some.length).set(some); end += some.length; }
+  } catch (error) { site.given(at); throw error; }
+  return [at, BigInt(end)];
+}
+
+// How many line feeds are in bytes.
+function line_feeds(bytes) {
+  let count = 0;
+  for (let at = bytes.indexOf(LINE_FEED); at >= 0; at = bytes.indexOf(LINE_FEED, at + 1)) count += 1;
+  return count;
+}
+
+// Has a site take a file of messages, piece by piece. A piece ends with the last line that is whole in it. Before it are as many line
+// feeds as the pieces before had: blank lines are passed over and counted, so the site numbers the lines as they are in the file.
+class Pieces {
+  constructor(into, size) {
+    this.site = into;
+    this.room = Math.min(size, PIECE);
+    this.at = into.taken(this.room);
+    this.lines = this.end = 0; // the line feeds before the piece, and the end of what was read of it
+    this.refused = [];
+  }
+
+  add(some) {
+    for (let from = 0; from < some.length;) {
+      if (this.end === this.room) this.next();
+      const part = some.subarray(from, from + this.room - this.end);
+      this.site.bytes(Number(this.at) + this.end, part.length).set(part);
+      this.end += part.length;
+      from += part.length;
+    }
+  }
+
+  // Has the site take the whole lines that were read, and makes room for more of the next piece: at least as much as it has already.
+  next() {
+    const cut = this.site.bytes(this.at, this.end).lastIndexOf(LINE_FEED) + 1;
+    if (cut > this.lines) {
+      this.refused.push(this.site.take_lines(this.at, cut));
+      this.site.called("evaluate"); // at once, so that its memory is that of a piece
+      const bytes = this.site.bytes(this.at, this.end), lines = line_feeds(bytes.subarray(0, cut));
+      bytes.copyWithin(lines, cut);
+      bytes.fill(LINE_FEED, this.lines, lines);
+      this.end += lines - cut;
+      this.lines = lines;
+    }
+    if (this.end > this.room / 2) this.widen();
+  }
+
+  widen() {
+    const at = this.site.taken(2 * this.room);
+    this.site.bytes(at, this.end).set(this.site.bytes(this.at, this.end));
+    this.site.given(this.at);
+    this.at = at;
+    this.room *= 2;
+  }
+
+  // Has the site take the rest. Returns the pieces of the lines about what was refused.
+  done() {
+    this.refused.push(this.site.take_lines(this.at, this.end));
+    this.site.given(this.at);
+    return this.refused;
   }
 }
 
 // ---- the rows of the texts
 
-// The lines of bytes, some megabytes at a time: a text can be longer than the longest string.
-function* lines_in(bytes) {
-  for (let from = 0; from < bytes.length;) {
-    let end = Math.min(from + PIECE, bytes.length);
-    while (end < bytes.length && bytes[end - 1] !== 10) end += 1;
-    const lines = decoded(bytes.subarray(from, end)).split("\n");
-    lines.pop();
-    yield* lines;
-    from = end;
+// The lines of a text, some megabytes at a time: a text can be longer than the longest string.
+function* lines_in(pieces) {
+  for (const bytes of pieces) {
+    for (let from = 0; from < bytes.length;) {
+      let end = Math.min(from + SOME, bytes.length);
+      while (end < bytes.length && bytes[end - 1] !== LINE_FEED) end += 1;
+      const lines = decoded(bytes.subarray(from, end)).split("\n");
+      lines.pop();
+      yield* lines;
+      from = end;
+    }
   }
 }
 
@@ -145,58 +257,42 @@ function rows_of({ table, search, bank, words, from, count }) {
   return { rows: chosen, matched };
 }
 
-// ---- the messages on a transfer
+// ---- the page's questions
 
-async function archive() {
-  if (!texts.archive) {
-    const calls = opened(), words = await streamed(calls, input);
-    texts.archive = called(calls, "archive", words, Math.ceil(input.size * 1.3) + 65536).text;
-  }
-  return texts.archive;
-}
-
-// Whether an object of a message is about a transfer.
-const is_about = (members, bank, transfer) => members.DbtrAgt === bank && (members.OrgnlTxId ?? members.TxId) === transfer;
-
-async function messages({ bank, transfer }) {
-  const found = [], sought = JSON.stringify(transfer);
-  for (const line of lines_in(await archive())) {
-    if (!line.includes(sought)) continue;
-    const message = JSON.parse(line);
-    if ([message, ...(message.TxInf ?? [])].some((members) => is_about(members, bank, transfer))) found.push([message, line]);
-  }
+// The messages on a transfer, the earliest first.
+function messages({ bank, transfer }) {
+  const lines = [...lines_in([site.asked("messages_text", site.put(encoded(bank)), site.put(encoded(transfer)))])];
+  const found = lines.map((line) => [JSON.parse(line), line]);
   found.sort(([a], [b]) => (a.CreDtTm < b.CreDtTm ? -1 : a.CreDtTm > b.CreDtTm ? 1 : 0));
   return { rows: found.map(([m, line]) => [m.CreDtTm, m.MsgNmId, m.InstgAgt, m.MsgId, line]) };
 }
 
-// ---- the page's questions
-
 const ASKED = {
   async core({ bytes }) { core = await WebAssembly.compile(bytes); return {}; },
   async answers({ file }) {
-    input = file;
+    site = undefined;
     for (const name of Object.keys(texts)) delete texts[name];
     tables = {};
-    const began = performance.now(), calls = opened(), words = await streamed(calls, file);
+    const began = performance.now(), opened = new Site(), pieces = new Pieces(opened, file.size);
+    for await (const some of bytes_in(file, "messages")) pieces.add(some);
     postMessage({ working: true });
-    const { refused, text, totals } = called(calls, "answers", words, file.size + 65536);
-    Object.assign(texts, { refused, status: text, totals });
-    const milliseconds = performance.now() - began, memory = calls.memory.buffer.byteLength;
+    texts.refused = pieces.done();
+    for (const name of ["status", "totals"]) texts[name] = [opened.asked(name + "_text")];
+    const milliseconds = performance.now() - began, memory = opened.calls.memory.buffer.byteLength;
     for (const name of Object.keys(texts)) count(name);
+    site = opened;
     return { found: tables, milliseconds, memory };
   },
   async report({ bank, day, list }) {
     delete texts.report;
-    const calls = opened(), encoder = new TextEncoder();
-    const listed = await streamed(calls, list), words = await streamed(calls, input);
+    const listed = await list_in(list);
     postMessage({ working: true });
-    const asked = [...words, ...put(calls, encoder.encode(bank)), ...put(calls, encoder.encode(day)), ...listed];
-    texts.report = called(calls, "report", asked, 4 * list.size + input.size + 65536).text;
+    texts.report = [site.asked("report", site.put(encoded(bank)), site.put(encoded(day)), listed)];
     return { found: count("report") };
   },
   rows: rows_of,
   messages,
-  async text({ name }) { return { blob: new Blob([name === "archive" ? await archive() : texts[name]]) }; },
+  text({ name }) { return { blob: new Blob(name === "archive" ? [site.asked("archive_text")] : texts[name]) }; },
 };
 
 // A fault as the page reads it.

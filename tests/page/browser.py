@@ -1,9 +1,10 @@
 """browser.py: the page answers in Chromium as the program does, is used by keys alone, opens no connection and stores nothing.
 
 The page is web/out/niluppang.html, which web/build makes. It is given each example by its choosers, and what it saves must be the bytes
-of the files of examples/. Its module is called over made-up inputs, and must write what the program writes. A call that is refused
-leaves the buffer as it was. With a module of little memory the page says that a file needs more, and answers a smaller one. The page's
-words are whole in each language, its parts have roles and names, and its texts can be read in two sizes, light and dark (shown.py).
+of the files of examples/. Made-up inputs are answered as the program answers them, also if they are taken in pieces of some bytes. After
+a question that is refused the site answers as before. With little memory the page says that a file needs more, and answers a smaller
+one. The page's words are whole in each language, its parts have roles and names, and its texts can be read in two sizes, light and dark
+(shown.py).
 --pictures FOLDER keeps pictures of the page.
 """
 import argparse, base64, http.server, json, pathlib, random, tempfile, threading
@@ -16,19 +17,14 @@ from tests.page.chromium import Browser, Failed
 from tests.page.driving import Checks, answered, opened, reported, saved, text_of, with_report
 
 MADE_UP, SEED = 300, 61
+PIECES = [1, 100, 5000]  # bytes of a file that the worker takes at once
+TEXTS = ["refused", "status", "totals", "archive"]
 
 
-def called(browser, name, words, room=1 << 20, full=False):
-    """What an export returns and writes."""
-    passed = ", ".join(text_of(word) if isinstance(word, bytes) else json.dumps(word) for word in words)
-    got = browser.value(f"called_with({json.dumps(name)}, [{passed}], {room}, {json.dumps(full)})")
-    return {**got, "bytes": base64.b64decode(got["bytes"])}
-
-
-def parts_of(got):
-    """The texts of an answer."""
-    first, second = got["numbers"][0], got["numbers"][0] + got["numbers"][1]
-    return got["bytes"][:first], got["bytes"][first:second], got["bytes"][second:]
+def many(browser, names, inputs):
+    """The texts of each of many files of messages, by their names."""
+    got = browser.value(f"many({json.dumps(names)}, [{', '.join(text_of(data) for data in inputs)}])")
+    return [[base64.b64decode(text) for text in texts] for texts in got]
 
 
 # ---- by files
@@ -38,7 +34,7 @@ def by_files(browser, checks):
     for example in sorted(EXAMPLES.glob("*.jsonl")):
         read = lambda suffix: example.with_suffix(suffix).read_bytes()
         answered(browser, example)
-        for name in "refused", "status", "totals", "archive":
+        for name in TEXTS:
             checks.fits(f"{example.stem} {name}", saved(browser, name), read("." + name))
         if example.stem in REPORTS:
             bank, day = REPORTS[example.stem]
@@ -56,18 +52,60 @@ def by_wrong_files(browser, checks, folder):
     good = EXAMPLES / "bank-day.list"
     checks.fits("a bank in small letters", "BIC" in str(reported(browser, "lutefrpp", "2025-03-10", good)), True)
     checks.fits("a day in another form", "2025-03-10" in str(reported(browser, "LUTEFRPP", "10.03.2025", good)), True)
-    changing = pathlib.Path(folder, "changing.jsonl")
-    changing.write_bytes((EXAMPLES / "bank-day.jsonl").read_bytes())
-    answered(browser, changing)
-    changing.write_bytes(b"{}\n")
-    checks.fits("a file that changed", reported(browser, "LUTEFRPP", "2025-03-10", good), browser.value("WORDS.en.changed"))
-    answered(browser, changing)
-    checks.fits("the file as it is then", saved(browser, "refused"), b"line 1: 33\n")
-    answered(browser, EXAMPLES / "bank-day.jsonl")
     checks.fits("no list file", "record 1 is wrong" in str(reported(browser, "LUTEFRPP", "2025-03-10", EXAMPLES / "bank-day.jsonl")), True)
 
 
-# ---- by calls
+def chosen(browser, selector, path):
+    """Chooses a file that the page does not read yet, and changes it."""
+    browser.value(f"window.kept_order = at('{selector}').onchange; at('{selector}').onchange = null")
+    browser.give(f"#{selector}", path)
+    browser.value(f"at('{selector}').onchange = kept_order")
+    path.write_bytes(b"{}\n")
+
+
+def by_changed_files(browser, checks, folder):
+    """A file of messages is read once: the report, the archive and the messages on a transfer are those of what was read. A file that
+    changes before it is read is refused."""
+    messages, listed, day = (pathlib.Path(folder, name) for name in ("changing.jsonl", "changing.list", "day.jsonl"))
+    examples = {path: (EXAMPLES / f"bank-day.{path.suffix[1:]}").read_bytes() for path in (messages, listed)}
+    messages.write_bytes(examples[messages])
+    listed.write_bytes(examples[listed])
+    answered(browser, messages)
+    messages.write_bytes(b"{}\n")
+    right = [(EXAMPLES / f"bank-day.{name}").read_bytes() for name in ("report", "archive")]
+    report = reported(browser, "LUTEFRPP", "2025-03-10", listed)
+    checks.fits("the report and the archive of a file that changed since", [report, saved(browser, "archive")], right)
+    day.write_bytes(examples[messages])
+    chosen(browser, "messages", day)
+    said, changed = "at('fault').textContent", browser.value("WORDS.en.changed")
+    browser.value("document.body.dataset.done = ''; at('compare').click()")
+    browser.until("document.body.dataset.done === '1'")
+    checks.fits("a file that changed before it was read", browser.value(said), changed)
+    answered(browser, day)
+    checks.fits("the file as it is then", saved(browser, "refused"), b"line 1: 33\n")
+    chosen(browser, "list", listed)
+    browser.value("at('bank').value = 'LUTEFRPP'; at('day').value = '2025-03-10'; document.body.dataset.done = ''; at('compare').click()")
+    browser.until("document.body.dataset.done === '1'")
+    checks.fits("a list that changed before it was read", browser.value(said), changed)
+
+
+def by_messages(browser, checks):
+    """The messages on each transfer of an example, the earliest first."""
+    parts = lambda message: [message, *message.get("TxInf", [])]
+    for example in sorted(EXAMPLES.glob("*.jsonl")):
+        answered(browser, example)
+        lines = example.with_suffix(".archive").read_text().splitlines()
+        archive = sorted(((json.loads(line), line) for line in lines), key=lambda both: both[0]["CreDtTm"])
+        for transfer in example.with_suffix(".status").read_text().splitlines():
+            kind, bank, tx, *_ = transfer.split("|")
+            is_on = lambda part: (part.get("DbtrAgt"), part.get("OrgnlTxId", part.get("TxId"))) == (bank, tx)
+            right = [line for message, line in archive if any(map(is_on, parts(message)))]
+            if kind == "T":
+                got = browser.value(f"ask('messages', {json.dumps({'bank': bank, 'transfer': tx})})")
+                checks.fits(f"the messages on {bank} {tx}", [row[4] for row in got["rows"]], right)
+
+
+# ---- by the worker
 
 def made_up():
     """Inputs that are made from the examples: lines cut, changed, repeated, in another order."""
@@ -83,62 +121,46 @@ def made_up():
 
 
 def by_made_up(browser, checks):
-    """Made-up inputs, each as the program answers it."""
+    """Made-up inputs, each as the program answers it. The worker takes them at once, and then in pieces of some bytes."""
     program = harness.program()
     inputs = [*made_up(), *(one.data for one in made_inputs.made_inputs() if len(one.data) < 1 << 20)]
-    for place in range(0, len(inputs), 25):
-        some = inputs[place:place + 25]
-        literals = ", ".join(text_of(data) for data in some)
-        for data, got in zip(some, browser.value(f"many('answers', [{literals}])")):
-            run = lambda command: harness.run([program, command], data)
-            status, totals = run("status"), run("totals")
-            parts = parts_of({**got, "bytes": base64.b64decode(got["bytes"])})
-            checks.fits(f"made-up input {data[:60]!r}", (got["code"], parts), (0, (status.errors, status.text, totals.text)))
+    right = []
+    for data in inputs:
+        status, totals = (harness.run([program, command], data) for command in ("status", "totals"))
+        right.append([status.errors, status.text, totals.text])
+    for piece in 1 << 26, *PIECES[1:]:
+        browser.value(f"start_with({piece})")
+        for place in range(0, len(inputs), 25):
+            for data, got, its in zip(inputs[place:], many(browser, TEXTS[:3], inputs[place:place + 25]), right[place:]):
+                checks.fits(f"made-up input {data[:60]!r} in pieces of {piece}", got, its)
 
 
-def by_sites(browser, checks):
-    """A site, its vector and what it cuts, as the program's commands print them."""
-    program, read = harness.program(), lambda number: (EXAMPLES / f"hub-morning.site{number}").read_bytes()
-    with tempfile.TemporaryDirectory() as folder:
-        deltas = []
-        for number in 2, 3:
-            path = pathlib.Path(folder, f"delta{number}")
-            path.write_bytes(harness.run([program, "cut", str(number), "3", "-", EXAMPLES / f"hub-morning.site{number}"]).text)
-            deltas.append(path)
-        bad = pathlib.Path(folder, "bad")
-        bad.write_bytes(b"no delta\n")
-        files = [*deltas, bad]
-        words = [read(1), b"".join(path.read_bytes() for path in files), [path.stat().st_size for path in files]]
-        for name, command, more in [("site", ["site", "1", "3"], []), ("vector", ["vector", "1", "3"], []), ("cut", ["cut", "1", "3", "1:1"], [b"1:1"])]:
-            run = harness.run([program, *command, EXAMPLES / "hub-morning.site1", *files])
-            got = called(browser, name, [1, 3, *more, *words])
-            text = parts_of(got)[1] + (b"\n" if name == "vector" else b"")
-            checks.fits(name, (got["code"], parts_of(got)[0], text), (0, run.errors, run.text))
-
-
-def refused(name, got, checks, code, numbers):
-    """A call that is refused: its code and its lengths, and a buffer that is as before."""
-    checks.fits(name, (got["code"], got["numbers"], got["untouched"]), (code, numbers, True))
+def by_pieces(browser, checks):
+    """Each example in pieces of some bytes: shorter than a line, and as long as some lines. The first is shorter than any line."""
+    examples = sorted(EXAMPLES.glob("*.jsonl"))
+    right = [[path.with_suffix("." + name).read_bytes() for name in TEXTS] for path in examples]
+    blank = b"\n" * 1000 + b"x\n\r\n" * 1000 + b"y"
+    lines = "".join(f"line {number}: 31\n" for number in [*range(1001, 3001, 2), 3001]).encode()
+    for piece in PIECES:
+        browser.value(f"start_with({piece})")
+        got = many(browser, TEXTS, [path.read_bytes() for path in examples])
+        for path, its, texts in zip(examples, right, got):
+            checks.fits(f"{path.name} in pieces of {piece}", texts, its)
+        checks.fits(f"blank lines in pieces of {piece}", many(browser, ["refused"], [blank, b"", b"\n"]), [[lines], [b""], [b""]])
 
 
 def by_refusals(browser, checks):
-    """Each code of a call without an answer."""
-    day, listed = (EXAMPLES / "bank-day.jsonl").read_bytes(), (EXAMPLES / "bank-day.list").read_bytes()
-    report = lambda bank, date, rows: called(browser, "report", [day, bank, date, rows])
-    refused("a wrong bank", report(b"lutefrpp", b"2025-03-10", listed), checks, 73, [0, 0, 0, 1])
-    refused("a wrong day", report(b"LUTEFRPP", b"2025-3-10", listed), checks, 73, [0, 0, 0, 2])
-    refused("a wrong list", report(b"LUTEFRPP", b"2025-03-10", b"DbtrAgt,TxId,Amt,Sts\nA,B,C,D\n"), checks, 48, [0, 0, 0, 2])
-    refused("an empty list", report(b"LUTEFRPP", b"2025-03-10", b""), checks, 48, [0, 0, 0, 1])
-    lengths = [len((EXAMPLES / f"bank-day.{name}").read_bytes()) for name in ("refused", "status", "totals")]
-    refused("a buffer one byte short", called(browser, "answers", [day], sum(lengths) - 1), checks, 74, [*lengths, 0])
-    exact = called(browser, "answers", [day], sum(lengths))
-    checks.fits("a buffer as long as the texts", (exact["code"], exact["numbers"]), (0, [*lengths, 0]))
-    checks.fits("the bytes past the texts", called(browser, "answers", [day], sum(lengths) + 9)["rest"], True)
-    for number, group in (0, 3), (4, 3), (1, 1025), (1, 0):
-        refused(f"site {number} of {group}", called(browser, "site", [number, group, b"", b"", []]), checks, 44, [0, 0, 0, 0])
-    refused("a wrong vector", called(browser, "cut", [1, 3, b"1:x", b"", b"", []]), checks, 72, [0, 0, 0, 0])
-    for name, words in ("answers", [day]), ("archive", [day]), ("report", [day, b"LUTEFRPP", b"2025-03-10", listed]), ("site", [1, 3, day, b"", []]):
-        refused(f"{name} without memory", called(browser, name, words, full=True), checks, 65, [0, 0, 0, 0])
+    """Each code of a question without an answer, with its place. The site answers as before then."""
+    day, listed, right = ((EXAMPLES / f"bank-day.{name}").read_bytes() for name in ("jsonl", "list", "report"))
+    before = many(browser, TEXTS, [day])[0]
+    report = lambda bank, date, rows: browser.value(f"report_on({json.dumps(bank)}, {json.dumps(date)}, {text_of(rows)})")
+    for name, words, fault in [("a wrong bank", ("lutefrpp", "2025-03-10", listed), [73, 1]), ("no bank", ("", "2025-03-10", b""), [73, 1]),
+                               ("a wrong day", ("LUTEFRPP", "2025-3-10", listed), [73, 2]), ("no day", ("LUTEFRPP", "", listed), [73, 2]),
+                               ("a wrong list", ("LUTEFRPP", "2025-03-10", lists.HEADER.encode() + b"A,B,C,D\n"), [48, 2]),
+                               ("an empty list", ("LUTEFRPP", "2025-03-10", b""), [48, 1])]:
+        checks.fits(name, report(*words), fault)
+        checks.fits(f"the report after {name}", base64.b64decode(report("LUTEFRPP", "2025-03-10", listed)), right)
+    checks.fits("the texts after all", [saved(browser, name) for name in TEXTS], before)
 
 
 # ---- by keys
@@ -236,8 +258,10 @@ def main():
             shown.pictures(browser, asked.pictures)
             opened(browser)
         in_folder = lambda step: lambda *both: step(*both, folder)
-        for step in (by_files, in_folder(by_wrong_files), by_made_up, by_sites, by_refusals, in_folder(shown.by_memory), in_folder(shown.by_reading),
-                     in_folder(shown.by_rows), shown.by_words, shown.by_roles, shown.by_looks, shown.by_dropping, by_keys, by_connections, by_storage):
+        for step in (by_files, in_folder(by_wrong_files), in_folder(by_changed_files), by_messages, by_made_up, by_pieces, by_refusals,
+                     in_folder(shown.by_memory), in_folder(shown.by_full_memory), in_folder(shown.by_reading), in_folder(shown.by_rows),
+                     shown.by_typing, shown.by_remedies, shown.by_words, shown.by_roles, shown.by_looks, shown.by_dropping, by_keys,
+                     by_connections, by_storage):
             step(browser, checks)
             opened(browser)
     print(f"{checks.passed} passed, {checks.failed} failed")

@@ -3,38 +3,42 @@ const as_text = (bytes) => { let text = ""; for (let i = 0; i < bytes.length; i 
 const as_bytes = (text) => Uint8Array.from(atob(text), (letter) => letter.charCodeAt(0));
 const kept_text = async (name) => as_text(new Uint8Array(await (await ask("text", { name })).blob.arrayBuffer()));
 
-// The compiled module, and an instance of it.
-let module_kept;
-const instance = async () => {
-  module_kept ??= await WebAssembly.compile(as_bytes(at("core").textContent.trim()));
-  return (await WebAssembly.instantiate(module_kept, {})).exports;
-};
-
-// Calls an export over bytes, numbers of 16 bits, and lists of numbers of 64 bits: what it returns, whether it left the buffer as it
-// was, the lengths, and the texts. With `full`, no memory is left for the call.
-async function called_with(name, words, room, full) {
-  const calls = await instance();
-  const put = (bytes) => { const at = calls.heap_take(BigInt(Math.max(bytes.length, 1))); new Uint8Array(calls.memory.buffer, Number(at), bytes.length).set(bytes); return at; };
-  const passed = words.flatMap((word) => typeof word === "number" ? [word] : typeof word === "string" ? [put(as_bytes(word)), BigInt(as_bytes(word).length)]
-    : [put(new Uint8Array(BigUint64Array.from(word.map(BigInt)).buffer)), BigInt(word.length)]);
-  const before = new Uint8Array(room).fill(165), out = put(before), lengths = put(new Uint8Array(32).fill(165));
-  if (full) {
-    for (let pages = 65536; pages >= 1;) { try { calls.memory.grow(BigInt(pages)); } catch { pages = Math.floor(pages / 2); } }
-    while (calls.heap_take(1n << 20n) !== 0n);
-    for (const size of [65536n, 4096n, 256n, 16n]) while (calls.heap_take(size) !== 0n);
+// The texts of each of many files, by their names.
+async function many(names, inputs) {
+  const answers = [];
+  for (const input of inputs) {
+    await ask("answers", { file: new File([as_bytes(input)], "messages") });
+    const texts = [];
+    for (const name of names) texts.push(await kept_text(name));
+    answers.push(texts);
   }
-  const code = calls["sct_page_" + name](...passed, out, BigInt(room), lengths);
-  const numbers = [...new BigUint64Array(calls.memory.buffer, Number(lengths), 4)].map(Number);
-  const after = new Uint8Array(calls.memory.buffer, Number(out), room).slice();
-  const untouched = after.every((byte) => byte === 165), count = code === 0 ? numbers[0] + numbers[1] + numbers[2] : 0;
-  return { code, numbers, untouched, bytes: as_text(after.subarray(0, count)), rest: after.subarray(count).every((byte) => byte === 165) };
+  return answers;
 }
 
-// What is answered to each of many inputs.
-async function many(name, inputs) {
-  const answers = [];
-  for (const input of inputs) answers.push(await called_with(name, [input], as_bytes(input).length * 8 + 65536));
-  return answers;
+// The report on a list, or the code and the place of its fault.
+const report_on = (bank, day, list) => ask("report", { bank, day, list: new File([as_bytes(list)], "list") }).then(() => kept_text("report"), ({ code, place }) => [code, place]);
+
+// Starts the worker anew. It takes a file in pieces of so many bytes.
+async function start_with(piece) {
+  const part = at("worker"), source = part.textContent, found = /PIECE = 1 << 26;/;
+  if (!found.test(source)) throw new Error("the worker has no such pieces");
+  worker.terminate();
+  part.textContent = source.replace(found, `PIECE = ${piece};`);
+  start();
+  part.textContent = source;
+  await ask("core", { bytes: as_bytes(at("core").textContent.trim()) });
+}
+
+// Notes what the page searches for from now on.
+function watch_searches() {
+  const post = worker.postMessage.bind(worker);
+  window.searched = [];
+  worker.postMessage = (asked) => { if (asked.ask === "rows") searched.push(asked.search); post(asked); };
+}
+
+// Types a text into the field of the search, a letter at a time and without a pause.
+function type_search(text) {
+  for (const letter of text) { at("search").value += letter; at("search").dispatchEvent(new Event("input")); }
 }
 
 // Gives the worker the module with another maximum of its memory, in pages of 64 KiB. In the section of memories (5) the maximum follows

@@ -1,4 +1,5 @@
-"""shown.py: what the page shows, with little memory, while it reads, in long tables, in each language, to a screen reader and to the eye."""
+"""shown.py: what the page shows, with little memory, while it reads, in long tables, while somebody types, in each language, to a screen
+reader and to the eye."""
 import json, pathlib, re
 from bench.generate import messages
 from tests import harness
@@ -39,8 +40,28 @@ def by_memory(browser, checks, folder):
         checks.fits(f"a smaller file after {name}", after, ("", small.with_suffix(".status").read_bytes()))
     browser.value("limit_memory()")
     answered(browser, some)
-    right = harness.run([harness.program(), "status"], some.read_bytes()).text
-    checks.fits("the same file with the memory of the page", (browser.value("at('fault').textContent"), saved(browser, "status")), ("", right))
+    run = lambda command: harness.run([harness.program(), command], some.read_bytes()).text
+    whole = browser.value("at('fault').textContent"), saved(browser, "status")
+    checks.fits("the same file with the memory of the page", whole, ("", run("status")))
+    checks.fits("its archive", saved(browser, "archive"), run("archive"))
+
+
+def by_full_memory(browser, checks, folder):
+    """A question that needs more memory than the site has left, with a clear line. The site still answers smaller ones."""
+    path = pathlib.Path(folder, "some")
+    path.write_text("".join(messages.lines(10_000)))
+    browser.value("start_with(1 << 16)")
+    give = "ask('answers', {file: at('messages').files[0]}).then(({ memory }) => memory)"
+    answered(browser, path)
+    pages = browser.value(give) >> 16
+    status = saved(browser, "status")
+    browser.value(f"limit_memory({pages})")
+    browser.value(give)
+    browser.value("complain(() => ''); save('archive')")
+    checks.fits("an archive text without memory", browser.value("at('fault').textContent"), browser.value("WORDS.en.no_memory"))
+    bank, tx = status.decode().split("|")[1:3]
+    rows = browser.value(f"ask('messages', {json.dumps({'bank': bank, 'transfer': tx})})")["rows"]
+    checks.fits("texts after it", (len(rows) > 0, saved(browser, "status")), (True, status))
 
 
 def by_reading(browser, checks, folder):
@@ -85,6 +106,35 @@ def by_rows(browser, checks, folder):
     text = browser.value("at('tables').textContent")
     counts = f"Transfers ({len(of('T|'))})Findings ({len(of('F|'))})Recalls ({len(of('R|'))})"
     checks.fits("the numbers of rows", counts in text and f"Refused lines ({many + 1:,})" in text, True)
+
+
+def by_typing(browser, checks):
+    """A search begins when the typist pauses, and once."""
+    answered(browser, EXAMPLES / "bank-day.jsonl")
+    browser.value("watch_searches()")
+    checks.fits("searches while somebody types", browser.value("type_search('hansdehh'); searched"), [])
+    browser.until("searched.length")
+    browser.value("new Promise((kept) => setTimeout(kept, 3 * PAUSE))")
+    lines = [line for line in (EXAMPLES / "bank-day.status").read_text().splitlines() if line.startswith("T|") and "HANSDEHH" in line]
+    shown = browser.value("[searched, at('rows').tBodies[0].rows.length]")
+    checks.fits("searches after a pause", shown, [["hansdehh"], len(lines)])
+
+
+def by_remedies(browser, checks):
+    """The color of each word, and what to do about it, by the table that the page of the desk has too."""
+    meanings = json.loads((harness.SERVICES / "hub/meanings.json").read_text())
+    with_report(browser)
+    for table, words in meanings.items():
+        browser.value(f"turn('{table}')")
+        for word in browser.value(f"Object.keys(found['{table}'].counts)"):
+            browser.value(f"choose(['{word}'])")
+            browser.until(f"at('rows').querySelector('.{words[word]['color']}')?.textContent === '{word}'")
+            line = browser.value("at('remedy').hidden ? null : at('remedy').textContent")
+            checks.fits(f"what to do about {word}", line, f"What to do about {word}: {words[word]['remedy']}")
+            bar = browser.value("at('bars').querySelector('[aria-pressed=true] i').className")
+            checks.fits(f"the color of {word}", bar, words[word]["color"])
+    browser.value("choose([])")
+    checks.fits("what to do about no word", browser.value("at('remedy').hidden"), True)
 
 
 # ---- words, roles and looks
