@@ -1,3 +1,0 @@
--- The lemmas of the page.
-pub mod SetLemmas
-pub mod TextsLemmas
