@@ -112,7 +112,8 @@ def by_typing(browser, checks):
     """A search begins when the typist pauses, and once."""
     answered(browser, EXAMPLES / "bank-day.jsonl")
     browser.value("watch_searches()")
-    checks.fits("searches while somebody types", browser.value("type_search('hansdehh'); searched"), [])
+    soon = "new Promise((kept) => setTimeout(() => kept(searched.length), PAUSE / 2))"
+    checks.fits("searches while somebody types", browser.value(f"type_search('hansdehh'); {soon}"), 0)
     browser.until("searched.length")
     browser.value("new Promise((kept) => setTimeout(kept, 3 * PAUSE))")
     lines = [line for line in (EXAMPLES / "bank-day.status").read_text().splitlines() if line.startswith("T|") and "HANSDEHH" in line]
