@@ -150,7 +150,6 @@ class Pieces {
     const cut = this.site.bytes(this.at, this.end).lastIndexOf(LINE_FEED) + 1;
     if (cut > this.lines) {
       this.refused.push(this.site.take_lines(this.at, cut));
-      this.site.called("evaluate"); // at once, so that its memory is that of a piece
       const bytes = this.site.bytes(this.at, this.end), lines = line_feeds(bytes.subarray(0, cut));
       bytes.copyWithin(lines, cut);
       bytes.fill(LINE_FEED, this.lines, lines);

@@ -41,7 +41,6 @@ const cut = tried(`({ text, room }, step) => {
     bytes: (at, length) => memory.subarray(Number(at), Number(at) + length),
     taken: (length) => { free += length; return BigInt(free - length); },
     given: () => {},
-    called: () => {},
     take_lines: (at, length) => { taken.push(decoded(site.bytes(at, length))); return new Uint8Array(0); },
   };
   const pieces = new Pieces(site, room), bytes = encoded(text);

@@ -5,6 +5,7 @@ pub mod EntryLemmas
 pub mod RowOfSite
 pub mod PlaceLemmas
 pub mod ReadingLemmas
+pub mod SetLemmas
 pub mod ShownLemmas
 pub mod TakingLemmas
 pub mod WatchLemmas

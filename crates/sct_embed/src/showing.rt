@@ -1,15 +1,21 @@
 //! A view that follows the arrivals of a site.
 
-ghost use Rattle.std.specs.Prelude.{◌≡◌, [], None, length, IfErr, OnOk};
+ghost use Rattle.std.specs.FinSet as set;
+ghost use Rattle.std.specs.Prelude.{◌≡◌, [], None, length, IfErr, OnErr, OnOk};
 ghost use Rattle.sct_delta.specs.Entries.{messages_of};
+ghost use Rattle.sct_message.specs.Sets.{messages_in};
+ghost use Rattle.sct_set.specs.Contents.{contents_of};
 ghost use Rattle.sct_embed.specs.Showing.{IsShowing, watched_by};
 ghost use Rattle.sct_embed.specs.declared.faults.EmbedFault.TheVariants as fault;
 
 use crate::changes::{Watch, watch_after};
 use crate::faults::EmbedFault;
 use sct_delta::{Entry, messages_in};
+use sct_message::Message;
+use sct_set::Archive;
 use sct_view::View;
 use std::alloc::Global;
+use std::sync::Arc;
 
 /// A view of the first arrivals of a site, and what changed since its changes were asked for.
 #[derive(Drop)]
@@ -19,6 +25,29 @@ pub(crate) struct Showing {
     pub(crate) count: usize,
     /// What changed since changes were asked for last; none before the first time.
     pub(crate) watch: Option<Watch>,
+}
+
+// Adds messages to a view of so many arrivals. The view of the first ones is built at once: that takes less than to evaluate a batch.
+#[tactic(auto, using(crate::proofs::SetLemmas::all_added))]
+fn apply(
+    alloc: Global,
+    view: &mut View,
+    count: usize,
+    messages: &[Arc<Message>],
+) -> Result<(), EmbedFault>
+    requires { count ≡ 0 → view.old ≡ set.empty }
+    ensures ok { OnOk result (view.new ≡ set.union view.old (contents_of (messages_in messages.now))) }
+    ensures err { IfErr result (λ e. e ≡ fault.Memory) }
+    ensures unchanged { OnErr result (view.new ≡ view.old) }
+{
+    if count > 0 {
+        view.apply(messages)?;
+        return Ok(());
+    }
+    let mut archive = Archive::new(alloc);
+    archive.add_all(messages)?;
+    *view = View::of(alloc, archive)?;
+    Ok(())
 }
 
 impl Showing {
@@ -49,7 +78,7 @@ impl Showing {
         }
         let messages = messages_in(alloc, &arrivals[self.count..])?;
         let watch = watch_after(&self.watch, alloc, &self.view, &messages)?;
-        self.view.apply(&messages)?;
+        apply(alloc, &mut self.view, self.count, &messages)?;
         self.watch = watch;
         self.count = arrivals.len();
         Ok(())

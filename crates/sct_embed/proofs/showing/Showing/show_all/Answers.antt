@@ -27,7 +27,7 @@ returns-clause-shown c =
     let batch : contents_of (messages_in c.deref.result.now) ≡ messages_of (drop k es) =
     ap contents_of (ap messages_in c.deref.ensures.value ∙ c.in_ok-messages.ensures) ∙ ap messages_of (take_rest es k) in
     record {
-      shown = all_shown es c.apply.new.self (returns-clause-view c);
+      shown = all_shown es c.apply.new.view (returns-clause-view c);
       watched = watched_more was later k es c.requires.shown.within c.requires.watched
           (subst (λ (held : MessageSet). IsLater was held (messages_of (drop k es)) later) c.requires.shown.held
           (subst (λ (b : MessageSet). IsLater was c.args.self.now.view b later) batch c.in_ok-watch.ensures.later));
