@@ -137,7 +137,8 @@ exchange_at wanted number group journal deltas =
 abbrev pub serve_at : Text → Text → Text → Option Order
 serve_at number group journal = option_and_then (λ place. Some (serve place.0 place.1 journal)) (place_named number group)
 
--- each command asks for its order, whatever the program is called; and, after `--`, whatever the arguments are
+-- each command asks for its order, whatever the program is called; and, after `--`, whatever the arguments are. Lines as people
+-- write them, without `--`, are examples.
 pub record CommandsAskForTheirOrders : Type 0 where
   pub status : (program : Text) → AskFor (program ∷ codes "status" ∷ []) (Some (job Status))
   pub archive : (program : Text) → AskFor (program ∷ codes "archive" ∷ []) (Some (job Archive))
@@ -153,6 +154,9 @@ pub record CommandsAskForTheirOrders : Type 0 where
   pub site_with_deltas : (program number group journal one other : Text)
       → AskFor (program ∷ codes "site" ∷ codes "--" ∷ number ∷ group ∷ journal ∷ one ∷ other ∷ [])
       (exchange_at messages number group journal (one ∷ other ∷ []))
+  pub vector_written : (program : Text)
+      → AskFor (program ∷ codes "vector" ∷ codes "1" ∷ codes "8" ∷ codes "site1/journal" ∷ codes "in/2" ∷ [])
+      (exchange_at vector (codes "1") (codes "8") (codes "site1/journal") (codes "in/2" ∷ []))
   pub vector : (program number group journal : Text)
       → AskFor (program ∷ codes "vector" ∷ codes "--" ∷ number ∷ group ∷ journal ∷ []) (exchange_at vector number group journal [])
   pub cut : (program number group have journal one : Text)
@@ -161,6 +165,13 @@ pub record CommandsAskForTheirOrders : Type 0 where
   pub cut_all : (program : Text)
       → AskFor (program ∷ codes "cut" ∷ codes "1" ∷ codes "2" ∷ codes "-" ∷ codes "journal" ∷ [])
       (option_and_then (λ counts. exchange_at (delta counts) (codes "1") (codes "2") (codes "journal") []) (counts_in (codes "-")))
+  pub site_written : (program : Text)
+      → AskFor (program ∷ codes "site" ∷ codes "1" ∷ codes "8" ∷ codes "site1/journal" ∷ codes "in/2" ∷ codes "in/3" ∷ [])
+      (exchange_at messages (codes "1") (codes "8") (codes "site1/journal") (codes "in/2" ∷ codes "in/3" ∷ []))
+  pub cut_written : (program : Text)
+      → AskFor (program ∷ codes "cut" ∷ codes "1" ∷ codes "8" ∷ codes "2:7" ∷ codes "site1/journal" ∷ codes "in/2" ∷ [])
+      (option_and_then (λ counts. exchange_at (delta counts) (codes "1") (codes "8") (codes "site1/journal") (codes "in/2" ∷ []))
+      (counts_in (codes "2:7")))
   pub serve : (program number group journal : Text)
       → AskFor (program ∷ codes "serve" ∷ codes "--" ∷ number ∷ group ∷ journal ∷ []) (serve_at number group journal)
 

@@ -74,13 +74,16 @@ pub record AreReadAs (gives : List ℕ → Option (List ℕ)) (paths : List (Lis
   pub within : AreWithin texts
   pub read : files ≡ files_in texts
 
--- The files of a command on one site were read, each from its own path. The site is then the one that takes its journal and
--- is offered the texts of the delta files in rounds. The refused lines are those of the journal, which is file 1.
+-- The files of a command on one site were read, each from its own path, and none has more than 1,073,741,824 bytes. The site is
+-- then the one that takes its journal and is offered the texts of the delta files in rounds. The refused lines are those of the
+-- journal, which is file 1.
 pub record IsGathered (gives : List ℕ → Option (List ℕ)) (command : SiteCommand) (gathered : Gathered) : Type 0 where
   pub journal : List ℕ
   pub texts : List (List ℕ)
   pub journal_given : IsGiven gives command.journal.now journal
   pub texts_given : AreGiven gives (map (λ path. path.now) command.deltas.items) texts
+  pub journal_within : length journal ≤ 1073741824
+  pub texts_within : AreWithin texts
   pub wanted : gathered.wanting ≡ command.wanting
   pub possible : is_possible gathered ≡ is_open command.site command.sites
   pub site : exchanged_by gathered ≡ site_after command.site command.sites journal texts

@@ -1,6 +1,6 @@
 -- The task of a run after the files that the command line names are read, and the texts that
 -- the run then writes. Read by an auditor.
-use Rattle.std.specs.Prelude.{ℕ, ◌≡◌, List, [], ◌∷◌, map, Option, Some, None, IfSome, Result, Ok, Err, string_bytes}
+use Rattle.std.specs.Prelude.{ℕ, ◌≡◌, ◌≤◌, length, List, [], ◌∷◌, map, Option, Some, None, IfSome, Result, Ok, Err, string_bytes}
 use Rattle.sct_workers.specs.Faults.{IsRefusalNumber}
 use Rattle.sct_engine.specs.Runs.{set_of_all}
 use Rattle.sct_view.specs.StatusText.{status_text_of}
@@ -18,24 +18,27 @@ use Rattle.sct_engine.specs.Exchanging.{count_by_exchange, text_by_exchange, tol
 use Rattle.sct_engine.specs.declared.task.Task.{Task}
 use Rattle.sct_engine.specs.declared.task.Task.TheVariants.{Work, Settle, Exchange, Serve, Help, Mistake}
 use Rattle.sct_engine.specs.Engine.{bad_row_of, job_text_if_told, refused_of, told_text_if_told, IsInputOf, IsReadWhole}
-use Rattle.sct_engine.specs.Stream.{EndsFile, EndsFiles}
+use Rattle.sct_engine.specs.Stream.{AreWithin, EndsFile, EndsFiles}
 use Rattle.sct_streams.specs.Files.{AreGiven, IsGiven}
 use Rattle.sct_streams.specs.Stream.{Input}
 
 -- ---- the files
 
--- the job compares with the list in the file at the path, for the bank and the day
+-- the job compares with the list in the file at the path, for the bank and the day; the file has at most 1,073,741,824 bytes
 abbrev pub IsReportWith : (List ℕ → Option (List ℕ)) → Reconciliation → Job → Type 0
-IsReportWith gives with (Report bank day list) = (bank ≡ with.bank) × (day ≡ with.day) × IsGiven gives with.list.now list.items
+IsReportWith gives with (Report bank day list) =
+    (bank ≡ with.bank) × (day ≡ with.day) × IsGiven gives with.list.now list.items
+    × (length list.items ≤ 1073741824)
 IsReportWith gives with _ = ⊥
 
--- The task of a request with the bytes of its files. The list of `report` has the bytes of its file. The inputs of
--- `run` have the bytes of the files, in the order of the paths. So have the journal and the deltas of a command on one site.
--- The journal of `serve` is opened later.
+-- The task of a request with the bytes of its files, each of at most 1,073,741,824 bytes. The list of `report` has the bytes of
+-- its file. The inputs of `run` have the bytes of the files, in the order of the paths. So have the journal and the deltas of a
+-- command on one site. The journal of `serve` is opened later.
 abbrev pub IsTaskOf : (List ℕ → Option (List ℕ)) → Request → Task → Type 0
 IsTaskOf gives (request.Run job) (Work work) = work ≡ job
 IsTaskOf gives (request.Reconcile with) (Work work) = IsReportWith gives with work
-IsTaskOf gives (request.Settle files) (Settle inputs) = AreGiven gives (map (λ path. path.now) files.items) (bytes_of inputs.items)
+IsTaskOf gives (request.Settle files) (Settle inputs) =
+    AreGiven gives (map (λ path. path.now) files.items) (bytes_of inputs.items) × AreWithin (bytes_of inputs.items)
 IsTaskOf gives (request.Exchange command) (Exchange gathered) = IsGathered gives command gathered
 IsTaskOf gives (request.Serve command) (Serve served) = served ≡ command
 IsTaskOf gives (request.Help text) (Help told) = told ≡ text

@@ -1,5 +1,6 @@
 //! A site of a group is made of its journal and of deltas, and what is wanted of it is written.
 ghost use Rattle.std.specs.Prelude.{◌≡◌, ◌≢◌, ◌⊎◌, ◌∷◌, ◌+◌, ◌++◌, Err, Some, false, length, map, IfErr, IfOk, OnOk};
+ghost use Rattle.sct_delta.specs.DeltaText.{delta_in};
 ghost use Rattle.sct_delta.specs.Entries.{messages_of};
 ghost use Rattle.sct_delta.specs.Vectors.{count_in};
 ghost use Rattle.sct_exchange.specs.RefusedFiles.{refused_text};
@@ -50,16 +51,24 @@ pub struct Gathered {
     pub deltas: Vec<DeltaFile>,
 }
 
+// What the text of a delta file is read as. Error: `Memory` (65).
+fn delta_of(alloc: Global, text: &[u8]) -> Result<DeltaFile, ProgramFault>
+    ensures file { IfOk result (λ file. file ≡ delta_in text.now) }
+    ensures memory { IfErr result (λ e. e ≡ fault.Memory) }
+{
+    match sct_exchange::read_file(alloc, text) {
+        Ok(file) => Ok(file),
+        Err(_) => Err(ProgramFault::Memory),
+    }
+}
+
 // Reads the delta file at a path. Its bytes are dropped. Errors: those of [`read_file`].
 fn read_delta<R: Files>(alloc: Global, files: &R, path: &str) -> Result<DeltaFile, ProgramFault>
     ensures read { IfOk result (IsReadAs (R.gives files.now) path.now) }
     ensures faults { IfErr result (EndsFile (R.gives files.now path.now)) }
 {
     let text = read_file(alloc, files, path)?;
-    match sct_exchange::read_file(alloc, &text) {
-        Ok(file) => Ok(file),
-        Err(_) => Err(ProgramFault::Memory),
-    }
+    delta_of(alloc, &text)
 }
 
 // Reads the delta files at the paths, one after another.

@@ -1,6 +1,6 @@
 //! Files that the command line names. Each is read whole.
 ghost use Rattle.std.specs.Prelude.{◌≡◌, ◌≤◌, map, vec_len, IfErr, IfOk, IfSome};
-ghost use Rattle.sct_engine.specs.Stream.{EndsFile, EndsFiles};
+ghost use Rattle.sct_engine.specs.Stream.{AreWithin, EndsFile, EndsFiles};
 ghost use Rattle.sct_streams.specs.Files.{AreGiven, IsGiven};
 ghost use Rattle.sct_workers.specs.Files.{bytes_of};
 
@@ -53,6 +53,7 @@ pub fn read_files<R: Files>(
 ) -> Result<Vec<Vec<u8>>, ProgramFault>
     ensures given { IfOk result (λ inputs. AreGiven (R.gives files.now)
         (map (λ path. path.now) paths.now) (bytes_of inputs.items)) }
+    ensures within { IfOk result (λ inputs. AreWithin (bytes_of inputs.items)) }
     ensures faults { IfErr result (EndsFiles (R.gives files.now) (map (λ path. path.now) paths.now)) }
 {
     let mut inputs = Vec::new(alloc);

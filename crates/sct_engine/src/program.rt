@@ -1,12 +1,13 @@
 //! The whole program over streams of any kind: from the words of the command line to the exit status.
-ghost use Rattle.std.specs.Prelude.{◌≡◌};
+ghost use Rattle.std.specs.Prelude.{◌≡◌, Err, Ok, IfErr, IfOk};
+ghost use Rattle.sct_engine.specs.declared.ending.Ending.TheVariants as ending;
 ghost use Rattle.sct_engine.specs.Run.{words_told, IsAnsweredTo, IsPerformed, IsRun};
 ghost use Rattle.sct_engine.specs.Stream.{streams, Streams};
 
 use crate::ending::{Ending, conclude};
 use crate::exchanging::write_site;
 use crate::fault::ProgramFault;
-use crate::jobs::engine;
+use crate::jobs::{Done, engine};
 use crate::release::Release;
 use crate::request::read_request;
 use crate::serving::serve_site;
@@ -28,6 +29,14 @@ pub struct Storage<'a, F: Files, K: Disks + Drop> {
     pub files: &'a F,
     /// Where the file of a journal is found.
     pub disks: K,
+}
+
+// The end of a run whose job was done or ended with a fault.
+fn ended_with(done: Result<Done, ProgramFault>) -> Result<Ending, ProgramFault>
+    ensures done { IfOk done (λ done. result ≡ Ok (ending.Done done)) }
+    ensures fault { IfErr done (λ e. result ≡ Err e) }
+{
+    Ok(Ending::Done(done?))
 }
 
 // Performs a task. A mistake in the command line is reported later, at the end of the run.
@@ -52,10 +61,9 @@ fn perform<T: Threads + Wait + Sync, K: Disks + Drop, R: Source, O: Sink, E: Sin
             let done = engine(rt, alloc, &job, MOST_BYTES, release, reader, out, err)?;
             Ok(Ending::Done(done))
         }
-        Task::Settle(inputs) => Ok(Ending::Done(settle_inputs(rt, alloc, inputs, out, err)?)),
+        Task::Settle(inputs) => ended_with(settle_inputs(rt, alloc, inputs, out, err)),
         Task::Exchange(gathered) => {
-            let done = write_site(rt, alloc, release, gathered, out, err)?;
-            Ok(Ending::Done(done))
+            ended_with(write_site(rt, alloc, release, gathered, out, err))
         }
         Task::Serve(command) => serve_site(alloc, disks, command, reader, out),
         Task::Help(text) => {

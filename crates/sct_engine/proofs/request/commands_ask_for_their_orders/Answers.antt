@@ -17,6 +17,9 @@ returns c = record {
   vector = λ program number group journal. record { no_error = refl; found = refl };
   cut = λ program number group have journal one. record { no_error = refl; found = refl };
   cut_all = λ program. record { no_error = refl; found = refl };
+  site_written = λ program. record { no_error = refl; found = refl };
+  vector_written = λ program. record { no_error = refl; found = refl };
+  cut_written = λ program. record { no_error = refl; found = refl };
   serve = λ program number group journal. record { no_error = refl; found = refl };
   two_files = λ program file other. record { no_error = refl; found = refl };
 }
