@@ -1,4 +1,4 @@
-"""run.py: runs the checks of the gate that follow `rt ci`, one after another.
+"""run.py: runs the checks of the gate that follow `rt ci`, one after another. Beside them runs what mostly waits.
 
 A word names a kind of checks or one check. Without a word all checks run. A check is the module tests/KIND/NAME.py, whose last line
 is 'N passed, M failed'. A line reports what each check does, its numbers and its seconds. What a failed check printed follows, and the
@@ -16,6 +16,7 @@ a stand-in of the definitions. These checks never begin a proof. A check that ru
 says when the checks begin, and when the first and the last library below crates/ was made.
 """
 import argparse, contextlib, os, pathlib, re, shutil, signal, subprocess, sys, time
+from concurrent.futures import ThreadPoolExecutor
 if sys.version_info < (3, 8):
     sys.exit("run: this needs Python 3.8 or later")
 sys.path.insert(0, str(pathlib.Path(__file__).resolve().parents[1]))
@@ -132,6 +133,7 @@ HELPFUL = {"c_calls": ["valgrind"], "c_threads": ["valgrind"], "c_examples": ["c
            "release": ["pkg-config", "openjdk-17-jdk-headless", "libjna-java"],
            "python_package": ["mypy", "python3-pip", "python3-pytest", "python3-setuptools", "python3-venv", "python3-wheel"]}
 SECONDS = 1500  # a check that runs for longer is stopped
+BESIDE = ["parts"]  # checks that mostly wait: they begin first, run beside the others, and are reported last
 SKIPPED = "skipped: "
 SEEDED = ["c_calls", "serve_lives", "serve_hub"]  # checks that make up cases as the property checks do
 VARIABLES = ["SCT_SITES", "SCT_TEST_DRIVER", "SCT_C", "NILUPPANG_LIBRARY"]
@@ -180,7 +182,8 @@ def end_all(group):
 
 
 def ran(module, words):
-    """How much of a check passed, how much failed, and the lines that it printed, with how it ended."""
+    """How much of a check passed, how much failed, the lines that it printed, with how it ended, and its seconds."""
+    began = time.monotonic()
     paths = {name: os.path.abspath(os.environ[name]) for name in VARIABLES if os.environ.get(name)}
     with subprocess.Popen([sys.executable, "-u", "-m", module, *words], cwd=harness.TOP, env={**os.environ, **paths}, start_new_session=True,
                           stdout=subprocess.PIPE, stderr=subprocess.STDOUT) as process:
@@ -196,7 +199,7 @@ def ran(module, words):
     passed, failed = map(int, numbers.groups()) if numbers else (0, 0)
     if status or not numbers:
         failed = max(failed, 1)
-    return passed, failed, text.splitlines() + [f"ended with status {status}"]
+    return passed, failed, text.splitlines() + [f"ended with status {status}"], time.monotonic() - began
 
 
 def skipped(why, is_failed):
@@ -205,22 +208,26 @@ def skipped(why, is_failed):
     return 0, int(is_failed)
 
 
-def checked(name, kind, does, made_up, no_skips):
-    """How much of a check passed and how much failed, which is printed too."""
-    words = made_up.words() if kind == "property" or name in SEEDED else []
+def words_of(name, kind, made_up):
+    """The words that a check is given."""
+    return made_up.words() if kind == "property" or name in SEEDED else []
+
+
+def checked(name, kind, does, made_up, no_skips, running):
+    """How much of a check passed and how much failed, which is printed too. It may be running already."""
+    words = words_of(name, kind, made_up)
     print(f"{name} {does}" + (f", with {' '.join(words)}: " if words else ": "), end="", flush=True)
     missing = lacking(PACKAGES.get(name, []))
     if missing:
         return skipped(f"the machine lacks packages: apt-get install {' '.join(missing)}", no_skips)
-    began = time.monotonic()
     why = MAKES[name]() if name in MAKES else None
     if why:
         return skipped(f"the page is not made: {why}", no_skips)
-    passed, failed, lines = ran(f"tests.{kind}.{name}", words)
+    passed, failed, lines, seconds = running[name].result() if name in running else ran(f"tests.{kind}.{name}", words)
     many = sum(line.startswith(SKIPPED) for line in lines)
     if no_skips and many:
         failed += many
-    print(f"{passed} passed, {failed} failed, {time.monotonic() - began:.0f} seconds", flush=True)
+    print(f"{passed} passed, {failed} failed, {seconds:.0f} seconds", flush=True)
     for line in lines if failed else [line for line in lines if line.startswith((SKIPPED, "program: "))]:
         print(f"  {line}", flush=True)
     return passed, failed
@@ -245,7 +252,12 @@ def main():
     packages = lacking(sorted({package for name, _, _ in chosen for package in PACKAGES.get(name, []) + HELPFUL.get(name, [])}))
     if asked.install and packages:
         install(packages)
-    harness.end_with([checked(*one, cases.chosen(asked), asked.no_skips) for one in chosen])
+    made_up = cases.chosen(asked)
+    with ThreadPoolExecutor() as pool:
+        running = {name: pool.submit(ran, f"tests.{kind}.{name}", words_of(name, kind, made_up)) for name, kind, _ in chosen
+                   if name in BESIDE and not lacking(PACKAGES.get(name, []))}
+        found = [checked(*one, made_up, asked.no_skips, running) for one in sorted(chosen, key=lambda one: one[0] in BESIDE)]
+    harness.end_with(found)
 
 
 if __name__ == "__main__":
