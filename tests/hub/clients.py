@@ -558,7 +558,9 @@ def follows_changes(_):
 
 def started(site, *words):
     line, variables = words_of(site, *words)
-    return subprocess.Popen(line, env=variables, stdin=subprocess.DEVNULL, stdout=subprocess.PIPE, stderr=subprocess.PIPE)
+    # what a shell runs in the background would take no SIGINT
+    heard = lambda: signal.signal(signal.SIGINT, signal.SIG_DFL)
+    return subprocess.Popen(line, env=variables, stdin=subprocess.DEVNULL, stdout=subprocess.PIPE, stderr=subprocess.PIPE, preexec_fn=heard)
 
 
 def ends_quietly(trial):
