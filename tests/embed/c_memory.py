@@ -78,11 +78,12 @@ def closed(program):
 
 
 def steady(program):
-    """Whether as much is held after many times of a call as after a few."""
+    """Whether as much is held after many times of a call as after a few. A block has some bytes more if no smaller one is free."""
     begin = [OPEN, *TAKES, *ACCEPTS, *QUESTIONS]
     for number, call in enumerate([*REFUSED, *REPEATS, *QUESTIONS], 1):
         few, many = (driving.asked(program, [*begin, *[call] * times, HELD])[-1].fields for times in (FEW, MANY))
-        yield reported(f"call {number}, {call[0]}, {FEW} and {MANY} times", few == many, f"{few}, then {many}")
+        right = few["blocks"] == many["blocks"] and many["bytes"] <= few["bytes"] + BLOCK
+        yield reported(f"call {number}, {call[0]}, {FEW} and {MANY} times", right, f"{few}, then {many}")
 
 
 def ended(program):
