@@ -7,6 +7,7 @@ pub mod Embeddings
 pub mod Faults
 pub mod Handles
 pub mod Laws
+pub mod Lending
 pub mod Outcomes
 pub mod Places
 pub mod Questions

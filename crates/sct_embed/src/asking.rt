@@ -54,30 +54,26 @@ impl Place {
     }
 
     /// Copies the answer, if it fits, and says its length. Refusal: `Empty` (70).
-    pub fn answer(&mut self, alloc: Global, out: &mut [u8]) -> Outcome
+    pub fn answer(&mut self, _alloc: Global, out: &mut [u8]) -> Outcome
         ensures called { IsCalled refused_as (Copies out.old out.new) self.old.handle.held result self.new.handle.held }
         ensures unwritten { result.ok ≡ false → out.new ≡ out.old }
     {
-        let Some(kept) = self.take_out(alloc) else {
+        let Some(kept) = self.kept_mut() else {
             return Outcome::refused(&EmbedFault::Empty);
         };
-        let length = copy_text(kept.site.answer(), out);
-        self.put_in(kept);
-        Outcome::done(length)
+        Outcome::done(copy_text(kept.site.answer(), out))
     }
 
     /// Copies a part of the answer: what comes after its first `from` bytes, as far as there is room. Says the length of the part.
     /// Refusal: `Empty` (70).
-    pub fn answer_part(&mut self, alloc: Global, from: usize, out: &mut [u8]) -> Outcome
+    pub fn answer_part(&mut self, _alloc: Global, from: usize, out: &mut [u8]) -> Outcome
         ensures called { IsCalled refused_as (CopiesPart from out.old out.new) self.old.handle.held result self.new.handle.held }
         ensures unwritten { result.ok ≡ false → out.new ≡ out.old }
     {
-        let Some(kept) = self.take_out(alloc) else {
+        let Some(kept) = self.kept_mut() else {
             return Outcome::refused(&EmbedFault::Empty);
         };
-        let length = copy_part(kept.site.answer(), from, out);
-        self.put_in(kept);
-        Outcome::done(length)
+        Outcome::done(copy_part(kept.site.answer(), from, out))
     }
 
     /// The answer becomes empty, and its memory is freed. Refusal: `Empty` (70).

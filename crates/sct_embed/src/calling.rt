@@ -114,15 +114,13 @@ impl Place {
 
     /// Writes how many entries of each origin the site holds, that of origin 1 first. At most 1024 are asked for.
     /// Refusals: `BadSite` (44), `Empty` (70).
-    pub fn counts(&mut self, alloc: Global, out: &mut [u64]) -> Outcome
+    pub fn counts(&mut self, _alloc: Global, out: &mut [u64]) -> Outcome
         ensures called { IsCalled refused_as (Counts out.old out.new) self.old.handle.held result self.new.handle.held }
         ensures unwritten { result.ok ≡ false → out.new ≡ out.old }
     {
-        let Some(kept) = self.take_out(alloc) else {
+        let Some(kept) = self.kept_mut() else {
             return Outcome::refused(&EmbedFault::Empty);
         };
-        let outcome = Outcome::of(&kept.site.counts(out), 0);
-        self.put_in(kept);
-        outcome
+        Outcome::of(&kept.site.counts(out), 0)
     }
 }
