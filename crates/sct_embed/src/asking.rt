@@ -94,11 +94,9 @@ impl Place {
         ensures called { IsCalled refused_as (Says out.old out.new) self.old.handle.held result self.new.handle.held }
         ensures unwritten { result.ok ≡ false → out.new ≡ out.old }
     {
-        let Some(kept) = self.take_out(alloc) else {
+        let Some(kept) = self.kept_mut() else {
             return Outcome::refused(&EmbedFault::Empty);
         };
-        let outcome = say(alloc, &kept, out);
-        self.put_in(kept);
-        outcome
+        say(alloc, kept, out)
     }
 }
