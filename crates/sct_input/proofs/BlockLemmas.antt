@@ -7,11 +7,12 @@ use Rattle.sct_streams.specs.Stream.{HasReadIfTold, HasTakenIfTold}
 use Rattle.sct_streams.specs.Whole.{EndsAppending, EndsReading, HasAppended}
 use Rattle.sct_streams.specs.declared.whole.ReadFault.{ReadFault}
 use Rattle.sct_streams.specs.declared.whole.ReadFault.TheVariants.{TooLong, Failed, Memory}
-use Rattle.sct_lines.specs.Blocks.{IsReadOf, IsReadOn}
-use Rattle.sct_lines.specs.declared.intake.LinesRead.{LinesRead}
-use Rattle.sct_lines.specs.LineLaws.{IsOfWholeLines}
-use Rattle.sct_lines.proofs.PartLemmas.{few_lines, lines_join}
-use Rattle.sct_input.specs.Inputs.{IsIntake, IsTaken}
+use Rattle.sct_lines.specs.Blocks.{IsReadOf}
+use Rattle.sct_lines.specs.declared.intake.Intake.{Intake}
+use Rattle.sct_lines.specs.LineLaws.{with_last_feed, IsOfWholeLines}
+use Rattle.sct_lines.specs.Lines.{lines_of}
+use Rattle.sct_lines.proofs.PartLemmas.{ended_whole, few_lines, lines_join}
+use Rattle.sct_input.specs.Inputs.{IsIntake}
 
 -- bytes are read, and then more of them
 read_on : (before between after : Option (List ℕ)) (some more : List ℕ) → HasReadIfTold before between some → HasReadIfTold between after more
@@ -55,76 +56,68 @@ whole_of (Some left) after bytes read end =
 
 -- ---- the bytes taken so far
 
--- what was taken of a source: the lines at its front were read, and the rest is kept
-pub record HasTaken (total : ℕ) (before now : Option (List ℕ)) (rest : List ℕ) (lines : LinesRead) : Type 0 where
-  pub taken : List ℕ
-  pub split : IsTaken taken rest lines
-  pub read : HasReadIfTold before now taken
-  pub count : length taken ≡ total
+-- what was taken of a source: a text of whole lines that was read, and the rest, which is kept
+pub record HasTaken (total : ℕ) (before now : Option (List ℕ)) (rest text : List ℕ) : Type 0 where
+  pub taken : HasReadIfTold before now (text ++ rest)
+  pub whole : IsOfWholeLines text
+  pub count : length text + length rest ≡ total
 
-pub appended : (total count sum : ℕ) (before now after : Option (List ℕ)) (rest text : List ℕ) (lines : LinesRead) → HasTaken total before now rest lines
-    → HasAppended count rest text now after → sum ≡ total + count → HasTaken sum before after text lines
-appended total count sum before now after rest text lines so_far more is = record {
-  taken = so_far.taken ++ more.more;
-  split =
-      record {
-        front = so_far.split.front;
-        bytes = ap (λ t. t ++ more.more) so_far.split.bytes ∙ append_assoc so_far.split.front rest more.more ∙ ap (λ t. so_far.split.front ++ t) (sym more.bytes);
-        whole = so_far.split.whole;
-        read = so_far.split.read;
-      };
-  read = read_on before now after so_far.taken more.more so_far.read more.read;
-  count = omega (arith, is, so_far.count, more.count, length-append so_far.taken more.more);
+pub appended : (total count sum : ℕ) (before now after : Option (List ℕ)) (rest grown text : List ℕ) → HasTaken total before now rest text
+    → HasAppended count rest grown now after → sum ≡ total + count → HasTaken sum before after grown text
+appended total count sum before now after rest grown text so_far more is = record {
+  taken =
+      subst (λ t. HasReadIfTold before after t) (append_assoc text rest more.more ∙ ap (λ t. text ++ t) (sym more.bytes))
+      (read_on before now after (text ++ rest) more.more so_far.taken more.read);
+  whole = so_far.whole;
+  count = omega (arith, is, so_far.count, more.count, ap length more.bytes, length-append rest more.more);
 }
 
 -- the lines that were read and the bytes that are kept are no more than the bytes taken
-pub few_taken : (total : ℕ) (before now : Option (List ℕ)) (rest : List ℕ) (lines : LinesRead) → HasTaken total before now rest lines
-    → lines.lines + length rest ≤ total
-few_taken total before now rest lines so_far =
-    omega (arith, so_far.count, ap length so_far.split.bytes, length-append so_far.split.front rest, so_far.split.read.lines, few_lines so_far.split.front)
+pub few_taken : (total : ℕ) (before now : Option (List ℕ)) (rest text : List ℕ) → HasTaken total before now rest text
+    → length (lines_of text) + length rest ≤ total
+few_taken total before now rest text so_far = omega (arith, so_far.count, few_lines text)
 
-pub lines_taken : (total : ℕ) (before now : Option (List ℕ)) (rest left : List ℕ) (lines read : LinesRead) → HasTaken total before now rest lines
-    → ((taken : List ℕ) → IsTaken taken rest lines → IsTaken taken left read) → HasTaken total before now left read
-lines_taken total before now rest left lines read so_far step = record {
-  taken = so_far.taken;
-  split = step so_far.taken so_far.split;
-  read = so_far.read;
-  count = so_far.count;
+-- more lines are read, and no byte is lost
+pub lines_taken : (total : ℕ) (before now : Option (List ℕ)) (rest left text read : List ℕ) → HasTaken total before now rest text
+    → IsOfWholeLines read → read ++ left ≡ text ++ rest → HasTaken total before now left read
+lines_taken total before now rest left text read so_far whole same = record {
+  taken = subst (λ t. HasReadIfTold before now t) (sym same) so_far.taken;
+  whole = whole;
+  count = omega (arith, so_far.count, ap length same, length-append read left, length-append text rest);
 }
 
--- the lines at the front of the rest are read
-pub lines_on : (text block front rest : List ℕ) (count : ℕ) (lines read : LinesRead) → IsOfWholeLines front → front ≡ take count text → block ≡ take count text
-    → rest ≡ drop count text → IsReadOn block lines read → (taken : List ℕ) → IsTaken taken text lines → IsTaken taken rest read
-lines_on text block front rest count lines read whole same is left on taken so_far =
-    let front_is : front ≡ block = same ∙ sym is in
-    let ended : IsOfWholeLines block = subst (λ t. IsOfWholeLines t) front_is whole in
-    record {
-      front = so_far.front ++ block;
-      bytes =
-          so_far.bytes ∙ ap (λ t. so_far.front ++ t) (sym (take-append-drop count text) ∙ (λ i. sym is i ++ sym left i)) ∙ sym (append_assoc so_far.front block rest);
-      whole = lines_join so_far.front block so_far.whole ended;
-      read = on so_far.front so_far.whole so_far.read;
-    }
+-- whole lines behind whatever text make whole lines
+pub whole_on : (text block read : List ℕ) → IsOfWholeLines block → read ≡ with_last_feed text ++ block → IsOfWholeLines read
+whole_on text block read whole is = subst IsOfWholeLines (sym is) (lines_join (with_last_feed text) block (ended_whole text) whole)
 
-pub past_limit : (total : ℕ) (before now : Option (List ℕ)) (rest : List ℕ) (lines : LinesRead) → HasTaken total before now rest lines
+-- the front of the bytes is read, and the others are left
+pub bytes_on : (text block read bytes left : List ℕ) (count : ℕ) → block ≡ take count bytes → left ≡ drop count bytes → read ≡ text ++ block
+    → read ++ left ≡ text ++ bytes
+bytes_on text block read bytes left count front rest is =
+    ap (λ t. t ++ left) is ∙ append_assoc text block left ∙ ap (λ t. text ++ t) ((λ i. front i ++ rest i) ∙ take-append-drop count bytes)
+
+pub past_limit : (total : ℕ) (before now : Option (List ℕ)) (rest text : List ℕ) → HasTaken total before now rest text
     → HasTakenIfTold before now total
-past_limit total before now rest lines so_far =
-    subst (λ n. HasTakenIfTold before now n) so_far.count (taken_if_read before now so_far.taken so_far.read)
+past_limit total before now rest text so_far =
+    subst (λ n. HasTakenIfTold before now n) (length-append text rest ∙ so_far.count) (taken_if_read before now (text ++ rest) so_far.taken)
 
 -- a read failed behind the bytes taken
-failed_after : (total limit most : ℕ) (before now after : Option (List ℕ)) (rest : List ℕ) (lines : LinesRead) → HasTaken total before now rest lines
+failed_after : (total limit most : ℕ) (before now after : Option (List ℕ)) (rest text : List ℕ) → HasTaken total before now rest text
     → total + most ≤ limit + 1 → (n : ℕ) × ((n < most) × HasTakenIfTold now after n) → (n : ℕ) × ((n ≤ limit) × HasTakenIfTold before after n)
-failed_after total limit most before now after rest lines so_far within failed = (
-  length so_far.taken + failed.0,
-  (omega (arith, within, failed.1.0, so_far.count), taken_on before now after so_far.taken failed.0 so_far.read failed.1.1),
+failed_after total limit most before now after rest text so_far within failed = (
+  length (text ++ rest) + failed.0,
+  (
+    omega (arith, within, failed.1.0, so_far.count, length-append text rest),
+    taken_on before now after (text ++ rest) failed.0 so_far.taken failed.1.1,
+  ),
 )
 
 -- the meaning of a fault that ended a read, behind the bytes taken
-pub ends_after : (fault : ReadFault) (total limit most : ℕ) (before now after : Option (List ℕ)) (rest : List ℕ) (lines : LinesRead) → HasTaken total before now rest lines
+pub ends_after : (fault : ReadFault) (total limit most : ℕ) (before now after : Option (List ℕ)) (rest text : List ℕ) → HasTaken total before now rest text
     → total + most ≤ limit + 1 → EndsAppending fault most now after → EndsReading fault limit before after
-ends_after TooLong total limit most before now after rest lines so_far within ended = absurd ended
-ends_after Failed total limit most before now after rest lines so_far within ended = failed_after total limit most before now after rest lines so_far within ended
-ends_after Memory total limit most before now after rest lines so_far within ended = tt
+ends_after TooLong total limit most before now after rest text so_far within ended = absurd ended
+ends_after Failed total limit most before now after rest text so_far within ended = failed_after total limit most before now after rest text so_far within ended
+ends_after Memory total limit most before now after rest text so_far within ended = tt
 
 -- what holds of a fault holds of a result that is this fault
 pub of_fault : {T : Type 0} (P : ReadFault → Type 0) (result : Result T ReadFault) (fault : ReadFault) → IfErr result (λ e. e ≡ fault) → P fault → IfErr result P
@@ -132,19 +125,12 @@ of_fault P (Ok value) fault is holds = tt
 of_fault P (Err e) fault is holds = subst P (sym is) holds
 
 -- the whole input was taken, and its last line is read
-pub all_read : (total sum limit : ℕ) (before now after : Option (List ℕ)) (rest text : List ℕ) (lines all : LinesRead) → HasTaken total before now rest lines
-    → HasTaken sum before after text lines → sum ≤ limit → IfSome now (λ _. after ≡ Some []) → IsReadOn text lines all
-    → IsIntake limit before after all.intake
-all_read total sum limit before now after rest text lines all so_far now_taken within end on =
-    let input = now_taken.split.front ++ text in
-    let read : IsReadOf input all = on now_taken.split.front now_taken.split.whole now_taken.split.read in
-    record {
-      input = input;
-      within = omega (arith, within, now_taken.count, ap length now_taken.split.bytes);
-      whole =
-          whole_of before after input (subst (λ t. HasReadIfTold before after t) now_taken.split.bytes now_taken.read)
-          (end_of before now after so_far.taken so_far.read end);
-      messages = read.messages;
-      told = read.told;
-      refused = read.refused;
-    }
+pub all_read : (total sum limit : ℕ) (before now after : Option (List ℕ)) (rest last text all : List ℕ) (intake : Intake) → HasTaken total before now rest text
+    → HasTaken sum before after last text → sum ≤ limit → IfSome now (λ _. after ≡ Some []) → all ≡ text ++ last → IsReadOf all intake
+    → IsIntake limit before after intake
+all_read total sum limit before now after rest last text all intake so_far now_taken within end is read = record {
+  input = text ++ last;
+  within = omega (arith, within, now_taken.count, length-append text last);
+  whole = whole_of before after (text ++ last) now_taken.taken (end_of before now after (text ++ rest) so_far.taken end);
+  read = subst (λ t. IsReadOf t intake) is read;
+}

@@ -1,6 +1,8 @@
 //! An input read in blocks of lines.
-ghost use Rattle.std.specs.Prelude.{◌≡◌, ◌+◌, ◌<◌, ◌≤◌, ◌^◌, List, ℕ, drop, length, vec_len, IfErr, IfOk, OnOk};
-ghost use Rattle.sct_input.specs.Inputs.{IsIntake, IsTaken};
+ghost use Rattle.std.specs.Prelude.{◌≡◌, ◌+◌, ◌<◌, ◌≤◌, ◌++◌, ◌^◌, drop, length, vec_len, IfErr, IfOk, OnOk};
+ghost use Rattle.sct_input.specs.Inputs.{IsIntake};
+ghost use Rattle.sct_lines.specs.LineLaws.{IsOfWholeLines};
+ghost use Rattle.sct_lines.specs.Lines.{lines_of};
 ghost use Rattle.sct_streams.specs.Whole.{failed_reads, EndsReading};
 
 use sct_lines::{Intake, LinesRead, whole_lines};
@@ -31,16 +33,16 @@ fn remove_front(bytes: &mut Vec<u8>, count: usize)
     bytes.truncate(len - count);
 }
 
-// Reads the lines of a text that are ended, and removes them from it.
+// Reads the lines of a text that are ended, behind those before, and removes them from it. No byte is lost.
 fn take_lines<T: Threads + Sync>(
     rt: &T,
     alloc: Global,
     lines: LinesRead,
     text: &mut Vec<u8>,
 ) -> Result<LinesRead, AllocError>
-    requires few { lines.lines + vec_len text.old < 2 ^ 64 }
-    ensures { (taken : List ℕ) → IsTaken taken text.old.items lines
-        → IfOk result (IsTaken taken text.new.items) }
+    requires few { length (lines_of lines) + vec_len text.old < 2 ^ 64 }
+    ensures whole { IfOk result IsOfWholeLines }
+    ensures bytes { IfOk result (λ read. IsOfWholeLines lines → read ++ text.new.items ≡ lines ++ text.old.items) }
 {
     let count = whole_lines(text);
     let (ended, _) = text.split_at(count);

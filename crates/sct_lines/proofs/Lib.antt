@@ -3,3 +3,4 @@ pub mod FeedLemmas
 pub mod LineLawLemmas
 pub mod LineLemmas
 pub mod PartLemmas
+mod TextLemmas

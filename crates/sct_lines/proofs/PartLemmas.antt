@@ -8,11 +8,11 @@ use Rattle.std.proofs.lemmas.List.Sums.{length-filter}
 use Rattle.memchr.specs.Find.{is_byte, places}
 use Rattle.memchr.proofs.lemmas.CallerLemmas.{length-places}
 use Rattle.sct_message.specs.Sets.{messages_in}
-use Rattle.sct_lines.specs.declared.intake.LinesRead.{LinesRead}
+use Rattle.sct_lines.specs.declared.intake.PartRead.{PartRead}
 use Rattle.sct_json.specs.Reading.{message_in}
-use Rattle.sct_lines.specs.LineLaws.{IsOfWholeLines, MessagesStay, WholeLinesJoin, WholeLinesStay}
+use Rattle.sct_lines.specs.LineLaws.{with_last_feed, IsOfWholeLines, MessagesStay, WholeLinesJoin, WholeLinesStay}
 use Rattle.sct_lines.specs.Blocks.{IsReadOf}
-use Rattle.sct_lines.specs.Lines.{is_blank, lines_of, messages_among, messages_read, numbered_from, onto_first, refusals_among, refusals_told}
+use Rattle.sct_lines.specs.Lines.{is_blank, lines_of, messages_among, messages_read, numbered_from, onto_first, refusals_among, refusals_told, told_after}
 use Rattle.sct_lines.specs.Parts.{refusals_after, IsPartOf, IsReadAfter}
 use Rattle.sct_lines.proofs.LineLemmas.{is_feed, messages_by_line, numbered-cons, numbered_none, refusals_by_line, told_by_line, told_plainly}
 
@@ -151,7 +151,7 @@ numbered-append first (line ∷ lines) more =
     ∙ ap (λ l. l ++ numbered_from (first + 1 + length lines) more) (sym (numbered-cons first line lines))
     ∙ ap (λ n. numbered_from first (line ∷ lines) ++ numbered_from n more) next
 
-pub read_in_two : (shown : List ℕ) (before : ℕ) (text front back : List ℕ) (first second both : LinesRead) → lines_of text ≡ lines_of front ++ lines_of back
+pub read_in_two : (shown : List ℕ) (before : ℕ) (text front back : List ℕ) (first second both : PartRead) → lines_of text ≡ lines_of front ++ lines_of back
     → IsReadAfter shown before front first → IsReadAfter shown (before + length (lines_of front)) back second
     → messages_in both.intake.messages.items ≡ messages_in first.intake.messages.items ++ messages_in second.intake.messages.items
     → both.intake.refusals.text ≡ first.intake.refusals.text ++ second.intake.refusals.text
@@ -181,7 +181,7 @@ feeds_in_two text from more =
     ∙ length-append (filter is_feed (take from text)) (filter is_feed (take more (drop from text)))
 
 -- the part of a text that begins at a place is read in two, cut behind a line feed
-pub halves_read : (shown : List ℕ) (counted : ℕ) (text : List ℕ) (from more : ℕ) (first second both : LinesRead) → from + more < length text → get_or text (from + more) 0 ≡ 10
+pub halves_read : (shown : List ℕ) (counted : ℕ) (text : List ℕ) (from more : ℕ) (first second both : PartRead) → from + more < length text → get_or text (from + more) 0 ≡ 10
     → IsPartOf shown counted (take (from + more + 1) text) from first → IsPartOf shown counted text (from + more + 1) second → messages_in both.intake.messages.items ≡ messages_in first.intake.messages.items ++ messages_in second.intake.messages.items
     → both.intake.refusals.text ≡ first.intake.refusals.text ++ second.intake.refusals.text
     → both.intake.refusals.count ≡ first.intake.refusals.count + second.intake.refusals.count
@@ -206,7 +206,7 @@ halves_read shown counted text from more first second both within feed one two m
     (subst (λ n. IsReadAfter shown n (drop (from + more + 1) text) second) feeds two))
     messages told refused count
 
-pub halves_read_at : (shown : List ℕ) (counted : ℕ) (text : List ℕ) (from at : ℕ) (first second both : LinesRead) → from ≤ at → at < length text → get_or text at 0 ≡ 10
+pub halves_read_at : (shown : List ℕ) (counted : ℕ) (text : List ℕ) (from at : ℕ) (first second both : PartRead) → from ≤ at → at < length text → get_or text at 0 ≡ 10
     → IsPartOf shown counted (take (at + 1) text) from first → IsPartOf shown counted text (at + 1) second → messages_in both.intake.messages.items ≡ messages_in first.intake.messages.items ++ messages_in second.intake.messages.items
     → both.intake.refusals.text ≡ first.intake.refusals.text ++ second.intake.refusals.text
     → both.intake.refusals.count ≡ first.intake.refusals.count + second.intake.refusals.count
@@ -220,7 +220,7 @@ halves_read_at shown counted text from at first second both behind within feed o
     (λ w f o t. halves_read shown counted text from more first second both w f o t messages told refused count) within feed one two
 
 -- the lines of both parts are no more than the bytes of the text
-pub halves_few : (shown : List ℕ) (counted : ℕ) (text : List ℕ) (from at : ℕ) (first second : LinesRead) → from ≤ at → at < length text
+pub halves_few : (shown : List ℕ) (counted : ℕ) (text : List ℕ) (from at : ℕ) (first second : PartRead) → from ≤ at → at < length text
     → counted + length text < 18446744073709551616
     → IsPartOf shown counted (take (at + 1) text) from first → IsPartOf shown counted text (at + 1) second → first.lines + second.lines < 18446744073709551616
 halves_few shown counted text from at first second behind within few one two =
@@ -265,17 +265,67 @@ messages_stay text more whole =
 
 -- ---- a block more
 
--- a block is read, behind a text of whole lines
-pub block_read : (text block : List ℕ) (old next new : LinesRead) (counted : ℕ) → IsOfWholeLines text → IsReadOf text old → counted ≡ old.lines → IsReadAfter [] counted block next
-    → messages_in new.intake.messages.items ≡ messages_in old.intake.messages.items ++ messages_in next.intake.messages.items
-    → new.intake.refusals.text ≡ old.intake.refusals.text ++ next.intake.refusals.text
-    → new.intake.refusals.count ≡ old.intake.refusals.count + next.intake.refusals.count
-    → new.lines ≡ old.lines + next.lines
-    → IsReadOf (text ++ block) new
-block_read text block old next new counted whole one same two messages told refused count =
-    let before : counted ≡ 0 + length (lines_of text) = omega (arith, same, one.lines) in
-    let both =
-    read_in_two [] 0 (text ++ block) text block old next new (lines_stay text block whole)
-    (record { messages = one.messages; told = one.told ∙ sym (told_plainly (refusals_told text)); refused = one.refused; lines = one.lines })
+ended-cons : (byte : ℕ) (text : List ℕ) → 0 < length text → with_last_feed (byte ∷ text) ≡ byte ∷ with_last_feed text
+ended-cons byte [] some = absurd (omega arith)
+ended-cons byte (next ∷ bytes) some = refl
+
+ended_some : (next : ℕ) (bytes : List ℕ) → 0 < length (with_last_feed (next ∷ bytes))
+ended_some next [] =
+    elim (next == 10) as (λ feed. 0 < length (cond feed (10 ∷ []) (next ∷ 10 ∷ [])))
+    [ true ↦ omega arith | false ↦ omega arith ]
+ended_some next (after ∷ bytes) = omega arith
+
+-- a line feed at the end makes whole lines
+pub ended_whole : (text : List ℕ) → IsOfWholeLines (with_last_feed text)
+ended_whole [] = refl
+ended_whole (byte ∷ []) =
+    elim (byte == 10) as (λ feed. with_last_feed (cond feed (10 ∷ []) (byte ∷ 10 ∷ [])) ≡ cond feed (10 ∷ []) (byte ∷ 10 ∷ []))
+    [ true ↦ refl | false ↦ refl ]
+ended_whole (byte ∷ next ∷ bytes) =
+    ended-cons byte (with_last_feed (next ∷ bytes)) (ended_some next bytes) ∙ ap (λ t. byte ∷ t) (ended_whole (next ∷ bytes))
+
+-- and leaves the lines as they are
+pub ended_lines : (text : List ℕ) → lines_of (with_last_feed text) ≡ lines_of text
+unfolding lines_of
+ended_lines [] = refl
+ended_lines (byte ∷ []) =
+    (elim (byte == 10) as (λ feed. (byte == 10) ≡ feed → lines_of (cond feed (10 ∷ []) (byte ∷ 10 ∷ [])) ≡ cond feed ([] ∷ []) (onto_first byte [])) [
+      | true ↦ λ feed. refl
+      | false ↦ λ other. rw other refl
+    ]) refl
+ended_lines (byte ∷ next ∷ bytes) = ap (λ ls. cond (byte == 10) ([] ∷ ls) (onto_first byte ls)) (ended_lines (next ∷ bytes))
+
+-- what is read of a text and of the lines of the block behind it
+pub record AreReadBehind (text block : List ℕ) (both : PartRead) : Type 0 where
+  pub read : IsReadOf (with_last_feed text ++ block) both.intake
+  pub counted : both.lines ≡ length (lines_of (with_last_feed text ++ block))
+
+-- what is read of lines, which count from 1
+record IsReadLines (lines : List (List ℕ)) (read : PartRead) : Type 0 where
+  messages : messages_in read.intake.messages.items ≡ messages_among (numbered_from 1 lines)
+  told : read.intake.refusals.text ≡ told_after [] (refusals_among (numbered_from 1 lines))
+  refused : read.intake.refusals.count ≡ length (refusals_among (numbered_from 1 lines))
+  lines_are : read.lines ≡ length lines
+
+-- a block is read, behind a text
+pub block_read : (text block : List ℕ) (old next both : PartRead) (counted : ℕ) → IsReadOf text old.intake → old.lines ≡ length (lines_of text) → counted ≡ old.lines → IsReadAfter [] counted block next
+    → messages_in both.intake.messages.items ≡ messages_in old.intake.messages.items ++ messages_in next.intake.messages.items
+    → both.intake.refusals.text ≡ old.intake.refusals.text ++ next.intake.refusals.text
+    → both.intake.refusals.count ≡ old.intake.refusals.count + next.intake.refusals.count
+    → both.lines ≡ old.lines + next.lines
+    → AreReadBehind text block both
+block_read text block old next both counted one lines same_count two messages told refused count =
+    let front : List ℕ = with_last_feed text in
+    let same : lines_of front ≡ lines_of text = ended_lines text in
+    let before : counted ≡ 0 + length (lines_of front) = omega (arith, lines, same_count, ap length same) in
+    let first : IsReadLines (lines_of front) old =
+    subst (λ ls. IsReadLines ls old) (sym same)
+    (record { messages = one.messages; told = one.told ∙ sym (told_plainly (refusals_told text)); refused = one.refused; lines_are = lines }) in
+    let all : IsReadAfter [] 0 (front ++ block) both =
+    read_in_two [] 0 (front ++ block) front block old next both (lines_stay front block (ended_whole text))
+    (record { messages = first.messages; told = first.told; refused = first.refused; lines = first.lines_are })
     (subst (λ n. IsReadAfter [] n block next) before two) messages told refused count in
-    record { messages = both.messages; told = both.told ∙ told_plainly (refusals_told (text ++ block)); refused = both.refused; lines = both.lines }
+    record {
+      read = record { messages = all.messages; told = all.told ∙ told_plainly (refusals_told (front ++ block)); refused = all.refused };
+      counted = all.lines;
+    }

@@ -17,9 +17,11 @@ use crate::before::LinesBefore;
 use crate::lines::{first_line, is_blank_line};
 use crate::refusals::Refusals;
 use crate::shortage::Shortage;
+use crate::text::TextRead;
 use sct_json::{JsonFault, MessageReader};
 use sct_message::Message;
 use std::alloc::{AllocError, Global};
+use std::marker::Model;
 use std::sync::Arc;
 
 /// What the lines of an input are: the messages that are read from them, and the refused lines.
@@ -131,34 +133,58 @@ fn ask_ahead(alloc: Global, number: u64) {
     }
 }
 
-/// What some lines of an input are, and how many they are.
+/// What is read of a text that comes in blocks of lines. A contract sees it as the text so far, whose bytes are not kept.
 #[derive(Drop)]
 pub struct LinesRead {
+    pub(crate) text: TextRead,
     pub(crate) intake: Intake,
     pub(crate) lines: u64,
 }
 
+impl Model for LinesRead {
+    ghost use Rattle.std.specs.Prelude.{◌≡◌, ℕ, List, length};
+
+    ghost Value = { List ℕ };
+
+    ghost use Rattle.sct_lines.specs.Blocks.{IsReadOf};
+    ghost use Rattle.sct_lines.specs.Lines.{lines_of};
+
+    ghost view = { λ read. read.text.bytes };
+
+    ghost invariant = { λ read. IsReadOf read.text.bytes read.intake × (read.lines ≡ length (lines_of read.text.bytes)) };
+}
+
 impl LinesRead {
-    /// No lines.
+    /// Nothing is read: the text is empty.
     pub fn none(alloc: Global) -> LinesRead
-        ensures { IsReadOf [] result }
+        ensures { result ≡ [] }
     {
         LinesRead {
+            text: TextRead::none(),
             intake: Intake::new(alloc),
             lines: 0,
         }
     }
 
-    /// The messages that are read from the lines, and the refused lines.
+    /// The messages that are read from the text, and the refused lines.
     pub fn into_intake(self) -> Intake
-        ensures { result ≡ self.intake }
+        ensures { IsReadOf self result }
     {
         let LinesRead { intake, .. } = self;
         intake
     }
+}
 
+// What some lines of an input are, and how many they are.
+#[derive(Drop)]
+pub(crate) struct PartRead {
+    pub(crate) intake: Intake,
+    pub(crate) lines: u64,
+}
+
+impl PartRead {
     // Adds the lines that follow.
-    pub(crate) fn append(&mut self, next: LinesRead) -> Result<(), AllocError>
+    pub(crate) fn append(&mut self, next: PartRead) -> Result<(), AllocError>
         requires { self.old.lines + next.lines < 2 ^ 64 }
         ensures lines { OnOk result (self.new.lines ≡ self.old.lines + next.lines) }
         ensures messages { OnOk result (messages_in self.new.intake.messages.items
@@ -168,7 +194,7 @@ impl LinesRead {
         ensures refused { OnOk result (self.new.intake.refusals.count
             ≡ self.old.intake.refusals.count + next.intake.refusals.count) }
     {
-        let LinesRead { intake, lines } = next;
+        let PartRead { intake, lines } = next;
         self.intake.append(intake)?;
         self.lines += lines;
         Ok(())
@@ -183,7 +209,7 @@ pub(crate) fn read_part(
     before: &mut LinesBefore<'_>,
     part: &[u8],
     shortage: &Shortage,
-) -> Result<LinesRead, AllocError>
+) -> Result<PartRead, AllocError>
     requires { before.old + length part.now < 2 ^ 64 }
     ensures { IfOk result (IsReadAfter front.now before.old part.now) }
 {
@@ -198,7 +224,7 @@ pub(crate) fn read_part(
         intake.take(alloc, &mut reader, front, before, lines, line)?;
         rest = after;
     }
-    Ok(LinesRead { intake, lines })
+    Ok(PartRead { intake, lines })
 }
 
 /// Reads the lines of an input, which count from 1, in one thread. `front` is written before each line that reports a refused
@@ -216,5 +242,5 @@ pub fn read_lines_after(alloc: Global, front: &str, input: &[u8]) -> Result<Inta
         input,
         &Shortage::none(),
     )?;
-    Ok(read.into_intake())
+    Ok(read.intake)
 }

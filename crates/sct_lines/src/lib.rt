@@ -17,6 +17,7 @@ mod parts;
 mod refusal_text;
 mod refusals;
 mod shortage;
+mod text;
 
 pub use intake::{Intake, LinesRead, read_line, read_lines_after};
 pub use lines::{first_line, is_blank_line, lines_tile_the_text, whole_lines, whole_lines_stay};

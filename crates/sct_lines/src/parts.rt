@@ -1,13 +1,13 @@
 //! An input read in parts, each in a thread of its own where one can be made.
-ghost use Rattle.std.specs.Prelude.{◌≡◌, ◌+◌, ◌<◌, ◌≤◌, ◌^◌, length, slice_index, IfOk, IfSome};
+ghost use Rattle.std.specs.Prelude.{◌≡◌, ◌+◌, ◌<◌, ◌≤◌, ◌++◌, ◌^◌, length, slice_index, IfOk, IfSome};
 ghost use Rattle.std.specs.Thread.{IsSync};
-ghost use Rattle.sct_lines.specs.Lines.{messages_read, refusals_told, told_after, told_text_of};
-ghost use Rattle.sct_lines.specs.Blocks.{IsReadOn};
+ghost use Rattle.sct_lines.specs.LineLaws.{with_last_feed, IsOfWholeLines};
+ghost use Rattle.sct_lines.specs.Lines.{lines_of, messages_read, refusals_told, told_after, told_text_of};
 ghost use Rattle.sct_lines.specs.Parts.{IsPartOf};
 ghost use Rattle.sct_message.specs.Sets.{messages_in};
 
 use crate::before::LinesBefore;
-use crate::intake::{Intake, LinesRead, read_part};
+use crate::intake::{Intake, LinesRead, PartRead, read_part};
 use crate::lines::line_feed;
 use crate::shortage::Shortage;
 use std::alloc::{AllocError, Global};
@@ -38,7 +38,7 @@ fn read_rest(
     text: &[u8],
     from: usize,
     shortage: &Shortage,
-) -> Result<LinesRead, AllocError>
+) -> Result<PartRead, AllocError>
     requires within { from ≤ length text.now }
     requires few { counted + length text.now < 2 ^ 64 }
     ensures { IfOk result (IsPartOf label.now counted text.now from) }
@@ -66,7 +66,7 @@ fn read_by_halves<R: Threads + Sync>(
     from: usize,
     halvings: u32,
     shortage: &Shortage,
-) -> Result<LinesRead, AllocError>
+) -> Result<PartRead, AllocError>
     requires halved { halvings ≤ 16 }
     requires within { from ≤ length text.now }
     requires few { counted + length text.now < 2 ^ 64 }
@@ -81,7 +81,7 @@ fn read_by_halves<R: Threads + Sync>(
     let (front, _) = text.split_at(at + 1);
     let (first, second) = join(
         rt,
-        || -> Result<LinesRead, AllocError>
+        || -> Result<PartRead, AllocError>
             requires { IsSync R.row × (0 < halvings) × (halvings ≤ 16) × (from ≤ length front.now) × (counted + length front.now < 2 ^ 64) }
             ensures { IfOk result (IsPartOf label.entry.now counted front.entry.now from) }
         {
@@ -96,7 +96,7 @@ fn read_by_halves<R: Threads + Sync>(
                 shortage,
             ))
         },
-        || -> Result<LinesRead, AllocError>
+        || -> Result<PartRead, AllocError>
             requires { IsSync R.row × (0 < halvings) × (halvings ≤ 16) × (at < length text.now) × (counted + length text.now < 2 ^ 64) }
             ensures { IfOk result (IsPartOf label.entry.now counted text.entry.now (at + 1)) }
         {
@@ -150,7 +150,7 @@ pub fn read_lines_by_halves<R: Threads + Sync>(
     let halvings = halvings.min(MOST_HALVINGS);
     let shortage = Shortage::none();
     let read = read_by_halves(rt, alloc, "", 0, input, 0, halvings, &shortage)?;
-    Ok(read.into_intake())
+    Ok(read.intake)
 }
 
 /// Reads the lines of an input, which count from 1, in as many threads as there are processors. The only error is that it
@@ -183,26 +183,38 @@ pub fn read_file_lines<R: Threads + Sync>(
     let halvings = halvings(rt, input);
     let shortage = Shortage::none();
     let read = read_by_halves(rt, alloc, label, 0, input, 0, halvings, &shortage)?;
-    Ok(read.into_intake())
+    Ok(read.intake)
 }
 
 impl LinesRead {
-    /// Reads the block of lines that comes next in an input, in as many threads as there are processors. The lines count on
-    /// from those before. The only error is that it is out of memory. All that was read is lost then. O(block).
+    /// Reads the block of lines that comes next in a text, in as many threads as there are processors. The lines count on from
+    /// those before. A last line that has no line feed is ended by one before the block. The only error is that it is out of
+    /// memory. All that was read is lost then. O(block).
     pub fn with_block<R: Threads + Sync>(
         self,
         rt: &R,
         alloc: Global,
         block: &[u8],
     ) -> Result<LinesRead, AllocError>
-        requires few { self.lines + length block.now < 2 ^ 64 }
-        ensures read { IfOk result (IsReadOn block.now self) }
+        requires few { length (lines_of self) + length block.now < 2 ^ 64 }
+        ensures text { IfOk result (λ text. IsOfWholeLines self → text ≡ self ++ block.now) }
+        ensures ended { IfOk result (λ text. text ≡ with_last_feed self ++ block.now) }
     {
-        let mut read = self;
+        let LinesRead {
+            text,
+            intake,
+            lines,
+        } = self;
+        let mut read = PartRead { intake, lines };
         let halvings = halvings(rt, block);
         let shortage = Shortage::none();
         let next = read_by_halves(rt, alloc, "", read.lines, block, 0, halvings, &shortage)?;
         read.append(next)?;
-        Ok(read)
+        let PartRead { intake, lines } = read;
+        Ok(LinesRead {
+            text: text.then(block),
+            intake,
+            lines,
+        })
     }
 }

@@ -1,7 +1,7 @@
 //! A flag that the parts of an input share: one of them is out of memory, so the others end.
 ghost use Rattle.std.specs.Prelude.{◌≡◌};
 
-use crate::intake::LinesRead;
+use crate::intake::PartRead;
 use std::alloc::AllocError;
 use std::sync::atomic::{AtomicBool, Ordering};
 
@@ -28,7 +28,7 @@ impl Shortage {
     }
 
     // Hands on what a part comes to. After an error the other parts end.
-    pub(crate) fn noted(&self, read: Result<LinesRead, AllocError>) -> Result<LinesRead, AllocError>
+    pub(crate) fn noted(&self, read: Result<PartRead, AllocError>) -> Result<PartRead, AllocError>
         ensures { result ≡ read }
     {
         if read.is_err() {

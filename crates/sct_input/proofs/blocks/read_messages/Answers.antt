@@ -21,10 +21,10 @@ with_block-requires-clause-few g c κs within =
 pub returns-then-count-most-clause-read : goal.returns-then-count-most-clause-read
 returns-then-count-most-clause-read g c =
     let now = appended _ c.in_ok-count.count _ _ _ _ _ _ _ c.loop-text.invariant.taken c.in_ok-count.ensures.appended refl in
-    rw c.into_intake.ensures
-    (all_read _ _ c.args.limit _ _ _ _ _ _ c.in_ok-with_block.field-0 c.loop-text.invariant.taken now
+    all_read _ _ c.args.limit _ _ _ _ _ _ c.in_ok-with_block.field-0 c.into_intake.result c.loop-text.invariant.taken now
     (omega (arith, c.if-count-most.true, c.next_read-most.ensures.most, c.loop-text.invariant.within))
-    (c.in_ok-count.ensures.end c.if-count-most.true) (rw c.deref.ensures.value at c.in_ok-with_block.ensures.read))
+    (c.in_ok-count.ensures.end c.if-count-most.true)
+    (rw c.deref.ensures.value at c.in_ok-with_block.ensures.text c.loop-text.invariant.taken.whole) c.into_intake.ensures
 
 pub returns-then-count-room-clause-faults : goal.returns-then-count-room-clause-faults
 returns-then-count-room-clause-faults g c =
@@ -44,7 +44,7 @@ loop-text-preserved g c =
     let now = appended _ c.in_ok-count.count _ _ _ _ _ _ _ c.loop-text.invariant.taken c.in_ok-count.ensures.appended sum in
     record {
       within = omega (arith, c.loop-text.invariant.within);
-      taken = lines_taken _ _ _ _ _ _ _ now c.in_ok-lines.ensures;
+      taken = lines_taken _ _ _ _ _ _ _ now c.in_ok-lines.ensures.whole (c.in_ok-lines.ensures.bytes c.loop-text.invariant.taken.whole);
       quiet = c.in_ok-count.ensures.quiet ∙ c.loop-text.invariant.quiet;
     }
 
