@@ -8,11 +8,12 @@
 - Texts and rooms without bytes, at an address and at none.
 - Sites 1 to 1024 of the largest group. Each gives its message to site 1, and three are given all.
 - A site that holds 1,000 messages takes 2,000 more, and accepts as many.
+- Calls that only read, on a handle in a page that may not be written (only_reads.c).
 - What needs the most stack: 99,999 opening brackets, a recall of 100 transactions, and 20,000 messages.
 - The structures have their sizes. The library gives away the names of the header and no other, in the shared one under its version. It
   needs nothing but the C library, and no stack whose bytes run.
 """
-import json, re
+import json, re, signal
 from bench.generate import messages, samples
 from tests import harness
 from tests.embed import driving, model
@@ -26,6 +27,8 @@ OF_COMPILER = {"__udivti3", "__umodti3"}  # of the library that each compiler of
 BANK, DAY, STACK = b"BANKDEFF", b"2024-05-02", 256 * 1024
 MOST_SITES, LONG, MOST = 1024, 20_000, 2 ** 64 - 1
 HELD = 200, 6000  # messages
+# what only_reads.c writes: the answer, a part of it, the reason and the counts of a site that took two refused lines
+READ = b"answer 1 0 22 line 1: 31\nline 2: 33\n\npart 1 0 4 1: 3\nwhy 1 0 2 72\ncounts 1 0 0 0 0\n"
 EMPTY_DELTA = b"delta 2\nend 0\n"
 # the size of each structure, and where its fields are, in the order of the header
 LAYOUT = b"""sct_site 16
@@ -347,6 +350,15 @@ def little_stack(program):
 
 # ---- names
 
+def only_reads(folder):
+    """Calls that only read leave the handle as it is, so they may use one that cannot be written. A call that changes it is killed there."""
+    if not driving.stands_in():
+        program = driving.built(folder, driving.SOURCES / "only_reads.c", wraps=())
+        read, ended = harness.run([program]), harness.run([program, "end"])
+        yield reported("calls that only read do not write the handle", (read.text, read.status) == (READ, 0), f"{read}")
+        yield reported("a call that changes it does", (ended.text, ended.status) == (READ, -signal.SIGSEGV), f"{ended}")
+
+
 def names(folder):
     """What the libraries give away and need."""
     declared = set(re.findall(r"^\w+ (sct_version|sct_raw_\w+)\(", (TOP / "include" / "niluppang.h").read_text(), re.M))
@@ -422,7 +434,7 @@ def main():
         program = driving.built_driver(folder)
         checks = examples, hub, exchanged, refusals, reasons, parts, numbers, nothing, sizes, most_sites, little_stack, progress, costs
         found = [one for check in checks for one in done(check, program)]
-        harness.end_of([*found, *names(folder)])
+        harness.end_of([*found, *only_reads(folder), *names(folder)])
 
 
 if __name__ == "__main__":
