@@ -1,0 +1,7 @@
+-- What the laws of what is kept are proved by.
+pub mod DoneLemmas
+pub mod KeepLemmas
+pub mod MarkLemmas
+pub mod SplitLemmas
+pub mod TieLemmas
+pub mod TreeLemmas

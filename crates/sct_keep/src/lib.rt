@@ -1,0 +1,14 @@
+//! A set of messages split by a day: what is done is closed, and all that has a tie to what is not done is kept.
+//! No transfer of either part has another answer than in the whole set.
+#![tactic(auto)]
+
+mod archives;
+mod done;
+pub mod laws;
+mod marks;
+mod splitting;
+mod ties;
+mod trees;
+
+pub use archives::{Archives, split_archive};
+pub use splitting::{KeptAndClosed, split};
