@@ -1,4 +1,5 @@
 -- What the laws of what is kept are proved by.
+pub mod ChainLemmas
 pub mod DoneLemmas
 pub mod KeepLemmas
 pub mod MarkLemmas

@@ -24,7 +24,7 @@ use Rattle.sct_view.specs.Kept.{same_key}
 use Rattle.sct_view.proofs.SlotLemmas.{one_read}
 use Rattle.sct_parts.proofs.Members.{held_key}
 use Rattle.sct_keep.specs.Done.{is_before, is_settled}
-use Rattle.sct_keep.specs.Marks.{AreMarkedMore, AreMarks, IsLate, IsOpen, IsUnsettled, is_marked}
+use Rattle.sct_keep.specs.Marks.{AreMarkedMore, AreMarks, IsLate, IsOpenAt, IsUnsettled, is_marked}
 use Rattle.sct_keep.specs.Ties.{AreFirsts, AreGroups, HasFirst}
 use Rattle.sct_keep.proofs.DoneLemmas.{late_not_done, late_one, unsettled_not_done, why_not_done}
 use Rattle.sct_keep.proofs.TieLemmas.{got_in, less_or, one_item}
@@ -187,43 +187,44 @@ module _ {S : Type 0} (day : List ℕ) (ms : List Draft) (labels : List ℕ) (fi
   pub within_labels : (t : TransferKey) (i : ℕ) → HasFirst same_key first t i → i < length labels
   within_labels t i h = let o = firsts.of t i h in subst (λ n. i < n) (sym groups.count) (slice_get_within ms i o.0 o.1)
 
-  late_open : (i : ℕ) → IsLate day ms i → IsOpen day held ms i
+  late_open : (i : ℕ) → IsLate day ms i → IsOpenAt day held ms i
   late_open i late =
       let m = late.0 in
-      elim (slice_get_cases (transfers_of m) 0).1 as (λ _. IsOpen day held ms i) [
+      elim (slice_get_cases (transfers_of m) 0).1 as (λ _. IsOpenAt day held ms i) [
         | inl there ↦
             let on = got_in (transfers_of m) 0 there.0 there.2 in
-            (m, there.0, late.1, on, late_not_done day held there.0 m (held_in ms m (got_in ms i m late.1)) on late.3)
+            (m, late.1, (there.0, on, late_not_done day held there.0 m (held_in ms m (got_in ms i m late.1)) on late.3))
         | inr none ↦ let past = none.0 in let some = late.2 in absurd (omega (arith, past, some))
       ]
 
-  unsettled_open : (i : ℕ) → IsUnsettled held first (keys_of held) i → IsOpen day held ms i
-  unsettled_open i u = let o = firsts.of u.0 i u.3 in (o.0, u.0, o.1, o.2, unsettled_not_done day held u.0 u.2)
+  unsettled_open : (i : ℕ) → IsUnsettled held first (keys_of held) i → IsOpenAt day held ms i
+  unsettled_open i u = let o = firsts.of u.0 i u.3 in (o.0, o.1, (u.0, o.2, unsettled_not_done day held u.0 u.2))
 
   abbrev Opened : ℕ → Type 0
-  Opened l = (i : ℕ) × (i < length ms) × (slice_index labels i ≡ l) × IsOpen day held ms i
+  Opened l = (i : ℕ) × (i < length ms) × (slice_index labels i ≡ l) × IsOpenAt day held ms i
 
-  opened : (i l : ℕ) → slice_index labels i ≡ l → IsOpen day held ms i → Opened l
-  opened i l e o = (i, slice_get_within ms i o.0 o.2, e, o)
+  opened : (i l : ℕ) → slice_index labels i ≡ l → IsOpenAt day held ms i → Opened l
+  opened i l e o = (i, slice_get_within ms i o.0 o.1, e, o)
 
   pub all_marks : (none marks late : List Bool) → ((l : ℕ) → is_marked none l ≡ true → ⊥) → AreMarkedMore (IsLate day ms) labels none late
       → AreMarkedMore (IsUnsettled held first (keys_of held)) labels late marks → AreMarks day held ms labels (is_marked marks)
   all_marks none marks late unmarked one other = record {
     each = λ i o.
         let m = o.0 in
-        let t = o.1 in
-        elim (why_not_done day held t o.4) as (λ _. is_marked marks (slice_index labels i) ≡ true) [
+        let not_done = o.2 in
+        let t = not_done.0 in
+        elim (why_not_done day held t not_done.2) as (λ _. is_marked marks (slice_index labels i) ≡ true) [
           | inl e ↦
-              let j = firsts.each i m o.2 t o.3 in
+              let j = firsts.each i m o.1 t not_done.1 in
               let n = firsts.of t j.0 j.1 in
-              ap (is_marked marks) (groups.tied i j.0 m n.0 o.2 n.1 (inr (t, o.3, n.2)))
-              ∙ other.each j.0 (t, held_key held t m (held_in ms m (got_in ms i m o.2)) o.3, e, j.1)
+              ap (is_marked marks) (groups.tied i j.0 m n.0 o.1 n.1 (inr (t, not_done.1, n.2)))
+              ∙ other.each j.0 (t, held_key held t m (held_in ms m (got_in ms i m o.1)) not_done.1, e, j.1)
           | inr e ↦
               let r = late_one day held t e in
               let n = numbered ms r.0 r.1 in
               let on = r.2 in
               let place = on.1 in
-              ap (is_marked marks) (groups.tied i n.0 m r.0 o.2 n.1 (inr (t, o.3, on)))
+              ap (is_marked marks) (groups.tied i n.0 m r.0 o.1 n.1 (inr (t, not_done.1, on)))
               ∙ other.stay (slice_index labels n.0) (one.each n.0 (r.0, n.1, omega (arith, place), r.3))
         ];
     only = λ l h. elim (other.only l h) as (λ _. Opened l) [

@@ -37,7 +37,7 @@ one_then : (b : Bool) → number b ≡ 1 → b ≡ true
 one_then true e = refl
 one_then false e = absurd (omega (arith, e))
 
-turned : (one other : Draft) → AreTied one other → AreTied other one
+pub turned : (one other : Draft) → AreTied one other → AreTied other one
 turned one other (inl e) = inl (sym e)
 turned one other (inr h) = inr (h.0, h.2, h.1)
 
@@ -50,7 +50,7 @@ module _ (day : List ℕ) (ms : List Draft) (labels : List ℕ) (marked : ℕ �
       → set.contains (contents_of kept) m ≡ true
   not_done_kept m t h on e =
       let n = numbered ms m h in
-      held_in kept m (are.each n.0 m n.1 (marks.each n.0 (m, t, n.1, on, e)))
+      held_in kept m (are.each n.0 m n.1 (marks.each n.0 (m, n.1, (t, on, e))))
 
   tied_kept : (one other : Draft) → set.contains (contents_of kept) one ≡ true → set.contains held other ≡ true → AreTied one other
       → set.contains (contents_of kept) other ≡ true
@@ -80,13 +80,14 @@ module _ (day : List ℕ) (ms : List Draft) (labels : List ℕ) (marked : ℕ �
         let k = are.only m (in_list kept m h) in
         let o = marks.only (slice_index labels k.0) k.2 in
         let first = o.3 in
-        let seed = has.not_done first.0 first.1 (held_in ms first.0 (got_in ms o.0 first.0 first.2)) first.3 first.4 in
+        let not_done = first.2 in
+        let seed = has.not_done first.0 not_done.0 (held_in ms first.0 (got_in ms o.0 first.0 first.1)) not_done.1 not_done.2 in
         one_then (set.contains some m)
         (sym (told_at k.0 m k.1)
         ∙ sym (groups.same told respects k.0 (slice_get_within ms k.0 m k.1))
         ∙ ap told (sym o.2)
         ∙ groups.same told respects o.0 o.1
-        ∙ told_at o.0 first.0 first.2
+        ∙ told_at o.0 first.0 first.1
         ∙ ap number seed)
 
   pub is_kept : IsKept day held (contents_of kept)

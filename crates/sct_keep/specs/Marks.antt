@@ -6,7 +6,8 @@ use Rattle.sct_message.specs.Sets.{MessageSet}
 use Rattle.sct_message.specs.declared.draft.Draft.{Draft}
 use Rattle.sct_message.specs.declared.keys.TransferKey.{TransferKey}
 use Rattle.sct_view.specs.Kept.{same_key}
-use Rattle.sct_keep.specs.Done.{is_before, is_done, is_settled}
+use Rattle.sct_keep.specs.Done.{is_before, is_settled}
+use Rattle.sct_keep.specs.Keep.{IsOpen}
 use Rattle.sct_keep.specs.Ties.{HasFirst}
 
 -- the label is marked
@@ -33,13 +34,13 @@ abbrev pub IsUnsettled : {S : Type 0} → MessageSet → IndexMap TransferKey (L
 IsUnsettled held first transfers i = (t : TransferKey) × Contains transfers t × (is_settled held t ≡ false) × HasFirst same_key first t i
 
 -- the message at the number is on a transfer that is not done
-abbrev pub IsOpen : List ℕ → MessageSet → List Draft → ℕ → Type 0
-IsOpen day held ms i = (m : Draft) × (t : TransferKey) × (slice_get ms i ≡ Some m) × Contains (transfers_of m) t × (is_done day held t ≡ false)
+abbrev pub IsOpenAt : List ℕ → MessageSet → List Draft → ℕ → Type 0
+IsOpenAt day held ms i = (m : Draft) × (slice_get ms i ≡ Some m) × IsOpen day held m
 
 -- A label is marked exactly if a message of that label is on a transfer that is not done.
 pub record AreMarks (day : List ℕ) (held : MessageSet) (ms : List Draft) (labels : List ℕ) (marked : ℕ → Bool) : Type 0 where
-  pub each : (i : ℕ) → IsOpen day held ms i → marked (slice_index labels i) ≡ true
-  pub only : (l : ℕ) → marked l ≡ true → (i : ℕ) × (i < length ms) × (slice_index labels i ≡ l) × IsOpen day held ms i
+  pub each : (i : ℕ) → IsOpenAt day held ms i → marked (slice_index labels i) ≡ true
+  pub only : (l : ℕ) → marked l ≡ true → (i : ℕ) × (i < length ms) × (slice_index labels i ≡ l) × IsOpenAt day held ms i
 
 -- The messages whose labels pass a test, and no others.
 pub record AreLabelled (ms : List Draft) (labels : List ℕ) (passes : ℕ → Bool) (some : List Draft) : Type 0 where
