@@ -138,7 +138,7 @@ module _ (day : List ℕ) (whole : MessageSet) where
   of_whole (next ∷ rest) m c = c.0
 
   of_each : (some : MessageSet) → HasAllOpen day whole some → (links : List Draft) (m : Draft) → IsChain day whole m links → set.contains some m ≡ true
-  of_each some has [] m c = let o = c.1 in has.not_done m o.0 c.0 o.1 o.2
+  of_each some has [] m c = has.each m c.0 c.1
   of_each some has (next ∷ rest) m c = has.tied next m (of_each some has rest next c.2) c.0 (turned m next c.1)
 
   -- ---- what is kept
@@ -174,8 +174,8 @@ module _ (day : List ℕ) (whole : MessageSet) where
   is_kept = record {
     part = λ m h. let c = chain_of m h in of_whole c.0 m c.1;
     has_open = record {
-      not_done = λ m t h on e.
-          held_in all m (begun front (length rest) rest m (filtered_in is_open (set.items whole) m (in_items whole m h) ((open-Decides m).1 (t, on, e))));
+      each = λ m h o.
+          held_in all m (begun front (length rest) rest m (filtered_in is_open (set.items whole) m (in_items whole m h) ((open-Decides m).1 o)));
       tied = λ one other here there tie.
           held_in all other
           (has_tied front (length rest) rest (omega arith) one other (in_list all one here) (sides is_open (set.items whole) other (in_items whole other there)) tie);

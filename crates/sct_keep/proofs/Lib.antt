@@ -1,4 +1,4 @@
--- What the laws of what is kept are proved by.
+-- What the functions and the laws of what is kept are proved by.
 pub mod ChainLemmas
 pub mod DoneLemmas
 pub mod KeepLemmas

@@ -8,15 +8,12 @@ use Rattle.std.specs.Cmp.{both_ways}
 use Rattle.std.proofs.lemmas.Bool.{and_parts, false_from_ne_true, false≢true, not-true}
 use Rattle.std.proofs.lemmas.List.Elements.{Contains-append_cases, Contains-append_left, Contains-append_right}
 use Rattle.std.proofs.lemmas.Option.{slice_get_within}
-use Rattle.sct_message.specs.Keys.{transfers_of}
 use Rattle.sct_message.specs.OrderLaws.{message_total, message_same}
 use Rattle.sct_message.specs.Sets.{MessageSet}
 use Rattle.sct_message.specs.declared.draft.Draft.{Draft}
-use Rattle.sct_message.specs.declared.keys.TransferKey.{TransferKey}
 use Rattle.sct_case.proofs.Membership.{here, nothing, only}
 use Rattle.sct_set.specs.Contents.{contents_of}
-use Rattle.sct_keep.specs.Done.{is_done}
-use Rattle.sct_keep.specs.Keep.{AreTied, HasAllOpen, IsKept, closed_of}
+use Rattle.sct_keep.specs.Keep.{AreTied, HasAllOpen, IsKept, IsOpen, closed_of}
 use Rattle.sct_keep.specs.Marks.{AreLabelled, AreMarks}
 use Rattle.sct_keep.specs.Ties.{AreGroups, Respects}
 use Rattle.sct_keep.proofs.MarkLemmas.{held_in, in_list, numbered}
@@ -46,11 +43,10 @@ module _ (day : List ℕ) (ms : List Draft) (labels : List ℕ) (marked : ℕ �
   abbrev held : MessageSet
   held = contents_of ms
 
-  not_done_kept : (m : Draft) (t : TransferKey) → set.contains held m ≡ true → Contains (transfers_of m) t → is_done day held t ≡ false
-      → set.contains (contents_of kept) m ≡ true
-  not_done_kept m t h on e =
+  each_kept : (m : Draft) → set.contains held m ≡ true → IsOpen day held m → set.contains (contents_of kept) m ≡ true
+  each_kept m h o =
       let n = numbered ms m h in
-      held_in kept m (are.each n.0 m n.1 (marks.each n.0 (m, n.1, (t, on, e))))
+      held_in kept m (are.each n.0 m n.1 (marks.each n.0 (m, n.1, o)))
 
   tied_kept : (one other : Draft) → set.contains (contents_of kept) one ≡ true → set.contains held other ≡ true → AreTied one other
       → set.contains (contents_of kept) other ≡ true
@@ -80,8 +76,7 @@ module _ (day : List ℕ) (ms : List Draft) (labels : List ℕ) (marked : ℕ �
         let k = are.only m (in_list kept m h) in
         let o = marks.only (slice_index labels k.0) k.2 in
         let first = o.3 in
-        let not_done = first.2 in
-        let seed = has.not_done first.0 not_done.0 (held_in ms first.0 (got_in ms o.0 first.0 first.1)) not_done.1 not_done.2 in
+        let seed = has.each first.0 (held_in ms first.0 (got_in ms o.0 first.0 first.1)) first.2 in
         one_then (set.contains some m)
         (sym (told_at k.0 m k.1)
         ∙ sym (groups.same told respects k.0 (slice_get_within ms k.0 m k.1))
@@ -93,7 +88,7 @@ module _ (day : List ℕ) (ms : List Draft) (labels : List ℕ) (marked : ℕ �
   pub is_kept : IsKept day held (contents_of kept)
   is_kept = record {
     part = λ m h. let k = are.only m (in_list kept m h) in held_in ms m (got_in ms k.0 m k.1);
-    has_open = record { not_done = not_done_kept; tied = tied_kept };
+    has_open = record { each = each_kept; tied = tied_kept };
     least = least_kept;
   }
 

@@ -35,7 +35,7 @@ fn archive_of(alloc: Global, messages: &[Arc<Message>]) -> Result<Archive, Alloc
 }
 
 /// Splits an archive by a day, `YYYY-MM-DD`, into what is kept and what is closed. The archive stays as it is.
-/// Error: `Memory` (39). It builds a view of the archive in one thread. With a view at hand use [`split`](crate::split).
+/// Error: `Memory` (39). It builds a view of the archive in one thread, and costs what that and [`split`](crate::split) cost.
 pub fn split_archive(alloc: Global, archive: &Archive, day: &Day) -> Result<Archives, CaseFault>
     ensures kept { IfOk result (λ archives. IsKept day.now archive.now archives.kept) }
     ensures closed { IfOk result (λ archives. archives.closed ≡ closed_of archive.now archives.kept) }

@@ -22,7 +22,7 @@ fn is_final(status: &Status) -> bool
     }
 }
 
-// Whether a recall of this status has its answer.
+// Whether a recall of this status was answered.
 fn is_answered(status: &RecallStatus) -> bool
     ensures { result ≡ is_answered status.now }
 {
@@ -60,8 +60,8 @@ pub(crate) fn is_late(day: &Day, message: &Message) -> bool
     message.transfer_count() > 0 && !is_before(day, message)
 }
 
-/// Whether the status of the transfer is final, and each of its recalls has its answer. Error: `Memory` (39).
-/// O(c n + n log n) for c recalls and n transactions in the messages on the transfer.
+/// Whether the status of the transfer is final, and each of its recalls was answered. Error: `Memory` (39).
+/// O(c n + n log n) for c recalls of the transfer and n transactions in the messages on it.
 pub(crate) fn is_settled(view: &View, transfer: &TransferKey) -> Result<bool, CaseFault>
     ensures { IfOk result (λ settled. settled ≡ is_settled view.now transfer.now) }
 {

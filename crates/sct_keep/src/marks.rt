@@ -61,7 +61,8 @@ fn mark_unsettled(
 ) -> Result<(), CaseFault>
     requires first { (t : TransferOf) (i : ℕ) → HasFirst same_key first.now t i → i < length labels.now }
     requires marks { HaveMarks labels.now marks.now }
-    ensures { OnOk result (AreMarkedMore (IsUnsettled view.now first.now (keys_of view.now)) labels.now marks.old marks.new) }
+    ensures { OnOk result (AreMarkedMore (IsUnsettled view.now first.now (keys_of view.now))
+        labels.now marks.old marks.new) }
 {
     let transfers = view.keys()?;
     for transfer in &transfers {
@@ -73,6 +74,7 @@ fn mark_unsettled(
 }
 
 /// A mark for each label, set if a message of the label is on a transfer that is not done. Error: `Memory` (39).
+/// Near linear in the messages and their transfers, beside what `is_settled` takes for each transfer.
 pub(crate) fn marks_of(
     alloc: Global,
     view: &View,
@@ -83,7 +85,8 @@ pub(crate) fn marks_of(
     requires held { contents_of (messages_in messages.now) ≡ view.now }
     requires groups { AreGroups (messages_in messages.now) groups.now.labels.items }
     requires first { AreFirsts (messages_in messages.now) groups.now.first }
-    ensures { IfOk result (λ marks. AreMarks day.now view.now (messages_in messages.now) groups.now.labels.items (is_marked marks.items)) }
+    ensures { IfOk result (λ marks. AreMarks day.now view.now (messages_in messages.now)
+        groups.now.labels.items (is_marked marks.items)) }
 {
     let mut marks = vec![in alloc; false; messages.len()]?;
     let row: &mut [bool] = &mut marks;

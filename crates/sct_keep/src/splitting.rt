@@ -39,8 +39,10 @@ fn split_by(
     marks: &[bool],
 ) -> Result<KeptAndClosed, AllocError>
     requires labels { length labels.now ≡ length messages.now }
-    ensures kept { IfOk result (λ split. AreLabelled (messages_in messages.now) labels.now (is_marked marks.now) (messages_in split.kept.items)) }
-    ensures closed { IfOk result (λ split. AreLabelled (messages_in messages.now) labels.now (λ l. not (is_marked marks.now l)) (messages_in split.closed.items)) }
+    ensures kept { IfOk result (λ split. AreLabelled (messages_in messages.now) labels.now
+        (is_marked marks.now) (messages_in split.kept.items)) }
+    ensures closed { IfOk result (λ split. AreLabelled (messages_in messages.now) labels.now
+        (λ label. not (is_marked marks.now label)) (messages_in split.closed.items)) }
 {
     let mut kept = Vec::new(alloc);
     let mut closed = Vec::new(alloc);
@@ -55,11 +57,11 @@ fn split_by(
     Ok(KeptAndClosed { kept, closed })
 }
 
-/// Splits messages by a day, `YYYY-MM-DD`, into what is kept and what is closed. The messages are those of the view; they
-/// may be in any order and may repeat. The archive text of a part is that of a `SortedArchive` of its messages.
+/// Splits messages by a day, `YYYY-MM-DD`, into what is kept and what is closed. They are the messages of the view, in any
+/// order, and may repeat. `Archive::add_all` and `SortedArchive::of` make the archive of a part, which writes its text.
 /// Error: `Memory` (39). Nothing that was passed is changed.
-/// Near linear in the messages and their transfers. A transfer with many recalls costs more: the recalls times the
-/// messages on it.
+/// Near linear in the messages and their transfers. A transfer with a final status also takes the number of its recalls
+/// times that of the transactions on it. It allocates 17 bytes for each message, and two maps: of identities and of transfers.
 pub fn split(
     alloc: Global,
     view: &View,
