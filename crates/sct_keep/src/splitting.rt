@@ -61,7 +61,8 @@ fn split_by(
 /// order, and may repeat. `Archive::add_all` and `SortedArchive::of` make the archive of a part, which writes its text.
 /// Error: `Memory` (39). Nothing that was passed is changed.
 /// Near linear in the messages and their transfers. A transfer with a final status also takes the number of its recalls
-/// times that of the transactions on it. It allocates 17 bytes for each message, and two maps: of identities and of transfers.
+/// times that of the transactions of its messages. It allocates 17 bytes for each message, a list of the transfers, and two
+/// maps: of identities and of transfers.
 pub fn split(
     alloc: Global,
     view: &View,
