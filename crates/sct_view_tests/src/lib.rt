@@ -1,4 +1,4 @@
-//! Tests of archives, cases, views and reports. They show what no clause says: that the
+//! Tests of archives, cases, views, reports and splits by a day. They show what no clause says: that the
 //! calls succeed if there is memory. `examples/cases/` has what the texts of the program show.
 #![tactic(auto)]
 
@@ -6,6 +6,8 @@
 mod archives;
 #[cfg(test)]
 mod cases;
+#[cfg(test)]
+mod kept;
 #[cfg(test)]
 mod reports;
 #[cfg(test)]
