@@ -41,15 +41,10 @@ def tested(library):
     return [True] * int(passed) + [is_right]
 
 
-def main():
-    try:
-        with sites.library() as library:
-            right = tested(library)
-    except sites.Skipped as why:
-        print(f"skipped: {why}")
-        harness.end(0, 0)
-    harness.end_of(right)
+def check():
+    with sites.library() as library:
+        return tested(library)
 
 
 if __name__ == "__main__":
-    main()
+    sites.ended(check)

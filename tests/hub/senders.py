@@ -5,7 +5,6 @@ The lines are those of somebody who means harm. They are read by the library, or
 import concurrent.futures, copy, io, json, os, pathlib, random, shutil, subprocess, sys, tempfile, types
 from bench.generate import samples
 from bench.generate.samples import confirmation, instruction, payback, recall, refusal, request, transaction
-from tests import harness
 from tests.harness import SERVICES, TOP, reported
 from tests.hub import sites
 from tests.oracle.status import read_message, written
@@ -647,17 +646,12 @@ CHECKS = [reads_kinds, reads_tricks, refuses, reads_long_lines, keeps_places, re
           finds_nothing]
 
 
-def main():
-    try:
-        with sites.library() as library:
-            os.environ["NILUPPANG_LIBRARY"] = str(library)
-            reader = Reader(VERSION)
-            right = [reported(*it) for check in CHECKS for it in check(reader)]
-    except sites.Skipped as why:
-        print(f"skipped: {why}")
-        harness.end(0, 0)
-    harness.end_of(right)
+def check():
+    with sites.library() as library:
+        os.environ["NILUPPANG_LIBRARY"] = str(library)
+        reader = Reader(VERSION)
+        return [reported(*it) for one in CHECKS for it in one(reader)]
 
 
 if __name__ == "__main__":
-    main()
+    sites.ended(check)

@@ -50,14 +50,19 @@ def stand_in(folder):
     return path
 
 
-def checked(check):
-    """Runs a check on the program or its stand-in, and ends with its last line. A machine without the parts skips it, and a line says why."""
+def ended(check, *words):
+    """Runs a check, and ends with its last line. A machine without the parts skips it, and a line says why."""
     try:
-        right = check(interpreter(), harness.program_or_stand_in())
+        right = check(*(word() for word in words))
     except Skipped as why:
         print(f"skipped: {why}")
         harness.end(0, 0)
     harness.end_of(right)
+
+
+def checked(check):
+    """Runs a check on the program or its stand-in."""
+    ended(check, interpreter, harness.program_or_stand_in)
 
 
 handed_out = [21000 + os.getpid() % 4000 * 4]  # the port after those that this check was given

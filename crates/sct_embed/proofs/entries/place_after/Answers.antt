@@ -1,4 +1,4 @@
--- The last own entry that is not above the count stands right before the place.
+-- The last own entry that is not above the count is right before the place.
 use Rattle.std.proofs.Common.{◌≡◌, ◌∙◌, ap, sym, subst, ℕ, ◌+◌, ◌-◌, ◌≤◌, take, arith}
 use Rattle.sct_delta.specs.Entries.{Placed}
 use Rattle.sct_embed.specs.Asking.{own_above}
