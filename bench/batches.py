@@ -8,7 +8,15 @@ with reading.
 
 Usage: bench/batches.py [PARTS]   (40; the large view grows by 2,000 messages in each)
 """
-import fcntl, os, pathlib, statistics, struct, subprocess, sys, termios, time
+import fcntl
+import os
+import pathlib
+import statistics
+import struct
+import subprocess
+import sys
+import termios
+import time
 sys.path.insert(0, str(pathlib.Path(__file__).resolve().parents[1]))
 from bench.generate import messages
 from tests import harness

@@ -6,7 +6,11 @@ are taken and afterwards. Of each it prints the least median of the runs, since 
 
 Usage: bench/desks.py [MESSAGES [RUNS]]   (20000, 5)
 """
-import collections, pathlib, statistics, subprocess, sys
+import collections
+import pathlib
+import statistics
+import subprocess
+import sys
 sys.path.insert(0, str(pathlib.Path(__file__).resolve().parents[1]))
 from tests import harness
 

@@ -7,7 +7,18 @@
 
 With 0 messages, or a journal of 0, that part is left out. The program is that of the gate, or the one that SCT_SITES names.
 """
-import argparse, contextlib, http.client, itertools, multiprocessing, os, pathlib, statistics, sys, tempfile, threading, time
+import argparse
+import contextlib
+import http.client
+import itertools
+import multiprocessing
+import os
+import pathlib
+import statistics
+import sys
+import tempfile
+import threading
+import time
 sys.path.insert(0, str(pathlib.Path(__file__).resolve().parents[1]))
 from bench.generate import messages
 from tests import harness, inputs

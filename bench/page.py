@@ -4,9 +4,12 @@ A line for each of the two has the seconds until the page shows the answer, the 
 began, the most memory that the process of the page had, and the memory of the module after it read the file. The last line has the sums
 of the texts, to be compared with the program's or with another page's.
 """
-import hashlib, pathlib, sys, time
+import pathlib
+import sys
+import time
 sys.path.insert(0, str(pathlib.Path(__file__).resolve().parents[1]))
-from tests.page import chromium, driving
+from tests import chromium
+from tests.page import driving
 
 TICKS = 100  # of a second of the processor, as /proc counts
 LONG = 3600

@@ -6,7 +6,9 @@ each step in seconds, and divides that of the recalls of many by that of the rec
 
 Usage: bench/recalls.py [RECALLS [TRANSACTIONS]]   (10000, 100; these need some 4 GB of memory)
 """
-import pathlib, sys, tempfile
+import pathlib
+import sys
+import tempfile
 sys.path.insert(0, str(pathlib.Path(__file__).resolve().parents[1]))
 from bench.batches import Trial, batches
 from bench.generate import recalls

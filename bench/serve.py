@@ -8,7 +8,16 @@
 
 The folder is on the disk that is measured (default: the current one). With --large 0 the opening is left out.
 """
-import argparse, json, os, pathlib, sqlite3, statistics, sys, tempfile, threading, time
+import argparse
+import json
+import os
+import pathlib
+import sqlite3
+import statistics
+import sys
+import tempfile
+import threading
+import time
 sys.path.insert(0, str(pathlib.Path(__file__).resolve().parents[1]))
 from bench.generate import messages
 from tests import harness

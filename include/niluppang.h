@@ -80,10 +80,10 @@ extern "C" {
 /* The version of this header. SCT_VERSION_NUMBER is written as sct_version() returns the version of the library that runs: 1000000 for
  * each major, 1000 for each minor, 1 for each patch version. The library fits the header if all but the last three digits are equal. */
 #define SCT_VERSION_MAJOR 0
-#define SCT_VERSION_MINOR 2
+#define SCT_VERSION_MINOR 3
 #define SCT_VERSION_PATCH 0
 #define SCT_VERSION_NUMBER (1000000 * SCT_VERSION_MAJOR + 1000 * SCT_VERSION_MINOR + SCT_VERSION_PATCH)
-#define SCT_VERSION "0.2.0"
+#define SCT_VERSION "0.3.0"
 
 uint32_t sct_version(void);
 
@@ -289,6 +289,17 @@ SCT_CALL SCT_READ sct_outcome sct_site_contradictions_text(sct_site *site);
 SCT_CALL SCT_READ sct_outcome sct_site_report(sct_site *site, const uint8_t *bank, size_t bank_length, const uint8_t *day,
                                               size_t day_length, const uint8_t *list, size_t list_length);
 
+/* The answer becomes the archive text of what is kept on a day, YYYY-MM-DD: each message on a transfer that is not done before the
+ * day, and all that have an identity or a transfer in common with one that is kept. A transfer is done before a day if its status
+ * is final, each of its recalls was answered, and each message on it was created before the day.
+ * Refusals: 65, 70, 73 (1: the day). */
+SCT_CALL SCT_READ sct_outcome sct_site_kept_text(sct_site *site, const uint8_t *day, size_t day_length);
+
+/* The answer becomes the archive text of what is closed on a day: the messages held that are not kept. No line of a transfer in
+ * the status text of either part differs from that of the whole.
+ * Refusals: 65, 70, 73 (1: the day). */
+SCT_CALL SCT_READ sct_outcome sct_site_closed_text(sct_site *site, const uint8_t *day, size_t day_length);
+
 /* ---- answers on one transfer or bank: their cost does not grow with what is held ----
  *
  * The first question after messages came evaluates what is new, and the first one after a restore evaluates everything. */
@@ -376,6 +387,8 @@ sct_outcome sct_raw_totals_text(sct_site *site);
 sct_outcome sct_raw_contradictions_text(sct_site *site);
 sct_outcome sct_raw_report(sct_site *site, const uint8_t *bank, size_t bank_length, const uint8_t *day, size_t day_length,
                            const uint8_t *list, size_t list_length);
+sct_outcome sct_raw_kept_text(sct_site *site, const uint8_t *day, size_t day_length);
+sct_outcome sct_raw_closed_text(sct_site *site, const uint8_t *day, size_t day_length);
 sct_outcome sct_raw_transfer_text(sct_site *site, const uint8_t *bank, size_t bank_length, const uint8_t *tx, size_t tx_length);
 sct_outcome sct_raw_messages_text(sct_site *site, const uint8_t *bank, size_t bank_length, const uint8_t *tx, size_t tx_length);
 sct_outcome sct_raw_bank_totals(sct_site *site, const uint8_t *bank, size_t bank_length);
@@ -480,6 +493,14 @@ static inline sct_outcome sct_site_report(sct_site *site, const uint8_t *bank, s
                           (const uint8_t *)sct_private_at(list, list_length), list_length);
 }
 
+static inline sct_outcome sct_site_kept_text(sct_site *site, const uint8_t *day, size_t day_length) {
+    return sct_raw_kept_text(site, (const uint8_t *)sct_private_at(day, day_length), day_length);
+}
+
+static inline sct_outcome sct_site_closed_text(sct_site *site, const uint8_t *day, size_t day_length) {
+    return sct_raw_closed_text(site, (const uint8_t *)sct_private_at(day, day_length), day_length);
+}
+
 static inline sct_outcome sct_site_transfer_text(sct_site *site, const uint8_t *bank, size_t bank_length, const uint8_t *tx,
                                                  size_t tx_length) {
     return sct_raw_transfer_text(site, (const uint8_t *)sct_private_at(bank, bank_length), bank_length,
@@ -577,6 +598,8 @@ class site {
     SCT_READ sct_outcome report(const std::string &bank, const std::string &day, const std::string &list) {
         return sct_site_report(&handle_, at(bank), bank.size(), at(day), day.size(), at(list), list.size());
     }
+    SCT_READ sct_outcome kept_text(const std::string &day) { return sct_site_kept_text(&handle_, at(day), day.size()); }
+    SCT_READ sct_outcome closed_text(const std::string &day) { return sct_site_closed_text(&handle_, at(day), day.size()); }
     SCT_READ sct_outcome transfer_text(const std::string &bank, const std::string &tx) {
         return sct_site_transfer_text(&handle_, at(bank), bank.size(), at(tx), tx.size());
     }

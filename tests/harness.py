@@ -5,55 +5,88 @@ The variables SCT_SITES and SCT_TEST_DRIVER may name other programs. Checks of w
 definitions where the program is not there, and a line says so. A run may be limited: in processors, in memory, in the bytes that
 it writes to a file, and in seconds. One of its allocations may be refused.
 """
-import collections, os, pathlib, resource, shutil, struct, subprocess, sys, tempfile
+from __future__ import annotations
+import os
+import pathlib
+import resource
+import shutil
+import struct
+import subprocess
+import sys
+import tempfile
+from typing import Any, Callable, NamedTuple, NoReturn, Sequence
 from concurrent.futures import ThreadPoolExecutor
 
 TOP = pathlib.Path(__file__).resolve().parents[1]
 CRATES = TOP / "crates"
 EXAMPLES = TOP / "examples"
+DATA = TOP / "tests" / "data"  # inputs with their answers that checks alone read
 SERVICES = TOP / "services"
+DESK = TOP / "tools" / "desk"
 STAND_IN = TOP / "tests" / "standin" / "sct_sites"
 PROCESSORS = [1, 2, 4, 8]
 COUNTS = struct.Struct("@LLLLL")
 SECONDS = 20  # a run with an allocation refused that lasts longer is stopped, and has failed
 LONGEST = 900  # seconds after which any run is stopped
 
+
 # what a process wrote to standard output and to standard error, and the status that it ended with
-Answer = collections.namedtuple("Answer", "text errors status")
+class Answer(NamedTuple):
+    text: bytes
+    errors: bytes
+    status: int | str
+
+
 OUT_OF_MEMORY = Answer(b"", b"fault 65\n", 3)
 NO_WORKER = Answer(b"", b"fault 67\n", 2)
 
+
 # what is run, in which folder and on which input, and what the program must write and end with
-Case = collections.namedtuple("Case", "name words input text refused status folder", defaults=[EXAMPLES])
+class Case(NamedTuple):
+    name: str
+    words: list[str]
+    input: bytes
+    text: bytes
+    refused: bytes
+    status: int
+    folder: pathlib.Path = EXAMPLES
+
 
 # a run with the allocation of one number refused: its answer, how many allocations came, from how many threads, and their bytes, how
 # many came before the first thread was to start, and how many were refused to the start of a thread
-Refusing = collections.namedtuple("Refusing", "number answer allocations threads bytes before_threads of_starts")
+class Refusing(NamedTuple):
+    number: int
+    answer: Answer
+    allocations: int
+    threads: int
+    bytes: int
+    before_threads: int
+    of_starts: int
 
 
 # ---- programs and files
 
-def stop(why):
+def stop(why: str) -> NoReturn:
     """Ends the check that was started, with one line that names it."""
     sys.exit(f"{pathlib.Path(sys.argv[0]).stem}: {why}")
 
 
-def there(path, what, how):
+def there(path: str | pathlib.Path, what: str, how: str) -> Any:
     """The whole path of a file, which must be there."""
     if not os.path.isfile(path):
         stop(f"there is no {what} {path}; {how} makes it")
     return os.path.abspath(path)
 
 
-def program(crate="sct_sites"):
+def program(crate: str = "sct_sites") -> Any:
     """The program of a crate: the one that a variable names, else the one that `rt run` and the gate leave."""
     path = os.environ.get(crate.upper()) or CRATES / crate / "out" / crate
     return there(path, "program", f"`rt run` in crates/{crate}")
 
 
-def program_or_stand_in():
+def program_or_stand_in() -> str:
     """The program, or its stand-in of the definitions where nobody named one and none is built. A line says which it is."""
-    path = os.environ.get("SCT_SITES") or CRATES / "sct_sites" / "out" / "sct_sites"
+    path = str(os.environ.get("SCT_SITES") or CRATES / "sct_sites" / "out" / "sct_sites")
     if os.environ.get("SCT_SITES") or os.path.isfile(path):
         path = program()
         print(f"program: {path}", flush=True)
@@ -62,12 +95,12 @@ def program_or_stand_in():
     return str(STAND_IN)
 
 
-def crate_tests(crate):
+def crate_tests(crate: Any) -> Any:
     """The tests of a crate, as `rt test` and the gate leave them."""
     return there(CRATES / crate / "out" / f"{crate}_tests", "tests", f"`rt test` in crates/{crate}")
 
 
-def command(name):
+def command(name: str) -> str:
     """The path of a command of this machine."""
     path = shutil.which(name)
     if path is None:
@@ -77,12 +110,12 @@ def command(name):
 
 # ---- a run and its answer
 
-def limits(processors, memory, room):
+def limits(processors: Any, memory: int | None, room: int | None) -> Callable[..., Any] | None:
     """What limits a process before its program begins, or None if nothing does."""
     if processors is memory is room is None:
         return None
 
-    def limit():
+    def limit() -> None:
         if processors is not None:
             os.sched_setaffinity(0, sorted(os.sched_getaffinity(0))[:processors])
         if memory is not None:
@@ -92,13 +125,14 @@ def limits(processors, memory, room):
     return limit
 
 
-def run(words, data=None, processors=None, memory=None, room=None, seconds=LONGEST, **more):
+def run(words: Sequence[str | pathlib.Path], data: bytes | None = None, processors: Any = None, memory: int | None = None, room: int | None = None,
+        seconds: int = LONGEST, **more: Any) -> Answer:
     """The answer of a process to an input.
 
     It runs on so many processors, or on all if there are fewer. It may map so many bytes of memory to write in, its threads' stacks
     included, and write so many bytes to a file. A process that goes on for longer than these seconds is stopped.
     """
-    streams = {"stdout": subprocess.PIPE, "stderr": subprocess.PIPE, **more}
+    streams: dict[str, Any] = {"stdout": subprocess.PIPE, "stderr": subprocess.PIPE, **more}
     try:
         # if room is limited, the signal for a full file stays ignored, so that the write fails
         done = subprocess.run(words, input=data, preexec_fn=limits(processors, memory, room), restore_signals=room is None,
@@ -108,7 +142,7 @@ def run(words, data=None, processors=None, memory=None, room=None, seconds=LONGE
     return Answer(done.stdout, done.stderr, done.returncode)
 
 
-def spent(words, data=None, **streams):
+def spent(words: Sequence[str | pathlib.Path], data: Any = None, **streams: Any) -> Any:
     """The seconds of the processor that a process takes, in all its threads, and the status that it ends with."""
     before = resource.getrusage(resource.RUSAGE_CHILDREN)
     status = run(words, data, **{"stdout": subprocess.DEVNULL, "stderr": subprocess.DEVNULL, **streams}).status
@@ -118,7 +152,7 @@ def spent(words, data=None, **streams):
 
 # ---- runs with one allocation refused
 
-def refuser(folder):
+def refuser(folder: Any) -> Any:
     """The library that refuses one allocation, made in a folder. It is preloaded."""
     path = pathlib.Path(folder, "refuse_nth.so")
     source = TOP / "tests" / "faults" / "refuse_nth.c"
@@ -126,7 +160,7 @@ def refuser(folder):
     return str(path)
 
 
-def run_refusing(number, library, words, data, also=0):
+def run_refusing(number: Any, library: Any, words: Any, data: Any, also: int = 0) -> Any:
     """A run in which the allocation with this number is refused, and one more. With 0 none is.
 
     The input is a file: a pipe gives pieces that differ from run to run, and so do then the allocations.
@@ -140,10 +174,11 @@ def run_refusing(number, library, words, data, also=0):
         return Refusing(number, answer, *COUNTS.unpack(counts.read()))
 
 
-def each_refused(library, words, data, also=0):
+def each_refused(library: Any, words: Any, data: Any, also: int = 0) -> Any:
     """A run with no allocation refused, and one with each number up to the greatest count of allocations. In each run one more is
     refused, if it is named."""
-    runs, most = [], 0
+    runs: list[Refusing] = []
+    most = 0
     with ThreadPoolExecutor(len(os.sched_getaffinity(0))) as pool:
         while len(runs) <= most:
             runs += pool.map(lambda number: run_refusing(number, library, words, data, also), range(len(runs), most + 1))
@@ -151,19 +186,19 @@ def each_refused(library, words, data, also=0):
     return runs
 
 
-def is_refused(run):
+def is_refused(run: Any) -> bool:
     """Whether the allocation came that was to be refused."""
     return 0 < run.number <= run.allocations
 
 
 # ---- the comparison
 
-def case(name, words, data, text, refused):
+def case(name: Any, words: Any, data: Any, text: Any, refused: Any) -> Any:
     """A case that ends with status 1 if a line is refused, else with 0."""
     return Case(name, words, data, text, refused, 1 if refused else 0)
 
 
-def reported(name, right, written=""):
+def reported(name: str, right: bool, written: str = "") -> bool:
     """Whether something is right, which is printed. If it is not, what was written is printed too."""
     print(f"{name}: {'ok' if right else 'DIFFERS'}", flush=True)
     if not right and written:
@@ -171,36 +206,36 @@ def reported(name, right, written=""):
     return right
 
 
-def answers(program, one, processors):
+def answers(program: Any, one: Any, processors: Any) -> bool:
     """Whether a program answers a case as it must, on so many processors."""
     return run([program, *one.words], one.input, processors, cwd=one.folder) == (one.text, one.refused, one.status)
 
 
-def fits(program, one, processors=PROCESSORS[-1], times=1):
+def fits(program: Any, one: Any, processors: Any = PROCESSORS[-1], times: int = 1) -> Any:
     """Whether a program answers a case as it must, so many times in a row."""
     again = f", {times} times" if times > 1 else ""
     right = all(answers(program, one, processors) for _ in range(times))
     return reported(f"{one.name}, on {processors} processors{again}", right)
 
 
-def all_fit(program, ones):
+def all_fit(program: Any, ones: Any) -> Any:
     """Whether a program answers each of some cases of one name as it must."""
     return reported(f"{ones[0].name}, in {len(ones)} ways", all(answers(program, one, PROCESSORS[-1]) for one in ones))
 
 
 # ---- the last line
 
-def end(passed, failed):
+def end(passed: int, failed: int) -> None:
     """Prints how many passed and how many failed, and ends the check. The exit status is 0 if none has failed."""
     print(f"{passed} passed, {failed} failed")
     sys.exit(1 if failed else 0)
 
 
-def end_with(numbers):
+def end_with(numbers: list[tuple[int, int]]) -> None:
     """Ends the check with several pairs of how many passed and how many failed."""
     end(*map(sum, zip(*numbers)))
 
 
-def end_of(right):
+def end_of(right: list[bool]) -> None:
     """Ends the check with a list of whether each thing is right."""
     end(sum(right), len(right) - sum(right))

@@ -15,7 +15,18 @@ A line that begins with 'program' says on what a check of the hub, of parts or o
 a stand-in of the definitions. These checks never begin a proof. A check that runs for 25 minutes is stopped, and has failed. The first line
 says when the checks begin, and when the first and the last library below crates/ was made.
 """
-import argparse, contextlib, os, pathlib, re, shutil, signal, subprocess, sys, time
+from __future__ import annotations
+import argparse
+import contextlib
+import os
+import pathlib
+import re
+import shutil
+import signal
+import subprocess
+import sys
+import time
+from typing import Any, Iterator
 from concurrent.futures import ThreadPoolExecutor
 if sys.version_info < (3, 8):
     sys.exit("run: this needs Python 3.8 or later")
@@ -27,9 +38,13 @@ from tools import page
 CHECKS = {
     "documents": {
         "names": "compares the names in documents with the code",
+        "meanings": "looks for public names of definitions that have two meanings",
         "page_examples": "runs the program on the examples of model.md and formats.md, and looks up the code of sites.md",
         "codes": "compares the numbers of codes.md with the code and its lines with the examples, and makes the manual page",
         "words": "looks for words that plain pages do not use",
+        "numbers": "compares the numbers that pages quote with those of costs.md",
+        "schema": "compares the JSON Schema of messages with the program on the examples, the cases and changed messages",
+        "linters": "runs flake8, mypy and shellcheck on the programs and scripts around the program",
         "interface": "compares VERSION, the C header, the Python package and the exports of the library",
     },
     "golden": {
@@ -81,9 +96,9 @@ CHECKS = {
         "peers": "gives sites peers that are odd, slow, or an hour ahead",
         "clients": "tries the client of a hub and hubctl at odd sites and at one, and the OpenAPI text",
         "operators": "does what an operator does with journals, and retires a number while others go on",
+        "rolls": "rolls a group of three sites to a new one, while clients post and sites are killed",
         "mirrors": "compares a mirror in SQLite with the texts, while it and its site are killed",
         "page": "uses the page of a site in a browser",
-        "java": "runs the Java package on the examples",
     },
     "times": {
         "growing_times": "times the program on a transfer, a script, a run and refused lines of four times the size, and on a long line",
@@ -91,6 +106,7 @@ CHECKS = {
     },
     "property": {
         "made_up": "compares made-up sets, worlds and groups with the definitions",
+        "kept": "compares what is kept and what is closed of made-up sets with the definitions",
         "hubs": "compares made-up hubs of sites that exchange files with the definitions",
         "serve_streams": "compares made-up streams of requests to a site that lasts with the definitions",
     },
@@ -102,6 +118,7 @@ CHECKS = {
         "c_calls": "compares made-up calls from C with the definitions, under the address sanitizer and valgrind",
         "c_threads": "runs threads with a site each",
         "c_examples": "builds and runs the examples in C and Rust",
+        "java": "runs the Java package on the examples",
         "python_package": "runs the tests of the Python package, judges its types and installs it",
         "release": "unpacks the release and builds the C example on it",
         "packages": "installs the Debian packages, runs a hub of them, and removes them",
@@ -116,7 +133,7 @@ CHECKS = {
 PACKAGES = {name: ["gcc"] for name in ["archive_growths", "view_growths", "desk_growths", "desk_pending", "forms", "allocations",
                                        "group_memory", "serve_allocations", "serve_lives"]}
 PACKAGES.update({name: ["gcc"] for name in CHECKS["embed"]})
-PACKAGES.update({name: ["python3-aiohttp"] for name in ["troubles", "journals", "limits", "peers", "operators", "mirrors"]})
+PACKAGES.update({name: ["python3-aiohttp"] for name in ["troubles", "journals", "limits", "peers", "operators", "rolls", "mirrors"]})
 PACKAGES["release"], PACKAGES["senders"], PACKAGES["clients"] = ["gcc", "python3-aiohttp"], ["gcc"], ["python3-aiohttp", "openssl"]
 PACKAGES.update({name: ["python3-aiohttp", "gcc", "openssl"] for name in ["kills", "attackers"]})
 PACKAGES["packages"] = ["gcc", "python3-aiohttp", "lintian", "systemd", "adduser", "nginx-light", "libnginx-mod-stream", "prometheus", "openssl",
@@ -125,6 +142,7 @@ PACKAGES["first_steps"] = ["python3-aiohttp", "gcc", "openssl", "curl"]
 PACKAGES["java"] = ["libjna-java", "openjdk-17-jdk-headless", "gcc"]
 PACKAGES["page"] = ["python3-aiohttp", "chromium"]
 PACKAGES["parts"] = ["python3-dask", "python3-distributed", "python3-cryptography", "openssl"]
+PACKAGES["schema"], PACKAGES["linters"] = ["python3-jsonschema"], ["flake8", "mypy", "shellcheck", "python3-aiohttp"]
 PACKAGES["browser"], PACKAGES["shipped"], PACKAGES["worker"] = ["chromium"], ["gcc"], ["nodejs"]
 # what makes what a check needs, if it can in some minutes: it returns why it cannot
 MAKES = {"browser": page.make, "shipped": page.make}
@@ -139,7 +157,7 @@ SEEDED = ["c_calls", "serve_lives", "serve_hub"]  # checks that make up cases as
 VARIABLES = ["SCT_SITES", "SCT_TEST_DRIVER", "SCT_C", "NILUPPANG_LIBRARY"]
 
 
-def options():
+def options() -> argparse.Namespace:
     """What the command line asks for."""
     parser = argparse.ArgumentParser(description=__doc__, formatter_class=argparse.RawDescriptionHelpFormatter)
     cases.add_options(parser)
@@ -149,7 +167,7 @@ def options():
     return parser.parse_intermixed_args()
 
 
-def chosen_by(words):
+def chosen_by(words: list[str]) -> Iterator[tuple[str, str, str]]:
     """The checks that the words name, each with its kind and with what it does. Without a word these are all checks."""
     known = {word for kind, checks in CHECKS.items() for word in (kind, *checks)}
     if not known.issuperset(words):
@@ -160,28 +178,31 @@ def chosen_by(words):
                 yield name, kind, does
 
 
-def lacking(packages):
+def lacking(packages: list[str]) -> list[Any]:
     """Those of some packages that the machine lacks. None if it has no Debian packages."""
     if shutil.which("dpkg-query") is None:
         return []
-    status = lambda package: harness.run(["dpkg-query", "--show", "--showformat=${Status}", package]).text
+
+    def status(package: str) -> bytes:
+        return harness.run(["dpkg-query", "--show", "--showformat=${Status}", package]).text
+
     return [package for package in packages if status(package) != b"install ok installed"]
 
 
-def install(packages):
+def install(packages: Any) -> None:
     """Installs packages of Debian."""
     for words in ["update"], ["install", "--yes", "--no-install-recommends", *packages]:
         if subprocess.run(["apt-get", *words]).returncode:
             harness.stop(f"apt-get {' '.join(words)} failed")
 
 
-def end_all(group):
+def end_all(group: int) -> None:
     """Ends a check and all that it started."""
     with contextlib.suppress(ProcessLookupError):
         os.killpg(group, signal.SIGKILL)
 
 
-def ran(module, words):
+def ran(module: str, words: list[Any]) -> tuple[int, int, list[str], float]:
     """How much of a check passed, how much failed, the lines that it printed, with how it ended, and its seconds."""
     began = time.monotonic()
     paths = {name: os.path.abspath(os.environ[name]) for name in VARIABLES if os.environ.get(name)}
@@ -194,26 +215,26 @@ def ran(module, words):
             text, status = process.communicate()[0], f"none in {SECONDS} seconds"
         finally:
             end_all(process.pid)
-    text = text.decode(errors="replace")
-    numbers = re.search(r"^(\d+) passed, (\d+) failed\n\Z", text, re.M)
+    lines = text.decode(errors="replace")
+    numbers = re.search(r"^(\d+) passed, (\d+) failed\n\Z", lines, re.M)
     passed, failed = map(int, numbers.groups()) if numbers else (0, 0)
     if status or not numbers:
         failed = max(failed, 1)
-    return passed, failed, text.splitlines() + [f"ended with status {status}"], time.monotonic() - began
+    return passed, failed, lines.splitlines() + [f"ended with status {status}"], time.monotonic() - began
 
 
-def skipped(why, is_failed):
+def skipped(why: Any, is_failed: Any) -> Any:
     """Prints why a check is skipped. What it comes to is a failure if nothing may be skipped."""
     print(f"{SKIPPED}{why}", flush=True)
     return 0, int(is_failed)
 
 
-def words_of(name, kind, made_up):
+def words_of(name: str, kind: str, made_up: cases.Cases) -> list[Any]:
     """The words that a check is given."""
     return made_up.words() if kind == "property" or name in SEEDED else []
 
 
-def checked(name, kind, does, made_up, no_skips, running):
+def checked(name: str, kind: str, does: str, made_up: cases.Cases, no_skips: bool, running: dict[Any, Any]) -> tuple[int, int]:
     """How much of a check passed and how much failed, which is printed too. It may be running already."""
     words = words_of(name, kind, made_up)
     print(f"{name} {does}" + (f", with {' '.join(words)}: " if words else ": "), end="", flush=True)
@@ -233,19 +254,19 @@ def checked(name, kind, does, made_up, no_skips, running):
     return passed, failed
 
 
-def at(seconds):
+def at(seconds: float) -> str:
     """A moment, as a line has it."""
     return time.strftime("%H:%M:%S", time.gmtime(seconds))
 
 
-def begins(count):
+def begins(count: int) -> str:
     """The line that says when the checks begin, and when the proofs before them were made."""
     made = sorted(path.stat().st_mtime for path in harness.TOP.glob("crates/*/out/rlib/*.rlib"))
     before = f", after libraries made from {at(made[0])} to {at(made[-1])}" if made else ""
     return f"{count} checks begin at {at(time.time())} UTC{before}"
 
 
-def main():
+def main() -> None:
     asked = options()
     chosen = list(chosen_by(asked.words))
     print(begins(len(chosen)), flush=True)

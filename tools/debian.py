@@ -4,7 +4,18 @@ A package has files of the archive at the places that Debian has for them, byte 
 that was proved. It is written here: an archive of `ar`, with two of `tar` in it. So no command of Debian is needed, and no root: owners,
 modes and times are written here, whoever runs it. dpkg-deb would take them from a folder, and its compression differs by version.
 """
-import collections, datetime, email.utils, gzip, hashlib, io, pathlib, re, subprocess, tarfile, tempfile
+from __future__ import annotations
+import datetime
+import email.utils
+import gzip
+import hashlib
+import io
+import pathlib
+import re
+import subprocess
+import tarfile
+import tempfile
+from typing import Any, Iterator, NamedTuple
 from tools.library import SONAME, VERSION, Missing, pkg_config
 
 REVISION = VERSION + "-1"
@@ -31,10 +42,21 @@ OWNERS = {**dict.fromkeys(["libc.so.6", "libm.so.6", "libpthread.so.0", "libdl.s
                           "libc6 (>= {})"), "libgcc_s.so.1": "libgcc-s1"}
 PKG_CONFIG = pkg_config("/usr", "lib/x86_64-linux-gnu")
 
+
 # a file of a package: its bytes and its mode, or where it leads to if it is a link; a folder has neither bytes nor a link
-Entry = collections.namedtuple("Entry", "data mode link", defaults=[0o644, None])
+class Entry(NamedTuple):
+    data: bytes | None
+    mode: int = 0o644
+    link: str | None = None
+
+
 # a package: its fields in their order, the texts of its control files by name, and the tags of lintian that it overrides, each with why
-Package = collections.namedtuple("Package", "fields files control overrides", defaults=[{}, {}])
+class Package(NamedTuple):
+    fields: dict[str, str]
+    files: dict[str, Entry]
+    control: dict[str, str] = {}
+    overrides: dict[str, str] = {}
+
 
 # tags of lintian that say what is meant so
 OVERRIDES = {"bogus-mail-host": "the maintainers have no public address yet", "bogus-mail-host-in-debian-changelog": "the same",
@@ -49,7 +71,8 @@ ABOUT = {
 The command sct_sites reads messages about SEPA Instant Credit Transfers. It
 answers on all of them together: the status of each transfer and of each
 recall, what contradicts itself, and the totals of each bank. Sites on
-several machines exchange what they hold, and then answer alike.
+several machines exchange what they hold, and then answer alike. The command
+has the name niluppang, too.
 .
 Each function of the program is proved. The package also has the tools of a
 desk, a page for browsers, and all documents and examples."""),
@@ -131,7 +154,7 @@ exec /usr/bin/python3 /{path} "$@"
 """
 
 
-def control(name, architecture, **more):
+def control(name: str, architecture: str, **more: str) -> dict[str, str]:
     """The fields of a package in their order, without its size, which its files decide."""
     section, about, text = ABOUT[name]
     source = {} if name == "niluppang" else {"Source": "niluppang"}
@@ -142,7 +165,7 @@ def control(name, architecture, **more):
 
 # ---- what each package has
 
-def named_by(data):
+def named_by(data: Any) -> Any:
     """The libraries that a program or a library names, and the versions of the GNU C library that its symbols have."""
     with tempfile.NamedTemporaryFile() as file:
         file.write(data)
@@ -151,7 +174,7 @@ def named_by(data):
     return set(re.findall(r"^  NEEDED +(\S+)$", text, re.M)), set(re.findall(r" GLIBC_(\S+)$", text, re.M))
 
 
-def needs(data):
+def needs(data: bytes) -> list[Any]:
     """The packages that a program or a library needs, by the libraries that it names. A script names none."""
     if not data.startswith(b"\x7fELF"):
         return []
@@ -162,12 +185,12 @@ def needs(data):
     return sorted({OWNERS[library].format(".".join(map(str, newest))) for library in named})
 
 
-def below(found, folder):
+def below(found: dict[str, bytes], folder: str) -> dict[str, bytes]:
     """The files of the archive below a folder, each by its path there."""
     return {path[len(folder):]: data for path, data in found.items() if path.startswith(folder)}
 
 
-def packed(data, time=0):
+def packed(data: bytes, time: int = 0) -> bytes:
     """What gzip makes of bytes, without a name."""
     file = io.BytesIO()
     with gzip.GzipFile("", "wb", 9, file, mtime=time) as it:
@@ -175,49 +198,49 @@ def packed(data, time=0):
     return file.getvalue()
 
 
-def entry(path, data):
+def entry(path: str, data: bytes) -> Entry:
     """A file of the archive. A script is run by its name."""
     return Entry(data, 0o755 if path.endswith(".sh") else 0o644)
 
 
-def desk_tools(found):
+def desk_tools(found: dict[str, bytes]) -> dict[str, Entry]:
     """The tools of the desk, and the page of codes, which one of them reads."""
-    tools = {name: data for name, data in below(found, DOCUMENTS + "examples/desk/").items() if re.fullmatch(r"\w+\.(py|sql|sh)", name)}
-    tools["codes.md"] = found[DOCUMENTS + "docs/users/codes.md"]
-    return {DESK + name: entry(name, data) for name, data in tools.items()}
+    return {DESK + name: entry(name, data) for name, data in below(found, "share/niluppang/desk/").items()}
 
 
-def program(found):
+def program(found: dict[str, bytes]) -> Package:
     data = found["bin/sct_sites"]
-    files = {"usr/bin/sct_sites": Entry(data, 0o755), MANUAL + "sct_sites.1.gz": Entry(packed(found["share/man/man1/sct_sites.1"])),
+    files = {"usr/bin/sct_sites": Entry(data, 0o755), "usr/bin/niluppang": Entry(None, 0o777, "sct_sites"),
+             MANUAL + "sct_sites.1.gz": Entry(packed(found["share/man/man1/sct_sites.1"])),
+             MANUAL + "niluppang.1.gz": Entry(None, 0o777, "sct_sites.1.gz"),
              "usr/share/niluppang/niluppang.html": Entry(found["share/niluppang/niluppang.html"]), **desk_tools(found),
              **{DOC + "niluppang/" + path: entry(path, page) for path, page in below(found, DOCUMENTS).items()}}
     fields = control("niluppang", "amd64", Depends=", ".join(needs(data)), Recommends="python3 (>= 3.8)")
     return Package(fields, files, {"prerm": PRERM.format(folder=DESK)}, STRIPPED)
 
 
-def shared_library(found):
+def shared_library(found: dict[str, bytes]) -> Package:
     data = found["lib/" + SONAME]
     fields = control(LIBRARY, "amd64", Multi_Arch="same", Depends=", ".join(needs(data)))
     scripts = {"shlibs": f"libniluppang {SHORT} {LIBRARY} (>= {VERSION})\n", "triggers": "activate-noawait ldconfig\n"}
     return Package(fields, {LIBRARIES + SONAME: Entry(data)}, scripts, STRIPPED)
 
 
-def development(found):
+def development(found: dict[str, bytes]) -> Package:
     header, archive, link = Entry(found["include/niluppang.h"]), Entry(found["lib/libniluppang.a"]), Entry(None, 0o777, SONAME)
     files = {"usr/include/niluppang.h": header, LIBRARIES + "libniluppang.a": archive, LIBRARIES + "libniluppang.so": link,
              LIBRARIES + "pkgconfig/niluppang.pc": Entry(PKG_CONFIG.encode())}
     return Package(control("libniluppang-dev", "amd64", Multi_Arch="same", Depends=f"{LIBRARY} (= {REVISION}), libc6-dev"), files)
 
 
-def python(found):
+def python(found: dict[str, bytes]) -> Package:
     name, folder = "python3-niluppang", MODULES + "niluppang/"
     files = {folder + path: Entry(data) for path, data in below(found, "share/niluppang/python/niluppang/").items()}
     fields = control(name, "all", Depends=f"{LIBRARY} (>= {VERSION}), python3 (>= 3.8)")
     return Package(fields, files, {"postinst": PYTHON_POSTINST, "prerm": PRERM.format(folder=folder)})
 
 
-def placed(its):
+def placed(its: dict[str, bytes]) -> dict[str, Entry]:
     """The files of services/hub that have a place of their own: commands, the unit, the manual page."""
     lacking = [path for path in (UNIT, PAGE, *COMMANDS.values()) if path not in its]
     if lacking:
@@ -227,7 +250,7 @@ def placed(its):
             MANUAL + "hubctl.1.gz": Entry(None, 0o777, "niluppang-hub.1.gz"), "etc/niluppang": Entry(None, 0o750)}
 
 
-def hub(found):
+def hub(found: dict[str, bytes]) -> Package:
     its = below(found, SERVICE)
     files = placed(its)
     for path in set(its) - {UNIT, PAGE}:
@@ -238,7 +261,7 @@ def hub(found):
     return Package(fields, files, {"postinst": HUB_POSTINST, "prerm": HUB_PRERM, "postrm": HUB_POSTRM}, OF_HUB)
 
 
-def packages(found, time):
+def packages(found: dict[str, bytes], time: int) -> Iterator[Package]:
     """Each package, with the files that all of them have: the copyright, what changed, and the tags of lintian that are meant so."""
     copyright = COPYRIGHT.format(year=datetime.datetime.fromtimestamp(time, datetime.timezone.utc).year)
     news = NEWS.format(date=email.utils.formatdate(time))
@@ -253,13 +276,13 @@ def packages(found, time):
 
 # ---- the form of a package
 
-def with_folders(files):
+def with_folders(files: dict[str, Entry]) -> dict[str, Entry]:
     """Files with the folders that they are in, by path."""
     folders = {str(folder) for path in files for folder in pathlib.PurePosixPath(path).parents}
     return {**{path: Entry(None, 0o755) for path in folders}, **files}
 
 
-def tarred(files, time):
+def tarred(files: dict[str, Entry], time: int) -> bytes:
     """An archive of tar of some files, packed. All are root's, and have one time."""
     file = io.BytesIO()
     with tarfile.open(fileobj=file, mode="w", format=tarfile.GNU_FORMAT) as tar:
@@ -272,7 +295,7 @@ def tarred(files, time):
     return packed(file.getvalue(), time)
 
 
-def arred(members, time):
+def arred(members: dict[str, bytes], time: int) -> bytes:
     """An archive of ar. Each member begins at an even place."""
     parts = [b"!<arch>\n"]
     for name, data in members.items():
@@ -280,12 +303,12 @@ def arred(members, time):
     return b"".join(parts)
 
 
-def size_of(files):
+def size_of(files: dict[str, Entry]) -> int:
     """KiB on a disk, as Debian counts them: each file by itself, and one for each folder and each link."""
     return sum(-(-len(it.data) // 1024) if it.data is not None else 1 for it in with_folders(files).values())
 
 
-def control_files(it):
+def control_files(it: Package) -> dict[str, Entry]:
     """The control files of a package, by path. Those that run have the mode of a program."""
     fields = {"Installed-Size": str(size_of(it.files)), **it.fields}
     order = [*it.fields][:-1] + ["Installed-Size", "Description"]
@@ -295,12 +318,12 @@ def control_files(it):
     return {**files, **{name: Entry(text.encode(), 0o755 if text.startswith("#!") else 0o644) for name, text in it.control.items()}}
 
 
-def written(it, time):
+def written(it: Package, time: int) -> bytes:
     """The bytes of a package."""
     members = {"debian-binary": b"2.0\n", "control.tar.gz": tarred(control_files(it), time), "data.tar.gz": tarred(it.files, time)}
     return arred(members, time)
 
 
-def made(found, time):
+def made(found: dict[str, bytes], time: int) -> dict[str, bytes]:
     """The bytes of each package by the name of its file, of the files of the archive."""
     return {f"{it.fields['Package']}_{REVISION}_{it.fields['Architecture']}.deb": written(it, time) for it in packages(found, time)}

@@ -7,12 +7,16 @@ The gate tries the files crates/NAME/must-fail/*.edit. The files *.md beside the
 their crate changes, since to try all of them takes an hour of processor time. The prover must refuse each. The libraries below a crate are
 proved first, if they are not kept (`rt must-fail`). The exit status is 0 if all are refused.
 """
-import pathlib, subprocess, sys
+from __future__ import annotations
+import pathlib
+import subprocess
+import sys
+from typing import Any
 
 TOP = pathlib.Path(__file__).resolve().parents[1]
 
 
-def tried(crate):
+def tried(crate: Any) -> Any:
     """The status with which the prover tries the edits of a crate that the gate leaves out. Meanwhile the others have another ending."""
     folder = TOP / "crates" / crate / "must-fail"
     names = [(path, path.with_suffix(".aside.md")) for path in folder.glob("*.edit")]
@@ -26,7 +30,7 @@ def tried(crate):
             other.rename(path)
 
 
-def main():
+def main() -> None:
     unknown = [crate for crate in sys.argv[1:] if not (TOP / "crates" / crate).is_dir()]
     if len(sys.argv) < 2 or unknown:
         sys.exit(__doc__ if len(sys.argv) < 2 else f"edits: there is no crate {' '.join(unknown)}")

@@ -7,14 +7,26 @@ keeps nothing, and leaves what it proved in the folders of the crates without th
 it is made of. What was not kept, `rt lib` proves. It proves the static library in each case. The page is made of the same static library, for
 WebAssembly (web/build).
 """
-import contextlib, hashlib, importlib.machinery, importlib.util, io, os, pathlib, shutil, subprocess, sys
+from __future__ import annotations
+import contextlib
+import hashlib
+import importlib.machinery
+import importlib.util
+import io
+import os
+import pathlib
+import shutil
+import subprocess
+import sys
+import types
+from typing import Any
 
 TOP = pathlib.Path(__file__).resolve().parents[1]
 CRATE = TOP / "crates" / "sct_c"
 BUILT = CRATE / "out" / "libsct_c.a"
 
 
-def lines_of(name):
+def lines_of(name: str) -> dict[str, str]:
     """The line of crates.txt of a crate, and of each crate below it, by name."""
     lines = {line.split()[0].rstrip(":"): line for line in (TOP / "crates.txt").read_text(encoding="utf-8").splitlines() if ":" in line}
     found, left = {}, [name]
@@ -26,7 +38,7 @@ def lines_of(name):
     return found
 
 
-def sources(name):
+def sources(name: str) -> str:
     """A sum of all that the static library of a crate is made of: the lines of crates.txt and the files of that crate and those below."""
     lines = lines_of(name)
     sums = hashlib.sha256(repr(sorted(lines.items())).encode())
@@ -36,16 +48,19 @@ def sources(name):
     return sums.hexdigest()
 
 
-def module_of(rt):
+def module_of(rt: str) -> types.ModuleType:
     """The command rt as a module, for its own names of what it kept."""
     sys.path.insert(0, str(pathlib.Path(rt).resolve().parent))
     loader = importlib.machinery.SourceFileLoader("rt", str(pathlib.Path(rt).resolve()))
-    module = importlib.util.module_from_spec(importlib.util.spec_from_loader("rt", loader))
+    spec = importlib.util.spec_from_loader("rt", loader)
+    if spec is None:
+        raise ImportError(f"{rt} is no module")
+    module = importlib.util.module_from_spec(spec)
     loader.exec_module(module)
     return module
 
 
-def take(module, kept, crate):
+def take(module: types.ModuleType, kept: Any, crate: Any) -> bool:
     """Puts a library that was kept where `rt lib` looks for it. Returns whether it is there."""
     if any(below.name not in kept.rlibs for below in crate.below()):
         return False
@@ -59,17 +74,17 @@ def take(module, kept, crate):
     return True
 
 
-def newest(crate):
+def newest(crate: Any) -> Any:
     """When the newest file was written that a library is made of."""
     return max(path.stat().st_mtime for part in ("src", "specs", "proofs") for path in pathlib.Path(crate.folder, part).rglob("*") if path.is_file())
 
 
-def give_keys(module, name):
+def give_keys(module: Any, name: Any) -> Any:
     """Gives each library below a crate its key that `rt ci` proved and left without one. Returns whether each has one then."""
     rtlib = sys.modules["rtlib"]
     made = rtlib.Crate.__init__
 
-    def make(self, *given, **named):
+    def make(self: Any, *given: Any, **named: Any) -> None:
         made(self, *given, **named)
         module.read_files(self)
     rtlib.Crate.__init__ = make
@@ -82,7 +97,7 @@ def give_keys(module, name):
     return all(crate.is_built() for crate in below)
 
 
-def take_all(name, rt):
+def take_all(name: str, rt: str) -> bool:
     """Puts each library below a crate that was kept where `rt lib` looks for it. Returns whether each is there then."""
     module = module_of(rt)
     if not hasattr(module, "Kept"):
@@ -97,7 +112,7 @@ def take_all(name, rt):
     return all(crate.is_built() for crate in below)
 
 
-def prepare(name, rt):
+def prepare(name: str, rt: str) -> bool:
     """Puts what was kept where `rt lib` looks for it, as far as that can be done: `rt lib` makes the rest. Returns whether there is none."""
     with contextlib.suppress(Exception, SystemExit), contextlib.redirect_stdout(io.StringIO()):
         here = os.getcwd()
@@ -109,7 +124,7 @@ def prepare(name, rt):
     return False
 
 
-def make(proves=True):
+def make(proves: bool = True) -> str | None:
     """Has `rt lib` make the library of sct_c, unless it is there and of these sources. Returns why it could not, or None. If it may not
     prove the crates below, it makes nothing unless `rt ci` kept all of them."""
     mark, now = BUILT.with_suffix(".sum"), sources("sct_c")

@@ -4,11 +4,18 @@ Usage: tools/library.py FOLDER
 
 The archive has one object: the library, and the code of the toolchain that calls malloc, realloc and free. So a program needs nothing
 but the C library. The shared library is made of it. Both give away `sct_version` and the names that begin with `sct_raw_`, and no
-other. In the shared library these names have the version of the interface, such as NILUPPANG_0.2. The same inputs make the same bytes.
+other. In the shared library these names have the version of the interface, such as NILUPPANG_0.3. The same inputs make the same bytes.
 It needs gcc and binutils. `rt lib` makes the static library first, if it is not there or not of these sources
 (kept.py). The variable SCT_C names another one.
 """
-import os, pathlib, shutil, subprocess, sys, tempfile
+from __future__ import annotations
+import os
+import pathlib
+import shutil
+import subprocess
+import sys
+import tempfile
+from typing import Any
 sys.path.insert(0, str(pathlib.Path(__file__).resolve().parents[1]))
 from tools import kept
 
@@ -21,7 +28,7 @@ EXPORTS = f"NILUPPANG_{INTERFACE} {{ global: {'; '.join(NAMES)}; local: *; }};\n
 NEEDED = ["gcc", "ld", "objcopy", "ar"]
 
 
-def pkg_config(prefix, libraries):
+def pkg_config(prefix: str, libraries: str) -> str:
     """What pkg-config reads of the library, for a prefix and the folder of libraries below it."""
     lines = [f"prefix={prefix}", f"libdir=${{prefix}}/{libraries}", "includedir=${prefix}/include", "", "Name: niluppang",
              "Description: The proved site of a clearing hub for SEPA Instant Credit Transfers", f"Version: {VERSION}",
@@ -33,7 +40,7 @@ class Missing(Exception):
     """Something is not there that the libraries are made of."""
 
 
-def static_library(proves=True):
+def static_library(proves: bool = True) -> Any:
     """The static library of sct_c. If it may not prove anything, it is there or is made of what `rt ci` kept."""
     named = os.environ.get("SCT_C")
     if named and not pathlib.Path(named).is_file():
@@ -44,7 +51,7 @@ def static_library(proves=True):
     return pathlib.Path(named or kept.BUILT)
 
 
-def toolchain():
+def toolchain() -> pathlib.Path:
     """The folder of the toolchain, which has the code that allocates."""
     rt = shutil.which("rt")
     if rt is None:
@@ -52,7 +59,7 @@ def toolchain():
     return pathlib.Path(rt).resolve().parents[1]
 
 
-def allocation():
+def allocation() -> Any:
     """The archive of the toolchain with the code that calls malloc, realloc and free."""
     path = toolchain() / "c" / "liblibc_c.a"
     if not path.is_file():
@@ -60,7 +67,7 @@ def allocation():
     return path
 
 
-def check_there(proves=True):
+def check_there(proves: bool = True) -> Any:
     """Fails with what is missing."""
     for name in NEEDED:
         if shutil.which(name) is None:
@@ -68,11 +75,11 @@ def check_there(proves=True):
     return static_library(proves), allocation()
 
 
-def run(*words, folder):
+def run(*words: Any, folder: Any) -> None:
     subprocess.run(list(map(str, words)), check=True, cwd=folder)
 
 
-def make_archive(folder, proves=True):
+def make_archive(folder: str, proves: bool = True) -> Any:
     """Makes libniluppang.a in a folder."""
     library, heap = check_there(proves)
     with tempfile.TemporaryDirectory() as place:
@@ -84,7 +91,7 @@ def make_archive(folder, proves=True):
     return pathlib.Path(folder, "libniluppang.a")
 
 
-def make_shared(folder):
+def make_shared(folder: Any) -> Any:
     """Makes libniluppang.so in a folder, with its name for programs that load it, of the archive there."""
     with tempfile.TemporaryDirectory() as place:
         exports = pathlib.Path(place, "exports")
@@ -97,13 +104,13 @@ def make_shared(folder):
     return link
 
 
-def make(folder):
+def make(folder: Any) -> None:
     """Makes both libraries in a folder."""
     make_archive(folder)
     make_shared(folder)
 
 
-def main():
+def main() -> None:
     if len(sys.argv) != 2:
         sys.exit(__doc__)
     folder = pathlib.Path(sys.argv[1])

@@ -5,17 +5,22 @@ const MEANINGS = JSON.parse(at("meanings").textContent); // of each table, the c
 const ROWS = 500;
 const PAUSE = 250; // milliseconds without a key, after which a search begins
 const TABLES = ["report", "transfers", "findings", "recalls", "totals", "refused"];
-// of each table, the columns with words, each with the table of their meanings
+// of each table, the columns with words, each with the table of their meanings. In a report the result alone has a color: the statuses of
+// the list and of the messages are compared there.
 const WORDED = { report: { 2: "report", 4: "transfers", 6: "transfers" }, transfers: { 2: "transfers" }, findings: { 2: "findings" }, recalls: { 3: "recalls" } };
+const PLAIN = { report: [4, 6] };
 const NUMBERS = { totals: [1, 2, 3, 4, 5, 6, 7, 8, 9, 10], report: [3, 5], refused: [0, 1] };
 const ENGLISH = { refused: [2, 3, 4] }; // the columns with sentences of docs/users/codes.md
+const NAMED = ["report", "transfers", "findings", "recalls"]; // the tables whose rows name a transfer
+const AT = "56", WITHIN = ["36", "38"]; // the codes that a transaction's code follows, and those that a number says more of
 const FILES = { status: "status.txt", totals: "totals.txt", refused: "refused.txt", report: "report.csv", archive: "archive.jsonl" };
 const LACKS = ["ONLY_IN_ARCHIVE", "MISSING"];
 let words = WORDS.en;
 let found = {}; // the tables, with their counts
 let shown = { table: "transfers", from: 0, words: [] };
 let busy = false, again = false; // whether files are read, and whether others were chosen meanwhile
-let read = null; // the file of messages that is answered
+let read = null; // the files of messages that are answered
+let noted = () => ""; // the lines on the list that is answered
 let summary = null; // the line on what was answered, in the words that are chosen
 let typing; // the pause after a key
 let fault = () => ""; // the line on what went wrong
@@ -52,8 +57,28 @@ function ask(name, parts = {}) {
 function spoken() {
   for (const part of document.querySelectorAll("[data-word]")) part.textContent = words[part.dataset.word];
   for (const part of document.querySelectorAll("[data-label]")) part.setAttribute("aria-label", words[part.dataset.label]);
+  for (const part of document.querySelectorAll("[data-hint]")) part.placeholder = words[part.dataset.hint];
   at("fault").textContent = fault();
+  at("notes").textContent = noted();
+  at("unread").textContent = words.unread;
+  at("unread").hidden = !words.unread;
+  at("glossary-words").replaceChildren(...Object.keys(MEANINGS).flatMap(glossary_of));
   if (summary) { at("state").textContent = summary(); show(); }
+}
+
+// What a word of a table means, and what to do about it, in the language that is chosen.
+const meaning = (table, word) => SENTENCES[document.documentElement.lang][table]?.[word]?.[0] ?? "";
+const remedy_of = (table, word) => SENTENCES[document.documentElement.lang][table]?.[word]?.[1] ?? MEANINGS[table]?.[word]?.remedy ?? "";
+const color_of_word = (table, word) => MEANINGS[table]?.[word]?.color;
+
+// The words of a table, each with what it means and what to do about it.
+function glossary_of(table) {
+  const list = made("dl");
+  for (const word of Object.keys(MEANINGS[table])) {
+    const about = made("dd", `${meaning(table, word)} ${said(words.remedy, word)} ${remedy_of(table, word)}`);
+    list.append(made("dt", word, { className: color_of_word(table, word) }), about);
+  }
+  return [made("h3", words[table]), list];
 }
 
 function speak(language) {
@@ -63,7 +88,8 @@ function speak(language) {
   spoken();
 }
 
-function fault_text({ code, place, text, changed }) {
+function fault_text({ code, place, text, changed, kind, file }) {
+  if (kind) return said(words["kind_" + kind], file);
   if (code === 65) return words.no_memory;
   if (code === 48) return said(words.wrong_list, place);
   if (code === 73) return place === 1 ? words.wrong_bank : words.wrong_day;
@@ -91,12 +117,13 @@ async function answer(event) {
 }
 
 async function answer_once() {
-  const [file] = at("messages").files, [list] = at("list").files, bank = at("bank").value.trim(), day = at("day").value.trim();
+  const files = [...at("messages").files], [list] = at("list").files, bank = at("bank").value.trim(), day = at("day").value.trim();
   complain(() => "");
-  if (!file) { complain(() => words.no_messages); return; }
+  note(() => "");
+  if (!files.length) { complain(() => words.no_messages); return; }
   at("compare").disabled = true; at("progress").hidden = false; at("progress").value = 0; at("answers").hidden = true;
   try {
-    if (file !== read) await read_messages(file);
+    if (files.length !== read?.length || files.some((file, place) => file !== read[place])) await read_messages(files);
     delete found.report;
     shown = { table: "transfers", from: 0, words: [] };
     if (list && bank && day) await compare(bank, day, list);
@@ -116,20 +143,42 @@ function forget(changed) {
   if (changed === "messages") read = summary = null;
 }
 
-async function read_messages(file) {
+async function read_messages(files) {
+  const names = files.map((file) => file.name).join(", "), size = files.reduce((sum, file) => sum + file.size, 0);
   read = summary = null;
-  at("state").textContent = said(words.reading, file.name);
-  const answered = await ask("answers", { file });
+  at("state").textContent = said(words.reading, names);
+  const answered = await ask("answers", { files });
   found = answered.found;
   const seconds = () => (answered.milliseconds / 1000).toLocaleString(document.documentElement.lang, { maximumFractionDigits: 1 });
-  summary = () => said(words.done, file.name, counted(file.size), seconds(), counted(found.transfers.rows), counted(found.refused.rows));
-  read = file;
+  summary = () => said(words.done, names, counted(size), seconds(), counted(found.transfers.rows), counted(found.refused.rows));
+  read = files;
 }
+
+function note(lines) {
+  noted = lines;
+  at("notes").textContent = noted();
+}
+
+// A line on how a list was read that the program does not read as it is, or nothing.
+function line_on_list(name, had) {
+  const parts = Object.keys(had).filter((part) => had[part]).map((part) => said(words["had_" + part], had[part]));
+  return parts.length ? said(words.list_had, name, parts.join(", ")) : "";
+}
+
+// Lines on the rows of a list.
+const lines_on_rows = (rows, many) => [...rows.map((row) => said(words[row.name], ...row.about)), many > rows.length ? said(words.more_rows, counted(many - rows.length)) : ""];
+const in_lines = (...lines) => lines.filter(Boolean).join("\n");
 
 async function compare(bank, day, list) {
   at("state").textContent = said(words.reading, list.name);
-  const { found: { report } } = await ask("report", { bank, day, list });
-  found.report = report;
+  const { found: answered, rows, many, forbids, read: had } = await ask("report", { bank, day, list });
+  if (forbids) {
+    note(() => line_on_list(list.name, had));
+    complain(() => in_lines(said(words.no_report, list.name), ...lines_on_rows(rows, many)));
+    return;
+  }
+  note(() => in_lines(line_on_list(list.name, had), ...lines_on_rows(rows, many)));
+  found.report = answered.report;
   shown.table = "report";
 }
 
@@ -156,10 +205,10 @@ function show_bars() {
   replace(at("bars"), (shown.table === "refused" ? [] : Object.entries(counts).sort(([, a], [, b]) => b - a)).map(([word, count]) => {
     const is_chosen = shown.words.length === 1 && shown.words[0] === word;
     const bar = made("button", "", { type: "button", onclick: () => choose(is_chosen ? [] : [word]) });
-    const line = made("i", "", { className: MEANINGS[shown.table]?.[word]?.color ?? "wait" });
+    const line = made("i", "", { className: color_of_word(shown.table, word) ?? "wait" });
     line.style.width = `${100 * count / most}%`;
     bar.setAttribute("aria-pressed", String(is_chosen));
-    bar.append(made("span", word), line, made("b", counted(count)));
+    bar.append(made("span", word), line, made("b", counted(count)), made("small", meaning(shown.table, word)));
     return bar;
   }));
 }
@@ -182,36 +231,68 @@ function show_choices() {
   at("lacks").setAttribute("aria-pressed", String(shown.words === LACKS));
 }
 
-const cells_of = (table, fields) => table === "refused" ? [fields[0], fields[1], ...(CODES[fields[1]] ?? ["", "", ""]), fields[2]] : fields;
+// The name of a refusal, its cause and its remedy. 36 and 38 have those of the number at their end, and 56 those of what follows it.
+function refusal_of(code, place) {
+  const [, inner, more] = code === AT ? /^\d+ (\d+) ?(.*)$/s.exec(place) : ["", code, place];
+  const detail = WITHIN.includes(inner) ? CODES[/\d+$/.exec(more)?.[0]] : undefined, known = CODES[inner] ?? ["", "", ""];
+  const names = [code === AT ? CODES[AT][0] : "", known[0], detail?.[0]].filter(Boolean);
+  return [names.join(": "), ...(detail ?? known).slice(1)];
+}
+
+// The cells of a row. A refused line of several files has the name of its file, and its line there.
+function cells_of(table, fields) {
+  if (table !== "refused") return fields;
+  const [number, code, place, file, line, text] = fields;
+  return [read.length > 1 ? `${file}: ${line}` : number, code, ...refusal_of(code, place), place, text];
+}
+
+// A button that shows the messages on a transfer.
+function button_on(bank, transfer) {
+  const button = made("button", words.show, { type: "button", onclick: () => show_messages(bank, transfer) });
+  button.setAttribute("aria-label", said(words.messages_on, bank, transfer));
+  return button;
+}
 
 function row_of(table, fields) {
   const row = made("tr"), cells = cells_of(table, fields), heads = words.heads[table];
   heads.forEach((_, place) => {
-    const word = cells[place] ?? "", cell = made("td", word);
+    const word = cells[place] ?? "", cell = made("td", word), its_table = WORDED[table]?.[place];
     if ((NUMBERS[table] ?? []).includes(place)) cell.className = "number";
-    else cell.className = MEANINGS[WORDED[table]?.[place]]?.[word]?.color ?? "";
+    else if (!PLAIN[table]?.includes(place)) cell.className = color_of_word(its_table, word) ?? "";
+    cell.title = meaning(its_table, word);
     if (ENGLISH[table]?.includes(place)) cell.lang = "en";
-    if (table === "transfers" && place === 4) cell.append(made("button", words.show, { type: "button", onclick: () => show_messages(fields[0], fields[1]) }));
+    if (table === "refused" && place === heads.length - 1) cell.className = "line";
+    if (NAMED.includes(table) && place === heads.length - 1) cell.append(button_on(fields[0], fields[1]));
     row.append(cell);
   });
-  if (table === "transfers") row.lastChild.firstElementChild.setAttribute("aria-label", said(words.messages_on, fields[0], fields[1]));
   return row;
 }
 
 // What to do about the word whose rows are shown.
 function show_remedy() {
-  const [word] = shown.words, remedy = MEANINGS[shown.table]?.[word]?.remedy;
+  const [word] = shown.words, remedy = remedy_of(shown.table, word);
   at("remedy").hidden = shown.words.length !== 1 || !remedy;
   at("remedy").firstElementChild.textContent = said(words.remedy, word);
   at("remedy").lastElementChild.textContent = remedy;
 }
 
 async function show() {
+  try {
+    await show_rows();
+  } catch (reason) { complain(() => fault_text(reason)); }
+  if (summary && !busy) at("state").textContent = summary();
+}
+
+async function show_rows() {
   show_bars(); show_choices(); show_remedy();
   const { table, from } = shown;
   const { rows, matched } = await ask("rows", { ...shown, search: at("search").value, bank: at("filter-bank").value.trim().toUpperCase(), count: ROWS });
   const heads = made("tr");
-  words.heads[table].forEach((head, place) => heads.append(made("th", head, { scope: "col", className: (NUMBERS[table] ?? []).includes(place) ? "number" : "" })));
+  words.heads[table].forEach((head, place) => {
+    const cell = made("th", head, { scope: "col", className: (NUMBERS[table] ?? []).includes(place) ? "number" : "" });
+    if (!head) cell.setAttribute("aria-label", words.show);
+    heads.append(cell);
+  });
   at("rows").tHead.replaceChildren(heads);
   at("rows").tBodies[0].replaceChildren(...rows.map((fields) => row_of(table, fields)));
   at("caption").textContent = words[table];
@@ -229,18 +310,42 @@ function search() {
   typing = setTimeout(() => { shown.from = 0; if (summary) show(); }, PAUSE);
 }
 
+// ---- one transfer
+
+// What a message says of a transfer: its answer, the recall, the reason and the amount.
+function content_of(message, bank, transfer) {
+  const parts = (message.TxInf ?? [message]).filter((part) => part.DbtrAgt === bank && (part.TxId ?? part.OrgnlTxId) === transfer);
+  return parts.map((part) => {
+    const amount = part.IntrBkSttlmAmt ?? part.RtrdIntrBkSttlmAmt ?? part.OrgnlIntrBkSttlmAmt;
+    return [part.TxSts ?? part.Conf, part.CxlId ?? part.OrgnlCxlId, part.Rsn, amount && `${amount} ${part.Ccy}`].filter(Boolean).join(" ");
+  }).join("; ");
+}
+
+function item_of([time, kind, sender, message, line], bank, transfer) {
+  const item = made("li"), more = made("details"), head = made("summary", `${time}  ${kind}  ${sender}  ${message} `), parsed = JSON.parse(line);
+  head.append(made("b", content_of(parsed, bank, transfer)));
+  more.append(head, made("pre", JSON.stringify(parsed, null, 1)));
+  item.append(more);
+  return item;
+}
+
+// A line of the status text on a transfer: what it says, what that means, and what to do about it.
+function status_line([letter, , , ...fields]) {
+  const [table, names] = { T: ["transfers", 0], F: ["findings", 0], R: ["recalls", 1] }[letter], word = fields[names];
+  const line = made("p", "", { className: letter === "F" ? "finding" : "" }), about = made("b", fields.slice(names).join(" "), { className: color_of_word(table, word) });
+  line.append(names ? `${words.recall} ${fields[0]} ` : "", about, ` ${meaning(table, word)} `, made("small", `${said(words.remedy, word)} ${remedy_of(table, word)}`));
+  return line;
+}
+
 async function show_messages(bank, transfer) {
   at("transfer-title").textContent = said(words.messages_on, bank, transfer);
   at("transfer-messages").replaceChildren();
+  at("transfer-status").replaceChildren();
   at("transfer").showModal();
   try {
-    const { rows } = await ask("messages", { bank, transfer });
-    at("transfer-messages").replaceChildren(...rows.map(([time, kind, sender, message, line]) => {
-      const item = made("li"), more = made("details");
-      more.append(made("summary", `${time}  ${kind}  ${sender}  ${message}`), made("pre", JSON.stringify(JSON.parse(line), null, 1)));
-      item.append(more);
-      return item;
-    }));
+    const { rows, status } = await ask("messages", { bank, transfer });
+    at("transfer-status").replaceChildren(...status.map(status_line));
+    at("transfer-messages").replaceChildren(...rows.map((row) => item_of(row, bank, transfer)));
   } catch (reason) { at("transfer-messages").replaceChildren(made("li", fault_text(reason))); }
 }
 
@@ -249,11 +354,9 @@ async function show_messages(bank, transfer) {
 function dropped(event) {
   event.preventDefault();
   at("files").classList.remove("over");
-  for (const file of event.dataTransfer.files) {
-    const given = new DataTransfer();
-    given.items.add(file);
-    at(/\.(csv|list)$/i.test(file.name) ? "list" : "messages").files = given.files;
-  }
+  const given = { list: new DataTransfer(), messages: new DataTransfer() };
+  for (const file of event.dataTransfer.files) given[/\.(csv|list)$/i.test(file.name) ? "list" : "messages"].items.add(file);
+  for (const name of Object.keys(given)) if (given[name].files.length) at(name).files = given[name].files;
   answer();
 }
 

@@ -1,5 +1,5 @@
 // The worker: it has the module, reads the files, keeps a site and its texts, and answers the page's questions about their rows.
-"use strict";
+// lists.js comes before it.
 
 class Fault extends Error {
   constructor(code, place) { super(`fault ${code} ${place}`); this.code = code; this.place = place; }
@@ -10,15 +10,26 @@ class Changed extends Error {
   constructor(which) { super("changed"); this.which = which; }
 }
 
+// A file that is of another kind than messages or a list.
+class Kind extends Error {
+  constructor(kind, file) { super(kind); this.kind = kind; this.file = file; }
+}
+
 const decoded = (bytes) => new TextDecoder().decode(bytes), encoded = (text) => new TextEncoder().encode(text);
-const MEMORY = 65, LINE_FEED = 10;
+const MEMORY = 65, BAD_LIST = 48, BAD_WORD = 73, LINE_FEED = 10, LESS = 60, BLANKS = [9, 10, 13, 32];
 const PIECE = 1 << 26; // bytes of a file of messages that are taken at once
 const SOME = 1 << 24; // bytes of a text that are decoded at once
 const PART = 1 << 20; // bytes of an answer that are copied at once
+const KEPT = 10000, LONGEST = 1000; // the refused lines whose text is kept, and the bytes of each
+const MOST_ROWS = 20; // the rows of a list of which something is said
+const LEAST = 3; // letters of a search that looks into messages
 // structures of include/niluppang.h: the bytes of a handle and of the longest result, and where the fields of results are
 const HANDLE = 16, RESULT = 56, CODE = 1, PLACE = 8, LENGTH = 16, LENGTH_OF_LINES = 40;
 let core; // the compiled module
-let site; // the site with the messages of the file that is answered
+let site; // the site with the messages of the files that are answered
+let lines; // the files that are answered, each with how many line feeds are before it, and the text of refused lines by their number
+let index; // of each message with amounts, accounts or an end-to-end identification a line: its transfer, and these
+let last = {}; // what was searched for in messages last, and the transfers that have it
 const texts = {}; // the pieces of bytes of each text that is kept; a piece ends at the end of a line
 let tables = {}; // how many rows each table has, and how many with each word
 
@@ -91,8 +102,27 @@ class Site {
 
 // ---- the reading of files
 
-// The bytes of a file, some at a time.
-async function* bytes_in(file, which) {
+// How files begin that are neither messages nor a list. XML and UTF-16 are others: kind_of has them.
+const BEGINNINGS = { gzip: [0x1f, 0x8b], zip: [0x50, 0x4b, 3, 4], xml: [0xff, 0xfe, LESS, 0] };
+const HEAD = 4096; // bytes of a file that show what it is
+
+// What a file is that is neither messages nor a list, by its first bytes, or nothing.
+function kind_of(head, which) {
+  for (const [kind, beginning] of Object.entries(BEGINNINGS)) if (begins_with(head, beginning)) return kind;
+  const text = begins_with(head, MARK) ? head.subarray(MARK.length) : head;
+  if (text.find((byte) => !BLANKS.includes(byte)) === LESS) return "xml";
+  return which === "messages" && (begins_with(head, [0xff, 0xfe]) || begins_with(head, [0xfe, 0xff])) ? "utf16" : undefined;
+}
+
+// Stops at a file that is compressed, a workbook, XML, or messages in UTF-16.
+async function check_kind(file, which) {
+  const head = await file.slice(0, HEAD).arrayBuffer().catch(() => { throw new Changed(which); });
+  const kind = kind_of(new Uint8Array(head), which);
+  if (kind) throw new Kind(kind, file.name);
+}
+
+// The bytes of a file, some at a time. Before it, so many of all bytes were read.
+async function* bytes_in(file, which, before = 0, all = file.size) {
   const reader = file.stream().getReader();
   let count = 0, shown = 0;
   for (;;) {
@@ -101,20 +131,19 @@ async function* bytes_in(file, which) {
     count += value.length;
     if (count > file.size) throw new Changed(which);
     yield value;
-    if (count - shown > file.size / 50) { shown = count; postMessage({ read: count / file.size }); }
+    if (count - shown > all / 50) { shown = count; postMessage({ read: (before + count) / all }); }
   }
   if (count !== file.size) throw new Changed(which);
-  postMessage({ read: 1 });
+  if (before + count === all) postMessage({ read: 1 });
 }
 
-// The file of a list, as a text in the module's memory.
+// The bytes of the file of a list.
 async function list_in(file) {
-  const at = site.taken(file.size);
+  await check_kind(file, "list");
+  const bytes = new Uint8Array(file.size);
   let end = 0;
-  try {
-    for await (const some of bytes_in(file, "list")) { site.bytes(Number(at) + end, some.length).set(some); end += some.length; }
-  } catch (error) { site.given(at); throw error; }
-  return [at, BigInt(end)];
+  for await (const some of bytes_in(file, "list")) { bytes.set(some, end); end += some.length; }
+  return bytes;
 }
 
 // How many line feeds are in bytes.
@@ -124,18 +153,29 @@ function line_feeds(bytes) {
   return count;
 }
 
-// Has a site take a file of messages, piece by piece. A piece ends with the last line that is whole in it. Before it are as many line
-// feeds as the pieces before had: blank lines are passed over and counted, so the site numbers the lines as they are in the file.
+// Has a site take files of messages as one input, piece by piece. A piece ends with the last line that is whole in it. Before it are as
+// many line feeds as the pieces before had: blank lines are passed over and counted, so the site numbers the lines as they are in the input.
 class Pieces {
   constructor(into, size) {
     this.site = into;
     this.room = Math.min(size, PIECE);
     this.at = into.taken(this.room);
     this.lines = this.end = 0; // the line feeds before the piece, and the end of what was read of it
+    this.feeds = 0; // the line feeds of all that was read
+    this.is_open = false; // whether what was read last is a line without an end
     this.refused = [];
+    this.texts = new Map(); // the text of each of the first refused lines, by its number
+  }
+
+  // Ends the last line of the files before. Returns how many line feeds are before the next file.
+  begin() {
+    if (this.is_open) this.add(Uint8Array.of(LINE_FEED));
+    return this.feeds;
   }
 
   add(some) {
+    this.feeds += line_feeds(some);
+    if (some.length) this.is_open = some.at(-1) !== LINE_FEED;
     for (let from = 0; from < some.length;) {
       if (this.end === this.room) this.next();
       const part = some.subarray(from, from + this.room - this.end);
@@ -149,7 +189,7 @@ class Pieces {
   next() {
     const cut = this.site.bytes(this.at, this.end).lastIndexOf(LINE_FEED) + 1;
     if (cut > this.lines) {
-      this.refused.push(this.site.take_lines(this.at, cut));
+      this.take(cut);
       const bytes = this.site.bytes(this.at, this.end), lines = line_feeds(bytes.subarray(0, cut));
       bytes.copyWithin(lines, cut);
       bytes.fill(LINE_FEED, this.lines, lines);
@@ -167,9 +207,23 @@ class Pieces {
     this.room *= 2;
   }
 
+  // Has the site take the piece up to a place, and keeps what it refused.
+  take(end) {
+    const refused = this.site.take_lines(this.at, end), bytes = this.site.bytes(this.at, end);
+    this.refused.push(refused);
+    if (this.texts.size === KEPT) return;
+    let number = this.lines + 1, from = this.lines;
+    for (const line of lines_in([refused])) {
+      for (const wanted = Number(FIELDS.refused(line)[0]); number < wanted; number += 1) from = bytes.indexOf(LINE_FEED, from) + 1;
+      const feed = bytes.indexOf(LINE_FEED, from), long = Math.min(feed < 0 ? end : feed, from + LONGEST);
+      this.texts.set(number, decoded(bytes.slice(from, long)));
+      if (this.texts.size === KEPT) return;
+    }
+  }
+
   // Has the site take the rest. Returns the pieces of the lines about what was refused.
   done() {
-    this.refused.push(this.site.take_lines(this.at, this.end));
+    this.take(this.end);
     this.site.given(this.at);
     return this.refused;
   }
@@ -211,6 +265,8 @@ const FIELDS = {
 };
 // the field of each table by which its rows are counted and chosen
 const WORD = { transfers: 2, findings: 2, recalls: 3, refused: 1, report: 2 };
+// the tables whose rows name a transfer
+const NAMED = ["transfers", "findings", "recalls", "report"];
 // the text of each table
 const TEXT = { transfers: "status", findings: "status", recalls: "status", totals: "totals", refused: "refused", report: "report" };
 // the table of a line of the status text, by its first letter
@@ -239,17 +295,78 @@ function count(text) {
 // How many rows of a table have one of some words.
 const with_words = ({ rows, counts }, words) => words.length ? words.reduce((sum, word) => sum + (counts[word] ?? 0), 0) : rows;
 
+// ---- searches
+
+// What a search looks for in messages: an amount as it is written, or letters without their blanks too, as an IBAN has them.
+function sought_in(search) {
+  const amount = amount_of(search.trim()), [euros, cents] = amount.split(".");
+  if (/^\d{1,9}\.\d{1,2}$/.test(amount)) return [`\t${euros.replace(/^0+(?=\d)/, "")}.${cents.padEnd(2, "0")}\t`];
+  return [search.toLowerCase(), search.toLowerCase().replace(/\s/g, "")];
+}
+
+// What a message says of each of its transfers: amounts, accounts and the end-to-end identification, each between tabs.
+function* entries_of(message) {
+  for (const part of message.TxInf ?? [message]) {
+    const found = [part.IntrBkSttlmAmt, part.OrgnlIntrBkSttlmAmt, part.RtrdIntrBkSttlmAmt, part.DbtrAcct, part.CdtrAcct, part.EndToEndId, part.OrgnlEndToEndId];
+    const terms = [...new Set(found.filter(Boolean))];
+    if (terms.length) yield `${part.DbtrAgt}|${part.TxId ?? part.OrgnlTxId}\t${terms.join("\t")}\t\n`;
+  }
+}
+
+// The index of the messages. It is made at the first search.
+function indexed() {
+  if (index) return index;
+  postMessage({ working: true });
+  const pieces = [];
+  let some = [];
+  const end = () => { pieces.push(encoded(some.join(""))); some = []; };
+  for (const line of lines_in([site.asked("archive_text")])) {
+    some.push(...entries_of(JSON.parse(line)));
+    if (some.length >= KEPT) end();
+  }
+  end();
+  index = pieces;
+  return index;
+}
+
+// The transfers with a message that has what is searched for.
+function transfers_with(search) {
+  if (last.search === search) return last.transfers;
+  const sought = sought_in(search), transfers = new Set();
+  for (const line of lines_in(indexed())) {
+    const [transfer] = line.split("\t", 1), terms = line.slice(transfer.length).toLowerCase();
+    if (sought.some((one) => terms.includes(one))) transfers.add(transfer);
+  }
+  last = { search, transfers };
+  return transfers;
+}
+
+// Whether a row of a table has what is searched for: in its line, in a message on its transfer, or in the line that was refused.
+function searched(table, search) {
+  const sought = search.toLowerCase();
+  const transfers = NAMED.includes(table) && search.trim().length >= LEAST ? transfers_with(search) : null;
+  return (line, fields) => line.toLowerCase().includes(sought) || transfers?.has(`${fields[0]}|${fields[1]}`)
+    || table === "refused" && (lines.texts.get(Number(fields[0])) ?? "").toLowerCase().includes(sought);
+}
+
+// A row of the refused lines, with its file, its line there, and its text.
+function with_text([number, ...code]) {
+  const { name, feeds } = lines.files.findLast((file) => file.feeds < Number(number)) ?? lines.files[0];
+  return [number, ...code, name, String(number - feeds), lines.texts.get(Number(number)) ?? ""];
+}
+
 // Some rows of a table: those that have the search text, of that bank, with one of those words.
 function rows_of({ table, search, bank, words, from, count }) {
-  const fields_of = FIELDS[table], sought = search.toLowerCase(), chosen = [];
-  const all = sought || bank ? Infinity : with_words(tables[table], words);
+  const fields_of = FIELDS[table], is_sought = search ? searched(table, search) : () => true, chosen = [];
+  const all = search || bank ? Infinity : with_words(tables[table], words);
+  const shown = table === "refused" ? with_text : (fields) => fields;
   let matched = 0;
   for (const [of, line] of rows_in(TEXT[table])) {
-    if (of !== table || sought && !line.toLowerCase().includes(sought)) continue;
+    if (of !== table) continue;
     const fields = fields_of(line);
-    if (bank && table !== "refused" && !fields[0].startsWith(bank)) continue;
+    if (!is_sought(line, fields) || bank && table !== "refused" && !fields[0].startsWith(bank)) continue;
     if (words.length && !words.includes(fields[WORD[table]])) continue;
-    if (matched >= from && chosen.length < count) chosen.push(fields);
+    if (matched >= from && chosen.length < count) chosen.push(shown(fields));
     matched += 1;
     if (all !== Infinity && chosen.length === count) return { rows: chosen, matched: all };
   }
@@ -258,24 +375,67 @@ function rows_of({ table, search, bank, words, from, count }) {
 
 // ---- the page's questions
 
-// The messages on a transfer, the earliest first.
+// The lines of a text on a transfer.
+const lines_on = (text, bank, transfer) => [...lines_in([site.asked(text, site.put(encoded(bank)), site.put(encoded(transfer)))])];
+
+// The messages on a transfer, the earliest first, and its lines of the status text.
 function messages({ bank, transfer }) {
-  const lines = [...lines_in([site.asked("messages_text", site.put(encoded(bank)), site.put(encoded(transfer)))])];
-  const found = lines.map((line) => [JSON.parse(line), line]);
+  const found = lines_on("messages_text", bank, transfer).map((line) => [JSON.parse(line), line]);
   found.sort(([a], [b]) => (a.CreDtTm < b.CreDtTm ? -1 : a.CreDtTm > b.CreDtTm ? 1 : 0));
-  return { rows: found.map(([m, line]) => [m.CreDtTm, m.MsgNmId, m.InstgAgt, m.MsgId, line]) };
+  const status = lines_on("transfer_text", bank, transfer).map((line) => line.split("|"));
+  return { rows: found.map(([m, line]) => [m.CreDtTm, m.MsgNmId, m.InstgAgt, m.MsgId, line]), status };
+}
+
+// Has a new site take files as one input. Returns the site and the pieces.
+async function taken(files) {
+  for (const file of files) await check_kind(file, "messages");
+  const size = files.reduce((sum, file) => sum + file.size, 0), opened = new Site(), names = [];
+  const pieces = new Pieces(opened, size + files.length - 1);
+  let before = 0;
+  for (const file of files) {
+    names.push({ name: file.name, feeds: pieces.begin() });
+    for await (const some of bytes_in(file, "messages", before, size)) pieces.add(some);
+    before += file.size;
+  }
+  return { opened, pieces, names };
+}
+
+// The report on a list. One that the program refuses is read as a spreadsheet saves it.
+function report_of(bank, day, bytes) {
+  const asked = (list) => [site.asked("report", site.put(encoded(bank)), site.put(encoded(day)), site.put(list))];
+  try {
+    return { text: asked(bytes), list: bytes, read: { mark: begins_with(bytes, MARK) } };
+  } catch (error) {
+    if (error.code !== BAD_LIST) throw error;
+    const plain = plain_list(bytes);
+    return { text: asked(plain.bytes), list: plain.bytes, read: plain.read };
+  }
+}
+
+// What is to be said of the rows of a list: the first ones, how many there are, and whether they forbid the report. If some forbid it, they
+// alone are of interest.
+function rows_against(list, bank, day) {
+  const messages_on = (its_bank, transfer) => lines_on("messages_text", its_bank, transfer).map((line) => JSON.parse(line));
+  let rows = [], many = 0, forbids = false;
+  for (const fault of row_faults(list, bank, day, messages_on)) {
+    if (fault.forbids && !forbids) { rows = []; many = 0; forbids = true; }
+    if (fault.forbids !== forbids) continue;
+    many += 1;
+    if (rows.length < MOST_ROWS) rows.push(fault);
+  }
+  return { rows, many, forbids };
 }
 
 const ASKED = {
   async core({ bytes }) { core = await WebAssembly.compile(bytes); return {}; },
-  async answers({ file }) {
-    site = undefined;
+  async answers({ files }) {
+    site = index = undefined;
+    last = tables = {};
     for (const name of Object.keys(texts)) delete texts[name];
-    tables = {};
-    const began = performance.now(), opened = new Site(), pieces = new Pieces(opened, file.size);
-    for await (const some of bytes_in(file, "messages")) pieces.add(some);
+    const began = performance.now(), { opened, pieces, names } = await taken(files);
     postMessage({ working: true });
     texts.refused = pieces.done();
+    lines = { files: names, texts: pieces.texts };
     for (const name of ["status", "totals"]) texts[name] = [opened.asked(name + "_text")];
     const milliseconds = performance.now() - began, memory = opened.calls.memory.buffer.byteLength;
     for (const name of Object.keys(texts)) count(name);
@@ -284,10 +444,14 @@ const ASKED = {
   },
   async report({ bank, day, list }) {
     delete texts.report;
-    const listed = await list_in(list);
+    const bytes = await list_in(list);
     postMessage({ working: true });
-    texts.report = [site.asked("report", site.put(encoded(bank)), site.put(encoded(day)), listed)];
-    return { found: count("report") };
+    const report = report_of(bank, day, bytes);
+    if (!is_day(day)) throw new Fault(BAD_WORD, 2);
+    const answer = { ...rows_against(report.list, bank, day), read: report.read };
+    if (answer.forbids) return answer;
+    texts.report = report.text;
+    return { ...answer, found: count("report") };
   },
   rows: rows_of,
   messages,
@@ -298,7 +462,7 @@ const ASKED = {
 function fault_of(error) {
   if (error instanceof Fault) return { code: error.code, place: error.place };
   if (error instanceof RangeError) return { code: MEMORY, place: 0 };
-  return { code: 0, place: 0, text: String(error.message), changed: error.which };
+  return { code: 0, place: 0, text: String(error.message), changed: error.which, kind: error.kind, file: error.file };
 }
 
 onmessage = async ({ data }) => {

@@ -7,7 +7,14 @@ the journal, and by the lines of its transfer or by what changed, in turn. MORE 
 each. Times are those of the processor. Those of single calls are medians. calls.c measures the same in C, with the libraries that
 tools/library.py makes. A call from Python has the cost of the call in C and of ctypes.
 """
-import json, os, pathlib, statistics, subprocess, sys, tempfile, time
+import json
+import os
+import pathlib
+import statistics
+import subprocess
+import sys
+import tempfile
+import time
 sys.path.insert(0, str(pathlib.Path(__file__).resolve().parents[2]))
 sys.path.insert(0, str(pathlib.Path(__file__).resolve().parents[2] / "bindings" / "python"))
 from bench.generate import messages

@@ -3,7 +3,9 @@
 The same N and SEED print the same bytes. Each transfer is by itself: nothing is repeated and nothing contradicts.
 About nine in ten instructions are confirmed, a few places later; of these one in twenty is rejected.
 """
-import pathlib, random, sys
+import pathlib
+import random
+import sys
 sys.path.insert(0, str(pathlib.Path(__file__).resolve().parents[2]))
 from bench.generate import samples
 from bench.generate.parties import account

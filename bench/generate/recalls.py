@@ -4,7 +4,9 @@ The same words print the same bytes. Each transaction recalls a transfer of its 
 go on from recall to recall: 10 recalls of 100 have the same ones, in the same order, as 1000 recalls of one. A recall of one
 transaction is flat.
 """
-import pathlib, random, sys
+import pathlib
+import random
+import sys
 sys.path.insert(0, str(pathlib.Path(__file__).resolve().parents[2]))
 from bench.generate import messages, samples
 

@@ -3,7 +3,12 @@
 The file of roles has a table for each who: its roles, the names of its certificates, and the sums of its tokens. A token is known by its
 SHA-256 alone, and two may be there while one takes the place of the other. Without a file of roles everyone on this machine may do all.
 """
-import base64, binascii, collections, hashlib, re
+from __future__ import annotations
+import base64
+import binascii
+import hashlib
+import re
+from typing import Any, NamedTuple
 from .config import parsed
 from .files import Wrong
 
@@ -15,8 +20,14 @@ MOST_TOKENS = 2
 PLAIN_ROLES = ("desk", "monitor", "operator")
 EVERYONE = ("everyone",)
 
+
 # an address: the method, the path as pages show it, and the roles that may ask it
-Address = collections.namedtuple("Address", "method path roles")
+class Address(NamedTuple):
+    method: str
+    path: str
+    roles: tuple[str, ...]
+
+
 ADDRESSES = [
     Address("GET", "/", ("desk",)),
     Address("POST", "/messages", ("bank", "operator")),
@@ -24,6 +35,7 @@ ADDRESSES = [
     Address("GET", "/waiting", ("bank", "desk", "operator")),
     Address("GET", "/transfers/{bank}/{tx}", ("bank", "desk")),
     Address("GET", "/transfers/{bank}/{tx}/messages", ("bank", "desk")),
+    Address("GET", "/find", ("desk",)),
     Address("GET", "/totals/{bank}", ("bank", "desk")),
     Address("POST", "/report/{bank}/{day}", ("bank", "desk")),
     Address("GET", "/totals", ("desk",)),
@@ -44,7 +56,7 @@ ADDRESSES = [
 BOUNDED = {"bank", "peer", "everyone"}  # what these are given is bounded by the address itself: they get no other one
 
 
-def table(changes):
+def table(changes: dict[str, tuple[str, ...]]) -> list[Address]:
     """The addresses, with other roles for some of them, such as {"GET /totals": ["desk", "monitor"]}."""
     names = {f"{it.method} {it.path}": it for it in ADDRESSES}
     for name, roles in changes.items():
@@ -57,18 +69,22 @@ def table(changes):
     return list(names.values())
 
 
-def bank(text):
+def bank(text: str) -> str:
     """A BIC of 8 characters and the same with XXX after it are one bank."""
     return text + "XXX" if len(text) == 8 else text
 
 
-class Who(collections.namedtuple("Who", "name roles banks peers")):
+class Who(NamedTuple):
     """Somebody: a name for the record, the words of the roles, the banks in whose name it sends, and the sites that it is."""
+    name: str
+    roles: frozenset[str]
+    banks: frozenset[str]
+    peers: frozenset[int]
 
-    def may(self, roles):
+    def may(self, roles: tuple[str, ...]) -> bool:
         return roles is EVERYONE or not self.roles.isdisjoint(roles)
 
-    def sees_all(self, roles):
+    def sees_all(self, roles: tuple[str, ...]) -> bool:
         """Whether one of some roles lets it ask about all banks, and not about its own alone."""
         return not self.roles.isdisjoint(set(roles) - {"bank"})
 
@@ -77,7 +93,7 @@ LOCAL = Who("local", frozenset({"peer", "bank", *PLAIN_ROLES}), frozenset(), fro
 NOBODY = Who("nobody", frozenset(), frozenset(), frozenset())
 
 
-def who_of(name, texts):
+def who_of(name: str, texts: list[str]) -> Who:
     """Somebody with the roles that some texts are."""
     roles, banks, peers = set(), set(), set()
     for text in texts:
@@ -92,17 +108,17 @@ def who_of(name, texts):
     return Who(name, frozenset(roles), frozenset(banks), frozenset(peers))
 
 
-def sum_of(token):
+def sum_of(token: bytes) -> str:
     """What a file of roles has of a token."""
     return f"sha256:{hashlib.sha256(token).hexdigest()}"
 
 
-def names_in(certificate):
+def names_in(certificate: dict[str, Any] | None) -> list[str]:
     """The names of a certificate, as a file of roles has them."""
     return [f"{kind}:{name}" for kind, name in (certificate or {}).get("subjectAltName", ()) if kind in KINDS]
 
 
-def token_in(header):
+def token_in(header: str) -> bytes | None:
     """The token of a header, also as the password that a browser asks for. None if the header has none."""
     kind, _, text = header.encode("utf-8", "surrogateescape").partition(b" ")
     if kind.lower() == b"basic":
@@ -115,8 +131,11 @@ def token_in(header):
 
 class Roles:
     """Who is who. Without a file everyone is local."""
+    certificates: dict[str, Who]
+    tokens: dict[str, Who]
+    all: list[Who]
 
-    def __init__(self, path=None):
+    def __init__(self, path: str | None = None) -> None:
         self.is_open, self.certificates, self.tokens, self.all = path is None, {}, {}, []
         for name, table in parsed(path).items() if path else ():
             if not NAME.fullmatch(name) or not isinstance(table, dict):
@@ -124,14 +143,14 @@ class Roles:
             self._add(name, {key: self._texts(path, name, key, value) for key, value in table.items()})
 
     @staticmethod
-    def _texts(path, name, key, value):
+    def _texts(path: str | None, name: str, key: str, value: list[str] | str) -> list[str]:
         if key not in ("roles", "certificates", "tokens"):
             raise Wrong(f"{name} in {path} has no key {key}")
         if not isinstance(value, list) or not value or not all(isinstance(text, str) for text in value):
             raise Wrong(f"{key} of {name} in {path} is not a list of texts")
         return value
 
-    def _add(self, name, table):
+    def _add(self, name: str, table: dict[str, list[str]]) -> None:
         who, certificates, tokens = who_of(name, table.get("roles", [])), table.get("certificates", []), table.get("tokens", [])
         if not who.roles or not certificates + tokens:
             raise Wrong(f"{name} has no roles, or neither certificates nor tokens")
@@ -146,7 +165,7 @@ class Roles:
                 known[key] = who
         self.all.append(who)
 
-    def who(self, certificate, header):
+    def who(self, certificate: dict[str, Any] | None, header: str) -> Who | None:
         """Who asks, by a certificate and the text of the header Authorization. None if a token is given that nobody has."""
         if self.is_open:
             return LOCAL
@@ -156,14 +175,14 @@ class Roles:
         found = {self.certificates[name] for name in names_in(certificate) if name in self.certificates}
         return found.pop() if len(found) == 1 else NOBODY if not found else None
 
-    def is_peer(self, number, certificate):
+    def is_peer(self, number: int, certificate: dict[str, Any] | None) -> bool:
         """Whether a certificate is that of a site, and of nobody else."""
         found = {self.certificates[name] for name in names_in(certificate) if name in self.certificates}
         return len(found) == 1 and number in found.pop().peers
 
-    def may_send(self, name, bank):
+    def may_send(self, name: str, bank: str) -> bool:
         """Whether somebody of a name sends in the name of a bank."""
         return self.is_open or any(who.name == name and bank in who.banks for who in self.all)
 
-    def has_banks(self):
+    def has_banks(self) -> bool:
         return any(who.banks for who in self.all)

@@ -3,7 +3,21 @@
 A post is sent to one of several addresses, and again to the next one until each of its lines has an outcome: what was taken before is
 then a REPEAT. An answer that sends on to another address is an error. A token is sent over http to this machine alone.
 """
-import collections, contextlib, email.utils, http.client, ipaddress, json, os, pathlib, re, socket, ssl, time, urllib.parse
+from __future__ import annotations
+import argparse
+import contextlib
+import email.utils
+import http.client
+import ipaddress
+import json
+import os
+import pathlib
+import re
+import socket
+import ssl
+import time
+import urllib.parse
+from typing import Any, BinaryIO, Callable, Iterator, NamedTuple, TypeVar
 
 MOST_LINES, MOST_BYTES = 1000, 1 << 20  # of a post
 AGAIN = (408, 429, 500, 502, 503, 504, 507)  # statuses after which the same may be sent again, to any site
@@ -20,14 +34,21 @@ SAID = {http.client.IncompleteRead: "the answer is cut off", http.client.RemoteD
 ADDRESS = re.compile(r"https?://[^\s/?#@]+(/[\w.~%/-]*)?", re.ASCII | re.IGNORECASE)
 TOKEN = re.compile(r"[!-~]+")
 
-Answer = collections.namedtuple("Answer", "status headers body")
+
+T = TypeVar("T")
+
+
+class Answer(NamedTuple):
+    status: int
+    headers: http.client.HTTPMessage
+    body: bytes
 
 
 class Failed(Exception):
     """There is no answer that counts, and why, in one line. `status` and `request`, its identification, are those of an answer that is an
     error. Both are None if there is no answer at all."""
 
-    def __init__(self, why, status=None, request=None, seconds=0.0):
+    def __init__(self, why: str, status: int | None = None, request: str | None = None, seconds: float = 0.0) -> None:
         super().__init__(why)
         self.status, self.request, self.seconds = status, request, seconds
 
@@ -42,12 +63,12 @@ class Elsewhere(Failed):
 
 # ---- what failures say
 
-def one_line(text):
+def one_line(text: str) -> str:
     """A text as a line without signs that a terminal would obey."""
     return "".join(sign if sign.isprintable() else "?" for sign in " ".join(text.split()))[:MOST_SAID]
 
 
-def seconds_of(text):
+def seconds_of(text: str) -> float:
     """The seconds for which an answer asks by Retry-After: a number, or a moment that is ahead."""
     if text.isascii() and text.isdigit():
         return float(text[:9])
@@ -57,23 +78,32 @@ def seconds_of(text):
         return 0.0
 
 
-def failure(address, what, answer, kind=Failed):
+def failure(address: str, what: str, answer: Answer, kind: type = Failed) -> Exception | Elsewhere:
     """A failure of a kind that an answer is, with the identification of its request."""
     request = one_line(answer.headers.get("Niluppang-Request", ""))
     why = f"{address}: {what}" + (f" (request {request})" if request else "")
     return kind(why, answer.status, request or None, seconds_of(answer.headers.get("Retry-After", "")))
 
 
-def failure_of(address, answer):
+def said_in(body: bytes) -> str:
+    """What an error says: why, and what to do. A server before a site, and an older site, answer with a text."""
+    try:
+        found = json.loads(body)
+        return one_line(f"{found['why']}; {found['remedy']}")
+    except (ValueError, TypeError, KeyError):
+        return one_line(body[:4 * MOST_SAID].decode(errors="replace"))
+
+
+def failure_of(address: str, answer: Answer) -> Exception | Elsewhere:
     """The failure that an answer with another status than 200 is."""
-    said = one_line(answer.body[:4 * MOST_SAID].decode(errors="replace"))
+    said = said_in(answer.body)
     if 300 <= answer.status < 400:
         said = "the answer sends on to another address, which is not asked"
     kind = Later if answer.status in AGAIN else Elsewhere if answer.status == HALTED else Failed
     return failure(address, f"status {answer.status}" + (f": {said}" if said else ""), answer, kind)
 
 
-def failure_by(address, fault):
+def failure_by(address: str, fault: Exception) -> Failed:
     """The failure that a broken connection is. A site is not asked again if one side does not trust the certificate of the other."""
     said = next((text for kind, text in SAID.items() if isinstance(fault, kind)), None)
     kind = Elsewhere if type(fault) in (ssl.SSLError, ssl.SSLCertVerificationError) else Later
@@ -82,14 +112,14 @@ def failure_by(address, fault):
 
 # ---- one site
 
-def is_local(host):
+def is_local(host: str) -> bool:
     try:
         return ipaddress.ip_address(host).is_loopback
     except ValueError:
         return host == "localhost"
 
 
-def has_end(answer):
+def has_end(answer: http.client.HTTPResponse) -> bool:
     """Whether an answer says how long it is, or has a mark at its end. Without that nobody knows whether all of it came."""
     return answer.chunked or answer.length is not None
 
@@ -97,29 +127,30 @@ def has_end(answer):
 class Site:
     """A site at an address, and the connection to it that is kept open. It does not want to be asked again before `free_at`."""
 
-    def __init__(self, address, context):
+    def __init__(self, address: str, context: ssl.SSLContext | None) -> None:
         try:
             parts = urllib.parse.urlsplit(address if ADDRESS.fullmatch(address) else "")
-            self.host, self.port = parts.hostname, parts.port
+            host, self.port = parts.hostname, parts.port
         except ValueError:
-            self.host = None
-        if not self.host:
+            host = None
+        if not host:
             raise ValueError(f"{address} is not the address of a site, such as https://site1.hub.example:8700")
+        self.host = host
         self.address, self.path = address.rstrip("/"), parts.path.rstrip("/")
         self.context = (context or ssl.create_default_context()) if parts.scheme == "https" else None
         self.connection, self.free_at = self.fresh(), 0.0
 
-    def keeps_secrets(self):
+    def keeps_secrets(self) -> bool:
         """Whether nobody else reads what is sent to it."""
         return self.context is not None or is_local(self.host)
 
-    def fresh(self):
+    def fresh(self) -> http.client.HTTPConnection | http.client.HTTPSConnection:
         """A connection that is not open yet."""
         if self.context:
             return http.client.HTTPSConnection(self.host, self.port, context=self.context)
         return http.client.HTTPConnection(self.host, self.port)
 
-    def ask(self, method, path, body, headers, timeout):
+    def ask(self, method: str, path: str, body: bytes | None, headers: dict[str, str], timeout: float) -> Answer:
         """The answer of the site. A site ends connections that are silent. So one that was kept open and is broken is opened anew."""
         was_open = self.connection.sock is not None
         try:
@@ -129,7 +160,7 @@ class Site:
                 raise
         return self._answer(method, path, body, headers, timeout)
 
-    def _answer(self, method, path, body, headers, timeout):
+    def _answer(self, method: str, path: str, body: bytes | None, headers: dict[str, str], timeout: float) -> Answer:
         try:
             answer = self.begun(self.connection, method, path, body, headers, timeout)
             return Answer(answer.status, answer.headers, answer.read())
@@ -137,12 +168,14 @@ class Site:
             self.connection.close()
             raise
 
-    def begun(self, connection, method, path, body, headers, timeout):
+    def begun(self, connection: http.client.HTTPConnection | http.client.HTTPSConnection, method: str, path: str, body: bytes | None,
+              headers: dict[str, str], timeout: float) -> http.client.HTTPResponse:
         """An answer of which the head has come. A site may answer before it has read the body of a request, and then read no more of it."""
         connection.timeout = min(timeout, MOST_CONNECT)
         if connection.sock is None:
             connection.connect()
-        connection.sock.settimeout(timeout)
+        if connection.sock is not None:
+            connection.sock.settimeout(timeout)
         with contextlib.suppress(BrokenPipeError, ConnectionResetError, ssl.SSLEOFError):
             connection.request(method, self.path + path, body, headers)
         answer = connection.getresponse()
@@ -154,10 +187,10 @@ class Site:
 class Lines:
     """The lines of an answer as they come, and its head. Each has its line feed, but for a last one that lacks it."""
 
-    def __init__(self, address, answer):
+    def __init__(self, address: str, answer: http.client.HTTPResponse) -> None:
         self.address, self.answer, self.headers = address, answer, answer.headers
 
-    def __iter__(self):
+    def __iter__(self) -> Iterator[bytes]:
         rest = b""
         try:
             for piece in self._pieces():
@@ -170,7 +203,7 @@ class Lines:
         if rest:
             yield rest
 
-    def _pieces(self):
+    def _pieces(self) -> Iterator[bytes]:
         """The bytes of the answer as they come. Its `readline` takes an answer in chunks that is cut off for one that ends."""
         if self.answer.chunked:
             yield from iter(lambda: self.answer.read1(PIECE), b"")
@@ -186,9 +219,10 @@ class Lines:
 
 # ---- posts
 
-def posts(file):
+def posts(file: BinaryIO) -> Iterator[tuple[int, list[bytes]]]:
     """The lines of a file in posts, each with the number of its first line. They have no line feeds."""
-    first, lines, size = 1, [], 0
+    lines: list[bytes] = []
+    first, size = 1, 0
     for number, line in enumerate(file, 1):
         if lines and (len(lines) >= MOST_LINES or size + len(line) > MOST_BYTES):
             yield first, lines
@@ -199,7 +233,7 @@ def posts(file):
         yield first, lines
 
 
-def outcomes_in(body):
+def outcomes_in(body: bytes) -> list[dict[str, int | str]] | None:
     """The outcomes in an answer, each as the site has it. None if the answer has something else."""
     try:
         found = [json.loads(line) for line in body.split(b"\n") if line]
@@ -215,7 +249,7 @@ class Client:
     silent for longer than `timeout` seconds. In names of headers _ is written for -. ValueError says why an address or a token is refused.
     """
 
-    def __init__(self, addresses, token=None, context=None, timeout=60):
+    def __init__(self, addresses: list[str], token: str | None = None, context: ssl.SSLContext | None = None, timeout: float = 60) -> None:
         self.sites = [Site(address, context) for address in addresses]
         if not self.sites:
             raise ValueError("there is no address of a site")
@@ -227,25 +261,25 @@ class Client:
         self.token, self.timeout = token, timeout
         self.place = 0  # of the site that is asked next
 
-    def close(self):
+    def close(self) -> None:
         """Ends the connections that are open."""
         for site in self.sites:
             site.connection.close()
 
-    def address(self):
+    def address(self) -> str:
         """The address of the site that answered last."""
         return self.sites[self.place].address
 
-    def get(self, path, **headers):
+    def get(self, path: str, **headers: str) -> Answer:
         """The answer to a question, whatever its status is. Another site is asked if the connection to one is broken."""
         return self._first(lambda site: site.ask("GET", path, None, self._head(headers), self.timeout))
 
-    def post(self, path, body, **headers):
+    def post(self, path: str, body: bytes, **headers: str) -> Answer:
         """The answer to a body, as `get` has it. After a broken connection nobody knows whether a site took it, and it is sent again."""
         return self._first(lambda site: site.ask("POST", path, body, self._head(headers), self.timeout))
 
     @contextlib.contextmanager
-    def stream(self, path, **headers):
+    def stream(self, path: str, **headers: str) -> Iterator[Lines]:
         """The lines of an answer as they come. Failed if its status is not 200, and in the end if it is cut off."""
         connection, answer = self._first(lambda site: self._opened(site, path, headers))
         try:
@@ -253,7 +287,7 @@ class Client:
         finally:
             connection.close()
 
-    def posted(self, lines, until):
+    def posted(self, lines: list[bytes], until: float) -> list[dict[str, int | str]]:
         """The outcomes of lines that have no line feeds, in their order. Blank lines have none.
 
         The lines are sent again, to the next site, until a moment of `time.monotonic`. Failed if a site refuses them for good, or if they
@@ -262,24 +296,31 @@ class Client:
         numbers = [number for number, line in enumerate(lines, 1) if line.strip(BLANK)]
         if not numbers:
             return []
-        is_right = lambda found: [one.get("line") for one in found] == numbers
+
+        def is_right(found: list[dict[str, int | str]]) -> bool:
+            return [one.get("line") for one in found] == numbers
+
         return self._acknowledged("/messages", b"\n".join(lines), "application/x-ndjson", is_right, until)
 
-    def posted_xml(self, document, until):
+    def posted_xml(self, document: bytes, until: float) -> list[dict[str, int | str]]:
         """The outcomes of the messages of an XML document of ISO 20022, by the rule of `posted`."""
-        is_right = lambda found: all("message" in one for one in found)
+
+        def is_right(found: list[dict[str, int | str]]) -> bool:
+            return all("message" in one for one in found)
+
         return self._acknowledged("/iso20022", document, "application/xml", is_right, until)
 
     # ---- what these have in common
 
-    def _head(self, headers):
+    def _head(self, headers: dict[str, str]) -> dict[str, str]:
         its = {"Authorization": f"Bearer {self.token}"} if self.token else {}
         return {**its, **{name.replace("_", "-"): text for name, text in headers.items()}}
 
-    def _first(self, ask):
+    def _first(self, ask: Callable[[Site], T]) -> T:
         """What the first site answers that does. The one that answered last is the first that is asked."""
-        for left in reversed(range(len(self.sites))):
-            site = self.sites[self.place]
+        left = len(self.sites)
+        while True:
+            site, left = self.sites[self.place], left - 1
             try:
                 return ask(site)
             except FAULTS as fault:
@@ -287,7 +328,7 @@ class Client:
                 if not left:
                     raise failure_by(site.address, fault) from None
 
-    def _opened(self, site, path, headers):
+    def _opened(self, site: Site, path: str, headers: dict[str, str]) -> tuple[http.client.HTTPConnection, http.client.HTTPResponse]:
         """An answer that has begun, on a connection of its own."""
         connection = site.fresh()
         try:
@@ -299,9 +340,11 @@ class Client:
             connection.close()
             raise
 
-    def _acknowledged(self, path, body, kind, is_right, until):
+    def _acknowledged(self, path: str, body: bytes, kind: str, is_right: Callable[[list[dict[str, Any]]], bool],
+                      until: float) -> list[dict[str, Any]]:
         """The outcomes with which a site answers a post. It is sent again until there are some, or until it fails for good."""
         pause, left = FIRST_PAUSE, list(self.sites)
+        failure: Failed
         while True:
             site = self.sites[self.place]
             try:
@@ -314,7 +357,8 @@ class Client:
             self._go_on(left, pause, until, failure)
             pause = min(2 * pause, MOST_PAUSE)
 
-    def _once(self, site, path, body, kind, is_right, until):
+    def _once(self, site: Site, path: str, body: bytes, kind: str, is_right: Callable[[list[dict[str, Any]]], bool],
+              until: float) -> list[dict[str, Any]]:
         seconds = max(LEAST, min(self.timeout, until - time.monotonic()))
         try:
             answer = site.ask("POST", path, body, self._head({"Content-Type": kind}), seconds)
@@ -327,7 +371,7 @@ class Client:
             raise failure(site.address, "the answer lacks the outcome of some line", answer, Later)
         return found
 
-    def _go_on(self, left, pause, until, failure):
+    def _go_on(self, left: list[Site], pause: float, until: float, failure: Exception | Elsewhere) -> None:
         """Waits, and goes on to the next site that may be asked. The failure stays if there is none in time."""
         now = time.monotonic()
         in_turn = [site for site in self.sites[self.place + 1:] + self.sites[:self.place + 1] if site in left]
@@ -340,7 +384,7 @@ class Client:
 
 # ---- the words of a command line
 
-def add_options(parser):
+def add_options(parser: argparse.ArgumentParser) -> None:
     """The options that say who asks, for a parser of argparse."""
     parser.add_argument("--token-file", metavar="FILE", help="a file with the token (without it the variable NILUPPANG_TOKEN)")
     parser.add_argument("--cert", metavar="FILE", help="the certificate that is shown to sites")
@@ -348,7 +392,7 @@ def add_options(parser):
     parser.add_argument("--ca", metavar="FILE", help="who signs the certificates of sites (without it the authorities of the system)")
 
 
-def client_of(asked, addresses):
+def client_of(asked: argparse.Namespace, addresses: list[str]) -> Client:
     """The client for the words of a command line. ValueError and OSError say why there is none."""
     token = os.environ.get("NILUPPANG_TOKEN")
     if asked.token_file:
@@ -358,7 +402,7 @@ def client_of(asked, addresses):
     return Client(addresses, token, context_of(asked, addresses))
 
 
-def context_of(asked, addresses):
+def context_of(asked: argparse.Namespace, addresses: list[str]) -> ssl.SSLContext | None:
     """The certificates of both sides. None if no address is one of https."""
     if asked.key and not asked.cert:
         raise ValueError("--key is the key of --cert, which lacks")
@@ -366,8 +410,9 @@ def context_of(asked, addresses):
         if asked.cert or asked.ca:
             raise ValueError("--cert, --key and --ca need an address of https")
         return None
-    for path in filter(None, (asked.ca, asked.cert, asked.key)):
-        open(path, "rb").close()
+    for path in (asked.ca, asked.cert, asked.key):
+        if path:
+            open(path, "rb").close()
     try:
         context = ssl.create_default_context(cafile=asked.ca)
         context.minimum_version = ssl.TLSVersion.TLSv1_2

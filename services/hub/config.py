@@ -3,8 +3,12 @@
 Each key of the file has a type, and a key that is not known is refused by its name. A path in it is seen from the folder of the file.
 In a path `{site}` is replaced by the number of the site.
 """
-import dataclasses, ipaddress, pathlib, tomllib
-from typing import Dict, Optional, Tuple
+from __future__ import annotations
+import dataclasses
+import ipaddress
+import pathlib
+import tomllib
+from typing import Any, Dict, Optional, Tuple
 from .files import Wrong
 
 MOST_GROUP = 1024
@@ -13,7 +17,7 @@ MOST_CONNECTIONS = 2000
 SECONDS = 30.0  # for a head, for a body, and for an answer
 
 
-def is_local(host):
+def is_local(host: str) -> bool:
     """Whether an address is one of this machine alone."""
     try:
         return ipaddress.ip_address(host).is_loopback
@@ -47,22 +51,25 @@ class Settings:
     program: Optional[str] = None
     roles: Optional[str] = None
     peer_token: Optional[str] = None
+    mirror: Optional[str] = None
     tls: Optional[Tls] = None
     peers: Dict[int, str] = dataclasses.field(default_factory=dict)
     through: Dict[int, int] = dataclasses.field(default_factory=dict)
     access: Dict[str, Tuple[str, ...]] = dataclasses.field(default_factory=dict)
+    before: Optional[str] = None
 
 
 NUMBER, SECONDS_TYPE, TEXT = (int,), (int, float), (str,)
 # the keys of a file that have one value, with the types of it, and those whose text is a path
 KEYS = {"folder": TEXT, "site": NUMBER, "group": NUMBER, "host": TEXT, "port": NUMBER, "hear": NUMBER, "silence": SECONDS_TYPE,
-        "connections": NUMBER, "seconds": SECONDS_TYPE, "waiting": SECONDS_TYPE, "program": TEXT, "roles": TEXT, "peer_token": TEXT}
-TLS_KEYS = {"certificate": TEXT, "key": TEXT, "authority": TEXT, "clients": TEXT}
-PATHS = {"folder", "roles", "peer_token", "certificate", "key", "authority"}
+        "connections": NUMBER, "seconds": SECONDS_TYPE, "waiting": SECONDS_TYPE, "program": TEXT, "roles": TEXT, "peer_token": TEXT,
+        "mirror": TEXT, "before": TEXT}
+TLS_KEYS: dict[str, tuple[type, ...]] = {"certificate": TEXT, "key": TEXT, "authority": TEXT, "clients": TEXT}
+PATHS = {"folder", "roles", "peer_token", "mirror", "certificate", "key", "authority"}
 LISTS, TABLES = {"names", "sites"}, {"tls", "peers", "through", "access"}
 
 
-def typed(found, keys, what):
+def typed(found: dict[str, Any], keys: dict[str, tuple[type, ...]], what: str) -> dict[str, Any]:
     """The values of a table, each of the type that its key has."""
     for key, value in found.items():
         if key not in keys:
@@ -72,22 +79,25 @@ def typed(found, keys, what):
     return found
 
 
-def by_number(found, kind, what):
+def by_number(found: object, kind: type, what: str) -> dict[int, Any]:
     """A table whose keys are numbers of sites."""
-    is_one = lambda key, value: key.isascii() and key.isdecimal() and isinstance(value, kind) and not isinstance(value, bool)
+
+    def is_one(key: str, value: int | str) -> bool:
+        return key.isascii() and key.isdecimal() and isinstance(value, kind) and not isinstance(value, bool)
+
     if not isinstance(found, dict) or not all(is_one(*pair) for pair in found.items()):
         raise Wrong(f"{what} is not a table from numbers of sites to {'addresses' if kind is str else 'numbers of sites'}")
     return {int(key): value for key, value in found.items()}
 
 
-def listed_in(found, key, kind):
+def listed_in(found: dict[str, Any], key: str, kind: type) -> list[Any]:
     values = found.get(key, [])
     if not isinstance(values, list) or not all(isinstance(value, kind) and not isinstance(value, bool) for value in values):
         raise Wrong(f"{key} is not a list of {'texts' if kind is str else 'numbers'}")
     return values
 
 
-def access_in(found):
+def access_in(found: dict[str, Any]) -> dict[str, tuple[str, ...]]:
     """The addresses whose roles are others than usual."""
     table = found.get("access", {})
     if not isinstance(table, dict):
@@ -95,12 +105,12 @@ def access_in(found):
     return {name: tuple(listed_in(table, name, str)) for name in table}
 
 
-def placed(table, folder, site):
+def placed(table: dict[str, Any], folder: pathlib.Path, site: int) -> dict[str, Any]:
     """A table whose paths are seen from a folder, for one site."""
     return {key: str(folder / value.replace("{site}", str(site))) if key in PATHS else value for key, value in table.items()}
 
 
-def parsed(path):
+def parsed(path: str) -> dict[str, Any]:
     try:
         return tomllib.loads(pathlib.Path(path).read_text(encoding="utf-8"))
     except OSError as fault:
@@ -109,7 +119,7 @@ def parsed(path):
         raise Wrong(f"{path} is not TOML: {fault}") from None
 
 
-def tls_in(found, folder, site):
+def tls_in(found: dict[str, Any], folder: pathlib.Path, site: int) -> Tls | None:
     if "tls" not in found:
         return None
     if not isinstance(found["tls"], dict):
@@ -123,13 +133,13 @@ def tls_in(found, folder, site):
     return Tls(**table)
 
 
-def addresses(numbers, site, host, port, scheme):
+def addresses(numbers: list[int], site: int, host: str, port: int, scheme: str) -> dict[int, str]:
     """The addresses of the other sites of a machine. Site N is N - 1 ports after the first one."""
     name = f"[{host}]" if ":" in host else host
     return {number: f"{scheme}://{name}:{port + number - 1}" for number in numbers if number != site}
 
 
-def of_file(path):
+def of_file(path: str) -> dict[int, Settings]:
     """The settings of each site that a file names, by number."""
     found, folder = parsed(path), pathlib.Path(path).resolve().parent
     plain = {key: value for key, value in found.items() if key not in LISTS | TABLES}
@@ -156,7 +166,7 @@ def of_file(path):
     return made
 
 
-def checked(it):
+def checked(it: Settings) -> Settings:
     """The settings of a site, if they go together."""
     if not 1 <= it.site <= it.group <= MOST_GROUP:
         raise Wrong(f"a site has a number from 1 to the group, which is at most {MOST_GROUP}")
@@ -166,6 +176,8 @@ def checked(it):
         raise Wrong("the address of a peer begins with http:// or https://")
     if it.tls and not all(address.startswith("https://") for address in it.peers.values()):
         raise Wrong("with [tls] the address of a peer begins with https://: else its certificate is not seen, and a token goes in clear")
+    if it.before is not None and not it.before.startswith(("http://", "https://")):
+        raise Wrong("before is the address of a site of the group before, and begins with http:// or https://")
     if it.hear is not None and not 0 <= it.hear <= len(it.peers):
         raise Wrong("hear is a number of peers")
     if not all(1 <= number <= it.group and number != it.site and other in it.peers for number, other in it.through.items()):

@@ -1,5 +1,10 @@
 """events.py: what changed, for the pages that watch: the last events, and a queue for each page."""
-import asyncio, collections, json, secrets
+from __future__ import annotations
+import asyncio
+import collections
+import json
+import secrets
+from typing import Any
 
 MOST_EVENTS, MOST_BYTES = 1000, 8 << 20  # events, and their bytes, that are kept for a page that comes back
 MOST_EVENT = 1 << 20  # bytes of an event: after a longer one a page loads again
@@ -14,14 +19,18 @@ class Queue(asyncio.Queue):
 
 
 class Events:
-    def __init__(self):
+    last: collections.deque[tuple[int, bytes]]
+    queues: set[Queue]
+
+    def __init__(self) -> None:
         self.began = secrets.token_hex(8)  # no two runs of a site have one, however fast they follow
         self.number, self.last, self.size, self.queues = 0, collections.deque(), 0, set()
 
-    def add(self, changes):
+    def add(self, changes: list[tuple[str, str, str | None]] | None) -> None:
         """Publishes changed transfers, or with None that a page has to load again."""
         self.number += 1
-        found = [{"bank": bank, "tx": tx, **({} if lines is None else {"lines": lines.splitlines()})} for bank, tx, lines in changes or []]
+        found: list[dict[str, Any]] = [{"bank": bank, "tx": tx, **({} if lines is None else {"lines": lines.splitlines()})}
+                                       for bank, tx, lines in changes or []]
         event = self.text("transfers", found) if changes is not None and len(found) <= MOST_NAMES else self.text("reset", [])
         if len(event) > MOST_EVENT:
             event = self.text("reset", [])
@@ -37,16 +46,16 @@ class Events:
             else:
                 queue.put_nowait(event)
 
-    def end(self):
+    def end(self) -> None:
         """Ends all pages: each comes back, and shows anew who it is."""
         for queue in self.queues:
             queue.put_nowait(None)
         self.queues.clear()
 
-    def text(self, word, found):
+    def text(self, word: str, found: list[dict[str, Any]]) -> bytes:
         return f"id: {self.began}-{self.number}\nevent: {word}\ndata: {json.dumps(found)}\n\n".encode()
 
-    def since(self, last):
+    def since(self, last: str) -> list[bytes]:
         """The events after the one that a page had last. If they are not all here, it must load again."""
         if not last:
             return [self.text("begin", [])]

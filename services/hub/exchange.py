@@ -8,10 +8,19 @@ is asked for its own entries alone, and an answer with entries of another site i
 entries of a site that is retired, or cannot be reached, are asked from the peer that the configuration names for it. A peer that fails is
 asked again after a pause, which doubles up to a limit. A long answer is given to the site in pieces, as it comes.
 """
-import asyncio, logging, random, time
+from __future__ import annotations
+import asyncio
+import contextlib
+import logging
+import random
+import ssl
+import time
 import aiohttp
-from .keeper import Busy, Refused, Unable
+from typing import Callable, TYPE_CHECKING
+from .keeper import Busy, Keeper, Refused, Unable
 from .vectors import BadText, Pieces, vector_of
+if TYPE_CHECKING:
+    from .config import Settings
 
 WAIT = 2.0  # seconds that a peer waits for new entries, and between two questions for those of another site
 FIRST_PAUSE, MOST_PAUSE = 0.05, 2.0
@@ -32,7 +41,7 @@ class OwnAhead(BadAnswer):
     """A peer has more messages of this site than this site."""
 
 
-def said(fault):
+def said(fault: Exception) -> str:
     """What is said of a failure. It has no address: it is shown to everyone."""
     if isinstance(fault, (BadAnswer, BadText, Refused, Unable)):
         return str(fault)[:300]
@@ -41,27 +50,33 @@ def said(fault):
 
 class Peer:
     """A peer, and what is known of it. `others` are the sites whose entries it hands on."""
+    counts: dict[int, int]
+    closed: str | None
+    heard_at: float | None
+    fault: str | None
+    task: asyncio.Task[None] | None
 
-    def __init__(self, number, address, others, keeper, silence, version, headers, tls):
+    def __init__(self, number: int, address: str, others: list[int], keeper: Keeper, silence: float, version: str, headers: dict[str, str],
+                 tls: ssl.SSLContext | None) -> None:
         self.number, self.address, self.others, self.keeper, self.version = number, address.rstrip("/"), others, keeper, version
         self.first_silence = self.silence = silence
         self.pause, self.heard_at, self.fault = FIRST_PAUSE, None, None
-        self.counts, self.failures, self.asked_others_at = {}, 0, 0.0
+        self.counts, self.closed, self.failures, self.asked_others_at = {}, None, 0, 0.0
         self.session = aiohttp.ClientSession(auto_decompress=False, headers=headers, read_bufsize=MOST_LINE, trust_env=False,
                                              cookie_jar=aiohttp.DummyCookieJar(), connector=aiohttp.TCPConnector(ssl=tls))
         self.task = None
 
-    def lag(self):
+    def lag(self) -> int:
         """How many entries the peer had when it was heard last that this site lacks now."""
         counts = self.keeper.counts
         return sum(max(0, count - counts[origin - 1]) for origin, count in self.counts.items() if origin <= len(counts))
 
-    def request(self, path, **words):
+    def request(self, path: str, **words: str) -> contextlib.AbstractAsyncContextManager[aiohttp.ClientResponse]:
         """A request to the peer. It is not sent on to where an answer points."""
         timeout = aiohttp.ClientTimeout(total=None, sock_connect=2, sock_read=WAIT + self.silence)
         return self.session.get(f"{self.address}{path}", params=words, timeout=timeout, allow_redirects=False)
 
-    def heard(self, answer):
+    def heard(self, answer: aiohttp.ClientResponse) -> None:
         """Looks at the head of an answer: whether it is that of the peer, and whether the peer has more of this site than it has."""
         if answer.status != 200:
             raise BadAnswer(f"it answered with status {answer.status}")
@@ -78,15 +93,15 @@ class Peer:
             why = f"43 OwnAhead: site {self.number} has {own} messages of this site, which has {held}: its journal lost lines"
             self.keeper.halt(why)
             raise OwnAhead(why)
-        self.counts = counts
+        self.counts, self.closed = counts, answer.headers.get("Niluppang-Closed")
 
-    def is_well(self):
+    def is_well(self) -> None:
         self.heard_at, self.pause, self.silence = time.monotonic(), FIRST_PAUSE, self.first_silence
         if self.fault:
             log.info("site %d answers again", self.number)
             self.fault = None
 
-    async def hear(self):
+    async def hear(self) -> None:
         """Asks for the vector until the peer answers with it."""
         while True:
             try:
@@ -101,7 +116,7 @@ class Peer:
                 self.failed(fault)
                 await self.rest()
 
-    async def once(self):
+    async def once(self) -> int:
         """Asks once for what the peer has of its own, and from time to time for what it hands on. How many entries are new."""
         fresh = 0
         if time.monotonic() - self.asked_others_at > WAIT:
@@ -112,13 +127,13 @@ class Peer:
         self.is_well()
         return fresh
 
-    async def _asked(self, origin, **words):
+    async def _asked(self, origin: int, **words: str) -> int:
         """Asks for the entries of a site, and accepts the answer."""
         async with self.request("/delta", have=self.keeper.vector, of=str(origin), **words) as answer:
             self.heard(answer)
             return await self._accepted(answer, origin)
 
-    async def _accepted(self, answer, origin):
+    async def _accepted(self, answer: aiohttp.ClientResponse, origin: int) -> int:
         """How many entries of the body of an answer are new."""
         pieces, fresh = Pieces(MOST_PIECE, origin), 0
         while not pieces.is_ended:
@@ -132,14 +147,14 @@ class Peer:
                 fresh += await self._accepts(piece)
         return fresh
 
-    async def _accepts(self, piece):
+    async def _accepts(self, piece: bytes) -> int:
         while True:
             try:
                 return await self.keeper.accept(piece)
             except Busy:
                 await asyncio.sleep(0.1)
 
-    def failed(self, fault):
+    def failed(self, fault: Exception) -> None:
         """Remembers that the peer failed, and logs it if it did not fail so before. A halt has its own line in the log."""
         self.failures += 1
         if isinstance(fault, asyncio.TimeoutError):
@@ -149,11 +164,11 @@ class Peer:
             log.warning("site %d at %s: %s", self.number, self.address, str(fault) or text)
         self.fault = text
 
-    async def rest(self):
+    async def rest(self) -> None:
         await asyncio.sleep(self.pause * random.uniform(0.5, 1))
         self.pause = min(2 * self.pause, MOST_PAUSE)
 
-    async def follow(self):
+    async def follow(self) -> None:
         """Asks again and again, for ever. No failure ends it."""
         while True:
             try:
@@ -163,7 +178,7 @@ class Peer:
                 self.failed(fault)
                 await self.rest()
 
-    async def end(self):
+    async def end(self) -> None:
         if self.task:
             self.task.cancel()
             await asyncio.gather(self.task, return_exceptions=True)
@@ -172,18 +187,22 @@ class Peer:
 
 class Peers:
     """All peers of a site. `context` makes the TLS of a peer, by its number."""
+    all: list[Peer]
 
-    def __init__(self, keeper, version):
+    def __init__(self, keeper: Keeper, version: str) -> None:
         self.keeper, self.version, self.all, self.follows = keeper, version, [], False
 
-    async def be(self, settings, context):
+    async def be(self, settings: Settings, context: Callable[[int], ssl.SSLContext | None]) -> None:
         """Has the peers that the settings name. Those that were there before are asked anew."""
         headers = {}
         if settings.peer_token:
             with open(settings.peer_token, encoding="utf-8") as file:
                 headers["Authorization"] = f"Bearer {file.read().strip()}"
         contexts = {number: context(number) for number in settings.peers}  # what fails above and here leaves the peers as they are
-        handed_on = lambda number: sorted(origin for origin, peer in settings.through.items() if peer == number)
+
+        def handed_on(number: int) -> list[int]:
+            return sorted(origin for origin, peer in settings.through.items() if peer == number)
+
         before, self.all = self.all, [
             Peer(number, address, handed_on(number), self.keeper, settings.silence, self.version, headers, contexts[number])
             for number, address in sorted(settings.peers.items())]
@@ -192,10 +211,11 @@ class Peers:
         if self.follows:
             self.follow()
 
-    async def hear(self, least, is_ended):
+    async def hear(self, least: Callable[[], int], is_ended: Callable[[], object]) -> None:
         """Asks each peer for its vector, before the site takes anything. It ends when as many as `least` says were heard, and all of them
         were or some seconds have passed. Meanwhile the configuration may name other peers."""
-        tasks, until = {}, time.monotonic() + (HEARING if least() else 1)
+        tasks: dict[Peer, asyncio.Task[None]] = {}
+        until = time.monotonic() + (HEARING if least() else 1)
         while not is_ended() and (self.heard() < least() or self.heard() < len(self.all) and time.monotonic() < until):
             for peer in set(self.all) - set(tasks):
                 tasks[peer] = asyncio.ensure_future(peer.hear())
@@ -206,17 +226,21 @@ class Peers:
             task.cancel()
         await asyncio.gather(*tasks.values(), return_exceptions=True)
 
-    def heard(self):
+    def heard(self) -> int:
         """How many peers have answered."""
         return sum(peer.heard_at is not None for peer in self.all)
 
-    def follow(self):
+    def others(self, day: str, vector: str) -> list[int]:
+        """The peers that are not known to be closed for a day, or to hold the same as a vector counts."""
+        return [peer.number for peer in self.all if peer.closed != day or peer.counts != vector_of(vector)]
+
+    def follow(self) -> None:
         """From now on each peer is asked."""
         self.follows = True
         for peer in self.all:
             if peer.task is None:
                 peer.task = asyncio.ensure_future(peer.follow())
 
-    async def end(self):
+    async def end(self) -> None:
         for peer in self.all:
             await peer.end()

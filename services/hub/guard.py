@@ -3,9 +3,18 @@
 Nobody is let in by a name that is not that of the site, since a page of the web can give its own name the address of the site. Each
 request has limits before its body is read: connections, seconds for its head, bytes of bodies for all connections together.
 """
-import asyncio, math, socket, struct, time, urllib.parse
-from .access import NOBODY
+from __future__ import annotations
+import asyncio
+import math
+import socket
+import struct
+import time
+import urllib.parse
+from typing import TYPE_CHECKING
+from .access import NOBODY, Roles, Who
 from .keeper import Busy
+if TYPE_CHECKING:
+    from aiohttp import web
 
 LOCAL = {"localhost", "127.0.0.1", "::1"}
 BUFFERED = 512 << 10  # bytes of an answer that the system holds for a client
@@ -15,7 +24,7 @@ RATE = 1 << 20  # bytes of an answer for which it has one second more
 class Forbidden(Exception):
     """Why a request is not answered, and the status that says so."""
 
-    def __init__(self, why, status=403):
+    def __init__(self, why: str, status: int = 403) -> None:
         super().__init__(why)
         self.status = status
 
@@ -23,10 +32,10 @@ class Forbidden(Exception):
 class Guard:
     """The names of a site, and who is who. It is changed while the site runs."""
 
-    def __init__(self, names, roles):
+    def __init__(self, names: list[str], roles: Roles) -> None:
         self.names, self.roles = LOCAL | set(names), roles
 
-    def check(self, request):
+    def check(self, request: web.Request) -> None:
         """Forbidden if a request must not be answered because of where it comes from."""
         try:
             name = urllib.parse.urlsplit(f"//{request.host}").hostname
@@ -44,7 +53,7 @@ class Guard:
         if request.headers.get("Content-Encoding", "identity") != "identity":
             raise Forbidden("a body is taken as it is, and not encoded", 415)
 
-    def who(self, request):
+    def who(self, request: web.Request) -> Who:
         """Who asks. Forbidden if it shows a token that nobody has."""
         certificate = request.transport.get_extra_info("peercert") if request.transport else None
         found = self.roles.who(certificate, request.headers.get("Authorization", ""))
@@ -52,7 +61,7 @@ class Guard:
             raise Forbidden("nobody has this token, or several have this certificate", 401)
         return found
 
-    def must(self, who, roles):
+    def must(self, who: Who, roles: tuple[str, ...]) -> None:
         """Forbidden unless somebody has one of some roles."""
         if not who.may(roles):
             status = 401 if who is NOBODY else 403
@@ -62,33 +71,34 @@ class Guard:
 class Budget:
     """Bytes that bodies of all connections may have together."""
 
-    def __init__(self, most):
+    def __init__(self, most: int) -> None:
         self.most, self.used = most, 0
 
-    def take(self, size):
+    def take(self, size: int) -> None:
         if self.used + size > self.most:
             raise Busy()
         self.used += size
 
-    def give(self, size):
+    def give(self, size: int) -> None:
         self.used -= size
 
 
 class TooMany(Exception):
     """A client posts too much, and the seconds after which it may go on."""
 
-    def __init__(self, seconds):
-        super().__init__("too many lines of one client: send them again later")
+    def __init__(self, seconds: int) -> None:
+        super().__init__("too many lines of one client")
         self.seconds = seconds
 
 
 class Rates:
     """Lines that a client may post: so many a second, and so many at once."""
+    left: dict[str, tuple[float, float]]
 
-    def __init__(self, rate, most):
+    def __init__(self, rate: int, most: int) -> None:
         self.rate, self.most, self.left = rate, most, {}
 
-    def take(self, name, many):
+    def take(self, name: str, many: int) -> None:
         left, at = self.left.get(name, (self.most, 0.0))
         now = time.monotonic()
         left = min(self.most, left + (now - at) * self.rate)
@@ -97,7 +107,7 @@ class Rates:
         self.left[name] = left - many, now
 
 
-def cut_off(transport):
+def cut_off(transport: asyncio.Transport | None) -> None:
     """Ends a connection at once. What was not sent yet is dropped: else the system keeps it until the other side takes it."""
     if transport is None:
         return

@@ -4,13 +4,25 @@ A post goes to one of the sites, and again to the next one until each message ha
 answers. Answers go to standard output as they come. An error is a line on standard error: the site, the status, what it said, and the
 identification that the request has in the records of the site.
 
-The exit status is 0 if all is well. It is 1 if messages were refused or forbidden, which standard error lists. It is 2 after an error:
-what is not acknowledged then may be posted again.
+The exit status is 0 if all is well. It is 1 if messages were refused or forbidden, which standard error lists, or if no transfer was found.
+It is 2 after an error: what is not acknowledged then may be posted again.
 """
-import argparse, collections, contextlib, json, os, pathlib, signal, sys, time, urllib.parse
+from __future__ import annotations
+import argparse
+import collections
+import contextlib
+import json
+import os
+import pathlib
+import signal
+import sys
+import time
+import urllib.parse
 sys.path.insert(0, str(pathlib.Path(__file__).resolve().parent))
 import client
+from typing import Any, BinaryIO, Callable, Iterator
 
+Command = Callable[[client.Client, argparse.Namespace], int]
 SECONDS = 600
 COUNTS = {"TAKEN": "taken", "REPEAT": "repeats", "WAITING": "waiting", "REFUSED": "refused", "FORBIDDEN": "forbidden"}
 WELL = ("TAKEN", "REPEAT", "WAITING")
@@ -18,17 +30,19 @@ NOTHING = {"message": "the document", "outcome": "UNREAD", "why": "there is no m
 LIST = {"Content_Type": "text/csv"}
 
 
-def quoted(*words):
+def quoted(*words: str) -> str:
     """The path that some words come to. A slash in a word does not end it."""
     return "".join(f"/{urllib.parse.quote(os.fsencode(word), safe='')}" for word in words)
 
 
-def opened(path):
+def opened(path: str) -> contextlib.AbstractContextManager[BinaryIO]:
     """A file as bytes, or standard input."""
-    return contextlib.nullcontext(sys.stdin.buffer) if path == "-" else open(path, "rb")
+    if path == "-":
+        return contextlib.nullcontext(sys.stdin.buffer)
+    return open(path, "rb")
 
 
-def printed(data):
+def printed(data: bytes) -> None:
     """Writes an answer. On a terminal what could steer it is shown as a question mark: a name may have any character."""
     if sys.stdout.isatty():
         data = "".join(sign if sign.isprintable() or sign in "\n\t" else "?" for sign in data.decode(errors="replace")).encode()
@@ -36,7 +50,7 @@ def printed(data):
     sys.stdout.buffer.flush()
 
 
-def good(its, answer):
+def good(its: client.Client, answer: client.Answer) -> client.Answer:
     """An answer with status 200."""
     if answer.status != 200:
         raise client.failure_of(its.address(), answer)
@@ -45,7 +59,7 @@ def good(its, answer):
 
 # ---- posts
 
-def remarks(one):
+def remarks(one: dict[str, Any]) -> Iterator[str]:
     """What is said of an outcome: why it is none of those that are well, and what the site notes."""
     if one["outcome"] not in WELL:
         word = "" if one["outcome"] == "REFUSED" else f"{one['outcome'].lower()}: "
@@ -54,14 +68,14 @@ def remarks(one):
         yield f"note: {one['note']}"
 
 
-def noted(counts, found, place_of):
+def noted(counts: collections.Counter[str], found: list[dict[str, Any]], place_of: Callable[[dict[str, Any]], str]) -> None:
     """Counts outcomes. Standard error lists what is said of them, each with its place."""
     counts.update(one["outcome"] for one in found)
     for line in (f"{place_of(one)}: {remark}" for one in found for remark in remarks(one)):
         print(client.one_line(line), file=sys.stderr)
 
 
-def acknowledged(rest, ask, *words):
+def acknowledged(rest: str, ask: Callable[..., list[dict[str, Any]]], *words: Any) -> list[dict[str, Any]]:
     """The outcomes of a part of what is posted, or an error that says with what the rest begins."""
     try:
         return ask(*words)
@@ -71,15 +85,16 @@ def acknowledged(rest, ask, *words):
         raise client.Failed(f"{rest} are not acknowledged: {fault}") from None
 
 
-def summed(counts):
+def summed(counts: dict[str, int]) -> int:
     """Prints the counts of outcomes. The exit status that they come to."""
     names = {**COUNTS, **{outcome: outcome.lower() for outcome in sorted(counts) if outcome not in COUNTS}}
     print(client.one_line(", ".join(f"{name} {counts[outcome]}" for outcome, name in names.items())))
     return 1 if set(counts) - set(WELL) else 0
 
 
-def post(its, asked):
-    until, counts = time.monotonic() + asked.seconds, collections.Counter()
+def post(its: client.Client, asked: argparse.Namespace) -> int:
+    until = time.monotonic() + asked.seconds
+    counts: collections.Counter[str] = collections.Counter()
     with opened(asked.file) as file:
         for first, lines in client.posts(file):
             found = acknowledged(f"line {first} and those after it", its.posted, lines, until)
@@ -87,8 +102,9 @@ def post(its, asked):
     return summed(counts)
 
 
-def xml(its, asked):
-    until, counts = time.monotonic() + asked.seconds, collections.Counter()
+def xml(its: client.Client, asked: argparse.Namespace) -> int:
+    until = time.monotonic() + asked.seconds
+    counts: collections.Counter[str] = collections.Counter()
     for path in asked.files:
         with opened(path) as file:
             found = acknowledged(f"{path} and the files after it", its.posted_xml, file.read(), until)
@@ -98,9 +114,9 @@ def xml(its, asked):
 
 # ---- questions
 
-def text(path_of):
+def text(path_of: Callable[[argparse.Namespace], str]) -> Command:
     """The command that prints a text, which has the path that some words come to."""
-    def command(its, asked):
+    def command(its: client.Client, asked: argparse.Namespace) -> int:
         with its.stream(path_of(asked)) as lines:
             for line in lines:
                 sys.stdout.buffer.write(line)
@@ -111,14 +127,29 @@ def text(path_of):
     return command
 
 
-def report(its, asked):
+def find(its: client.Client, asked: argparse.Namespace) -> int:
+    """Prints what is found, each transfer as a line of JSON. The exit status is 1 if there is none."""
+    answer = good(its, its.get(f"/find?{urllib.parse.urlencode({'what': os.fsencode(asked.what)})}"))
+    printed(answer.body)
+    if "Niluppang-Partial" in answer.headers:
+        print("hubctl: there are more: name the bank and the TxId", file=sys.stderr)
+    if not answer.body:
+        print("hubctl: no such transfer", file=sys.stderr)
+    return 0 if answer.body else 1
+
+
+def report(its: client.Client, asked: argparse.Namespace) -> int:
     with opened(asked.list) as file:
         rows = file.read()
-    printed(good(its, its.post(quoted("report", asked.bank, asked.day), rows, **LIST)).body)
+    answer = good(its, its.post(quoted("report", asked.bank, asked.day), rows, **LIST))
+    with contextlib.suppress(ValueError):
+        for note in json.loads(answer.headers.get("Niluppang-Notes", "[]")):
+            print(f"hubctl: {client.one_line(str(note))}", file=sys.stderr)
+    printed(answer.body)
     return 0
 
 
-def health(its, _):
+def health(its: client.Client, _: argparse.Namespace) -> int:
     """Prints what the site says of itself, also if it is not well. That is an error all the same."""
     answer = its.get("/health")
     with contextlib.suppress(ValueError, KeyError, TypeError):
@@ -129,7 +160,7 @@ def health(its, _):
     return 0
 
 
-def events_of(lines):
+def events_of(lines: client.Lines) -> Iterator[dict[str, str]]:
     """The events of a stream, each as its fields. One without fields shows that the stream is alive."""
     fields = {}
     for line in lines:
@@ -143,11 +174,12 @@ def events_of(lines):
 
 class Following:
     """Follows what changes at a site. `last` is the mark of the last event, and `is_alive` says that something came after that."""
+    last: str | None
 
-    def __init__(self, its):
+    def __init__(self, its: client.Client) -> None:
         self.its, self.last, self.is_alive = its, None, False
 
-    def next(self):
+    def next(self) -> Iterator[dict[str, str]]:
         """The events after the last one, until the stream ends."""
         self.is_alive = False
         with self.its.stream("/changes", **({"Last_Event_ID": self.last} if self.last else {})) as lines:
@@ -157,7 +189,7 @@ class Following:
                     yield event
         raise client.Later("the stream of changes ended")
 
-    def all(self, seconds):
+    def all(self, seconds: float) -> Iterator[dict[str, str]]:
         """All events. A stream that ends is opened again, until no site has answered for these seconds."""
         until, pause = 0.0, client.FIRST_PAUSE
         while True:
@@ -172,7 +204,7 @@ class Following:
                 pause = min(2 * pause, client.MOST_PAUSE)
 
 
-def changes(its, asked):
+def changes(its: client.Client, asked: argparse.Namespace) -> int:
     """Prints each event as a line of JSON."""
     for number, event in enumerate(Following(its).all(asked.seconds), 1):
         printed(json.dumps({**event, "data": json.loads(event.get("data", "null"))}).encode() + b"\n")
@@ -184,11 +216,12 @@ def changes(its, asked):
 # ---- the words of the command line
 
 BANK = {"metavar": "BANK", "help": "the BIC of the bank"}
-WORDS = {
+WORDS: dict[str, dict[str, Any]] = {
     "file": {"metavar": "FILE", "help": "JSON lines, one message each; - is standard input"},
     "files": {"metavar": "FILE", "nargs": "+", "help": "an XML document; - is standard input"},
     "originator": {"metavar": "BANK", "help": "the BIC of the originator bank"},
     "tx": {"metavar": "TX", "help": "the identification of the transfer"},
+    "what": {"metavar": "WHAT", "help": "what is known of the transfer"},
     "bank": BANK, "one_bank": {**BANK, "nargs": "?"},
     "day": {"metavar": "DAY", "help": "the day of the list, such as 2025-03-10"},
     "list": {"metavar": "LIST", "help": "the list as CSV; - is standard input"},
@@ -201,6 +234,7 @@ COMMANDS = {
     "xml": (xml, "post files of ISO 20022 messages in XML", "files"),
     "transfer": (text(lambda its: quoted("transfers", its.originator, its.tx)), "print the findings on a transfer", TRANSFER),
     "messages": (text(lambda its: quoted("transfers", its.originator, its.tx, "messages")), "print the messages on a transfer", TRANSFER),
+    "find": (find, "print the transfers with a TxId, an EndToEndId, an IBAN or an amount, of any bank, by the mirror of the site", "what"),
     "totals": (text(lambda its: quoted("totals", *filter(None, [its.one_bank]))), "print the totals of all banks, or of one", "one_bank"),
     "report": (report, "print the report on a list of a bank", "bank day list"),
     "status": (text(lambda _: "/status"), "print the findings on all transfers", ""),
@@ -214,7 +248,7 @@ COMMANDS = {
 }
 
 
-def options(words):
+def options(words: list[str]) -> argparse.Namespace:
     it = argparse.ArgumentParser(prog="hubctl", description=__doc__, formatter_class=argparse.RawDescriptionHelpFormatter)
     it.add_argument("--url", action="append", metavar="URL",
                     help="the address of a site; several may be given (without it the variable NILUPPANG_URL has them, between blanks)")
@@ -232,18 +266,18 @@ def options(words):
     return it.parse_args(words)
 
 
-def end_by(number):
+def end_by(number: signal.Signals) -> None:
     """Ends as a process that a signal ends, so that a shell sees which."""
     signal.signal(number, signal.SIG_DFL)
     os.kill(os.getpid(), number)
 
 
-def complain(why):
+def complain(why: Exception | client.Elsewhere | str) -> int:
     print(f"hubctl: {why}", file=sys.stderr)
     return 2
 
 
-def main():
+def main() -> None:
     asked = options(sys.argv[1:])
     try:
         addresses = asked.url or os.environ.get("NILUPPANG_URL", "").split()

@@ -6,7 +6,12 @@ not name the originator bank needs its instruction or its recall in the same bod
 
 A short XML text can cost much memory and time. So what costs is limited, as early as it can be seen, and two bodies are read at a time.
 """
-import asyncio, collections, json, re
+from __future__ import annotations
+import asyncio
+import json
+import re
+import types
+from typing import Any, Awaitable, Callable, Iterable, NamedTuple
 from xml.etree import ElementTree
 from . import keeper
 from .files import Wrong
@@ -34,12 +39,17 @@ RECALL = "camt.056"
 BAD_NAME = 73  # the number of a refusal: a text is no bank, or no identification
 
 conversions = asyncio.Semaphore(2)
+Messages = Callable[[str, str], Awaitable[bytes]]  # looks up the messages on a transfer, by bank and identification
+
 
 # a message, or a transaction that was cut out of one: its place in the body, its line or None, and why it has none or what the line lacks
-Item = collections.namedtuple("Item", "place line why")
+class Item(NamedTuple):
+    place: str
+    line: Any
+    why: str | None
 
 
-async def lines_of(body, messages):
+async def lines_of(body: bytes, messages: Messages) -> list[Item]:
     """An item for each message of a body, or for each transaction if it is cut into several lines. BadText if the body cannot be read.
 
     `messages` is asked for the text of the messages on a transfer. It raises Refused if the bank or the identification is none.
@@ -53,9 +63,9 @@ async def lines_of(body, messages):
     return await asyncio.to_thread(finished, drafts, recalls, answers)
 
 
-def outcome_line(one, outcome):
+def outcome_line(one: Item, outcome: keeper.Outcome | None) -> str:
     """The line that answers an item: what became of its line, or why it has none."""
-    if one.line is None:
+    if one.line is None or outcome is None:
         found = {"outcome": "UNREAD", "why": one.why}
     else:
         found = json.loads(keeper.outcome_line(0, outcome))
@@ -68,19 +78,20 @@ def outcome_line(one, outcome):
 
 class Tree(ElementTree.TreeBuilder):
     """Makes a tree as messages have one. A document type is refused, and so a body has no entities of its own."""
+    names: set[str]
 
-    def __init__(self):
+    def __init__(self) -> None:
         super().__init__()
         self.depth, self.names = 0, set()
 
-    def doctype(self, name, pubid, system):
+    def doctype(self, name: str, pubid: str | None, system: str | None) -> None:
         raise BadText("it has a document type")
 
-    def start_ns(self, prefix, space):
+    def start_ns(self, prefix: str, space: str) -> None:
         if len(space) > MOST_SPACE:
             raise BadText(f"it has a name space of more than {MOST_SPACE} characters")
 
-    def start(self, tag, attributes):
+    def start(self, tag: str, attributes: dict[str, str]) -> ElementTree.Element:
         self.depth += 1
         self.names.add(tag)
         self.names.update(attributes)
@@ -90,18 +101,18 @@ class Tree(ElementTree.TreeBuilder):
             raise BadText(f"it has more than {MOST_NAMES} different names")
         return super().start(tag, attributes)
 
-    def end(self, tag):
+    def end(self, tag: str) -> ElementTree.Element:
         self.depth -= 1
         return super().end(tag)
 
-    def comment(self, text):
+    def comment(self, text: str | None) -> Any:
         """Leaves a comment out. The builder of ElementTree would copy all of the text before it."""
 
-    def pi(self, target, text=None):
+    def pi(self, target: str, text: str | None = None) -> Any:
         """Leaves a processing instruction out, for the same reason."""
 
 
-def text_of(body):
+def text_of(body: bytes) -> str:
     """The text of a body: in the encoding that its first bytes show, or else in the one that it declares."""
     encoding = next((its for mark, its in BEGINNINGS.items() if body.startswith(mark)), None)
     if encoding is None:
@@ -115,7 +126,7 @@ def text_of(body):
         raise BadText(f"it is no text in {encoding}") from None
 
 
-def tree_of(text):
+def tree_of(text: str) -> ElementTree.Element:
     """The root of an XML text, which may cost no more than a body of messages does."""
     if sum(map(text.count, SIGNS)) > MOST_SIGNS:
         raise BadText(f"it has more than {MOST_SIGNS} tags, attributes and ends of lines")
@@ -135,7 +146,7 @@ def tree_of(text):
 
 # ---- lines
 
-def drafts_of(body):
+def drafts_of(body: bytes) -> list[Item]:
     """The items of a body before recalls are looked up: the line of each is one of the converter."""
     desk, drafts = desk_module(CONVERTER), []
     for place, message in enumerate(messages_of(desk, tree_of(text_of(body))), 1):
@@ -144,7 +155,7 @@ def drafts_of(body):
     return [with_bank(desk, draft, banks) for draft in drafts]
 
 
-def messages_of(desk, root):
+def messages_of(desk: types.ModuleType, root: ElementTree.Element) -> list[Any]:
     """The messages below a root, each as the converter reads it, or the reason why it reads none. BadText if they are too many."""
     try:
         _, ones = desk.messages_in(root)
@@ -159,18 +170,21 @@ def messages_of(desk, root):
     return found
 
 
-def must_be_few(many, what):
+def must_be_few(many: int, what: str) -> None:
     if many > MOST:
         raise BadText(f"it has {many} {what}, and a body has at most {MOST}")
 
 
-def looks(message):
+def looks(message: Any) -> int:
     """How many times an element beside the transactions of a message is looked at."""
-    size = lambda element: sum(1 for _ in element.iter())
+
+    def size(element: ElementTree.Element) -> int:
+        return sum(1 for _ in element.iter())
+
     return len(message.transactions) * (size(message.body) - sum(map(size, message.transactions)))
 
 
-def unless_wrong(desk, call, *words):
+def unless_wrong(desk: types.ModuleType, call: Callable[..., Any], *words: Any) -> Any:
     """What a call of the converter returns, or the reason why it makes no line."""
     try:
         return call(*words)
@@ -178,11 +192,11 @@ def unless_wrong(desk, call, *words):
         return shortened(str(why))
 
 
-def shortened(text):
+def shortened(text: str) -> str:
     return text if len(text) <= MOST_WHY else text[:MOST_WHY] + ".."
 
 
-def items_of(desk, place, message):
+def items_of(desk: types.ModuleType, place: str, message: Any) -> list[Item]:
     """The items of a message, or of the reason why there is none."""
     lines = message if isinstance(message, str) else unless_wrong(desk, message.lines, place)
     if isinstance(lines, str):
@@ -193,13 +207,13 @@ def items_of(desk, place, message):
     return [Item(f"{place}, transaction {number}", line, note) for number, (line, note) in enumerate(zip(lines, notes), 1)]
 
 
-def with_bank(desk, draft, banks):
+def with_bank(desk: types.ModuleType, draft: Item, banks: dict[tuple[str, str | None], set[str | None]]) -> Item:
     """A draft whose line has its originator bank, or that has no line."""
     why = draft.line and desk.without_bank(draft.line, banks)
     return Item(draft.place, None, shortened(why)) if why else draft
 
 
-def finished(drafts, recalls, answers):
+def finished(drafts: list[Item], recalls: list[Any], answers: dict[Any, Any]) -> list[Item]:
     """The items of drafts, after recalls were looked up."""
     desk, items, size = desk_module(CONVERTER), [], 0
     known = desk.recalls_of(recalls + [draft.line for draft in drafts if draft.line])
@@ -214,7 +228,8 @@ def finished(drafts, recalls, answers):
     return items
 
 
-def without_recall(desk, line, recalls, answers):
+def without_recall(desk: types.ModuleType, line: Any, recalls: dict[tuple[str, str], dict[str, set[str | None]]],
+                   answers: dict[Any, Any]) -> str | None:
     """Why a line lacks the recall that it is about. None if it has it or needs none."""
     before = answers.get(identity(desk, line.keys)) if desk.wants_recall(line.keys) else None
     if before is None:
@@ -225,33 +240,40 @@ def without_recall(desk, line, recalls, answers):
 
 # ---- what the site holds
 
-def transfer_of(desk, keys):
+def transfer_of(desk: types.ModuleType, keys: dict[str, str]) -> tuple[str, str | None]:
     return desk.bank(keys.get("DbtrAgt")), keys.get("OrgnlTxId")
 
 
-def identity(desk, keys):
+def identity(desk: types.ModuleType, keys: dict[str, str]) -> tuple[tuple[str, str | None], str, str, str]:
     """What an answer is known by if it comes again: its transfer, its kind, its sender and its MsgId."""
     return transfer_of(desk, keys), keys["MsgNmId"][:len(RECALL)], desk.bank(keys.get("InstgAgt")), keys["MsgId"]
 
 
-def transfers_of(drafts):
+def transfers_of(drafts: list[Item]) -> list[Any]:
     """The transfers whose recalls are looked up."""
     desk = desk_module(CONVERTER)
     answers = [draft.line.keys for draft in drafts if draft.line and desk.wants_recall(draft.line.keys)]
     return sorted(transfer for transfer in {transfer_of(desk, keys) for keys in answers} if None not in transfer)
 
 
-async def looked_up(transfers, messages):
+async def looked_up(transfers: list[tuple[str, str]], messages: Messages) -> tuple[list[Any], dict[Any, Any]]:
     """The recalls of some transfers as lines of the converter, and the recall of each answer that the site holds."""
-    recalls, answers = [], {}
+    recalls: list[Any] = []
+    answers: dict[Any, Any] = {}
     for place in range(0, len(transfers), AT_ONCE):
         some = transfers[place:place + AT_ONCE]
         texts = await asyncio.gather(*(held_on(messages, *transfer) for transfer in some))
-        await asyncio.to_thread(lambda: [learn(*one, recalls, answers) for one in zip(some, texts)])
+        await asyncio.to_thread(learn_all, zip(some, texts), recalls, answers)
     return recalls, answers
 
 
-async def held_on(messages, bank, tx):
+def learn_all(held: Iterable[tuple[tuple[str, str], bytes]], recalls: list[Any], answers: dict[Any, Any]) -> None:
+    """Learns of the texts of some transfers."""
+    for transfer, text in held:
+        learn(transfer, text, recalls, answers)
+
+
+async def held_on(messages: Messages, bank: str, tx: str) -> bytes:
     """The text of the messages on a transfer. Nothing is held of one with a name that none can have."""
     try:
         return bytes(await messages(bank, tx))
@@ -261,7 +283,7 @@ async def held_on(messages, bank, tx):
         return b""
 
 
-def learn(transfer, text, recalls, answers):
+def learn(transfer: tuple[str, str], text: bytes, recalls: list[Any], answers: dict[Any, Any]) -> None:
     """Adds the recalls of a transfer, and the recall of each answer, by the text of the messages on it."""
     desk = desk_module(CONVERTER)
     for keys in map(json.loads, filter(None, text.split(b"\n"))):

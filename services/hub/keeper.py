@@ -7,10 +7,16 @@ request with which the process ended several times is given up.
 If the disk fails, the process ends, and all who wait to write get an error. It is started again, and answers questions. Before the next
 lines go to it, the disk is tried with as many bytes.
 """
-import asyncio, collections, json, logging, time
-from . import process
-from .files import Wrong
-from .process import Ended, Process
+from __future__ import annotations
+import asyncio
+import collections
+import json
+import logging
+import time
+from typing import Callable, NamedTuple, Optional
+from . import errors, opening, process
+from .files import Files, Wrong
+from .process import Ended, Process, Reply
 from .vectors import listed, vector_text
 
 MOST_ROUND = 4 << 20  # bytes of lines and deltas in a round, unless one request alone has more
@@ -23,10 +29,25 @@ MOST_ENDS = 3  # times that the process may end with a request before the reques
 FIRST_PAUSE, MOST_PAUSE, HELD_SECONDS = 0.05, 2.0, 3.0  # HELD_SECONDS: a process that ended may have the journal a moment longer
 GAP, FORK, OWN_AHEAD, BAD_DELTA = 41, 42, 43, 45
 EVALUATE = b"? evaluate"
+CLOSED = "the group is closed for {}: messages go to the group after it"
 
-Answer = collections.namedtuple("Answer", "text is_cut vector")
+
+# the transfers that changed, each with its bank, its identification and its lines or None; None if it is not known which ones did
+Changes = Optional[list[tuple[str, str, Optional[str]]]]
+
+
+class Answer(NamedTuple):
+    text: bytearray
+    is_cut: bool
+    vector: str
+
+
 # TAKEN with its number, REPEAT, REFUSED by a number and a text, WAITING until a time, or FORBIDDEN for a reason
-Outcome = collections.namedtuple("Outcome", "word number why")
+class Outcome(NamedTuple):
+    word: str
+    number: int
+    why: str
+
 
 log = logging.getLogger("hub")
 
@@ -38,7 +59,7 @@ class Busy(Exception):
 class Unable(Exception):
     """The site cannot do it at the moment, and why. `is_full`: its disk fails."""
 
-    def __init__(self, why, is_full=False):
+    def __init__(self, why: str, is_full: bool = False) -> None:
         super().__init__(why)
         self.is_full = is_full
 
@@ -54,7 +75,7 @@ class Held(Exception):
 class Refused(Exception):
     """The site refuses a question or a delta: by a number, with more of its line."""
 
-    def __init__(self, rest):
+    def __init__(self, rest: bytes) -> None:
         text = rest.decode(errors="replace")
         super().__init__(text)
         self.number, self.text = int(text.split()[0]), text
@@ -62,12 +83,14 @@ class Refused(Exception):
 
 class Work:
     """What somebody waits for: its requests, and the replies that came. `most` is how much of a text is wanted."""
+    replies: list[Reply]
+    vector: str | None
 
-    def __init__(self, kind, requests, most, done):
+    def __init__(self, kind: str, requests: list[bytes], most: int, done: asyncio.Future[None]) -> None:
         self.kind, self.requests, self.most, self.done = kind, requests, most, done
         self.size, self.replies, self.vector, self.ends = sum(map(len, requests)), [], None, 0
 
-    def settle(self, vector=None, fault=None):
+    def settle(self, vector: str | None = None, fault: Exception | None = None) -> None:
         """Hands on what came, unless who waited has gone."""
         if self.done.done():
             return
@@ -79,12 +102,12 @@ class Work:
             self.done.exception()
 
 
-def as_message(line):
+def as_message(line: bytes) -> bytes:
     """A line as a request that is read as a message, whatever it begins with. A line of blanks is none."""
     return b" " + line if line.startswith((b"delta ", b"? ")) else line
 
 
-def outcome_of(reply):
+def outcome_of(reply: Reply) -> Outcome:
     if reply.word == b"TAKEN":
         return Outcome("TAKEN", int(reply.rest), "")
     if reply.word == b"REPEAT":
@@ -93,12 +116,33 @@ def outcome_of(reply):
     return Outcome("REFUSED", int(text.split()[0]), text)
 
 
+def answer_of(reply: Reply, work: Work) -> Answer:
+    """A text that came, with the vector of what was held then. Refused if the site said something else."""
+    if reply.text is None or work.vector is None:
+        raise Refused(reply.rest)
+    return Answer(reply.text, reply.is_cut, work.vector)
+
+
 class Keeper:
-    def __init__(self, files, program, number, group):
+    process: Process | None
+    work: collections.deque[Work]
+    waiting: collections.Counter[str]
+    task: asyncio.Task[None] | None
+    under_way: list[Work] | None
+    halted: str | None
+    closed: str | None
+    away: str | None  # why there is no process
+    failure: str | None
+    numbers: collections.Counter[str | int]
+    on_round: Callable[[Changes], object]  # called after a round with the changed transfers
+    on_failure: Callable[[], object]  # called if the site cannot go on
+
+    def __init__(self, files: Files, program: str, number: int, group: int) -> None:
         self.files, self.program, self.number, self.group = files, program, number, group
         self.process, self.work, self.waiting, self.ends = None, collections.deque(), collections.Counter(), False
         self.some, self.task, self.under_way = asyncio.Event(), None, None
         self.halted = files.halted()
+        self.closed, self.is_final = files.closing()[0], False  # the day for which it is closed; whether the counts are its last
         self.away = "the process is not started yet"  # why there is no process, or None
         self.is_full, self.failed_size, self.failure, self.is_wrong = False, 0, None, False
         self.counts, self.vector = [0] * group, "-"
@@ -109,47 +153,58 @@ class Keeper:
 
     # ---- for everyone
 
-    async def take(self, lines):
+    def refusal(self) -> str | None:
+        """Why the site takes no more messages, or None."""
+        return self.halted or (CLOSED.format(self.closed) if self.closed else None)
+
+    def must_take(self) -> None:
+        """Halted if the site takes no more messages."""
+        why = self.refusal()
+        if why:
+            raise Halted(why)
+
+    async def close(self, day: str) -> None:
+        """Takes no message from now on. After it the counts have each message that the site ever took."""
+        self.closed = day
+        if not self.is_final:
+            await self.ask(b"? vector")  # it is answered after what the process was given before
+            self.is_final = True
+
+    async def take(self, lines: list[bytes]) -> list[Outcome]:
         """The outcome of each line, after it is in the journal."""
-        if self.halted:
-            raise Halted(self.halted)
+        self.must_take()
         return list(map(outcome_of, (await self._ask("take", list(map(as_message, lines)), 0)).replies))
 
-    def refused(self, text):
+    def refused(self, text: str) -> Outcome:
         """The outcome of a line that the library refuses as the process would, which is counted as well."""
         outcome = Outcome("REFUSED", int(text.split()[0]), text)
         self.numbers["REFUSED"] += 1
         self.numbers[outcome.number] += 1
         return outcome
 
-    async def accept(self, delta):
+    async def accept(self, delta: bytes) -> int:
         """How many entries of a delta are new. It has tabs for line feeds."""
         reply, = (await self._ask("accept", [delta], 0)).replies
         if reply.word == b"ACCEPTED":
             return int(reply.rest)
         raise Refused(reply.rest)
 
-    async def ask(self, question, most=MOST_TEXT):
+    async def ask(self, question: bytes, most: int = MOST_TEXT) -> bytearray:
         """The text that answers a question, as much of it as is wanted."""
         return (await self.answer(question, most)).text
 
-    async def answer(self, question, most=MOST_TEXT):
+    async def answer(self, question: bytes, most: int = MOST_TEXT) -> Answer:
         """The text that answers a question, whether it is cut, and the vector of what was held then."""
         one = await self._ask("ask", [question], most)
         reply, = one.replies
-        if reply.word != b"TEXT":
-            raise Refused(reply.rest)
-        return Answer(reply.text, reply.is_cut, one.vector)
+        return answer_of(reply, one)
 
-    async def ask_all(self, questions, most=MOST_TEXT):
+    async def ask_all(self, questions: list[bytes], most: int = MOST_TEXT) -> list[Answer]:
         """The texts that answer some questions, each with whether it is cut, all of what is held at one moment."""
         one = await self._ask("ask", questions, most)
-        for reply in one.replies:
-            if reply.word != b"TEXT":
-                raise Refused(reply.rest)
-        return [Answer(reply.text, reply.is_cut, one.vector) for reply in one.replies]
+        return [answer_of(reply, one) for reply in one.replies]
 
-    async def _ask(self, kind, requests, most):
+    async def _ask(self, kind: str, requests: list[bytes], most: int) -> Work:
         if self.failure or self.ends or self.away:
             raise Unable(self.failure or self.away or "the service ends")
         if any(b"\n" in request for request in requests):
@@ -164,7 +219,7 @@ class Keeper:
         await one.done
         return one
 
-    def halt(self, why):
+    def halt(self, why: str) -> None:
         """Takes no message from now on, and never again before somebody removes the mark."""
         if not self.halted:
             self.halted = why
@@ -176,7 +231,13 @@ class Keeper:
 
     # ---- the process
 
-    async def start(self):
+    def _there(self) -> Process:
+        """The process, which runs. Ended if it does not."""
+        if self.process is None:
+            raise Ended(None, None, "the service ends")
+        return self.process
+
+    async def start(self) -> None:
         """Starts the process for the first time, and checks what it holds. One that somebody kills meanwhile is started again."""
         for left in reversed(range(MOST_ENDS)):
             try:
@@ -185,16 +246,18 @@ class Keeper:
             except Ended as end:
                 if end.fault is not None or not left:
                     raise
-        await asyncio.get_running_loop().run_in_executor(None, self.files.check, self.counts)
+        with opening.saying(lambda: "the journal is compared with what the process holds"):
+            await asyncio.get_running_loop().run_in_executor(None, self.files.check, self.counts)
         self.task = asyncio.ensure_future(self._run())
 
-    async def _started(self):
+    async def _started(self) -> None:
         """Starts the process. Wrong or Held if the site must not start, and Ended if the process ended for another reason."""
         words = [self.program, "serve", str(self.number), str(self.group), str(self.files.journal)]
-        until = time.monotonic() + HELD_SECONDS
+        until, reading = time.monotonic() + HELD_SECONDS, opening.Reading(self.files.size())
         while True:
             try:
-                self.process = await Process.started(words)
+                with opening.saying(reading.text):
+                    self.process = await Process.started(words, reading.began)
                 break
             except Ended as end:
                 if end.fault == process.HELD and time.monotonic() < until:
@@ -211,9 +274,10 @@ class Keeper:
             except OSError as fault:
                 raise Wrong(f"{self.program} cannot be started: {fault.strerror}") from None
         self.restarts += 1
-        self.counts = listed(self.process.vector.decode(), self.group)
+        self.counts = listed(self._there().vector.decode(), self.group)
         self.is_watched, self.unseen, self.away = False, 0, None
-        await self._exchange([(EVALUATE, MOST_TEXT)])  # everything: nobody has to wait for it
+        with opening.saying(lambda: f"what {sum(self.counts)} messages say is worked out"):
+            await self._exchange([(EVALUATE, MOST_TEXT)])  # everything: nobody has to wait for it
         if self.watchers:
             await self._exchange([(b"? changes", MOST_TEXT)])
             self.is_watched = True
@@ -221,7 +285,7 @@ class Keeper:
             self.on_round(None)
         self._show()
 
-    async def _start_again(self):
+    async def _start_again(self) -> None:
         """Starts the process until it runs. Meanwhile all get an error."""
         pause = FIRST_PAUSE
         while not self.process and not self.ends:
@@ -235,7 +299,7 @@ class Keeper:
                 await asyncio.sleep(pause)
                 pause = min(2 * pause, MOST_PAUSE)
 
-    async def end(self):
+    async def end(self) -> None:
         """Ends the queue after what waits, and the process in peace."""
         self.ends = True
         self.some.set()
@@ -246,7 +310,7 @@ class Keeper:
 
     # ---- rounds
 
-    async def _run(self):
+    async def _run(self) -> None:
         try:
             while await self._next_round():
                 pass
@@ -257,11 +321,11 @@ class Keeper:
         for one in [*(self.under_way or []), *self._left()]:
             one.settle(fault=Unable(self.failure or "the service ends"))
 
-    def _left(self):
+    def _left(self) -> list[Work]:
         left, self.work, self.waiting = list(self.work), collections.deque(), collections.Counter()
         return left
 
-    async def _next(self):
+    async def _next(self) -> list[Work] | None:
         """What is done in this round. None at the end."""
         while not self.work and not self.ends:
             self.some.clear()
@@ -276,7 +340,7 @@ class Keeper:
             self.waiting[one.kind] -= one.size if one.kind in MOST_WAITING else 1
         return found
 
-    async def _next_round(self):
+    async def _next_round(self) -> bool:
         """Does some of what waits. False at the end."""
         found = self.under_way = await self._next()
         if found is None:
@@ -285,8 +349,7 @@ class Keeper:
         writes = self._able([one for one in found if one.kind in MOST_WAITING])
         questions = [one for one in found if one.kind == "ask"]
         try:
-            if not self.process:
-                raise Ended(None, None, "the service ends")
+            self._there()
             await self._written(writes)
             changes = await self._changes() if writes else []
             await self._do(questions)
@@ -297,11 +360,12 @@ class Keeper:
             self.on_round(changes)
         return True
 
-    def _able(self, writes):
+    def _able(self, writes: list[Work]) -> list[Work]:
         """Those of some lines and deltas that the process is given. The others get an error."""
         for one in writes:
-            if self.halted and one.kind == "take":
-                one.settle(fault=Halted(self.halted))
+            why = self.refusal() if one.kind == "take" else None
+            if why:
+                one.settle(fault=Halted(why))
         writes = [one for one in writes if not one.done.done()]
         if not self.is_full or not writes:
             return writes
@@ -315,7 +379,7 @@ class Keeper:
         log.warning("the disk has room again")
         return writes
 
-    async def _written(self, writes):
+    async def _written(self, writes: list[Work]) -> None:
         """Gives lines and deltas to the process, and hands their replies on."""
         if not writes:
             return
@@ -323,7 +387,7 @@ class Keeper:
         await self._do(writes)
         if any(one.kind == "accept" for one in writes):
             reply, = await self._exchange([(b"? vector", MOST_TEXT)])
-            self.counts = listed(reply.text.decode(), self.group)
+            self.counts = listed((reply.text or b"").decode(), self.group)
         self.rounds += 1
         self.round_seconds += time.monotonic() - began
         self._show()
@@ -331,26 +395,26 @@ class Keeper:
             await self._exchange([(EVALUATE, MOST_TEXT)])
             self.unseen = 0
 
-    async def _do(self, works):
+    async def _do(self, works: list[Work]) -> None:
         """Gives the process what has no reply yet. Each is settled when its last reply came."""
         waiting = [(one, request) for one in works for request in one.requests[len(one.replies):]]
 
-        def settle(place, reply):
+        def settle(place: int, reply: Reply) -> None:
             one, _ = waiting[place]
             one.replies.append(reply)
             self._note(one, reply)
             if len(one.replies) == len(one.requests):
                 one.settle(self.vector)
         if waiting:
-            await self.process.ask([(request, one.most) for one, request in waiting], settle)
+            await self._there().ask([(request, one.most) for one, request in waiting], settle)
 
-    async def _exchange(self, requests):
+    async def _exchange(self, requests: list[tuple[bytes, int]]) -> list[Reply]:
         """The replies to some requests of the queue itself."""
         replies = []
-        await self.process.ask(requests, lambda _, reply: replies.append(reply))
+        await self._there().ask(requests, lambda _, reply: replies.append(reply))
         return replies
 
-    def _note(self, one, reply):
+    def _note(self, one: Work, reply: Reply) -> None:
         """Keeps the counts, and halts the site after what it must not go on after."""
         number = int(reply.rest.split()[0]) if reply.word == b"REFUSED" else None
         if one.kind == "take":
@@ -367,7 +431,7 @@ class Keeper:
         if number and one.kind != "ask":
             self.numbers[number] += 1
 
-    async def _process_ended(self, end, works):
+    async def _process_ended(self, end: Ended, works: list[Work]) -> None:
         """The process ended: what has no reply is sent again, unless the disk fails or the process ended with it several times."""
         left = [one for one in works if not one.done.done()]
         log.error("the process ended with %d requests under way: %s", len(left), end)
@@ -390,10 +454,10 @@ class Keeper:
 
     # ---- what changed
 
-    def _show(self):
+    def _show(self) -> None:
         self.vector = vector_text(self.counts)
 
-    async def _changes(self):
+    async def _changes(self) -> Changes:
         """The transfers that changed since the round before, each with its lines: if someone watches, or to forget them. None if it is not
         known which ones changed: who comes back to watch has to load again."""
         now = time.monotonic()
@@ -401,25 +465,26 @@ class Keeper:
             return [] if self.is_watched else None
         was_watched, self.is_watched, self.watched_at = self.is_watched, True, now
         text, = await self._exchange([(b"? changes", MOST_TEXT)])
-        names = [line.split(b"|") for line in bytes(text.text).splitlines()]
+        names = [line.split(b"|") for line in bytes(text.text or b"").splitlines()]
         if not self.watchers or not was_watched:
             return None if names or not was_watched else []
         asked = [(b"? transfer " + b" ".join(name), MOST_TEXT) for name in names[:MOST_PUBLISHED]]
-        lines = [reply.text.decode() for reply in await self._exchange(asked)] + [None] * max(0, len(names) - len(asked))
-        return [(*(part.decode() for part in name), its) for name, its in zip(names, lines)]
+        lines: list[str | None] = [(reply.text or b"").decode() for reply in await self._exchange(asked)]
+        lines += [None] * (len(names) - len(asked))
+        return [(bank.decode(), tx.decode(), its) for (bank, tx), its in zip(names, lines)]
 
-    def watch(self, more):
+    def watch(self, more: int) -> None:
         """Someone begins or stops to watch."""
         self.watchers += more
 
-    async def begin_watching(self):
+    async def begin_watching(self) -> None:
         """After it, what changes is published. A page that begins to watch calls it."""
         if not self.is_watched:
             await self.ask(b"? changes")
             self.is_watched, self.watched_at = True, time.monotonic()
 
 
-def outcome_line(number, outcome):
+def outcome_line(number: int, outcome: Outcome) -> str:
     """The line that answers a line."""
     if outcome.word == "TAKEN":
         return f'{{"line":{number},"outcome":"TAKEN","number":{outcome.number}}}\n'
@@ -429,4 +494,5 @@ def outcome_line(number, outcome):
         return f'{{"line":{number},"outcome":"WAITING","until":"{outcome.why}"}}\n'
     if outcome.word == "FORBIDDEN":
         return f'{{"line":{number},"outcome":"FORBIDDEN","why":{json.dumps(outcome.why)}}}\n'
-    return f'{{"line":{number},"outcome":"REFUSED","code":{outcome.number},"why":{json.dumps(outcome.why)}}}\n'
+    found = {"line": number, "outcome": "REFUSED", "code": outcome.number, **errors.refusal(outcome.why)}
+    return json.dumps(found, separators=(",", ":")) + "\n"

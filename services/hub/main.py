@@ -9,7 +9,20 @@ or the variable SCT_SITES, or the one that the gate leaves in this clone, or tha
 
 The exit status is 2 if a site must not start, and 3 if its disk fails or its port is in use. Standard error says why.
 """
-import argparse, getpass, hashlib, os, pathlib, pwd, re, resource, secrets, shutil, subprocess, sys
+from __future__ import annotations
+import argparse
+import getpass
+import hashlib
+import os
+import pathlib
+import pwd
+import re
+import resource
+import secrets
+import shutil
+import subprocess
+import sys
+from typing import NoReturn
 from importlib.util import find_spec
 
 HERE = pathlib.Path(__file__).resolve()
@@ -21,16 +34,16 @@ if find_spec("aiohttp") is None:
     print(f"hub: {sys.executable} has no aiohttp. Debian's package python3-aiohttp belongs to /usr/bin/python3: start this program with it",
           file=sys.stderr)
     sys.exit(2)
-from hub import config, logs, over, record, running, words
+from hub import config, logs, over, record, roll, running, words
 from hub.files import Files, Wrong
 from hub.keeper import Held
 from hub.several import Several
 
 WRONG, AWAY = running.WRONG, running.AWAY
-ACTS = ("print", "check", "read_over", "clear_halt", "backup", "verify", "restore", "adopt", "audit")  # words after which it ends
+ACTS = ("print", "check", "read_over", "clear_halt", "backup", "verify", "restore", "adopt", "roll", "audit")  # words after which it ends
 
 
-def peer(text):
+def peer(text: str) -> tuple[int, str]:
     """The number and the address of a peer, such as 2=http://127.0.0.1:8702."""
     number, found, address = text.partition("=")
     if not found or not number.isdecimal():
@@ -38,7 +51,7 @@ def peer(text):
     return int(number), address
 
 
-def numbers(text):
+def numbers(text: str) -> list[int]:
     """The numbers of sites: 3 for sites 1 to 3, or a list such as 1,2,4."""
     parts = text.split(",")
     if not all(part.isascii() and part.isdecimal() and len(part) <= 4 for part in parts):
@@ -47,7 +60,7 @@ def numbers(text):
     return list(range(1, found[0] + 1)) if len(found) == 1 else found
 
 
-def options(arguments):
+def options(arguments: list[str]) -> argparse.Namespace:
     it = argparse.ArgumentParser(prog="main.py", description=__doc__, formatter_class=argparse.RawDescriptionHelpFormatter)
     it.add_argument("folder", metavar="FOLDER", nargs="?", help="where the journals are, as siteN.journal")
     it.add_argument("--config", metavar="FILE", help="a file in TOML with all that is said of the site or the sites")
@@ -63,13 +76,14 @@ def options(arguments):
     it.add_argument("--through", metavar="N=PEER", type=peer, action="append", default=[], help="take entries of site N from this peer")
     it.add_argument("--hear", metavar="N", type=int, help="take no message before N peers were heard (1 if there are peers)")
     it.add_argument("--silence", metavar="SECONDS", type=float, default=10, help="give up a peer after so long without a byte (10)")
+    it.add_argument("--mirror", metavar="FILE", help="the database of mirror.py, by which transfers are found; {site} is the number of the site")
     it.add_argument("--connections", metavar="N", type=int, default=config.MOST_CONNECTIONS, help="connections at most (2,000)")
     it.add_argument("--seconds", metavar="N", type=float, default=config.SECONDS, help="seconds for a request to come and an answer to go (30)")
     add_acts(it)
     return it.parse_args(arguments)
 
 
-def add_acts(it):
+def add_acts(it: argparse.ArgumentParser) -> None:
     """The words after which it ends."""
     it.add_argument("--print", action="store_true", help="print the messages of the journal; the site may run meanwhile")
     it.add_argument("--check", action="store_true", help="print what the program refuses of the journal, such as before an upgrade")
@@ -77,6 +91,7 @@ def add_acts(it):
     it.add_argument("--verify", metavar="FILE", help="try a copy of the journal without serving it")
     it.add_argument("--restore", metavar="FILE", help="put a copy in the place of a journal that is not there any more")
     it.add_argument("--adopt", metavar="JOURNAL", help="take all messages of the journal of a retired number, after the peers were heard")
+    it.add_argument("--roll", metavar=("DAY", "JOURNAL"), nargs=2, help="close the site, and have a new site begin with what is kept")
     it.add_argument("--clear-halt", action="store_true", help="let the site take messages again after a halt")
     it.add_argument("--audit", action="store_true", help="check the record of the site, alone and with its journal")
     it.add_argument("--since", metavar="NUMBER:SUM", help="for --audit: a row of the record that was seen before")
@@ -84,14 +99,14 @@ def add_acts(it):
     it.add_argument("--new-token", action="store_true", help="print a new token, and its sum for the file of roles")
 
 
-def stop(why, status=WRONG):
+def stop(why: str, status: int = WRONG) -> NoReturn:
     print(f"hub: {why}", file=sys.stderr, flush=True)
     sys.exit(status)
 
 
 # ---- the program
 
-def program_of(given):
+def program_of(given: str | None) -> str:
     """The path of the program."""
     named = given or os.environ.get("SCT_SITES")
     if named:
@@ -99,16 +114,16 @@ def program_of(given):
         if path is None:
             stop(f"there is no program {named}")
         return os.path.abspath(path)
-    for path in (TOP / "crates" / "sct_sites" / "out" / "sct_sites", HERE.parent / "../../../../bin/sct_sites"):  # a clone, a release
-        if path.is_file():
-            return str(path.resolve())
+    for built in (TOP / "crates" / "sct_sites" / "out" / "sct_sites", HERE.parent / "../../../../bin/sct_sites"):  # a clone, a release
+        if built.is_file():
+            return str(built.resolve())
     path = shutil.which("sct_sites")
     if path is None:
         stop("there is no program sct_sites: name it by --program or by the variable SCT_SITES")
     return path
 
 
-def version_of(program):
+def version_of(program: str) -> str:
     """The version that the program says."""
     try:
         said = subprocess.run([program, "--version"], stdin=subprocess.DEVNULL, stdout=subprocess.PIPE, stderr=subprocess.DEVNULL, timeout=20)
@@ -122,7 +137,7 @@ def version_of(program):
 
 # ---- what is asked for
 
-def of_words(asked):
+def of_words(asked: argparse.Namespace) -> dict[int, config.Settings]:
     """The settings of each site that the words of the command line come to."""
     if asked.site is None and (asked.peer or asked.through):
         raise Wrong("--peer and --through are for one site: name it by --site")
@@ -137,17 +152,18 @@ def of_words(asked):
         made[number] = config.checked(config.Settings(
             folder=asked.folder, site=number, group=asked.group, host=asked.host, names=tuple(asked.name), hear=asked.hear, silence=asked.silence,
             port=asked.port if asked.site else asked.port + number - 1, connections=asked.connections, seconds=asked.seconds,
-            program=asked.program, peers=peers, through={origin: through_of(text) for origin, text in asked.through}))
+            program=asked.program, mirror=asked.mirror and asked.mirror.replace("{site}", str(number)), peers=peers,
+            through={origin: through_of(text) for origin, text in asked.through}))
     return made
 
 
-def through_of(text):
+def through_of(text: str) -> int:
     if not text.isdecimal():
         raise Wrong("--through is N=PEER, two numbers of sites")
     return int(text)
 
 
-def settings_of(asked):
+def settings_of(asked: argparse.Namespace) -> dict[int, config.Settings]:
     """The settings of each site, by number."""
     if bool(asked.folder) == bool(asked.config):
         raise Wrong("name a FOLDER, or a file by --config")
@@ -160,7 +176,7 @@ def settings_of(asked):
     return {chosen: found[chosen]}
 
 
-def one_site(asked, settings):
+def one_site(asked: argparse.Namespace, settings: config.Settings) -> int:
     """Runs a site. The exit status."""
     logs.begin(settings.site)
     _, most = resource.getrlimit(resource.RLIMIT_NOFILE)
@@ -175,14 +191,14 @@ def one_site(asked, settings):
     return running.run(settings, program, version_of(program), lambda: settings_of(asked)[settings.site])
 
 
-def wanted(arguments):
+def wanted(arguments: list[str]) -> dict[int, list[str]]:
     """The sites that shall run, each with the words that start it."""
     return {number: [sys.executable, "-u", __file__, *arguments, "--only", str(number)] for number in settings_of(options(arguments))}
 
 
 # ---- words after which it ends
 
-def act(asked, settings):
+def act(asked: argparse.Namespace, settings: config.Settings) -> int:
     """Does what a word asks for, and ends. The exit status."""
     files, program = Files(settings.folder, settings.site, settings.group), program_of(settings.program)
     files.make_folder()
@@ -193,10 +209,13 @@ def act(asked, settings):
         sys.stdout.buffer.flush()
         return 0
     if asked.audit:
-        text, is_right = record.audited(files.record, files.site, files.group, files.own_lines, asked.since)
-        text, status = "\n".join(text), 0 if is_right else 1
+        report, is_right = record.audited(files.record, files.site, files.group, files.own_lines, asked.since)
+        text, status = "\n".join(report), 0 if is_right else 1
     elif asked.adopt:
         return running.adopt(settings, program, version_of(program), asked.adopt, noted)
+    elif asked.roll:
+        day, journal = asked.roll
+        text, status = roll.roll(files, program, day, journal, noted)
     elif asked.clear_halt:
         text, status = words.clear_halt(files, noted)
     elif asked.read_over:
@@ -216,16 +235,16 @@ def act(asked, settings):
 class Acts:
     """What an operator does, for the record of a site."""
 
-    def __init__(self, files):
+    def __init__(self, files: Files) -> None:
         self.files = files
 
-    def act(self, act, what):
+    def act(self, act: str, what: dict[str, int | str]) -> int:
         """Adds a row. Its number, by which a later row names it."""
         its = self.files
         return record.act_once(its.record, its.site, its.group, act, operator(), what, its.own_lines)
 
 
-def operator():
+def operator() -> str:
     """The user that runs this, and as whom somebody logged in, if that is another one: sites have a user of their own."""
     user = f"user {getpass.getuser()}"
     try:
@@ -235,13 +254,13 @@ def operator():
     return user if user == f"user {login}" else f"{user}, logged in as {login}"
 
 
-def new_token():
+def new_token() -> None:
     """Prints a token that nobody can guess, and what a file of roles has of it."""
     token = secrets.token_urlsafe(32)
     print(f"token: {token}\nsum:   sha256:{hashlib.sha256(token.encode()).hexdigest()}")
 
 
-def main():
+def main() -> None:
     os.umask(0o077)  # journals are payments of customers: nobody else of this machine reads them
     arguments = sys.argv[1:]
     asked = options(arguments)

@@ -1,14 +1,18 @@
 """metrics.py: what Prometheus reads of a site."""
+from __future__ import annotations
 import time
+from typing import Iterable, Iterator, TYPE_CHECKING
+if TYPE_CHECKING:
+    from .service import Service
 
 
-def metric(name, kind, rows):
+def metric(name: str, kind: str, rows: Iterable[tuple[str, object]]) -> Iterator[str]:
     yield f"# TYPE niluppang_{name} {kind}\n"
     for labels, value in rows:
         yield f"niluppang_{name}{labels} {value}\n"
 
 
-def metric_lines(service):
+def metric_lines(service: Service) -> Iterator[str]:
     keeper, now = service.keeper, time.monotonic()
     words = ("TAKEN", "REPEAT", "REFUSED")
     peers = service.peers.all

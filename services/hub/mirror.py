@@ -14,9 +14,23 @@ It runs until a signal comes. With --once it ends when the tables have all that 
 database with the texts, which another mirror may keep meanwhile. The exit status is then 1 if they differ, and standard output says where.
 It is 2 if the site refuses what is asked, the database is that of something else, or another mirror has it: standard error says why.
 """
-import argparse, collections, contextlib, fcntl, itertools, json, os, pathlib, signal, sqlite3, sys, threading, time, urllib.parse
+from __future__ import annotations
+import argparse
+import contextlib
+import fcntl
+import itertools
+import json
+import os
+import pathlib
+import signal
+import sqlite3
+import sys
+import threading
+import time
+import urllib.parse
+from typing import Any, Callable, Iterable, Iterator, NamedTuple, Sequence
 sys.path.insert(0, str(pathlib.Path(__file__).resolve().parents[1]))
-from hub.client import Failed, Later, add_options, client_of, failure_of
+from hub.client import Answer, Client, Failed, Later, add_options, client_of, failure_of
 from hub.files import Wrong
 from hub.places import desk_module
 from hub.vectors import BadText, vector_of
@@ -49,33 +63,60 @@ TEXTS = ("message", "transfer", "finding", "recall", "refused", "totals")  # the
 OF_TRANSFER = ("message", "transfer", "finding", "recall")  # those with rows of single transfers
 IN_MESSAGE = slice(4, 6)  # the bank and the transfer in a row of message
 
-Text = collections.namedtuple("Text", "vector lines")
-Event = collections.namedtuple("Event", "id word found")
-State = collections.namedtuple("State", "site group url vector event time")
+
+class Text(NamedTuple):
+    vector: str
+    lines: Iterator[str]
+
+
+class Event(NamedTuple):
+    id: str
+    word: str
+    found: list[dict[str, Any]]
+
+
+class State(NamedTuple):
+    site: int
+    group: int
+    url: str
+    vector: str
+    event: str | None
+    time: str
+
+
 # what came of a site: changed transfers with their lines or None, the last event, whether all must be loaded, and totals if they were asked
-News = collections.namedtuple("News", "changes event loads totals")
-Totals = collections.namedtuple("Totals", "vector rows event")  # the event is the last one after all that the vector counts
+class News(NamedTuple):
+    changes: dict[tuple[str, str], list[str] | None]
+    event: str | None
+    loads: bool
+    totals: Totals | None
+
+
+class Totals(NamedTuple):
+    vector: str | None
+    rows: list[list[int | str]] | None
+    event: str | None  # the last one after all that the vector counts
 
 
 class Stop(Exception):
     """Why the mirror cannot go on."""
 
 
-def say(text):
+def say(text: object) -> None:
     print(f"mirror: {text}", file=sys.stderr, flush=True)
 
 
-def now():
+def now() -> str:
     return time.strftime("%Y-%m-%dT%H:%M:%SZ", time.gmtime())
 
 
-def covers(vector, other):
+def covers(vector: str, other: str) -> bool:
     """Whether a vector counts all that another one does."""
     counts = vector_of(vector)
     return all(counts.get(origin, 0) >= count for origin, count in vector_of(other).items())
 
 
-def is_after(event, other):
+def is_after(event: str, other: str) -> bool:
     """Whether an event is the same as another one of its run of a site, or came after it."""
     (run, _, number), (its_run, _, its_number) = event.rpartition("-"), other.rpartition("-")
     return run == its_run and int(number) >= int(its_number)
@@ -83,7 +124,7 @@ def is_after(event, other):
 
 # ---- what a site answers
 
-def events_in(lines):
+def events_in(lines: Iterable[bytes]) -> Iterator[Event]:
     """The server-sent events in lines."""
     fields = {}
     for line in lines:
@@ -97,13 +138,13 @@ def events_in(lines):
         fields = {}
 
 
-def status_rows(lines):
+def status_rows(lines: list[str]) -> dict[str, Iterable[Sequence[Any]]]:
     """The rows of T, F and R lines."""
     of = load_sqlite.rows_of
     return {"transfer": of(lines, "T", 3), "finding": of(lines, "F", 3), "recall": of(lines, "R", 4)}
 
 
-def totals_rows(lines):
+def totals_rows(lines: Iterable[str]) -> Iterator[list[int | str]]:
     """The rows of a totals text. An amount has two decimals, and a count has no point."""
     for line in lines:
         bank, *fields = line.split("|")
@@ -113,19 +154,19 @@ def totals_rows(lines):
 class Site:
     """Asks a site. Later if it may answer another time, and another Failed if it never will."""
 
-    def __init__(self, client):
+    def __init__(self, client: Client) -> None:
         self.client = client
 
-    def get(self, path):
+    def get(self, path: str) -> Answer:
         answer = self.client.get(path)
         if answer.status != 200:
             raise failure_of(self.client.address(), answer)
         return answer
 
-    def lines(self, path):
+    def lines(self, path: str) -> list[str]:
         return self.get(path).body.decode(errors="replace").split("\n")[:-1]
 
-    def who(self):
+    def who(self) -> tuple[int, int, str]:
         """The number of the site, its group and its vector."""
         answer = self.get("/vector")
         try:
@@ -134,12 +175,12 @@ class Site:
             raise Stop(f"{self.client.address()} is not the address of a site") from None
         return site, group, answer.body.decode().strip()
 
-    def path(self, bank, tx):
+    def path(self, bank: str, tx: str) -> str:
         """The path of a transfer. Each character of an identification that has a meaning in a path is quoted."""
         return f"/transfers/{urllib.parse.quote(bank, safe='')}/{urllib.parse.quote(tx, safe='')}"
 
     @contextlib.contextmanager
-    def text(self, name, least="-"):
+    def text(self, name: str, least: str = "-") -> Iterator[Text]:
         """A complete text that covers a vector. A site that is busy may give an older one for a time."""
         until = time.monotonic() + MOST_OLD
         while time.monotonic() < until:
@@ -152,7 +193,7 @@ class Site:
         raise Later(f"{self.client.address()} gives a text that is too old")
 
     @contextlib.contextmanager
-    def rows(self, least="-"):
+    def rows(self, least: str = "-") -> Iterator[tuple[dict[str, Iterable[Sequence[Any]]], set[str]]]:
         """The rows of all tables, by complete texts that cover a vector, and the vectors of these texts. Messages are read as they come."""
         with self.text("status", least) as status:
             found = status_rows(list(status.lines))
@@ -161,9 +202,9 @@ class Site:
         with self.text("archive", least) as archive:
             yield {**found, "message": load_sqlite.messages(archive.lines)}, {status.vector, totals.vector, archive.vector}
 
-    def rows_on(self, changes):
+    def rows_on(self, changes: dict[tuple[str, str], list[str] | None]) -> dict[str, list[Sequence[Any]]]:
         """The rows of some transfers. The lines of a transfer are asked for if its event does not have them."""
-        found = {table: [] for table in OF_TRANSFER}
+        found: dict[str, list[Sequence[Any]]] = {table: [] for table in OF_TRANSFER}
         for (bank, tx), lines in changes.items():
             its = status_rows(self.lines(self.path(bank, tx)) if lines is None else lines)
             messages = load_sqlite.messages(self.lines(f"{self.path(bank, tx)}/messages"))
@@ -172,7 +213,7 @@ class Site:
                 found[table] += rows
         return found
 
-    def last_event(self):
+    def last_event(self) -> str:
         """The event that the site published last: a new stream begins with it. All that the site answered before is in it."""
         with self.client.stream("/changes") as lines:
             return next(events_in(lines)).id
@@ -181,22 +222,26 @@ class Site:
 class Stream:
     """The stream of changes. A thread reads it, so that the site never waits for a mirror that loads. What nobody took yet is put together:
     of each transfer the last lines count."""
+    changes: dict[tuple[str, str], list[str] | None]
+    totals: Totals | None
+    fault: Failed | None
+    event: str | None
 
-    def __init__(self, client, last):
+    def __init__(self, client: Callable[[], Client], last: str | None) -> None:
         self.client, self.event, self.some = client, last, threading.Condition()
         self.changes, self.loads, self.totals, self.is_open, self.fault, self.is_over = {}, False, None, False, None, False
         self._begin(self._read)
 
-    def __enter__(self):
+    def __enter__(self) -> Stream:
         """Waits until the site publishes to this stream."""
         with self.some:
             self.some.wait_for(lambda: self.is_open and self.event or self.fault)
         return self
 
-    def __exit__(self, *_):
+    def __exit__(self, *_: object) -> None:
         self.is_over = True
 
-    def take(self, seconds):
+    def take(self, seconds: float) -> News:
         """What came and was not taken yet, after some seconds at most."""
         with self.some:
             self.some.wait_for(lambda: self.changes or self.loads or self.totals or self.fault, seconds)
@@ -206,14 +251,14 @@ class Stream:
             self.changes, self.loads, self.totals = {}, False, None
             return news
 
-    def ask_totals(self):
+    def ask_totals(self) -> None:
         """Has the totals loaded. A site takes its time for them if it has much to do, and changes come meanwhile."""
         self._begin(self._load_totals)
 
-    def _begin(self, work):
+    def _begin(self, work: Callable[[Site], None]) -> None:
         threading.Thread(target=self._done, args=(work,), daemon=True).start()
 
-    def _done(self, work):
+    def _done(self, work: Callable[[Site], None]) -> None:
         """Does what a thread is for. Who waits for it has to know why it failed, whatever it was."""
         try:
             work(Site(self.client()))
@@ -222,26 +267,26 @@ class Stream:
         except Exception as failed:
             self._set(fault=Later(f"the site answers something else: {type(failed).__name__} {failed}"))
 
-    def _set(self, **its):
+    def _set(self, **its: Any) -> None:
         with self.some:
             vars(self).update(its)
             self.some.notify()
 
-    def _read(self, site):
+    def _read(self, site: Site) -> None:
         with site.client.stream("/changes", **({"Last-Event-ID": self.event} if self.event else {})) as lines:
             self._set(is_open=True)
             for event in events_in(itertools.takewhile(lambda _: not self.is_over, lines)):
                 self._put(event)
         raise Later("the stream of changes has ended")
 
-    def _put(self, event):
+    def _put(self, event: Event) -> None:
         changes = {(one["bank"], one["tx"]): one.get("lines") for one in event.found}
         with self.some:
             self.changes.update(changes)
             self.event, self.loads = event.id, self.loads or event.word != "transfers"
             self.some.notify()
 
-    def _load_totals(self, site):
+    def _load_totals(self, site: Site) -> None:
         try:
             with site.text("totals") as text:
                 rows = list(totals_rows(text.lines))
@@ -254,12 +299,13 @@ class Stream:
 
 class Lock:
     """The lock of a database: a file beside it, so that no two mirrors write to one."""
+    file: int | None
 
-    def __init__(self, database):
+    def __init__(self, database: str) -> None:
         self.database, self.path, self.file = database, f"{database}.lock", None
         self.take()
 
-    def take(self):
+    def take(self) -> None:
         """Takes the lock, also if somebody removed its file. Stop if another mirror has it."""
         if self.file is not None:
             os.close(self.file)
@@ -271,12 +317,12 @@ class Lock:
         except OSError as fault:
             raise Stop(f"{self.path} cannot be made: {fault.strerror}") from None
 
-    def hold(self):
-        if not is_file(self.path, os.fstat(self.file)):
+    def hold(self) -> None:
+        if self.file is None or not is_file(self.path, os.fstat(self.file)):
             self.take()
 
 
-def is_file(path, known):
+def is_file(path: str, known: os.stat_result) -> bool:
     """Whether a path is still that of a file that is known."""
     try:
         found = os.stat(path)
@@ -285,23 +331,26 @@ def is_file(path, known):
     return (found.st_dev, found.st_ino) == (known.st_dev, known.st_ino)
 
 
-def schema_of(connection):
+def schema_of(connection: sqlite3.Connection) -> set[tuple[str, str]]:
     return set(connection.execute("SELECT name, sql FROM sqlite_master WHERE sql IS NOT NULL"))
 
 
-def blueprint():
+def blueprint() -> tuple[set[tuple[str, str]], dict[str, str]]:
     """The tables as SQLite lists them, and how a row of each is inserted."""
     with contextlib.closing(sqlite3.connect(":memory:")) as made:
         for statement in STATEMENTS:
             made.execute(statement)
-        width = lambda table: len(list(made.execute(f"PRAGMA table_info({table})")))
+
+        def width(table: str) -> int:
+            return len(list(made.execute(f"PRAGMA table_info({table})")))
+
         return schema_of(made), {table: f"INSERT INTO {table} VALUES ({', '.join('?' * width(table))})" for table in (*TEXTS, "mirror")}
 
 
 SCHEMA, INSERTS = blueprint()
 
 
-def fill(connection, rows):
+def fill(connection: sqlite3.Connection, rows: dict[str, Iterable[Sequence[Any]]]) -> None:
     """Makes all tables anew, with these rows. An index is quicker made of the rows that are there."""
     for table in INSERTS:
         connection.execute(f"DROP TABLE IF EXISTS {table}")
@@ -315,17 +364,26 @@ def fill(connection, rows):
 
 class Database:
     """The database. Each change of it is one transaction."""
+    _open: sqlite3.Connection | None
+    file: os.stat_result | None
 
-    def __init__(self, path):
-        self.path, self.connection, self.file = path, None, None
+    def __init__(self, path: str) -> None:
+        self.path, self._open, self.file = path, None, None
 
-    def open(self):
+    @property
+    def connection(self) -> sqlite3.Connection:
+        """The connection. Stop if the database is not open."""
+        if self._open is None:
+            raise Stop(f"{self.path} is not open")
+        return self._open
+
+    def open(self) -> None:
         """Opens the file, or makes it. Stop if it is a database of something else."""
         self.close()
         if not os.path.exists(self.path):
             remove(f"{self.path}-wal", f"{self.path}-shm")  # of a file that was removed
         try:
-            self.connection = sqlite3.connect(self.path, timeout=BUSY, isolation_level=None)
+            self._open = sqlite3.connect(self.path, timeout=BUSY, isolation_level=None)
         except sqlite3.OperationalError as fault:
             raise Stop(f"{self.path}: {fault}") from None
         (mark,), (many,) = map(self._one, ("PRAGMA application_id", "SELECT count(*) FROM sqlite_master"))
@@ -338,29 +396,29 @@ class Database:
         self.connection.execute("PRAGMA synchronous = NORMAL")
         self.file = os.stat(self.path)
 
-    def close(self):
-        if self.connection:
-            self.connection.close()
-            self.connection = None
+    def close(self) -> None:
+        if self._open:
+            self._open.close()
+            self._open = None
 
-    def _one(self, question):
+    def _one(self, question: str) -> Any:
         return self.connection.execute(question).fetchone()
 
-    def state(self):
+    def state(self) -> State | None:
         """What the tables have, or None if one of them lacks."""
         if not SCHEMA <= schema_of(self.connection):
             return None
         found = self._one("SELECT * FROM mirror")
         return found and State(*found)
 
-    def is_removed(self):
-        return not is_file(self.path, self.file)
+    def is_removed(self) -> bool:
+        return self.file is None or not is_file(self.path, self.file)
 
-    def messages(self):
+    def messages(self) -> int:
         return self._one("SELECT count(*) FROM message")[0]
 
     @contextlib.contextmanager
-    def transaction(self):
+    def transaction(self) -> Iterator[sqlite3.Connection]:
         self.connection.execute("BEGIN IMMEDIATE")
         try:
             yield self.connection
@@ -369,13 +427,13 @@ class Database:
             if self.connection.in_transaction:
                 self.connection.execute("ROLLBACK")
 
-    def load(self, rows, state):
+    def load(self, rows: dict[str, Iterable[Sequence[Any]]], state: State) -> None:
         """Makes all tables anew."""
         with self.transaction() as its:
             fill(its, rows)
             its.execute(INSERTS["mirror"], state)
 
-    def replace(self, transfers, rows, event):
+    def replace(self, transfers: list[tuple[str, str]], rows: dict[str, list[Sequence[Any]]], event: str | None) -> None:
         """Replaces the rows of some transfers by those that an event led to."""
         with self.transaction() as its:
             for table in OF_TRANSFER:
@@ -383,18 +441,18 @@ class Database:
                 its.executemany(INSERTS[table], rows[table])
             its.execute("UPDATE mirror SET event = ?", (event,))
 
-    def put_totals(self, rows):
+    def put_totals(self, rows: list[list[int | str]]) -> None:
         with self.transaction() as its:
             its.execute("DELETE FROM totals")
             its.executemany(INSERTS["totals"], rows)
 
-    def confirm(self, vector):
+    def confirm(self, vector: str) -> None:
         """Notes that the tables have all that a vector counts."""
         with self.transaction() as its:
             its.execute("UPDATE mirror SET vector = ?, time = ?", (vector, now()))
 
 
-def remove(*paths):
+def remove(*paths: str) -> None:
     for path in paths:
         with contextlib.suppress(FileNotFoundError):
             os.unlink(path)
@@ -404,8 +462,11 @@ def remove(*paths):
 
 class Mirror:
     """Keeps a database equal to a site. `client` makes a client of it: each thread has its own."""
+    event: str | None
+    vector: str | None
+    mark: tuple[str, str] | None
 
-    def __init__(self, url, path, client):
+    def __init__(self, url: str, path: str, client: Callable[[], Client]) -> None:
         self.url, self.client, self.site = url, client, Site(client())
         self.lock, self.database = Lock(path), Database(path)
         self.event, self.vector = None, None  # the last event of which the tables have the changes, and what they have in any case
@@ -414,7 +475,7 @@ class Mirror:
         self.totals_at = self.beat_at = 0.0
         self.pause, self.is_away = FIRST_PAUSE, False
 
-    def run(self, once):
+    def run(self, once: bool) -> None:
         """Follows the site until a signal comes, or with `once` until the tables have all that it held."""
         try:
             while not self._ran(once):
@@ -423,7 +484,7 @@ class Mirror:
         finally:
             self.database.close()
 
-    def _ran(self, once):
+    def _ran(self, once: bool) -> bool:
         """Whether it came to its end. What may be well another time is said once."""
         try:
             self.lock.hold()
@@ -436,10 +497,13 @@ class Mirror:
             self.is_away = True
             return False
 
-    def _follow(self, once):
+    def _follow(self, once: bool) -> None:
         state = self.database.state()
-        knows = lambda: state is not None and (state.site, state.group, state.vector, state.url) == (*self.site.who(), self.url)
-        with Stream(self.client, state.event if knows() else None) as stream:
+
+        def knows() -> bool:
+            return state is not None and (state.site, state.group, state.vector, state.url) == (*self.site.who(), self.url)
+
+        with Stream(self.client, state.event if state and knows() else None) as stream:
             is_there = knows()
             self.event, self.vector, self.is_old, self.is_asked, self.mark = stream.event, state and state.vector, True, False, None
             while not once or self.is_old or self.is_asked or self.mark:
@@ -449,18 +513,18 @@ class Mirror:
                 if is_there:
                     self._settle(stream)
 
-    def _rest(self):
+    def _rest(self) -> float:
         """The seconds for which the mirror may wait for news."""
         return max(0.0, min(LOOK, self.totals_at - time.monotonic())) if self.is_old and not self.is_asked else LOOK
 
-    def _is_there(self):
+    def _is_there(self) -> bool:
         """Whether nobody removed the database or dropped a table. A file that was removed is made again."""
         self.lock.hold()
         if self.database.is_removed():
             self.database.open()
         return self.database.state() is not None
 
-    def _bring(self, news):
+    def _bring(self, news: News) -> None:
         """Brings news into the tables. If many transfers changed it is quicker to load all."""
         many = len(news.changes)
         if news.loads or many > MOST_ALONE and many > self.database.messages() // SHARE:
@@ -472,28 +536,28 @@ class Mirror:
         if news.totals:
             self._put_totals(news.totals)
 
-    def _put_totals(self, totals):
+    def _put_totals(self, totals: Totals) -> None:
         """Brings totals into their table. All tables have what the vector counts when they have the event."""
-        self.is_asked, is_new = False, totals.vector is not None and covers(totals.vector, self.vector)
-        if is_new:
+        self.is_asked, is_new = False, False
+        if totals.vector is not None and totals.rows is not None and totals.event is not None and covers(totals.vector, self.vector or "-"):
             self.database.put_totals(totals.rows)
-            self.mark = totals.vector, totals.event
+            self.mark, is_new = (totals.vector, totals.event), True
         self.is_old = self.is_old or not is_new
 
-    def _load(self, event):
+    def _load(self, event: str | None) -> None:
         """Makes all tables anew. What came since the event is in the texts or comes as another event, and may be both."""
         site, group, self.vector = self.site.who()
         with self.site.rows(self.vector) as (rows, _):
             self.database.load(rows, State(site, group, self.url, self.vector, event, now()))
         say(f"all is loaded: {self.database.messages()} rows of messages, with all that {self.vector} counts")
 
-    def _settle(self, stream):
+    def _settle(self, stream: Stream) -> None:
         """Has the totals loaded after changes, and notes what the tables have. A quiet site is asked at times whether that is still all."""
         at = time.monotonic()
         if self.is_old and not self.is_asked and at >= self.totals_at:
             stream.ask_totals()
             self.is_asked, self.is_old, self.totals_at = True, False, at + EVERY
-        if self.mark and is_after(self.event, self.mark[1]):
+        if self.mark and self.event and is_after(self.event, self.mark[1]):
             self._confirm(self.mark[0])
             self.mark = None
         if not self.is_old and not self.is_asked and not self.mark and at >= self.beat_at:
@@ -502,7 +566,7 @@ class Mirror:
             if not self.is_old:
                 self._confirm(vector)
 
-    def _confirm(self, vector):
+    def _confirm(self, vector: str) -> None:
         self.database.confirm(vector)
         if self.is_away:
             say("it goes on")
@@ -511,7 +575,7 @@ class Mirror:
 
 # ---- the comparison
 
-def is_reached(path, vector, until):
+def is_reached(path: str, vector: str, until: float) -> bool:
     """Whether a mirror has all that a vector counts, in some time."""
     while time.monotonic() < until:
         with contextlib.suppress(sqlite3.OperationalError), contextlib.closing(sqlite3.connect(read_only(path), uri=True)) as connection:
@@ -522,11 +586,11 @@ def is_reached(path, vector, until):
     return False
 
 
-def read_only(path):
+def read_only(path: str) -> str:
     return f"{pathlib.Path(path).as_uri()}?mode=ro"
 
 
-def differences(connection):
+def differences(connection: sqlite3.Connection) -> Iterator[str]:
     """What the tables of a mirror lack, what they have beside it, and how many rows they have. Of each only the first."""
     for table, (word, one, other) in itertools.product(TEXTS, (("lacks", "main", "made"), ("has", "made", "main"))):
         question = f"SELECT * FROM {one}.{table} EXCEPT SELECT * FROM {other}.{table} LIMIT {MOST_SHOWN}"
@@ -537,7 +601,7 @@ def differences(connection):
             yield f"{table} has {its} rows in place of {right}"
 
 
-def compared(site, path):
+def compared(site: Site, path: str) -> tuple[set[str], list[str]]:
     """The vectors of the texts, and the first differences between them and a database."""
     with contextlib.closing(sqlite3.connect("", isolation_level=None, uri=True)) as connection:
         with site.rows() as (rows, vectors):
@@ -550,7 +614,7 @@ def compared(site, path):
             return vectors, [f"{path}: {fault}"]
 
 
-def compare(site, path):
+def compare(site: Site, path: str) -> int:
     """Prints how a database differs from the texts of a site, after a mirror had some seconds to have what they have. The exit status."""
     until, is_over, found = time.monotonic() + COMPARING, False, [""]
     while found and not is_over:
@@ -562,7 +626,7 @@ def compare(site, path):
     return 1 if found else 0
 
 
-def options():
+def options() -> argparse.Namespace:
     it = argparse.ArgumentParser(prog="mirror.py", description=__doc__, formatter_class=argparse.RawDescriptionHelpFormatter)
     what = it.add_mutually_exclusive_group()
     what.add_argument("--once", action="store_true", help="make the database equal, and end")
@@ -573,21 +637,24 @@ def options():
     return it.parse_args()
 
 
-def client_for(asked):
+def client_for(asked: argparse.Namespace) -> Client:
     try:
         return client_of(asked, [asked.url])
     except (ValueError, OSError) as why:
         raise Stop(f"{why}") from None
 
 
-def main():
+def main() -> None:
     asked = options()
     os.umask(0o077)  # the database has payments of customers: nobody else of this machine reads it
     for number in (signal.SIGINT, signal.SIGTERM):
         signal.signal(number, lambda *_: sys.exit(0))
     path, client = os.path.realpath(asked.database), lambda: client_for(asked)
     try:
-        sys.exit(compare(Site(client()), path) if asked.compare else Mirror(asked.url.rstrip("/"), path, client).run(asked.once))
+        if asked.compare:
+            sys.exit(compare(Site(client()), path))
+        Mirror(asked.url.rstrip("/"), path, client).run(asked.once)
+        sys.exit()
     except (Stop, Failed, BadText) as why:
         say(why)
     except sqlite3.DatabaseError as why:

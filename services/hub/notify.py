@@ -1,8 +1,10 @@
 """notify.py: what a site says to systemd, if that started it: that it is ready, that it lives, and what it does."""
-import os, socket
+from __future__ import annotations
+import os
+import socket
 
 
-def notify(*lines):
+def notify(*lines: str) -> None:
     """Sends lines such as READY=1. Without systemd it does nothing."""
     place = os.environ.get("NOTIFY_SOCKET")
     if not place:
@@ -14,7 +16,7 @@ def notify(*lines):
             pass  # systemd has gone, and nobody waits for it
 
 
-def watchdog_seconds():
+def watchdog_seconds() -> float | None:
     """How often systemd must hear that the site lives, or None."""
     micros, process = os.environ.get("WATCHDOG_USEC", ""), os.environ.get("WATCHDOG_PID", str(os.getpid()))
     return int(micros) / 1e6 if micros.isdecimal() and process == str(os.getpid()) else None

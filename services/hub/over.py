@@ -3,8 +3,15 @@
 The lines of the site itself are fed to `serve` in the order of their numbers, and then the entries that it accepted, in the order in which it
 accepted them. Each must be new, under the number that it had: else nothing is left.
 """
-import contextlib, os, sqlite3, subprocess, urllib.parse
-from .files import Wrong, synced
+from __future__ import annotations
+import contextlib
+import os
+import pathlib
+import sqlite3
+import subprocess
+import urllib.parse
+from typing import IO, Iterable, Iterator, cast
+from .files import Files, Wrong, synced
 from .vectors import run_text
 
 AT_ONCE = 1 << 20  # bytes of requests that are written before their replies are read: less than a pipe of replies may hold up
@@ -13,30 +20,35 @@ AT_ONCE = 1 << 20  # bytes of requests that are written before their replies are
 class Serve:
     """A process that is asked one batch after another."""
 
-    def __init__(self, program, files, journal):
+    def __init__(self, program: str, files: Files, journal: pathlib.Path) -> None:
         words = [program, "serve", str(files.site), str(files.group), str(journal)]
         self.child = subprocess.Popen(words, stdin=subprocess.PIPE, stdout=subprocess.PIPE, stderr=subprocess.PIPE,
                                       restore_signals=False)
-        ready = self.child.stdout.readline()
+        self.requests, self.replies = cast(IO[bytes], self.child.stdin), cast(IO[bytes], self.child.stdout)  # they are pipes
+        ready = self.replies.readline()
         if not ready.startswith(b"READY "):
             raise Wrong(f"{program} does not serve: {self.child.communicate()[1].decode(errors='replace').strip()}")
         self.vector = ready[len("READY "):].strip().decode()
 
-    def ask(self, requests, rights):
+    def ask(self, requests: list[bytes], rights: list[bytes]) -> None:
         """Sends a batch of requests, each of which must have its reply."""
-        self.child.stdin.write(b"".join(request + b"\n" for request in requests))
-        self.child.stdin.flush()
+        self.requests.write(b"".join(request + b"\n" for request in requests))
+        self.requests.flush()
         for request, right in zip(requests, rights):
-            reply = self.child.stdout.readline()
+            reply = self.replies.readline()
             if reply != right + b"\n":
                 raise Wrong(f"{request[:60]!r} is answered with {reply.decode(errors='replace').strip()}, and not with {right.decode()}")
 
-    def end(self):
-        self.child.stdin.close()
+    def said(self) -> str:
+        """What it wrote to standard error, until it ended."""
+        return cast(IO[bytes], self.child.stderr).read().decode(errors="replace").strip()
+
+    def end(self) -> int:
+        self.requests.close()
         return self.child.wait()
 
 
-def batches(pairs):
+def batches(pairs: Iterable[tuple[bytes, bytes]]) -> Iterator[tuple[list[bytes], list[bytes]]]:
     """Requests with their replies, some at once: a reply of a line is short, so that the replies of a batch fit into a pipe."""
     requests, rights, size = [], [], 0
     for request, right in pairs:
@@ -50,7 +62,7 @@ def batches(pairs):
         yield requests, rights
 
 
-def pairs_in(connection):
+def pairs_in(connection: sqlite3.Connection) -> Iterator[tuple[bytes, bytes]]:
     """What is fed of a database, each with the reply that it must have."""
     for number, line in connection.execute("SELECT number, line FROM own ORDER BY number"):
         yield bytes(line).replace(b"\n", b" "), b"TAKEN %d" % number
@@ -58,14 +70,14 @@ def pairs_in(connection):
         yield run_text(origin, first, bytes(lines).split(b"\n")[:-1]), b"ACCEPTED %d" % count
 
 
-def remove(journal):
+def remove(journal: pathlib.Path) -> None:
     """Removes a journal, and the empty file that the program makes beside it."""
     for path in journal, journal.with_name(journal.name + "-wal"):
         with contextlib.suppress(FileNotFoundError):
             path.unlink()
 
 
-def read_over(old, files, program):
+def read_over(old: str, files: Files, program: str) -> str:
     """Makes the journal of a site of an SQLite journal. The result says what it then has."""
     if files.journal.exists():
         raise Wrong(f"{files.journal} is there already")

@@ -1,25 +1,30 @@
 """places.py: where the parts are that a site uses beside its program: the Python package of the library, and the tools of the desk.
 
-A clone and a release have both in folders of their own. In Debian the package is installed for every program, and the tools of the desk are
-beside the services. Such a folder is among those that Python looks in only while a module of it is loaded.
+A clone and a release have both in folders of their own. In Debian the package is installed for every program. In a release and in Debian the
+tools of the desk are beside the services. Such a folder is among those that Python looks in only while a module of it is loaded.
 """
-import functools, importlib, pathlib, sys, threading
+from __future__ import annotations
+import functools
+import importlib
+import pathlib
+import sys
+import threading
+import types
 from .files import Wrong
 
 TOP = pathlib.Path(__file__).resolve().parents[2]  # a clone, or share/niluppang of a release or of Debian
 PACKAGE = "niluppang"
 PACKAGES = [TOP / "bindings" / "python", TOP / "python"]  # of a clone, of a release
-# of a clone, of Debian, of a release
-DESKS = [TOP / "examples" / "desk", TOP / "desk", TOP.parent / "doc" / "niluppang" / "examples" / "desk"]
+DESKS = [TOP / "tools" / "desk", TOP / "desk"]  # of a clone, of a release or of Debian
 NO_PACKAGE = ("there is no Python package niluppang, which reads lines as the program does: Debian's package python3-niluppang has it, a"
               " clone has it in bindings/python, and a release in share/niluppang/python")
-NO_TOOL = ("there is no {}.py of the desk: Debian's package niluppang has it in /usr/share/niluppang/desk, a clone has it in examples/desk,"
-           " and a release in share/doc/niluppang/examples/desk")
+NO_TOOL = ("there is no {}.py of the desk: Debian's package niluppang has it in /usr/share/niluppang/desk, a clone has it in tools/desk,"
+           " and a release in share/niluppang/desk")
 
 one_at_a_time = threading.Lock()
 
 
-def loaded(name, folder=None):
+def loaded(name: str, folder: pathlib.Path | None = None) -> types.ModuleType:
     """The module or the package of a name, which must be that of a folder if one is named."""
     with one_at_a_time:
         sys.path[:0] = [str(folder)] if folder else []
@@ -35,13 +40,13 @@ def loaded(name, folder=None):
     return module
 
 
-def first_with(folders, path):
+def first_with(folders: list[pathlib.Path], path: str) -> pathlib.Path | None:
     """The first of some folders that has a file, or None."""
     return next((folder for folder in folders if (folder / path).is_file()), None)
 
 
 @functools.lru_cache(maxsize=None)
-def niluppang_package():
+def niluppang_package() -> types.ModuleType:
     """The Python package of the library. The library itself is loaded when something of it is called."""
     try:
         return loaded(PACKAGE, first_with(PACKAGES, f"{PACKAGE}/__init__.py"))
@@ -50,7 +55,7 @@ def niluppang_package():
 
 
 @functools.lru_cache(maxsize=None)
-def desk_module(name):
+def desk_module(name: str) -> types.ModuleType:
     """A tool of the desk as a module, such as check_list."""
     folder = first_with(DESKS, f"{name}.py")
     if folder is None:

@@ -4,9 +4,14 @@ A bank posts in its own name alone. An answer of a beneficiary bank whose instru
 instruction comes, be it from a client or from a peer, and after some time without one it is given up. What is handed to the process is in
 the record before.
 """
-import asyncio, collections, logging, time
+from __future__ import annotations
+import asyncio
+import logging
+import time
+from typing import Any, Callable, Iterable, NamedTuple
 from . import record, senders
-from .keeper import Busy, Halted, Outcome, Refused, Unable
+from .access import Who
+from .keeper import Busy, Changes, Halted, Keeper, Outcome, Refused, Unable
 from .questions import on_transfer
 
 LOOK = 5.0  # seconds after which what waits too long is looked for, and what could not be handed on is tried again
@@ -15,20 +20,30 @@ MOST_SHORT = 1 << 16  # bytes of a text that is asked for together with others
 MOST_WITHHELD = 100  # lines in the name of another bank, of one post, that the record names
 log = logging.getLogger("hub")
 
+
 # somebody who posts: who it is, from which address, in which request
-Asker = collections.namedtuple("Asker", "who address request")
+class Asker(NamedTuple):
+    who: Who
+    address: str
+    request: str
 
 
 class Posts:
     """The lines that clients post. `reader` reads lines as the core does: it is needed if a bank has a role."""
+    names: set[tuple[str, str]]
+    changed: set[tuple[str, str]]
+    task: asyncio.Task[None] | None
+    reader: senders.Reader | None
+    may_send: Callable[[str, str], bool]
 
-    def __init__(self, keeper, its_record, reader, seconds):
+    def __init__(self, keeper: Keeper, its_record: record.Record, reader: senders.Reader | None, seconds: float) -> None:
         self.keeper, self.record, self.reader, self.seconds = keeper, its_record, reader, seconds
         self.names, self.many, self.some, self.task, self.watches = set(), 0, asyncio.Event(), None, False
         self.may_send = lambda name, bank: True  # whether somebody still sends in the name of a bank
         self.changed = set()  # transfers with something that waits, and of which a message came
+        self.under_way = 0  # posts that have no answer yet
 
-    async def begin(self):
+    async def begin(self) -> None:
         """Looks at all that waited when the site ended, and from now on at what changes."""
         rows = await self.record.waiting()
         self.names, self.many = {(row.originator, row.tx) for row in rows}, len(rows)
@@ -37,19 +52,30 @@ class Posts:
         self.some.set()
         self.task = asyncio.ensure_future(self._follow())
 
-    async def end(self):
+    async def end(self) -> None:
         if self.task:
             self.task.cancel()
             await asyncio.gather(self.task, return_exceptions=True)
 
     # ---- what is posted
 
-    async def post(self, asker, lines):
+    async def post(self, asker: Asker, lines: list[bytes]) -> list[Outcome]:
         """The outcome of each line."""
+        self.keeper.must_take()
+        self.under_way += 1
+        try:
+            return await self._posted(asker, lines)
+        finally:
+            self.under_way -= 1
+
+    async def _posted(self, asker: Asker, lines: list[bytes]) -> list[Outcome]:
         if asker.who.may(("operator",)):
             return await self._handed_on(asker, lines)
         verdicts, reads = await self._judged(asker, lines)
-        places = lambda word: [place for place, verdict in enumerate(verdicts) if verdict.word == word]
+
+        def places(word: str) -> list[int]:
+            return [place for place, verdict in enumerate(verdicts) if verdict.word == word]
+
         kept, allowed = places(senders.WAITS), places(senders.ALLOWED)
         rows = await self._kept(asker, [(reads[place], lines[place]) for place in kept])
         read, unread = ([place for place in allowed if (reads[place] is None) == is_unread] for is_unread in (False, True))
@@ -60,20 +86,24 @@ class Posts:
                     **{place: Outcome("WAITING", 0, row.until) for place, row in zip(kept, rows)}}
         if rows:
             self._look_at({(row.originator, row.tx) for row in rows})
-        return [outcomes.get(place) or Outcome("FORBIDDEN", 0, verdict.why) for place, verdict in enumerate(verdicts)]
+        return [outcomes.get(place) or Outcome("FORBIDDEN", 0, verdict.why or "") for place, verdict in enumerate(verdicts)]
 
-    def _from(self, asker):
+    def _from(self, asker: Asker) -> tuple[str, str, str]:
         return asker.who.name, asker.address, asker.request
 
-    async def _judged(self, asker, lines):
-        """What a bank may do with each line, and how the core reads it."""
+    def _reads(self) -> senders.Reader:
+        """What reads lines as the core does. Unable if it is not there."""
         if self.reader is None:
             raise Unable("the library that reads lines is not there")
-        reads = await asyncio.to_thread(self.reader.read, lines)
+        return self.reader
+
+    async def _judged(self, asker: Asker, lines: list[bytes]) -> tuple[list[senders.Verdict], list[senders.Read | None]]:
+        """What a bank may do with each line, and how the core reads it."""
+        reads = await asyncio.to_thread(self._reads().read, lines)
         held = await self._held(senders.wanted(reads))
         return senders.judged(reads, asker.who.banks, held), reads
 
-    async def looked_up(self, transfers, seen):
+    async def looked_up(self, transfers: Iterable[tuple[str, str]], seen: Callable[[bytes, str, str], Any]) -> dict[tuple[str, str], Any]:
         """What a function sees in the text of the messages on each of some transfers. Not more texts than a few are there at a time."""
         transfers, found = sorted(transfers), {}
         for place in range(0, len(transfers), AT_ONCE):
@@ -85,11 +115,11 @@ class Posts:
                 found[transfer] = await asyncio.to_thread(seen, bytes(await self.keeper.ask(on_transfer(*transfer))), *transfer)
         return found
 
-    async def _held(self, transfers):
+    async def _held(self, transfers: Iterable[tuple[str, str]]) -> dict[tuple[str, str], set[str]]:
         """The beneficiary banks of the instructions that are held for some transfers."""
         return await self.looked_up(transfers, senders.beneficiaries)
 
-    async def _handed_on(self, asker, lines):
+    async def _handed_on(self, asker: Asker, lines: list[bytes]) -> list[Outcome]:
         """The outcomes of lines that the process is given, after the record has them."""
         if not lines:
             return []
@@ -102,51 +132,52 @@ class Posts:
         self.record.note("outcome", *self._from(asker), record.outcomes_of(number, outcomes))
         return outcomes
 
-    async def _refused(self, asker, lines):
+    async def _refused(self, asker: Asker, lines: list[bytes]) -> list[Outcome]:
         """The outcomes of lines that the core refuses. The process is not given them: nobody knows in whose name they are. The record has
         their number alone, so that nobody fills the disk with them."""
         if not lines:
             return []
-        texts = await asyncio.to_thread(self.reader.refusals, lines)
+        texts = await asyncio.to_thread(self._reads().refusals, lines)
         self.record.note("unread", *self._from(asker), {"lines": len(lines), "first": record.digest_of(lines[0])})
         return [self.keeper.refused(text) for text in texts]
 
-    def _withheld(self, asker, found):
+    def _withheld(self, asker: Asker, found: list[tuple[bytes, str | None]]) -> None:
         """Has the record say which lines were in the name of another bank."""
         if found:
             first = [[record.digest_of(line), why] for line, why in found[:MOST_WITHHELD]]
             self.record.note("withheld", *self._from(asker), {"lines": first, "more": len(found) - len(first)})
 
-    async def _kept(self, asker, found):
+    async def _kept(self, asker: Asker, found: list[tuple[senders.Read | None, bytes]]) -> list[record.Waiting]:
         """The rows of some lines that wait from now on."""
         if not found:
             return []
         until = record.utc(time.time() + self.seconds)
-        rows = [record.to_wait(until, asker.who.name, read.sender, read.kind, *read.transfers[0], asker.request, line) for read, line in found]
+        rows = [record.to_wait(until, asker.who.name, read.sender, read.kind, *read.transfers[0], asker.request, line)
+                for read, line in found if read]
         return await self.record.put_waiting(rows, asker.address)
 
     # ---- what waits
 
-    def round(self, changes):
+    def round(self, changes: Changes) -> None:
         """After a round of the site: what waits for a transfer that changed is looked at. With None it is not known which ones changed."""
         if self.names:
             found = self.names if changes is None else self.names & {change[:2] for change in changes}
             if found:
                 self._look_at(found)
 
-    def _look_at(self, transfers):
+    def _look_at(self, transfers: set[tuple[str, str]]) -> None:
         self.names |= transfers
         self.changed |= transfers
         self._watch()
         self.some.set()
 
-    def _watch(self):
+    def _watch(self) -> None:
         """Has the site say what changes, as long as something waits."""
         if bool(self.names) != self.watches:
             self.watches = bool(self.names)
             self.keeper.watch(1 if self.watches else -1)
 
-    async def _follow(self):
+    async def _follow(self) -> None:
         """Looks again and again, for ever. No failure ends it, and one that goes on is logged once."""
         said = None
         while True:
@@ -166,14 +197,14 @@ class Posts:
                 await asyncio.sleep(LOOK)
                 self.some.set()
 
-    async def _look(self):
+    async def _look(self) -> None:
         """Takes what has its instruction now, and gives up what waited too long."""
         if self.names:
             await self.keeper.begin_watching()
         changed, self.changed = self.changed, set()
         try:
             held = await self._held(changed)
-            for row in await self.record.waiting() if any(held.values()) else []:
+            for row in await self.record.waiting() if any(held.values()) and not self.keeper.closed else []:
                 if held.get((row.originator, row.tx)):
                     await self._decided(row, held[row.originator, row.tx])
         except BaseException:
@@ -187,7 +218,7 @@ class Posts:
             self.names, self.many = {(row.originator, row.tx) for row in rows} | self.changed, len(rows)
             self._watch()
 
-    async def _decided(self, row, beneficiaries):
+    async def _decided(self, row: record.Waiting, beneficiaries: set[str]) -> None:
         """Hands a line on that waited, if the bank is the beneficiary bank of its instruction."""
         if row.bank not in beneficiaries or not self.may_send(row.who, row.bank):
             why = (f"{row.bank} is not the beneficiary bank of {row.originator} {row.tx}" if row.bank not in beneficiaries

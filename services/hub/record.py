@@ -9,10 +9,23 @@ lack, and then the journal says what was taken. The file also has the lines that
 
 One thread does all work on the file. What comes while it commits goes to the disk in the next transaction, together.
 """
-import asyncio, collections, contextlib, hashlib, itertools, json, logging, os, pathlib, sqlite3, time, urllib.parse
+from __future__ import annotations
+import asyncio
+import collections
+import contextlib
+import hashlib
+import itertools
+import json
+import logging
+import os
+import pathlib
+import sqlite3
+import time
+import urllib.parse
+from typing import Any, Callable, Iterable, Iterator, NamedTuple, Sequence, Union
 from concurrent.futures import ThreadPoolExecutor
 from .files import Wrong, synced
-from .keeper import Busy, Unable, as_message
+from .keeper import Busy, Outcome, Unable, as_message
 
 VERSION = 1
 CHECKED = 1000  # rows at the end of the chain that are checked when a site opens its record
@@ -45,22 +58,40 @@ SCHEMA = (
     "CREATE INDEX waiting_until ON waiting(until, size, state) WHERE state = 'WAITING'",
     "CREATE INDEX waiting_ended ON waiting(ended) WHERE ended IS NOT NULL")
 
+
 # a line of a beneficiary bank that waits, or did: its digest is the SHA-256 of the line, and it waits if its state is WAITING
-Waiting = collections.namedtuple("Waiting", "number at until who bank kind originator tx request line digest state outcome ended")
+class Waiting(NamedTuple):
+    number: int | None
+    at: str
+    until: str
+    who: str
+    bank: str
+    kind: str
+    originator: str
+    tx: str
+    request: str
+    line: bytes
+    digest: str
+    state: str
+    outcome: int | str | None
+    ended: str | None
+
+
 WAITING_CELLS = ", ".join(Waiting._fields)
 
+Path = Union[pathlib.Path, str]
 log = logging.getLogger("hub")
 
 
 # ---- texts and sums
 
-def utc(seconds=None):
+def utc(seconds: float | None = None) -> str:
     """A time in UTC as the record has it, such as 2026-11-29T18:00:00.123Z: now, or the seconds of a clock."""
     full, thousandths = divmod(round(1000 * (time.time() if seconds is None else seconds)), 1000)
     return f"{time.strftime('%Y-%m-%dT%H:%M:%S', time.gmtime(full))}.{thousandths:03d}Z"
 
 
-def plain(text):
+def plain(text: str) -> str:
     """A text from outside as a cell has it: short, and of characters that can be printed."""
     return (text if text.isprintable() else text[:MOST_TEXT].encode("unicode_escape").decode())[:MOST_TEXT]
 
@@ -69,45 +100,45 @@ as_text = json.JSONEncoder(separators=(",", ":")).encode
 as_cells = json.JSONEncoder(separators=(",", ":"), default=repr).encode  # a cell that is no text is not of the record
 
 
-def first_sum(site, group):
+def first_sum(site: int, group: int) -> str:
     """The sum that the first row follows."""
     return hashlib.sha256(f"site {site} {group}".encode()).hexdigest()
 
 
-def sum_after(before, cells):
+def sum_after(before: str | None, cells: Sequence[Any]) -> str:
     """The sum of a row: the SHA-256 over the sum of the row before it and the JSON list of its other cells, in ASCII without blanks. The
     cell `what` is in it as the text that it is."""
     return hashlib.sha256(f"{before}{as_cells(cells)}".encode()).hexdigest()
 
 
-def digest_of(line):
+def digest_of(line: bytes) -> str:
     return hashlib.sha256(line).hexdigest()
 
 
 # ---- what rows say
 
-def post_of(lines):
+def post_of(lines: list[bytes]) -> dict[str, Any]:
     """What a row of the act `post` or `adopt` says: the digest of each line as it is handed on."""
     return {"lines": [digest_of(as_message(line)) for line in lines]}
 
 
-def outcomes_of(post, outcomes):
+def outcomes_of(post: int, outcomes: Iterable[Outcome]) -> dict[str, Any]:
     """What a row of the act `outcome` says: the number of the post's row, and what became of each line, in the same order."""
     return {"of": post, "outcomes": [[word, *([number] if number else []), *([why[:MOST_TEXT]] if why else [])]
                                      for word, number, why in outcomes]}
 
 
-def failed_of(post, why):
+def failed_of(post: int, why: str) -> dict[str, Any]:
     """What a row of the act `failed` says: the post's lines have no outcome, and why. Some may be in the journal all the same."""
     return {"of": post, "why": why[:MOST_TEXT]}
 
 
-def to_wait(until, who, bank, kind, originator, tx, request, line):
+def to_wait(until: str, who: str, bank: str, kind: str, originator: str, tx: str, request: str, line: bytes) -> Waiting:
     """A line that is to wait until a time."""
     return Waiting(None, utc(), until, who, bank, kind, originator, tx, request, bytes(line), digest_of(line), "WAITING", None, None)
 
 
-def row_of(act, who, address, request, what):
+def row_of(act: str, who: str, address: str, request: str, what: dict[str, Any]) -> tuple[str, str, str, str, str, str]:
     """The cells of a row between its number and its sum."""
     return utc(), plain(who), plain(address), plain(request), act, as_text(what)
 
@@ -115,7 +146,7 @@ def row_of(act, who, address, request, what):
 # ---- the file
 
 @contextlib.contextmanager
-def site_faults():
+def site_faults() -> Iterator[None]:
     """Turns faults of SQLite into those that a site knows."""
     try:
         yield
@@ -125,16 +156,16 @@ def site_faults():
         raise Wrong(f"it is no record: {fault}") from None
 
 
-def unable(done, fault):
+def unable(done: str, fault: Exception) -> Unable:
     """Why something cannot be done with the record. Another process that writes for long is no fault of the disk."""
     return Unable(f"the record cannot be {done}: {getattr(fault, 'strerror', None) or fault}", "locked" not in str(fault))
 
 
-def connected(path, mode):
+def connected(path: pathlib.Path | str, mode: str) -> sqlite3.Connection:
     return sqlite3.connect(f"file:{urllib.parse.quote(str(path))}?mode={mode}", uri=True, isolation_level=None, timeout=LOCK_SECONDS)
 
 
-def opened(path, site, group, own_lines=None):
+def opened(path: Path, site: int, group: int, own_lines: Callable[[], Iterable[bytes]] | None = None) -> sqlite3.Connection:
     """A connection that writes the record of a site. One that is not there is begun, if own_lines yields the journal's own lines."""
     if own_lines is None and not os.path.exists(path):
         raise Wrong("there is no record: the site begins one when it starts")
@@ -145,7 +176,7 @@ def opened(path, site, group, own_lines=None):
         if not is_fresh:
             check_file(connection, site, group)
         connection.execute("PRAGMA journal_mode = WAL")
-        if is_fresh:
+        if own_lines is not None and is_fresh:
             begin(connection, site, group, own_lines)
             synced(pathlib.Path(path).absolute().parent)
         return connection
@@ -154,13 +185,13 @@ def opened(path, site, group, own_lines=None):
         raise
 
 
-def lines_in(own_lines):
+def lines_in(own_lines: Callable[[], Iterable[bytes]]) -> Iterator[bytes]:
     """The journal's own lines. A journal that is not there has none."""
     with contextlib.suppress(FileNotFoundError):
         yield from own_lines()
 
 
-def begin(connection, site, group, own_lines):
+def begin(connection: sqlite3.Connection, site: int, group: int, own_lines: Callable[[], Iterable[bytes]]) -> None:
     """Makes a record, whose first row has what the journal had before."""
     many, sums = 0, hashlib.sha256()
     with transaction(connection):
@@ -173,7 +204,7 @@ def begin(connection, site, group, own_lines):
     log.info("the record of site %d begins: its journal has %d lines of its own from before", site, many)
 
 
-def check_file(connection, site, group):
+def check_file(connection: sqlite3.Connection, site: int, group: int) -> None:
     """Wrong if a file is not the record of this site, or another version of the program made it."""
     version, = connection.execute("PRAGMA user_version").fetchone()
     if version != VERSION:
@@ -183,13 +214,13 @@ def check_file(connection, site, group):
         raise Wrong(f"it is the record of (site, group) {found}, and not of site {site} of {group}")
 
 
-def changed_parts(connection):
+def changed_parts(connection: sqlite3.Connection) -> list[str]:
     """The tables and triggers that are not there, or are not as the program made them."""
     there = {statement for statement, in connection.execute("SELECT sql FROM sqlite_master")}
     return [" ".join(statement.split("(")[0].split()[1:3]) for statement in SCHEMA if statement not in there]
 
 
-def linked(rows, number, before):
+def linked(rows: sqlite3.Cursor, number: int, before: str | None) -> Iterator[tuple[tuple[int | str, ...], str | None]]:
     """Each of some rows, and what is wrong with its number or its sum, if anything is. They follow a row with this number and sum."""
     for row in rows:
         fault = None
@@ -202,7 +233,7 @@ def linked(rows, number, before):
         number, before = row[0], row[-1]
 
 
-def check_end(connection, site, group):
+def check_end(connection: sqlite3.Connection, site: int, group: int) -> tuple[int, str]:
     """Wrong if the last rows are no chain. The number and the sum of the last one."""
     last, = connection.execute("SELECT max(number) FROM record").fetchone()
     if not last:
@@ -213,11 +244,11 @@ def check_end(connection, site, group):
         for row, fault in linked(rows, first, *(before or (None,))):
             if fault:
                 raise Wrong(fault)
-    return row[0], row[-1]
+    return int(row[0]), str(row[-1])
 
 
 @contextlib.contextmanager
-def transaction(connection):
+def transaction(connection: sqlite3.Connection) -> Iterator[None]:
     """All that is done meanwhile is on the disk at the end, or nothing of it. Nobody else writes meanwhile."""
     connection.execute("BEGIN IMMEDIATE")
     try:
@@ -231,21 +262,23 @@ def transaction(connection):
 
 class Chain:
     """The end of the chain in a transaction, to which rows are added."""
+    number: int
+    sum: str
 
-    def __init__(self, connection, site, group):
+    def __init__(self, connection: sqlite3.Connection, site: int, group: int) -> None:
         self.connection = connection
         last = connection.execute("SELECT number, sum FROM record ORDER BY number DESC LIMIT 1").fetchone()
         self.number, self.sum = last or (0, first_sum(site, group))
 
-    def add(self, *cells):
+    def add(self, *cells: str) -> int:
         """The number of a row, which is added."""
         row = (self.number + 1, *cells)
         its = sum_after(self.sum, row)
         self.connection.execute("INSERT INTO record VALUES (?, ?, ?, ?, ?, ?, ?, ?)", (*row, its))
-        self.number, self.sum = row[0], its
+        self.number, self.sum = self.number + 1, its
         return self.number
 
-    def alone(self, work):
+    def alone(self, work: Callable[[Chain], Any]) -> Any:
         """What some work comes to, or the fault that it alone has: then nothing of it stays, and what is done beside it does."""
         before = self.number, self.sum
         self.connection.execute("SAVEPOINT work")
@@ -261,7 +294,8 @@ class Chain:
         return result
 
 
-def act_once(path, site, group, act, who, what, own_lines=None):
+def act_once(path: Path, site: int, group: int, act: str, who: str, what: dict[str, Any],
+             own_lines: Callable[[], Iterable[bytes]] | None = None) -> int:
     """Adds the row of an operator's act, also while the site runs. Its number. Wrong if there is no record, unless own_lines begins one."""
     with site_faults(), contextlib.closing(opened(path, site, group, own_lines)) as connection:
         with transaction(connection):
@@ -270,9 +304,9 @@ def act_once(path, site, group, act, who, what, own_lines=None):
 
 # ---- lines that wait
 
-def put_lines(chain, rows, address, post):
+def put_lines(chain: Chain, rows: list[Waiting], address: str, post: int | None) -> list[Waiting]:
     """Puts lines that wait, and the row that says so. They as they wait now: what waits already is the row that is there."""
-    found = {}
+    found: dict[tuple[str, str], Waiting] = {}
     for row in rows:
         there = chain.connection.execute(f"SELECT {WAITING_CELLS} FROM waiting WHERE bank = ? AND digest = ? AND state = 'WAITING'",
                                          (row.bank, row.digest)).fetchone()
@@ -288,7 +322,26 @@ def put_lines(chain, rows, address, post):
     return [found[row.bank, row.digest] for row in rows]
 
 
-def check_room(connection, fresh):
+def waiting_in(path: Path) -> list[Waiting]:
+    """The lines that wait in the record of a site, the oldest first. None of them if there is no record."""
+    if not os.path.exists(path):
+        return []
+    with site_faults(), contextlib.closing(connected(path, "ro")) as connection:
+        return [Waiting(*row) for row in connection.execute(f"SELECT {WAITING_CELLS} FROM waiting WHERE state = 'WAITING' ORDER BY number")]
+
+
+def move_waiting(rows: list[Waiting], path: Path, site: int, group: int, own_lines: Callable[[], Iterable[bytes]]) -> None:
+    """Has lines that wait at another site wait at this one. What was moved before is passed over, even if it waits no more. The record of
+    this site is begun if it is not there. Busy if too much waits."""
+    with site_faults(), contextlib.closing(opened(path, site, group, own_lines)) as connection, transaction(connection):
+        there = set(connection.execute("SELECT bank, digest, at FROM waiting"))
+        chain, by = Chain(connection, site, group), lambda row: (row.who, row.request)
+        rows = sorted((row for row in rows if (row.bank, row.digest, row.at) not in there), key=by)
+        for _, some in itertools.groupby(rows, by):
+            put_lines(chain, [row._replace(number=None) for row in some], "", None)
+
+
+def check_room(connection: sqlite3.Connection, fresh: list[Waiting]) -> None:
     """Busy if too much waits with some more lines."""
     many, size = connection.execute("SELECT count(*), total(size) FROM waiting WHERE state = 'WAITING'").fetchone()
     if many + len(fresh) > MOST_WAITING or size + sum(len(row.line) for row in fresh) > MOST_WAITING_BYTES:
@@ -300,7 +353,7 @@ def check_room(connection, fresh):
             raise Busy(f"too many lines of {bank} wait for their instructions")
 
 
-def end_line(chain, number, state, outcome):
+def end_line(chain: Chain, number: int | None, state: str, outcome: int | str | None) -> bool:
     """Ends the waiting of a line, with the row that says so. False if it does not wait."""
     question = "SELECT who, bank, request, digest FROM waiting WHERE number = ? AND state = 'WAITING'"
     found = chain.connection.execute(question, (number,)).fetchone()
@@ -314,14 +367,14 @@ def end_line(chain, number, state, outcome):
     return True
 
 
-def remove_ended(connection):
+def remove_ended(connection: sqlite3.Connection) -> None:
     """Removes lines that ended long ago. The record keeps what became of them."""
     connection.execute("DELETE FROM waiting WHERE ended < ?", (utc(time.time() - KEPT_SECONDS),))
 
 
 # ---- denials
 
-def without_port(address):
+def without_port(address: str) -> str:
     """The host of an address such as 10.0.0.1:4711 or [fd00::1]:4711."""
     host, _, port = address.rpartition(":")
     return host if port.isdigit() and (host.endswith("]") or host and ":" not in host) else address
@@ -329,12 +382,15 @@ def without_port(address):
 
 class Denials:
     """Who was denied something. Not each time is a row, so that nobody fills the disk by being denied."""
+    found: dict[tuple[str, ...], list[Any]]
+    timer: asyncio.TimerHandle | None
+    of: collections.Counter[str]  # how many rows of their own each has in this minute
 
-    def __init__(self, record):
+    def __init__(self, record: Record) -> None:
         self.record, self.found, self.others, self.timer = record, {}, 0, None
         self.of = collections.Counter()  # how many rows of their own each has in this minute
 
-    def add(self, who, address, request, asked, why):
+    def add(self, who: str, address: str, request: str, asked: str, why: str) -> None:
         """Notes a denial if it is the first of its kind in a minute, and else counts it. While the disk fails each is only counted."""
         key = tuple(map(plain, (who, without_port(address), asked, why)))
         if key in self.found:
@@ -348,7 +404,7 @@ class Denials:
         if self.timer is None:
             self.timer = self.record.loop.call_later(MINUTE, self.end_minute)
 
-    def end_minute(self):
+    def end_minute(self) -> None:
         """Notes what was counted."""
         if self.timer:
             self.timer.cancel()
@@ -367,10 +423,10 @@ class Denials:
 class Job:
     """What is done in a transaction, and who waits for what it comes to: nobody, if it is a note."""
 
-    def __init__(self, work, done=None, size=0):
+    def __init__(self, work: Callable[[Chain], Any], done: asyncio.Future[Any] | None = None, size: int = 0) -> None:
         self.work, self.done, self.size = work, done, size
 
-    def settle(self, result):
+    def settle(self, result: list[Waiting] | Exception | int) -> None:
         """Hands on what came of it, unless who waited has gone."""
         if self.done is None:
             if isinstance(result, Exception):
@@ -385,19 +441,28 @@ class Job:
 
 class Record:
     """The record of a site. All of its calls are made in one event loop."""
+    queue: list[Job]
+    fault: str | None
+    task: asyncio.Task[None] | None
+    timer: asyncio.TimerHandle | None
+    loop: asyncio.AbstractEventLoop
+    some: asyncio.Event
+    worker: ThreadPoolExecutor
+    connection: sqlite3.Connection
+    inode: int
 
-    def __init__(self, path, site, group):
+    def __init__(self, path: pathlib.Path | str, site: int, group: int) -> None:
         self.path, self.site, self.group = pathlib.Path(path), site, group
-        self.loop = self.worker = self.connection = self.inode = self.some = self.task = self.timer = None
+        self.task = self.timer = None  # the others come when it is opened
         self.queue, self.ends, self.denials = [], False, Denials(self)
         self.noted, self.lost = 0, 0  # bytes of notes that are not on the disk yet, and notes for which there was no room
         self.end, self.fault = (0, first_sum(site, group)), None  # fault: why the last transaction failed, or None
 
-    def last(self):
+    def last(self) -> tuple[int, str]:
         """The number and the sum of the last row that this process saw."""
         return self.end
 
-    async def open(self, own_lines):
+    async def open(self, own_lines: Callable[[], Iterable[bytes]]) -> None:
         """Opens the record, or begins it: then own_lines yields the journal's own lines. Wrong if the file must not be used, and Unable if
         it cannot be used now."""
         self.loop, self.some = asyncio.get_running_loop(), asyncio.Event()
@@ -409,7 +474,7 @@ class Record:
             raise
         self.task = asyncio.ensure_future(self._run())
 
-    async def close(self):
+    async def close(self) -> None:
         """Commits what is queued, and closes the file."""
         if self.task is None:
             return
@@ -421,12 +486,12 @@ class Record:
         await self.loop.run_in_executor(self.worker, self.connection.close)
         self.worker.shutdown()
 
-    async def add(self, act, who, address, request, what):
+    async def add(self, act: str, who: str, address: str, request: str, what: dict[str, Any]) -> int:
         """Adds a row. Its number, after it is on the disk. Unable if it cannot be written."""
         cells = row_of(act, who, address, request, what)
         return await self._done(lambda chain: chain.add(*cells))
 
-    def note(self, act, who, address, request, what):
+    def note(self, act: str, who: str, address: str, request: str, what: dict[str, Any]) -> None:
         """Adds a row a moment later, after those that were added and noted before. If there is no room for it, a later row has the number
         of those that are lost."""
         cells = row_of(act, who, address, request, what)
@@ -441,23 +506,23 @@ class Record:
         self.queue.append(Job(lambda chain: chain.add(*cells), size=size))
         self._look_in(NOTE_SECONDS)
 
-    def refused(self, who, address, request, asked, why):
+    def refused(self, who: str, address: str, request: str, asked: str, why: str) -> None:
         """Notes or counts that somebody was denied what was asked, such as GET /archive."""
         self.denials.add(who, address, request, asked, why)
 
-    async def put_waiting(self, rows, address="", post=None):
+    async def put_waiting(self, rows: list[Waiting], address: str = "", post: int | None = None) -> list[Waiting]:
         """Puts lines of to_wait that one request posted, all or none. They as they wait now, in their order: a line of the same bank that
         waits already is the row that is there. Busy if too much waits. `post` is the number of the post's row."""
         return await self._done(lambda chain: put_lines(chain, rows, address, post))
 
-    async def end_waiting(self, number, state, outcome=None):
+    async def end_waiting(self, number: int | None, state: str, outcome: int | str | None = None) -> bool:
         """Ends the waiting of a line: TAKEN and its number, REPEAT, REFUSED or FORBIDDEN and why, or EXPIRED. False if it ended before."""
         if state not in ENDS:
             raise ValueError(f"{state} is no end")
         outcome = plain(outcome) if isinstance(outcome, str) else outcome
         return await self._done(lambda chain: end_line(chain, number, state, outcome))
 
-    async def waiting(self, bank=None, ended=0, lines=True):
+    async def waiting(self, bank: str | None = None, ended: int = 0, lines: bool = True) -> list[Waiting]:
         """The lines that wait, of all banks or of one, the oldest first, and then as many of the last that ended as are wanted."""
         its = "AND bank = ?" if bank else ""
         values = (bank,) if bank else ()
@@ -466,26 +531,26 @@ class Record:
         return await self._found(f"state = 'WAITING' {its} ORDER BY +number", *values, cells=cells) + (await self._found(
             f"ended IS NOT NULL {its} ORDER BY ended DESC, number DESC LIMIT ?", *values, ended, cells=cells) if ended else [])
 
-    async def due(self, now):
+    async def due(self, now: str) -> list[Waiting]:
         """The lines that wait, and may not wait any longer at a time."""
         return await self._found("state = 'WAITING' AND until <= ? ORDER BY until, number", now)
 
     # ---- the queue
 
-    async def _done(self, work):
+    async def _done(self, work: Callable[[Chain], Any]) -> Any:
         """What some work on the file comes to, after it is on the disk."""
         if self.task is None or self.ends:
             raise Unable("the record is not open")
-        job = Job(work, self.loop.create_future())
-        self.queue.append(job)
+        done = self.loop.create_future()
+        self.queue.append(Job(work, done))
         self.some.set()
-        return await job.done
+        return await done
 
-    def _look_in(self, seconds):
+    def _look_in(self, seconds: float) -> None:
         if self.timer is None:
             self.timer = self.loop.call_later(seconds, self.some.set)
 
-    async def _run(self):
+    async def _run(self) -> None:
         """Commits what is queued, until the end."""
         while not self.ends or self.queue:
             await self.some.wait()
@@ -499,7 +564,7 @@ class Record:
                 for job in left:
                     job.settle(Unable(f"the record cannot be written: {self.fault}"))
 
-    async def _committed(self, jobs):
+    async def _committed(self, jobs: list[Job]) -> bool:
         """Whether some jobs are done. If not, those that somebody waits for have failed, and notes stay before what came meanwhile."""
         try:
             results, self.end = await self.loop.run_in_executor(self.worker, self._commit, jobs)
@@ -527,7 +592,7 @@ class Record:
 
     # ---- in the thread
 
-    def _open(self, own_lines):
+    def _open(self, own_lines: Callable[[], Iterable[bytes]]) -> None:
         with site_faults():
             connection = opened(self.path, self.site, self.group, own_lines)
             try:
@@ -541,7 +606,7 @@ class Record:
                 raise
         self.connection, self.inode = connection, os.stat(self.path).st_ino
 
-    def _commit(self, jobs):
+    def _commit(self, jobs: list[Job]) -> tuple[list[Any], tuple[int, str]]:
         """Does jobs in one transaction. What each comes to, and the end of the chain."""
         if os.stat(self.path).st_ino != self.inode:
             raise OSError("another file is in its place")
@@ -550,7 +615,7 @@ class Record:
             results = [chain.alone(job.work) for job in jobs]
         return results, (chain.number, chain.sum)
 
-    async def _found(self, condition, *values, cells=WAITING_CELLS):
+    async def _found(self, condition: str, *values: int | str, cells: str = WAITING_CELLS) -> list[Waiting]:
         """The rows of lines that wait, or did."""
         if self.task is None:
             raise Unable("the record is not open")
@@ -564,9 +629,10 @@ class Record:
 
 # ---- the audit
 
-def stretches(numbers, word):
+def stretches(numbers: list[int], word: str) -> str:
     """Numbers in their order as a text, such as: rows 3, 5 to 7."""
-    found, many = [], 0
+    found: list[list[int]] = []
+    many = 0
     for number in numbers:
         many += 1
         if found and found[-1][1] == number - 1:
@@ -577,7 +643,7 @@ def stretches(numbers, word):
     return f"{word}{'s' if many > 1 else ''} {', '.join(parts)}{' and others' if len(found) > MOST_RANGES else ''}"
 
 
-def anchor_in(since):
+def anchor_in(since: str | None) -> tuple[int, str] | None:
     """The number and the sum of a row that somebody kept."""
     number, found, its = (since or "").partition(":")
     if since and not (found and number.isascii() and number.isdigit()):
@@ -587,11 +653,13 @@ def anchor_in(since):
 
 class Said:
     """What rows say of lines: the posts without an outcome, and the lines that wait."""
+    posts: dict[int, list[str]]
+    waits: dict[int, tuple[str, str]]
 
-    def __init__(self):
+    def __init__(self) -> None:
         self.posts, self.waits = {}, {}
 
-    def outcomes(self, number, act, what):
+    def outcomes(self, number: int, act: str, what: Any) -> list[tuple[str, str, Any]]:
         """The lines whose outcome a row says: the digest of each, its outcome, and the number under which it was taken, if it was."""
         if act in POSTS:
             self.posts[number] = list(map(str, what["lines"]))
@@ -610,7 +678,7 @@ class Said:
             return [(what["line"], act.upper(), what["outcome"])]
         return []
 
-    def pending(self):
+    def pending(self) -> set[str]:
         """The digests of lines that may have been handed on, and have no outcome yet."""
         return {digest for lines in self.posts.values() for digest in lines} | {digest for _, digest in self.waits.values()}
 
@@ -620,26 +688,31 @@ BAD_ROW = (ValueError, KeyError, TypeError, AttributeError, IndexError, Recursio
 
 class Audit:
     """An audit: the rows one after another, and beside them the journal's own lines."""
+    facts: list[str]
+    faults: list[str]
+    open: dict[int, str]
+    acts: collections.Counter[str]
+    last: tuple[int, str, str]
 
-    def __init__(self, site, group, own_lines):
+    def __init__(self, site: int, group: int, own_lines: Callable[[], Iterable[bytes]]) -> None:
         self.site, self.group, self.own_lines = site, group, own_lines
         self.facts, self.faults, self.more = [], [], 0
         self.journal, self.held, self.begun = enumerate(lines_in(own_lines), 1), 0, 0
         self.open = {}  # the numbers that no row has given yet of lines that were read, each with its digest
         self.said, self.acts, self.last, self.is_anchored = Said(), collections.Counter(), (0, "", ""), False
 
-    def wrong(self, text):
+    def wrong(self, text: str) -> None:
         if len(self.faults) < MOST_FAULTS:
             self.faults.append(text)
         else:
             self.more += 1
 
-    def report(self):
+    def report(self) -> tuple[list[str], bool]:
         """The lines of the report, and whether nothing is wrong."""
         more = [f"WRONG: and {self.more} more"] if self.more else []
         return self.facts + [f"WRONG: {text}" for text in self.faults] + more, not self.faults
 
-    def run(self, connection, least, anchor):
+    def run(self, connection: sqlite3.Connection, least: int, anchor: tuple[int, str] | None) -> None:
         """Looks at all. `least` lines were in the journal before the record was opened: those must have their rows."""
         check_file(connection, self.site, self.group)
         for name in changed_parts(connection):
@@ -660,7 +733,7 @@ class Audit:
         self.look_at_posts(connection)
         self.look_at_waiting(connection)
 
-    def look(self, row, anchor):
+    def look(self, row: Any, anchor: tuple[int, str] | None) -> None:
         """Looks at one row."""
         number, at, _, _, _, act, text, its = row
         self.acts[str(act)] += 1
@@ -678,7 +751,7 @@ class Audit:
         except BAD_ROW:
             self.wrong(f"row {number} of the record does not say what its act, {act}, must say after the rows before it")
 
-    def begins(self, number, lines, sum):
+    def begins(self, number: int, lines: int, sum: str) -> None:
         """Looks at the lines that are older than the record."""
         sums = hashlib.sha256()
         for place, line in itertools.islice(self.journal, lines):
@@ -692,12 +765,12 @@ class Audit:
         elif sums.hexdigest() != sum:
             self.wrong(f"the first {lines} lines of the journal, which are older than the record, are not those that it had then")
 
-    def read_to(self, number):
+    def read_to(self, number: int) -> None:
         """Reads lines of the journal up to a number, if it has as many."""
         for self.held, line in itertools.islice(self.journal, max(0, number - self.held)):
             self.open[self.held] = digest_of(line)
 
-    def taken(self, row, number, digest):
+    def taken(self, row: int, number: int, digest: str) -> None:
         """Looks at a line that was taken under a number, as a row says."""
         self.read_to(number)
         if number > self.held:
@@ -707,7 +780,7 @@ class Audit:
         elif self.open.pop(number) != digest:
             self.wrong(f"row {row} of the record says TAKEN {number}, and the journal has another line under that number")
 
-    def anchored(self, anchor):
+    def anchored(self, anchor: tuple[int, str]) -> None:
         if self.is_anchored:
             self.facts.append(f"Row {anchor[0]} of the record has the sum that was kept")
         elif anchor[0] > self.last[0]:
@@ -715,22 +788,22 @@ class Audit:
         else:
             self.wrong(f"row {anchor[0]} of the record has not the sum that was kept")
 
-    def look_at_rest(self, connection, least):
+    def look_at_rest(self, connection: sqlite3.Connection, least: int) -> None:
         """Looks at the lines of the journal that no row gives a number."""
         self.read_to(1 << 62)
         pending = self.said.pending()
         left = {number: digest for number, digest in self.open.items() if digest not in pending}
         again = set(self.again(connection, set(left.values()))) if left else ()
-        left = [number for number, digest in left.items() if digest not in again]
-        fresh, lacking = sum(number > least for number in left), [number for number in left if number <= least]
+        unsaid = [number for number, digest in left.items() if digest not in again]
+        fresh, lacking = sum(number > least for number in unsaid), [number for number in unsaid if number <= least]
         with_number = max(0, self.held - self.begun - len(self.open))
         self.facts.append(f"The journal has {self.held} lines of its own: {min(self.begun, self.held)} are older than the record, "
-                          f"{with_number} have a row with their number, {len(self.open) - len(left)} have a row without it"
+                          f"{with_number} have a row with their number, {len(self.open) - len(unsaid)} have a row without it"
                           + (f", {fresh} came after the audit began" if fresh else ""))
         if lacking:
             self.wrong(f"no row of the record has {stretches(lacking, 'line')} of the journal")
 
-    def again(self, connection, wanted):
+    def again(self, connection: sqlite3.Connection, wanted: set[str]) -> Iterator[str]:
         """Lines that were taken without an outcome that says so: the process or the site ended, and they were handed on again."""
         said, acts = Said(), sorted(SAYING - {"begin"})
         places = ", ".join("?" * len(acts))
@@ -740,7 +813,7 @@ class Audit:
                     if word in ("REPEAT", "FAILED") and digest in wanted:
                         yield digest
 
-    def look_at_posts(self, connection):
+    def look_at_posts(self, connection: sqlite3.Connection) -> None:
         """Reports each post without an outcome, and which of its lines are in the journal."""
         posts = self.said.posts
         wanted = {digest for lines in posts.values() for digest in lines}
@@ -757,7 +830,7 @@ class Audit:
         if len(posts) > MOST_FAULTS:
             self.facts.append(f"And {len(posts) - MOST_FAULTS} more have no outcome")
 
-    def look_at_waiting(self, connection):
+    def look_at_waiting(self, connection: sqlite3.Connection) -> None:
         """Compares the lines that wait with the rows that say so."""
         there = {number: (bank, digest_of(line)) for number, bank, line in connection.execute(
             "SELECT number, bank, line FROM waiting WHERE state = 'WAITING'")}
@@ -771,7 +844,7 @@ class Audit:
                 self.wrong(f"line {number} that waits is another one, or of another bank, than its row of the record says")
 
 
-def audited(path, site, group, own_lines, since=None):
+def audited(path: Path, site: int, group: int, own_lines: Callable[[], Iterable[bytes]], since: str | None = None) -> tuple[list[str], bool]:
     """Compares all rows of a record with each other and with the journal's own lines. The lines of a report, and whether all is right. The
     site may run meanwhile. `since` is NUMBER:SUM of a row that somebody kept."""
     audit = Audit(site, group, own_lines)

@@ -7,7 +7,12 @@ A bank sends instructions, recalls and requests about transfers of which it is t
 refusals of recalls about transfers of which it is the beneficiary bank. An instruction says so that is held, or that comes before in the
 same post.
 """
-import collections, csv, io, itertools, json
+from __future__ import annotations
+import csv
+import io
+import itertools
+import json
+from typing import Any, Collection, Iterable, NamedTuple
 from .files import Wrong
 from .keeper import Unable
 from .places import desk_module, niluppang_package
@@ -21,11 +26,22 @@ MOST_ROWS, MOST_LIST = 20_000, 2 << 20  # rows and bytes of a list whose rows ar
 TOOLS = ("fields", "check_list")  # of the desk
 BLANK = b" \t\r"
 
+
 # what the core reads in a line: the kind, InstgAgt, a pair of DbtrAgt and identification for each transaction, CdtrAgt or None, and the
 # canonical line
-Read = collections.namedtuple("Read", "kind sender transfers beneficiary line")
+class Read(NamedTuple):
+    kind: str
+    sender: str
+    transfers: tuple[tuple[str, str], ...]
+    beneficiary: str | None
+    line: bytes
+
+
 # what becomes of a line: FORBIDDEN has a reason, and WAITS the transfer whose instruction is not held
-Verdict = collections.namedtuple("Verdict", "word why transfer", defaults=[None, None])
+class Verdict(NamedTuple):
+    word: str
+    why: str | None = None
+    transfer: tuple[str, str] | None = None
 
 
 class BadList(BadText):
@@ -34,7 +50,7 @@ class BadList(BadText):
 
 # ---- what a line says
 
-def read_of(line):
+def read_of(line: bytes) -> Read:
     """What a canonical line says."""
     message = json.loads(line)
     kind = message["MsgNmId"][:len(INSTRUCTION)]
@@ -43,17 +59,17 @@ def read_of(line):
     return Read(kind, message["InstgAgt"], transfers, message.get("CdtrAgt"), line)
 
 
-def lines_in(text):
+def lines_in(text: bytearray | bytes) -> list[bytes]:
     """The lines of a text of the process. Nothing but a line feed ends one."""
     return [line for line in bytes(text).split(b"\n") if line]
 
 
-def instructions_in(text):
+def instructions_in(text: bytearray | bytes) -> list[bytes]:
     """The canonical lines of instructions in a text of the process. The others are not read: a recall may have 40 KB."""
     return [line for line in lines_in(text) if IS_INSTRUCTION in line]
 
 
-def must(holds):
+def must(holds: bool | bytes) -> None:
     """Fails if the library does not do what it says: a line that it read must never be handed on as one that it refused."""
     if not holds:
         raise Unable("the library answers something else than it must")
@@ -62,7 +78,7 @@ def must(holds):
 class Reader:
     """Reads lines as the program does, by the library, which must have the version of the program. Wrong if it cannot be used."""
 
-    def __init__(self, version):
+    def __init__(self, version: str) -> None:
         self.package = niluppang_package()
         for name in TOOLS:
             desk_module(name)  # if one is missing, that is seen at the start
@@ -75,23 +91,23 @@ class Reader:
             raise Wrong(f"the library has version {found}, and the program {version}: both must read a line alike. The variable"
                         " NILUPPANG_LIBRARY names another library")
 
-    def read(self, lines):
+    def read(self, lines: list[bytes]) -> list[Read | None]:
         """What the core reads in each line, or None if it refuses the line. Lines have no line feed: else ValueError.
 
         To the library each line is a message, also one that is a request to the process. The call takes a while. It may run in any thread,
         and in several at once.
         """
         different = list(dict.fromkeys(lines))
-        reads = {line: read_of(text) if why is None else None for line, (text, why) in zip(different, self._readings(different))}
+        reads = {line: None if text is None else read_of(text) for line, (text, _) in zip(different, self._readings(different))}
         return [reads[line] for line in lines]
 
-    def refusals(self, lines):
+    def refusals(self, lines: list[bytes]) -> list[str]:
         """Why the core refuses each of some lines, which it refuses all: what the program prints after the number of the line."""
-        reasons = [why for _, why in self._readings(lines)]
-        must(all(reasons))
+        reasons = [why for _, why in self._readings(lines) if why]
+        must(len(reasons) == len(lines))
         return [why.decode(errors="replace") for why in reasons]
 
-    def _readings(self, lines):
+    def _readings(self, lines: list[bytes]) -> list[tuple[bytes | None, bytes | None]]:
         """Of each line its canonical line, or why it is refused: one of the two is None. A blank line is refused without a reason.
 
         All are read in one call. With a call for each line, the thread would wait for the interpreter after each of them.
@@ -109,7 +125,7 @@ class Reader:
         return [readings.get(number, (None, b"")) for number in range(1, len(lines) + 1)]
 
 
-def reading_of(number, text):
+def reading_of(number: int, text: bytes) -> tuple[bytes | None, bytes | None]:
     """What the library reads in the line with a number: its canonical line, or why it is refused. The other one is None."""
     if text.startswith(b"{"):
         return text, None
@@ -120,12 +136,12 @@ def reading_of(number, text):
 
 # ---- what a bank may send
 
-def wanted(reads):
+def wanted(reads: list[Read | None]) -> list[tuple[str, str]]:
     """The transfers whose instructions have to be looked up before lines can have their verdicts."""
     return sorted({transfer for read in reads if read and read.kind in OF_BENEFICIARY for transfer in read.transfers})
 
 
-def judged(reads, banks, held):
+def judged(reads: list[Read | None], banks: Iterable[str], held: dict[tuple[str, str], set[str]]) -> list[Verdict]:
     """A verdict on each line of a post by somebody who may send in the name of some banks, each a BIC of 11 characters.
 
     `held` has, by transfer, the beneficiary banks of the instructions that are held for it. An instruction of the post that is allowed
@@ -134,13 +150,13 @@ def judged(reads, banks, held):
     known, verdicts = {transfer: set(ones) for transfer, ones in held.items()}, []
     for read in reads:
         verdict = verdict_on(read, banks, known) if read else Verdict(ALLOWED)
-        if read and read.kind == INSTRUCTION and verdict.word == ALLOWED:
+        if read and read.kind == INSTRUCTION and verdict.word == ALLOWED and read.beneficiary:
             known.setdefault(read.transfers[0], set()).add(read.beneficiary)
         verdicts.append(verdict)
     return verdicts
 
 
-def verdict_on(read, banks, known):
+def verdict_on(read: Read, banks: Iterable[str], known: dict[tuple[str, str], set[str]]) -> Verdict:
     """The verdict on a line that was read, if these beneficiary banks are known."""
     if read.sender not in banks:
         return Verdict(FORBIDDEN, f"InstgAgt is {read.sender}, and not {' or '.join(sorted(banks)) or 'a bank of this client'}")
@@ -154,7 +170,7 @@ def verdict_on(read, banks, known):
     return Verdict(ALLOWED)
 
 
-def verdict_on_originator(read):
+def verdict_on_originator(read: Read) -> Verdict:
     """The verdict on a message of an originator bank: each of its transactions must be about a transfer of the sender."""
     for place, (originator, _) in enumerate(read.transfers, 1):
         if originator != read.sender:
@@ -163,20 +179,20 @@ def verdict_on_originator(read):
     return Verdict(ALLOWED)
 
 
-def beneficiaries(text, originator, tx):
+def beneficiaries(text: bytearray | bytes, originator: str, tx: str) -> set[str]:
     """The beneficiary banks of the instructions of a transfer, in the text of the messages on it."""
     reads = map(read_of, instructions_in(text))
-    return {read.beneficiary for read in reads if read.kind == INSTRUCTION and read.transfers == ((originator, tx),)}
+    return {read.beneficiary for read in reads if read.beneficiary and read.kind == INSTRUCTION and read.transfers == ((originator, tx),)}
 
 
 # ---- what a bank may read
 
-def deciding(text):
+def deciding(text: bytearray | bytes) -> bytes:
     """What says whose transfer it is, of the text of the messages on it: its instructions or, if it has none, all of them."""
     return b"\n".join(instructions_in(text) or lines_in(text))
 
 
-def may_read(banks, originator, tx, text):
+def may_read(banks: Iterable[str], originator: str, tx: str, text: bytearray | bytes) -> bool:
     """Whether a transfer is one of some banks, by the text of the messages on it. check_list.py says whose it is.
 
     Who may send in the name of the originator bank may always ask, also about a transfer without a message.
@@ -185,7 +201,7 @@ def may_read(banks, originator, tx, text):
     return not desk.banks_of(desk.bank(originator), tx, desk.held_in(lines_in(deciding(text)))).isdisjoint(banks)
 
 
-def shown(banks, originator, tx, text):
+def shown(banks: Collection[str], originator: str, tx: str, text: bytes | bytearray) -> bytes:
     """What a bank is shown of the text of the messages on a transfer of its own: of a recall that another bank sent, the transactions on this
     transfer alone. The others are about transfers of others."""
     found = []
@@ -198,45 +214,59 @@ def shown(banks, originator, tx, text):
     return b"".join(found)
 
 
-def listed(data):
-    """The rows of a list, each with its number, its bank and its identification, as check_list.py reads them."""
-    if len(data) > MOST_LIST:
+def must_be_words(bank: str, day: str) -> None:
+    """BadText if a bank or a day of a report is none: a sentence of check_list.py."""
+    wrong = desk_module("check_list").wrong_word(bank, day)
+    if wrong:
+        raise BadText(wrong)
+
+
+def listed(data: bytes, is_bounded: bool = True) -> list[tuple[int, str, str]]:
+    """The rows of a list, each with its number, its bank and its identification, as check_list.py reads them. That of a bank is bounded."""
+    if is_bounded and len(data) > MOST_LIST:
         raise BadList(f"the list of a bank has at most {MOST_LIST} bytes")
     try:
-        rows = list(itertools.islice(desk_module("check_list").rows(io.BytesIO(data)), MOST_ROWS + 1))
+        rows = list(itertools.islice(desk_module("check_list").rows(io.BytesIO(data)), MOST_ROWS + 1 if is_bounded else None))
     except csv.Error as fault:
         raise BadList(f"the list cannot be read: {fault}") from None
-    if len(rows) > MOST_ROWS:
+    if is_bounded and len(rows) > MOST_ROWS:
         raise BadList(f"the list of a bank has at most {MOST_ROWS} rows")
     return rows
 
 
-def others_in(rows, bank):
-    """The transfers of other originator banks that rows name. A row with other texts than a BIC and an identification names none: the
-    program refuses its list."""
+def transfers_in(rows: list[tuple[int, str, str]]) -> list[tuple[str, str]]:
+    """The transfers that rows name, each once. A row with other texts than a BIC and an identification names none: the program refuses its
+    list."""
     fields = desk_module("fields")
-    is_one = lambda originator, tx: originator != bank and fields.is_bic(originator) and fields.is_identification(tx)
+
+    def is_one(originator: str, tx: str) -> bool:
+        return fields.is_bic(originator) and fields.is_identification(tx)
+
     return list(dict.fromkeys((originator, tx) for _, originator, tx in rows if is_one(originator, tx)))
 
 
-def rows_of_list(data, bank=None):
-    """The transfers that have to be looked up before a bank gets a report on a list, each once. BadList if the list is too long, or cannot
-    be read.
+def rows_of_list(data: bytes, is_bounded: bool = True) -> list[tuple[str, str]]:
+    """The transfers that have to be looked up before there is a report on a list. BadList if the list is too long, or cannot be read."""
+    return transfers_in(listed(data, is_bounded))
 
-    Those of which the bank is the originator bank are its own, and are left out. Without a bank none is left out.
+
+def held_on(text: bytes, originator: str, tx: str) -> tuple[list[Any], set[str]]:
+    """What check_list.py looks at of the text of the messages on a transfer: its instructions, and the banks of its other messages."""
+    instructions, banks = desk_module("check_list").held_in(lines_in(deciding(text)), {(originator, tx)})
+    return instructions.get((originator, tx), []), banks.get((originator, tx), set())
+
+
+def list_findings(bank: str, day: str, data: bytes, held: dict[tuple[str, str], tuple[list[Any], set[str]]],
+                  is_bounded: bool = True) -> tuple[list[str], list[str]]:
+    """Why there is no report on a list of a bank: a sentence of check_list.py for each row that is a transfer of other banks. And what is
+    said of the other rows.
+
+    `held` has what `held_on` finds for each transfer that rows_of_list names. The form of a list is left to the program, which refuses a
+    wrong one. A sentence of the first kind names a bank that the asking bank need not know: it is for the record and for the desk. What
+    is before its colon is the row.
     """
-    return others_in(listed(data), bank and desk_module("check_list").bank(bank))
-
-
-def list_faults(bank, day, data, texts):
-    """Why a bank gets no report on a list: a sentence of check_list.py for each row that is a transfer of other banks.
-
-    `texts` has the text of the messages on each transfer that rows_of_list names, or what is deciding of it. The form of a list is left to
-    the program, which refuses a wrong one. A sentence names a bank that the asking bank need not know: it is for the record. What is before
-    its colon is the row.
-    """
-    desk, rows = desk_module("check_list"), listed(data)
-    asking = desk.bank(bank)
-    lines = (line for transfer in others_in(rows, asking) for line in lines_in(deciding(texts[transfer])))
-    held = desk.held_in(dict.fromkeys(lines))  # a recall of many transfers is a line of each of them
-    return [text for forbids, text in desk.faults(asking, day, rows, held) if forbids]
+    desk, rows = desk_module("check_list"), listed(data, is_bounded)
+    found = {transfer: held[transfer] for transfer in transfers_in(rows)}
+    instructions, banks = ({transfer: its[place] for transfer, its in found.items()} for place in (0, 1))
+    findings = list(desk.faults(desk.bank(bank), day, rows, (instructions, banks)))
+    return [text for forbids, text in findings if forbids], [text for forbids, text in findings if not forbids]

@@ -3,7 +3,12 @@
 SIGHUP has it ask anew which sites there shall be. A site that is none of them any more ends in peace, a new one is started, and one whose
 words changed is ended and started with the new ones. All others get SIGHUP, too. No site waits for another one.
 """
-import signal, subprocess, sys, time
+from __future__ import annotations
+import signal
+import subprocess
+import sys
+import time
+from typing import Callable
 from .files import Wrong
 from .process import ends_with_parent
 
@@ -12,47 +17,49 @@ FIRST_PAUSE, MOST_PAUSE, LONG = 0.1, 2.0, 10.0  # seconds before a site is start
 LOOK = 0.05  # seconds after which the sites are looked at again
 
 
-def say(text):
+def say(text: str) -> None:
     print(f"hub: {text}", file=sys.stderr, flush=True)
 
 
 class Child:
     """A site that is a process of its own, with the words that start it. Without words it is one no more, after its process ended."""
+    process: subprocess.Popen[bytes] | None
+    words: list[str] | None
 
-    def __init__(self, number, words):
+    def __init__(self, number: int, words: list[str]) -> None:
         self.number, self.words, self.pause = number, words, FIRST_PAUSE
         self.is_over = False  # it must not start, and stays away
         self.start()
 
-    def start(self):
+    def start(self) -> None:
         self.began, self.next, self.ends = time.monotonic(), 0.0, False
         try:
-            self.process = subprocess.Popen(self.words, preexec_fn=ends_with_parent)
+            self.process = subprocess.Popen(self.words or [], preexec_fn=ends_with_parent)
         except OSError as fault:
             self.process = None
             say(f"site {self.number} cannot be started: {fault}")
 
-    def status(self):
+    def status(self) -> int | None:
         """The exit status of its process. None if it runs."""
         return AWAY if self.process is None else self.process.poll()
 
-    def end(self):
+    def end(self) -> None:
         """Has its process end in peace."""
-        if self.status() is None and not self.ends:
+        if self.process and self.status() is None and not self.ends:
             self.ends = True
             self.process.terminate()
 
-    def be(self, words):
+    def be(self, words: list[str] | None) -> None:
         """From now on it has these words, or none. With the same ones it reads its configuration again. One that does not run is tried."""
         is_same, self.words = words == self.words, words
         if self.status() is not None:
             self.is_over, self.pause, self.next = False, FIRST_PAUSE, time.monotonic()
         elif not is_same:
             self.end()
-        elif not self.ends:
+        elif self.process and not self.ends:
             self.process.send_signal(signal.SIGHUP)
 
-    def look(self):
+    def look(self) -> bool:
         """Starts it again if its process ended, after a pause. Whether it is still a site."""
         status, now = self.status(), time.monotonic()
         if status is None or self.is_over:
@@ -74,11 +81,12 @@ class Child:
 
 class Several:
     """The sites. `wanted` gives the words that start each of them, by number. It raises Wrong if it cannot."""
+    children: dict[int, Child]
 
-    def __init__(self, wanted):
+    def __init__(self, wanted: Callable[[], dict[int, list[str]]]) -> None:
         self.wanted, self.children, self.asks, self.ends = wanted, {}, True, False
 
-    def run(self):
+    def run(self) -> int:
         """Runs the sites until a signal comes, or as long as one of them may run. The exit status."""
         for number in (signal.SIGTERM, signal.SIGINT):
             signal.signal(number, lambda *_: setattr(self, "ends", True))
@@ -95,7 +103,7 @@ class Several:
         finally:
             self.end()
 
-    def ask(self):
+    def ask(self) -> None:
         """Has the sites that there shall be. What is wrong with them changes nothing."""
         self.asks = False
         try:
@@ -109,7 +117,7 @@ class Several:
             self.children[number] = Child(number, wanted[number])
         say(f"the sites are {', '.join(map(str, sorted(wanted)))}")
 
-    def end(self):
+    def end(self) -> None:
         for child in self.children.values():
             child.end()
         for child in self.children.values():

@@ -1,10 +1,13 @@
 """tls.py: how a site shows who it is over TLS, and how it knows clients and peers by certificates of its own authority."""
+from __future__ import annotations
 import ssl
-from .access import names_in
+from typing import Callable
+from .access import Roles, names_in
+from .config import Tls
 from .files import Wrong
 
 
-def to_clients(tls):
+def to_clients(tls: Tls) -> ssl.SSLContext:
     """The context of a site for its clients."""
     try:
         it = ssl.create_default_context(ssl.Purpose.CLIENT_AUTH, cafile=tls.authority)
@@ -16,10 +19,10 @@ def to_clients(tls):
         raise Wrong(f"the certificates cannot be used: {fault}") from None
 
 
-def to_peer(tls, number, roles):
+def to_peer(tls: Tls, number: int, roles: Callable[[], Roles]) -> ssl.SSLContext:
     """The context of a site for one of its peers, whose certificate must be that of the site with this number."""
     class OfPeer(ssl.SSLObject):
-        def do_handshake(self):
+        def do_handshake(self) -> None:
             super().do_handshake()
             certificate = self.getpeercert()
             if not roles().is_peer(number, certificate):

@@ -1,4 +1,5 @@
 """vectors.py: vectors and deltas as texts."""
+from __future__ import annotations
 MOST_SITES, MOST_COUNT = 1024, (1 << 64) - 1
 MOST_DIGITS = 20
 
@@ -7,7 +8,7 @@ class BadText(ValueError):
     """A text is no vector or no delta."""
 
 
-def number(text, most):
+def number(text: bytes | str, most: int) -> int:
     """A number as vectors and deltas have it."""
     if not (0 < len(text) <= MOST_DIGITS and text.isascii() and text.isdigit()) or text[:1] in ("0", b"0") and len(text) > 1:
         raise BadText(f"{text[:40]!r} is not a number")
@@ -16,19 +17,19 @@ def number(text, most):
     return int(text)
 
 
-def vector_of(text, group=MOST_SITES):
+def vector_of(text: str, group: int = MOST_SITES) -> dict[int, int]:
     """The counts of a vector text, by origin."""
-    counts = {}
+    counts: dict[int, int] = {}
     for pair in text.split(",") if text != "-" else []:
-        origin, found, count = pair.partition(":")
-        origin = number(origin, group)
+        name, found, count = pair.partition(":")
+        origin = number(name, group)
         if not found or origin <= max(counts, default=0):
             raise BadText("it is not a vector")
         counts[origin] = number(count, MOST_COUNT)
     return counts
 
 
-def listed(text, group):
+def listed(text: str, group: int) -> list[int]:
     """The counts of a vector text of a group, as a list."""
     counts = [0] * group
     for origin, count in vector_of(text, group).items():
@@ -36,11 +37,11 @@ def listed(text, group):
     return counts
 
 
-def vector_text(counts):
+def vector_text(counts: list[int]) -> str:
     return ",".join(f"{origin}:{count}" for origin, count in enumerate(counts, 1) if count) or "-"
 
 
-def words_of(line, word, many):
+def words_of(line: bytes, word: bytes, many: int) -> list[int]:
     """The numbers of a line of a delta that begins with a word."""
     fields = line.split(b" ")
     if fields[0] != word or len(fields) != many + 1:
@@ -48,12 +49,12 @@ def words_of(line, word, many):
     return [number(field, MOST_COUNT) for field in fields[1:]]
 
 
-def run_text(origin, first, lines):
+def run_text(origin: int, first: int, lines: list[bytes]) -> bytes:
     """The request of a delta of entries of one origin."""
     return b"\t".join([b"delta 2", b"origin %d %d %d" % (origin, first, len(lines)), *lines, b"end %d" % len(lines)])
 
 
-def beginning(text):
+def beginning(text: bytes) -> bytes | None:
     """A delta of as many entries as the beginning of a delta text has whole, or None if it has not one.
 
     What is handed on of it are pieces of one origin each (exchange.py). Each is a delta that the site of that origin could have cut when it
@@ -74,13 +75,16 @@ def beginning(text):
 class Pieces:
     """The requests that a delta text comes to, which is read line by line. A short delta is one request, as it came. A long one is cut
     into pieces of one origin each, so that nobody holds it entirely. With an origin it may have entries of that site alone."""
+    run: tuple[int, int, list[bytes]] | None
 
-    def __init__(self, most, origin=None):
+    whole: list[bytes] | None
+
+    def __init__(self, most: int, origin: int | None = None) -> None:
         self.most, self.size, self.origin = most, 0, origin
         self.whole = []  # the lines, as long as the delta is short
         self.run, self.left, self.many, self.is_ended = None, 0, 0, False
 
-    def add(self, line):
+    def add(self, line: bytes) -> list[bytes]:
         """The requests that are complete with a line, which has no line feed."""
         if self.is_ended:
             raise BadText("a line follows its end")
@@ -100,7 +104,7 @@ class Pieces:
             return []
         return self._cut()
 
-    def _head(self, line):
+    def _head(self, line: bytes) -> list[bytes]:
         """A line between two runs, or the last one."""
         done = self._flushed() if self.whole is None else []
         if line.startswith(b"end "):
@@ -114,34 +118,36 @@ class Pieces:
             raise BadText("it has a run of no entries")
         if self.origin not in (None, origin):
             raise BadText(f"it has entries of site {origin}, and was asked for those of site {self.origin}")
-        self.run, self.left = [origin, first, []], count
+        self.run, self.left = (origin, first, []), count
         return done
 
-    def _entry(self, line):
+    def _entry(self, line: bytes) -> list[bytes]:
         self.left -= 1
         self.many += 1
         if self.whole is not None:
             return []
-        self.run[2].append(line)
+        if self.run:
+            self.run[2].append(line)
         self.size += len(line) + 1
         return self._flushed() if self.size >= self.most else []
 
-    def _flushed(self):
+    def _flushed(self) -> list[bytes]:
         """The piece of the run so far. The run goes on after it."""
         self.size = 0
         if not self.run or not self.run[2]:
             return []
         origin, first, lines = self.run
-        self.run = [origin, first + len(lines), []]
+        self.run = (origin, first + len(lines), [])
         return [run_text(origin, first, lines)]
 
-    def _cut(self):
+    def _cut(self) -> list[bytes]:
         """From now on the delta is handed on in pieces."""
-        lines, self.whole, place, done = self.whole, None, 1, []
+        lines, self.whole, place = self.whole or [], None, 1
+        done: list[bytes] = []
         while place < len(lines):
             origin, first, count = words_of(lines[place], b"origin", 3)
             its = lines[place + 1:place + 1 + count]
-            self.run = [origin, first, its]
+            self.run = (origin, first, its)
             done += self._flushed()
             place += 1 + count
         return done

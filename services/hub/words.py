@@ -3,10 +3,21 @@
 Each word returns what is printed, and the exit status, which is 1 if lines are refused. Wrong and Held say why nothing was done. What
 changes something has a row in the record. A journal that is there is only read.
 """
-import collections, contextlib, fcntl, hashlib, os, pathlib, re, sys, tempfile, threading
+from __future__ import annotations
+import collections
+import contextlib
+import fcntl
+import hashlib
+import os
+import pathlib
+import re
+import sys
+import tempfile
+import threading
+from typing import Any, BinaryIO, Iterator, NamedTuple, Protocol
 from . import record
 from .files import DELTA, OPEN, ORIGIN, Files, Wrong, synced
-from .keeper import GAP, Held, Refused, Unable, as_message
+from .keeper import GAP, Held, Keeper, Outcome, Refused, Unable, as_message
 from .over import Serve
 from .process import OTHER_SITE, WRONG_JOURNAL
 from .vectors import BadText, listed, run_text, words_of
@@ -19,18 +30,42 @@ LOCK_AT, LOCKED = 1 << 30, 512  # the bytes of a journal that its process locks
 MOST_LINES, MOST_BYTES = 1000, 1 << 20  # of lines that are adopted at once
 PIECE = 1 << 20
 
+
 # what a journal keeps: its lines, the messages among them, the bytes after them that do not count, and whether it was cut off there
-Kept = collections.namedtuple("Kept", "lines messages rest is_cut")
+class Kept(NamedTuple):
+    lines: int
+    messages: int
+    rest: int
+    is_cut: bool
+
+
 # what a program makes of a journal: its vector, what it keeps, the size and the sum of the file, and what is wrong
-Tried = collections.namedtuple("Tried", "vector kept size sum faults")
+class Tried(NamedTuple):
+    vector: str
+    kept: Kept
+    size: int
+    sum: str
+    faults: list[str]
+
+
 # a message of a journal: its line in the file, its number, and the line itself
-Message = collections.namedtuple("Message", "place number line")
+class Message(NamedTuple):
+    place: int
+    number: int
+    line: bytes
+
+
+class Noted(Protocol):
+    """What an operator does, for the record of a site."""
+
+    def act(self, act: str, what: dict[str, Any]) -> int:
+        """Adds a row. Its number, by which a later row names it."""
 
 
 # ---- journals at any place
 
 @contextlib.contextmanager
-def naming(path):
+def naming(path: str) -> Iterator[None]:
     """Has a fault of the disk say which file it was."""
     try:
         yield
@@ -39,7 +74,7 @@ def naming(path):
         raise
 
 
-def journal_at(path):
+def journal_at(path: pathlib.Path | str) -> Files:
     """The files of the site whose journal is at a path, whatever its name is. Wrong if it is none."""
     path = pathlib.Path(path)
     try:
@@ -54,7 +89,7 @@ def journal_at(path):
     return files
 
 
-def journal_of(files, path):
+def journal_of(files: Files, path: pathlib.Path | str) -> Files:
     """The same for a journal of this site. Wrong if it is that of another one."""
     its = journal_at(path)
     if (its.site, its.group) != (files.site, files.group):
@@ -63,7 +98,7 @@ def journal_of(files, path):
     return its
 
 
-def measured(files):
+def measured(files: Files) -> Kept:
     """What a journal keeps."""
     lines, messages, end = 1, 0, len(b" site %d %d\n" % (files.site, files.group))
     for line in files.kept():
@@ -76,7 +111,7 @@ def measured(files):
         return Kept(lines, messages, 0 if is_cut else os.fstat(file.fileno()).st_size - end - len(SHUT), is_cut)
 
 
-def copied(path, target):
+def copied(path: pathlib.Path | str, target: pathlib.Path) -> tuple[int, str]:
     """Copies a file byte by byte, once, since a site may write to it meanwhile. The size of the copy, and its SHA-256."""
     size, its = 0, hashlib.sha256()
     with open(path, "rb") as file, open(target, "xb") as copy:
@@ -89,7 +124,7 @@ def copied(path, target):
 
 # ---- what a program makes of a journal
 
-def tried(files, program, path):
+def tried(files: Files, program: str, path: pathlib.Path | str) -> Tried:
     """What a program makes of a journal of this site, of which it is given a copy in a private folder. It serves nobody."""
     journal_of(files, path)
     with tempfile.TemporaryDirectory(prefix="niluppang-") as folder:
@@ -103,7 +138,7 @@ def tried(files, program, path):
         return Tried(vector, kept, size, its, faults)
 
 
-def restored(program, files):
+def restored(program: str, files: Files) -> str:
     """The vector of the site that a program restores from a journal."""
     serve = Serve(program, files, files.journal)
     status = serve.end()
@@ -112,7 +147,7 @@ def restored(program, files):
     return serve.vector
 
 
-def faults_of(program, files, vector):
+def faults_of(program: str, files: Files, vector: str) -> list[str]:
     """What a program refuses of a journal, from which it restored a site with this vector: a text for each line."""
     try:
         files.check(listed(vector, files.group))
@@ -121,7 +156,7 @@ def faults_of(program, files, vector):
         return list(refused(program, files)) or [str(fault)]
 
 
-def refused(program, files):
+def refused(program: str, files: Files) -> Iterator[str]:
     """A text for each line of a journal that a program refuses, or takes for a repeat: then the lines after it have other numbers."""
     messages = 0
     for place, line, reply in replies(program, files):
@@ -131,16 +166,16 @@ def refused(program, files):
             yield fault_text(place, reply.removeprefix("REFUSED "), None if is_delta else messages)
 
 
-def replies(program, files):
+def replies(program: str, files: Files) -> Iterator[tuple[int, bytes, str]]:
     """The lines that a journal keeps, each with its line in the file, and with the reply of a new site that takes one after another."""
     serve = Serve(program, files, files.folder / "replies.journal")
-    feeding = threading.Thread(target=feed, args=(serve.child.stdin, files), daemon=True)
+    feeding = threading.Thread(target=feed, args=(serve.requests, files), daemon=True)
     feeding.start()
     try:
         for place, line in enumerate(files.kept(), 2):
-            reply = serve.child.stdout.readline()
+            reply = serve.replies.readline()
             if not reply:
-                raise Wrong(f"{program} ended at line {place}: {serve.child.stderr.read().decode(errors='replace').strip()}")
+                raise Wrong(f"{program} ended at line {place}: {serve.said()}")
             yield place, line, reply[:-1].decode(errors="replace")
     finally:
         serve.child.kill()
@@ -148,7 +183,7 @@ def replies(program, files):
         feeding.join()
 
 
-def feed(stream, files):
+def feed(stream: BinaryIO, files: Files) -> None:
     """Writes the lines of a journal as requests. A line that looks like a question is a message that is refused."""
     with contextlib.suppress(BrokenPipeError):
         for line in files.kept():
@@ -158,30 +193,30 @@ def feed(stream, files):
 
 # ---- texts
 
-def fault_text(place, why, message=None):
+def fault_text(place: int, why: str, message: int | None = None) -> str:
     """What is printed of a line that is refused. It begins as the program prints one, so that explain.py of the desk knows it."""
     return f"line {place}: {why or 'blank'} ({'delta' if message is None else f'message {message}'})"
 
 
-def cut_text(kept):
+def cut_text(kept: Kept) -> str:
     return f"the file is cut off after line {kept.lines}: it may have had more"
 
 
-def rest_texts(kept):
+def rest_texts(kept: Kept) -> list[str]:
     return [f"{kept.rest} bytes after line {kept.lines} do not count"] if kept.rest else []
 
 
-def report_of(it):
+def report_of(it: Tried) -> list[str]:
     """What is printed of a copy: the vector of the site that it restores, by what the file is known, and what is odd."""
     return [it.vector, f"messages {it.kept.messages}, bytes {it.size}, sha256 {it.sum}", *rest_texts(it.kept), *it.faults]
 
 
-def row_of(path, it):
+def row_of(path: pathlib.Path, it: Tried) -> dict[str, int | str]:
     """What the record has of a copy."""
     return {"file": str(path), "vector": it.vector, "messages": it.kept.messages, "bytes": it.size, "sha256": it.sum}
 
 
-def must_be_right(path, it):
+def must_be_right(path: pathlib.Path | str, it: Tried) -> None:
     if it.faults:
         raise Wrong("\n".join([f"{path} is not right, and nothing was done:", *it.faults]))
 
@@ -189,7 +224,7 @@ def must_be_right(path, it):
 # ---- files that come and go
 
 @contextlib.contextmanager
-def beside(target):
+def beside(target: pathlib.Path) -> Iterator[pathlib.Path]:
     """A new file beside a path, which nobody else reads. In the end it is gone, or it was given that path."""
     there, new = tempfile.mkstemp(prefix=f"{target.name}.", suffix=".new", dir=target.parent)
     os.close(there)
@@ -201,7 +236,7 @@ def beside(target):
             os.unlink(new)
 
 
-def keep(files, new):
+def keep(files: Files, new: pathlib.Path) -> None:
     """Writes what a journal keeps to a file, and puts it on the disk. A batch that comes meanwhile is in it completely or not at all."""
     with open(new, "wb") as copy:
         copy.write(b" site %d %d\n" % (files.site, files.group))
@@ -212,7 +247,7 @@ def keep(files, new):
         os.fsync(copy.fileno())
 
 
-def give(new, target):
+def give(new: pathlib.Path, target: pathlib.Path) -> None:
     """Gives a file a path that no file has."""
     try:
         os.link(new, target)
@@ -224,7 +259,7 @@ def give(new, target):
 
 # ---- the words
 
-def note(noted, act, what):
+def note(noted: Noted, act: str, what: dict[str, Any]) -> int:
     """The number of a row that the record gets. Wrong if it cannot be written."""
     try:
         return noted.act(act, what)
@@ -232,7 +267,7 @@ def note(noted, act, what):
         raise Wrong(str(why)) from None
 
 
-def clear_halt(files, noted):
+def clear_halt(files: Files, noted: Noted) -> tuple[str, int]:
     """Lets a site take messages again."""
     why = files.halted()
     if why is None:
@@ -242,19 +277,19 @@ def clear_halt(files, noted):
     return f"the halt is cleared: the site takes messages when it is started again. It was halted for: {why}", 0
 
 
-def check(files, program):
+def check(files: Files, program: str) -> tuple[str, int]:
     """What a program makes of the journal, such as before an upgrade. The site may run meanwhile."""
     it = tried(files, program, files.journal)
     return "\n".join([it.vector, *it.faults]), 1 if it.faults else 0
 
 
-def verify(files, program, path):
+def verify(files: Files, program: str, path: pathlib.Path | str) -> tuple[str, int]:
     """What a program makes of a copy of the journal."""
     it = tried(files, program, path)
     return "\n".join(report_of(it)), 1 if it.faults else 0
 
 
-def backup(files, program, target, noted):
+def backup(files: Files, program: str, target: pathlib.Path | str, noted: Noted) -> tuple[str, int]:
     """Makes a copy of the journal, which ends as one does that was closed in peace. The site may run meanwhile."""
     target, its = pathlib.Path(target).absolute(), journal_of(files, files.journal)
     if os.path.lexists(target):
@@ -268,7 +303,7 @@ def backup(files, program, target, noted):
     return "\n".join(report_of(it)), 0
 
 
-def restore(files, program, path, noted):
+def restore(files: Files, program: str, path: pathlib.Path | str, noted: Noted) -> tuple[str, int]:
     """Puts a copy in the place of a journal that is not there any more. The row of the record follows, since a new record begins with the
     lines of the journal."""
     if os.path.lexists(files.journal):
@@ -288,7 +323,7 @@ def restore(files, program, path, noted):
 
 # ---- adopting the journal of another number
 
-async def adopt(keeper, path, noted):
+async def adopt(keeper: Keeper, path: pathlib.Path | str, noted: Noted) -> tuple[str, int]:
     """Has a site take all of the journal of another number: what the site lacks of its deltas, and then its messages. What is held is a
     repeat, so a journal may be adopted again. Standard error has each line that is refused."""
     its = journal_at(path)
@@ -306,7 +341,7 @@ async def adopt(keeper, path, noted):
                       f"the site holds {await vector_now(keeper)}"]), 1 if parts or messages else 0
 
 
-def must_be_free(path):
+def must_be_free(path: pathlib.Path | str) -> None:
     """Held if a process has a journal: its site still takes messages."""
     with open(path, "rb") as file:
         try:
@@ -315,11 +350,11 @@ def must_be_free(path):
             raise Held(f"{path} is in use: end its site first, for good") from None
 
 
-async def vector_now(keeper):
+async def vector_now(keeper: Keeper) -> str:
     return (await keeper.ask(b"? vector")).decode()
 
 
-async def accepted(keeper, its):
+async def accepted(keeper: Keeper, its: Files) -> tuple[int, list[str]]:
     """Hands the deltas of a journal on, and those that were early again after the others. How many entries are new, and a text for each
     part that is refused in the end."""
     counts, total = listed(await vector_now(keeper), keeper.group), 0
@@ -330,7 +365,7 @@ async def accepted(keeper, its):
             return total, faults
 
 
-async def handed_on(keeper, its, counts):
+async def handed_on(keeper: Keeper, its: Files, counts: list[int]) -> tuple[int, list[str], bool]:
     """Hands on once what the deltas have beyond some counts, which then count it. How many entries are new, a text for each part that is
     refused, and whether one was early."""
     fresh, faults, is_early = 0, [], False
@@ -346,7 +381,7 @@ async def handed_on(keeper, its, counts):
     return fresh, faults, is_early
 
 
-def runs_of(delta):
+def runs_of(delta: bytes) -> list[tuple[int, int, list[bytes]]]:
     """The runs of a delta: the site, the first number and the messages of each. BadText if it is none of today's form."""
     fields, place, found = delta.split(b"\t"), 1, []
     while place < len(fields) and fields[place].startswith(ORIGIN):
@@ -359,14 +394,14 @@ def runs_of(delta):
     return found
 
 
-def runs_beyond(counts, delta):
+def runs_beyond(counts: list[int], delta: bytes) -> list[tuple[int | None, int, bytes]]:
     """What a delta has beyond some counts, as deltas of one site each, with the site and its last number there. One that cannot be read is
     handed on as it is, with None. What a site holds is not handed to it: if the journal has something else there, that would halt it."""
     try:
         runs = runs_of(delta)
     except BadText:
         return [(None, 0, delta)]
-    found = []
+    found: list[tuple[int | None, int, bytes]] = []
     for origin, first, lines in runs:
         held = counts[origin - 1] if 1 <= origin <= len(counts) else 0
         lacking = lines[max(0, held + 1 - first):]
@@ -375,9 +410,10 @@ def runs_beyond(counts, delta):
     return found
 
 
-async def taken(keeper, its, noted):
+async def taken(keeper: Keeper, its: Files, noted: Noted) -> tuple[dict[str, int], list[str]]:
     """Has a site take the messages of a journal. How many had each outcome, and a text for each that is refused."""
-    counts, faults = collections.Counter(), []
+    counts: collections.Counter[str] = collections.Counter()
+    faults: list[str] = []
     for batch in batches(its):
         blank, asked = [one for one in batch if not one.line.strip(BLANK)], [one for one in batch if one.line.strip(BLANK)]
         outcomes = await recorded(keeper, its, [one.line for one in asked], noted)
@@ -387,7 +423,7 @@ async def taken(keeper, its, noted):
     return counts, faults
 
 
-async def recorded(keeper, its, lines, noted):
+async def recorded(keeper: Keeper, its: Files, lines: list[bytes], noted: Noted) -> list[Outcome]:
     """The outcomes of messages that a site takes. The record has the sum of each before, and its outcome after that."""
     if not lines:
         return []
@@ -401,7 +437,7 @@ async def recorded(keeper, its, lines, noted):
     return outcomes
 
 
-def batches(files):
+def batches(files: Files) -> Iterator[list[Message]]:
     """The messages of a journal, some at once."""
     found, size, number = [], 0, 0
     for place, line in enumerate(files.kept(), 2):

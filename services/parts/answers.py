@@ -2,18 +2,21 @@
 
 A line without keys must be refused: else keys.py has not read a message that `sct_sites` takes, and the run ends.
 """
+from __future__ import annotations
+import array
 import subprocess
+from typing import Any, BinaryIO
 from parts.files import Stop, numbers, whole
 from parts.parts import KEYLESS, file_and_line, part_file
 
 TAKEN = (0, 1)  # the exit statuses after which the answer is that of the lines that were taken
 
 
-def answer_file(work, name, word):
+def answer_file(work: str, name: str, word: str) -> str:
     return f"{work}/answers/{name}.{word}"
 
 
-def asked(program, words, source, target):
+def asked(program: str, words: list[str], source: str, target: BinaryIO) -> bytes:
     """Runs the program on a file, and writes its answer to another one. What it writes to standard error is the result."""
     with open(source, "rb") as lines:
         done = subprocess.run([program, *words], stdin=lines, stdout=target, stderr=subprocess.PIPE)
@@ -23,12 +26,12 @@ def asked(program, words, source, target):
     return done.stderr
 
 
-def refused_lines(errors):
+def refused_lines(errors: bytes) -> dict[int, bytes]:
     """Each refused line that the program reports, by its number."""
     return {int(number): fault for number, fault in (line[len(b"line "):].split(b": ", 1) for line in errors.splitlines())}
 
 
-def write_refused(path, errors, places):
+def write_refused(path: str, errors: bytes, places: array.array[int]) -> int:
     """Writes a line for each refused line of a part: its file, its line and its fault."""
     faults = refused_lines(errors)
     for number, place in enumerate(places, 1):
@@ -41,7 +44,7 @@ def write_refused(path, errors, places):
     return len(faults)
 
 
-def answer_part(work, name, program, commands):
+def answer_part(work: str, name: str, program: str, commands: list[Any]) -> int:
     """Writes the answer to each command, a word for its file with the words of the command line, and the refused lines. The result
     is how many lines were refused."""
     found = None
@@ -51,4 +54,4 @@ def answer_part(work, name, program, commands):
         if found not in (None, errors):
             raise Stop(f"{program} refuses other lines for {word} than before")
         found = errors
-    return write_refused(answer_file(work, name, "refused"), found, numbers(part_file(work, name, "places")))
+    return write_refused(answer_file(work, name, "refused"), found or b"", numbers(part_file(work, name, "places")))

@@ -1,17 +1,24 @@
 """files.py: files that are there whole or not at all, also after a power cut, numbers in files, and results that are kept for a later run."""
-import array, contextlib, json, os, pathlib, threading
+from __future__ import annotations
+import array
+import contextlib
+import json
+import os
+import pathlib
+import threading
+from typing import Any, BinaryIO, Callable, Iterator
 
 
 class Stop(Exception):
     """Why a run ends without an answer: what is printed, and the exit status."""
 
-    def __init__(self, why, status=2):
+    def __init__(self, why: str, status: int = 2) -> None:
         super().__init__(why, status)
         self.why, self.status = why, status
 
 
 @contextlib.contextmanager
-def whole(path):
+def whole(path: pathlib.Path | str) -> Iterator[BinaryIO]:
     """A file that is written under another name, and gets its own name once it is whole. If writing fails, nothing is left."""
     path = pathlib.Path(path)
     path.parent.mkdir(parents=True, exist_ok=True)
@@ -28,7 +35,7 @@ def whole(path):
             made.unlink()
 
 
-def synced(folder):
+def synced(folder: pathlib.Path) -> None:
     """Puts the names of a folder on the disk."""
     there = os.open(folder, os.O_RDONLY)
     try:
@@ -37,7 +44,7 @@ def synced(folder):
         os.close(there)
 
 
-def read_json(path):
+def read_json(path: pathlib.Path | str) -> Any:
     """What a file has, or None if it is not there or is not whole."""
     try:
         return json.loads(pathlib.Path(path).read_bytes())
@@ -45,7 +52,7 @@ def read_json(path):
         return None
 
 
-def kept(path, make):
+def kept(path: str, make: Callable[[], Any]) -> Any:
     """What was made before and is kept in a file, else what is made now, which is kept then, in a list of its own. It is made of lists,
     texts and numbers."""
     found = read_json(path)
@@ -56,7 +63,7 @@ def kept(path, make):
     return found[0]
 
 
-def numbers(path, begin=0, end=None):
+def numbers(path: str, begin: int = 0, end: int | None = None) -> array.array[int]:
     """The numbers in a file, of eight bytes each, from one byte to another."""
     found = array.array("Q")
     with open(path, "rb") as file:
@@ -65,7 +72,7 @@ def numbers(path, begin=0, end=None):
     return found
 
 
-def copied(source, begin, end, target):
+def copied(source: BinaryIO, begin: int, end: int, target: BinaryIO) -> None:
     """Copies the bytes of an open file from one place to another into an open file."""
     source.seek(begin)
     left = end - begin

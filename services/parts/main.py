@@ -1,11 +1,29 @@
 """main.py: answers on any number of files of messages, in parts that share nothing, on the workers of Dask.
 
-The answers are those of `sct_sites` on all lines together. FOLDER gets whole.status, whole.totals, whole.archive and whole.report,
-as they are asked for, and whole.refused. All workers must see FOLDER, the files, the program and this package under the same paths.
-docs/users/parts.md has more.
+The answers are those of `sct_sites` on all lines together. FOLDER gets whole.status, whole.totals, whole.archive, whole.report, whole.kept
+and whole.closed, as they are asked for, and whole.refused. All workers must see FOLDER, the files, the program and this package under
+the same paths. docs/users/parts.md has more.
 """
-import argparse, concurrent.futures, contextlib, fcntl, hashlib, importlib, ipaddress, json, logging, os, pathlib, resource, shutil, subprocess
-import sys, urllib.parse, warnings
+from __future__ import annotations
+import argparse
+import concurrent.futures
+import contextlib
+import fcntl
+import hashlib
+import importlib
+import ipaddress
+import json
+import logging
+import os
+import pathlib
+import re
+import resource
+import shutil
+import subprocess
+import sys
+import urllib.parse
+import warnings
+from typing import Any, Iterator
 
 sys.path.insert(0, str(pathlib.Path(__file__).resolve().parents[1]))
 try:
@@ -14,13 +32,18 @@ except ImportError as missing:
     print(f"parts: {sys.executable} has no {missing.name}. Debian's packages python3-dask and python3-distributed belong to"
           " /usr/bin/python3: start this program with it", file=sys.stderr)
     sys.exit(2)
-from parts import parts, ties
+from parts import lists, parts, ties
 from parts.files import Stop, read_json, whole
+from parts.progress import STEPS, Progress
 
 PACKAGE = pathlib.Path(__file__).resolve().parent
-CHECKED = ["status", "archive"]  # what the check reads
-TEXTS = ["status", "totals", "archive", "report", "refused"]
+CHECKED = ["status", "archive"]  # what the check of the parts reads
+OF_LIST = "archive"  # what the check of a list reads
+TEXTS = ["status", "totals", "archive", "report", "kept", "closed", "refused"]
 OURS = "niluppang parts"  # the mark of a plan that this program wrote
+UNITS = {"": 1, "B": 1, **{unit + "iB": 1 << 10 * power for power, unit in enumerate("KMGT", 1)},
+         **{unit + "B": 1000 ** power for power, unit in enumerate("kMGT", 1)}, "KB": 1000}
+MOST_PART = 1 << 30  # bytes that `sct_sites` takes
 WORK = ["keys", "cuts", "parts", "answers", "merged", "merging", "done", "dask"]  # the folders of the work
 HERE = "127.0.0.1"
 FILL = 0.75  # a part is meant to have so much of the bytes that it may have, since parts are not all of one size
@@ -28,42 +51,55 @@ FILL = 0.75  # a part is meant to have so much of the bytes that it may have, si
 
 # ---- what is asked
 
-def size(text, most=sys.maxsize):
+def number(text: str) -> int:
     """A number from 1 on."""
-    if not text.isdecimal() or not 1 <= int(text) <= most:
-        raise argparse.ArgumentTypeError(f"{text} is not a number from 1 to {most}")
+    if not text.isascii() or not text.isdecimal() or not 1 <= int(text) <= sys.maxsize:
+        raise argparse.ArgumentTypeError(f"{text} is not a number from 1 on")
     return int(text)
 
 
-def part_size(text):
-    """How many bytes a part may have: `sct_sites` takes 1 GiB."""
-    return size(text, 1 << 30)
+def size(text: str, most: int = sys.maxsize) -> int:
+    """A number of bytes from 1 on, which may have a unit."""
+    found = re.fullmatch(r"([0-9]{1,18}) ?([A-Za-z]*)", text)
+    bytes_of_all = int(found[1]) * UNITS.get(found[2], 0) if found else 0
+    if not bytes_of_all:
+        raise argparse.ArgumentTypeError(f"{text} is not a size such as 134217728, 128MiB or 1GB")
+    if bytes_of_all > most:
+        raise argparse.ArgumentTypeError(f"{text} is more than {most} bytes")
+    return bytes_of_all
 
 
-def words():
+def part_size(text: str) -> int:
+    """How many bytes a part may have."""
+    return size(text, MOST_PART)
+
+
+def words() -> argparse.ArgumentParser:
     """The words of the command line."""
     it = argparse.ArgumentParser(prog="main.py", description=__doc__, formatter_class=argparse.RawDescriptionHelpFormatter)
     it.add_argument("folder", metavar="FOLDER", help="where the answers go")
     it.add_argument("files", metavar="FILE", nargs="+", help="a file of messages, as docs/users/formats.md says")
     it.add_argument("--ask", metavar="WORDS", default="status,totals,archive", help="which of these three, with commas (all)")
     it.add_argument("--report", metavar=("BANK", "DAY", "LIST"), nargs=3, help="a report on a bank's list too")
+    it.add_argument("--keep", metavar="DAY", help="what is kept on a day, too")
+    it.add_argument("--closed", metavar="DAY", help="what is closed on a day, too")
     it.add_argument("--scheduler", metavar="ADDRESS", help="the scheduler of a cluster (workers on this machine)")
     it.add_argument("--tls-ca", metavar="FILE", help="who signs the certificates of a cluster at tls://")
     it.add_argument("--tls-cert", metavar="FILE", help="the certificate that is shown to it")
     it.add_argument("--tls-key", metavar="FILE", help="the key of that certificate")
     it.add_argument("--plain", action="store_true", help="use a cluster on other machines without TLS: whoever reaches it runs programs there")
-    it.add_argument("--progress", action="store_true", help="say how far the work is, on standard error (on a terminal it is said always)")
-    it.add_argument("--workers", metavar="N", type=size, default=len(os.sched_getaffinity(0)), help="workers on this machine")
-    it.add_argument("--parts", metavar="N", type=size, default=1, help="cut into so many parts at least")
-    it.add_argument("--most", metavar="BYTES", type=part_size, default=128 << 20, help="bytes of a part at most (128 MiB)")
-    it.add_argument("--block", metavar="BYTES", type=size, default=64 << 20, help="bytes of a file that are read at once (64 MiB)")
+    it.add_argument("--progress", action="store_true", help="say on standard error how far it is, and how long it takes (a terminal shows it always)")
+    it.add_argument("--workers", metavar="N", type=number, default=len(os.sched_getaffinity(0)), help="workers on this machine")
+    it.add_argument("--parts", metavar="N", type=number, default=1, help="cut into so many parts at least")
+    it.add_argument("--most", metavar="SIZE", type=part_size, default=128 << 20, help="a part has so much at most, such as 500MB (128MiB)")
+    it.add_argument("--block", metavar="SIZE", type=size, default=64 << 20, help="bytes of a file that are read at once (64MiB)")
     it.add_argument("--program", metavar="PATH", help="sct_sites (the variable SCT_SITES, the search path, then that of the release)")
     it.add_argument("--unchecked", action="store_true", help="do not check that the parts share nothing")
-    it.add_argument("--keep", action="store_true", help="keep the parts and their answers in FOLDER/work")
+    it.add_argument("--leave-parts", action="store_true", help="leave the parts and their answers in FOLDER/work")
     return it
 
 
-def program_of(given):
+def program_of(given: str | None) -> str:
     """The path of the program."""
     release = PACKAGE / "../../../../bin/sct_sites"
     path = shutil.which(given or os.environ.get("SCT_SITES") or "sct_sites") or (str(release.resolve()) if release.is_file() and not given else None)
@@ -72,39 +108,42 @@ def program_of(given):
     return os.path.abspath(path)
 
 
-def commands_of(asked):
-    """The words of the command line for each word that is asked for, and for what the check reads."""
+def commands_of(asked: argparse.Namespace) -> tuple[list[Any], list[Any]]:
+    """The words of the command line for each word that is asked for, and for what the checks read."""
     plain = [word for word in asked.ask.split(",") if word]
     if not set(plain) <= {"status", "totals", "archive"}:
         raise Stop(f"--ask takes status, totals and archive, and not {asked.ask}")
     report = asked.report and ["report", *asked.report[:2], os.path.abspath(asked.report[2])]
-    wanted = [[word, [word]] for word in plain] + [["report", report]] * bool(report)
-    more = [[word, [word]] for word in CHECKED if word not in plain and not asked.unchecked]
+    days = [[word, [command, "--", day]] for word, command, day in (("kept", "keep", asked.keep), ("closed", "closed", asked.closed))
+            if day is not None]
+    wanted = [[word, [word]] for word in plain] + [["report", report]] * bool(report) + days
+    more = [[word, [word]] for word in CHECKED if word not in plain and (not asked.unchecked or report and word == OF_LIST)]
     if not wanted:
         raise Stop("nothing is asked for")
     return wanted, more
 
 
-def mark(path):
+def mark(path: str | pathlib.Path) -> list[Any]:
     """A file by its path, its size and the time of its last change."""
     path = os.path.abspath(path)
     there = os.stat(path)
     return [path, there.st_size, there.st_mtime_ns]
 
 
-def plan_of(asked):
+def plan_of(asked: argparse.Namespace) -> dict[str, Any]:
     """What a run does: if it is the same as that of a run that was cut off, the work goes on where it stopped."""
     wanted, more = commands_of(asked)
     program = program_of(asked.program)
     list_of_bank = [mark(asked.report[2])] if asked.report else []
-    return {"made by": OURS, "code": code_sum(), "files": [mark(path) for path in asked.files], "program": mark(program), "wanted": wanted,
-            "more": more, "list": list_of_bank, "parts": asked.parts, "most": asked.most, "block": asked.block}
+    code = code_sum(lists.tools() if asked.report else [])
+    return {"made by": OURS, "code": code, "files": [mark(path) for path in asked.files], "program": mark(program), "wanted": wanted, "more": more,
+            "list": list_of_bank, "parts": asked.parts, "most": asked.most, "block": asked.block}
 
 
-def code_sum():
-    """A sum of the code of this program: work that other code began is not gone on with."""
+def code_sum(more: list[str]) -> str:
+    """A sum of the code of this program, and of more files: work that other code began is not gone on with."""
     sums = hashlib.sha256()
-    for path in sorted(PACKAGE.glob("*.py")):
+    for path in [*sorted(PACKAGE.glob("*.py")), *map(pathlib.Path, more)]:
         sums.update(path.name.encode() + path.read_bytes())
     return sums.hexdigest()
 
@@ -112,8 +151,10 @@ def code_sum():
 # ---- the folder
 
 @contextlib.contextmanager
-def alone_in(folder):
+def alone_in(folder: pathlib.Path) -> Iterator[None]:
     """The folder, in which no other run is at work."""
+    if folder.exists() and not folder.is_dir():
+        raise Stop(f"{folder} is a file: the first word is the folder for the answers")
     folder.mkdir(parents=True, exist_ok=True)
     with open(folder / "lock", "ab") as lock:
         try:
@@ -123,13 +164,13 @@ def alone_in(folder):
         yield
 
 
-def is_ours(file):
+def is_ours(file: pathlib.Path) -> bool:
     """Whether a plan is one that this program wrote."""
     plan = read_json(file)
     return isinstance(plan, dict) and plan.get("made by") == OURS
 
 
-def remove_work(work):
+def remove_work(work: pathlib.Path) -> None:
     """Removes what a run left in the folder of the work, and the folder if nothing else is in it."""
     for name in WORK:
         shutil.rmtree(work / name, ignore_errors=True)
@@ -140,18 +181,18 @@ def remove_work(work):
         work.rmdir()
 
 
-def made_before(folder):
+def made_before(folder: pathlib.Path) -> dict[str, Any]:
     """The texts that runs have put into a folder, each with its size and the time of its last change. They are in the file of the lock."""
     found = read_json(folder / "lock")
     return found if isinstance(found, dict) else {}
 
 
-def note_made(folder, found):
+def note_made(folder: pathlib.Path, found: dict[str, pathlib.Path]) -> None:
     """Notes texts by their names and files as made by this program, so that a later run may remove them."""
     (folder / "lock").write_text(json.dumps({name: mark(path)[1:] for name, path in found.items()}))
 
 
-def remove_texts(folder):
+def remove_texts(folder: pathlib.Path) -> None:
     """Removes the texts of an earlier run. One that this program did not make, or that changed since, stays, and the run ends."""
     made = made_before(folder)
     there = [f"whole.{word}" for word in TEXTS if (folder / f"whole.{word}").exists()]
@@ -163,7 +204,7 @@ def remove_texts(folder):
     note_made(folder, {})
 
 
-def prepared(folder, plan):
+def prepared(folder: pathlib.Path, plan: dict[str, Any]) -> pathlib.Path:
     """The folder of the work. What an earlier run left there stays if it had the same plan."""
     work = folder / "work"
     file = work / "plan.json"
@@ -182,24 +223,26 @@ def prepared(folder, plan):
 class Steps:
     """The steps of the work on the workers. The result of each call is kept in the folder, for a run that goes on."""
 
-    def __init__(self, client, work, is_kept, says_all):
-        self.client, self.work, self.is_kept, self.says_all = client, str(work), is_kept, says_all
+    def __init__(self, client: Client, work: pathlib.Path, is_kept: bool, progress: Progress) -> None:
+        self.client, self.work, self.is_kept, self.progress = client, str(work), is_kept, progress
 
-    def each(self, name, function, calls):
+    def each(self, name: str, function: str, calls: list[list[Any]]) -> list[Any]:
         """The results of a function of a module on the folder of the work, for each list of its other arguments."""
         asked = [[str(PACKAGE.parent), self.work, name, number, function, its] for number, its in enumerate(calls)]
         calls = self.client.map(kept_call, asked, pure=False)
-        for done, _ in enumerate(as_completed(calls) if self.says_all else [], 1):
-            print(f"parts: {name} {done} of {len(calls)}", file=sys.stderr, flush=True)
+        if self.progress.is_shown:
+            self.progress.say(name, 0, len(calls))
+            for done, _ in enumerate(as_completed(calls), 1):
+                self.progress.say(name, done, len(calls))
         return self.client.gather(calls)
 
-    def drop(self, folder):
+    def drop(self, folder: str) -> None:
         """Removes files that no later step reads."""
         if not self.is_kept:
             shutil.rmtree(f"{self.work}/{folder}", ignore_errors=True)
 
 
-def kept_call(call):
+def kept_call(call: list[Any]) -> Any:
     """One call of a step, on a worker, which finds this package under the same path."""
     top, work, name, number, function, its = call
     if top not in sys.path:
@@ -209,7 +252,7 @@ def kept_call(call):
     return files.kept(f"{work}/done/{name}.{number}", lambda: made(work, *its))
 
 
-def tied(steps, blocks, read, buckets):
+def tied(steps: Steps, blocks: list[parts.Block], read: list[dict[str, Any]], buckets: int) -> int:
     """Writes the root of each tied transfer. The result is how many are tied."""
     slices = [[[block.number, *its["ends"][bucket:bucket + 2]] for block, its in zip(blocks, read)] for bucket in range(buckets)]
     found = steps.each("ties", "parts.ties.pairs_in", [[its] for its in slices])
@@ -221,16 +264,17 @@ def tied(steps, blocks, read, buckets):
     return len(roots)
 
 
-def lines_before(blocks, read):
+def lines_before(blocks: list[parts.Block], read: list[dict[str, Any]]) -> list[int]:
     """How many lines of its file come before each block."""
-    before, counts = {}, []
+    before: dict[int, int] = {}
+    counts = []
     for block, its in zip(blocks, read):
         counts.append(before.setdefault(block.file, 0))
         before[block.file] += its["lines"]
     return counts
 
 
-def cut(steps, blocks, plan):
+def cut(steps: Steps, blocks: list[parts.Block], plan: dict[str, Any]) -> tuple[list[Any], int]:
     """Cuts all lines into parts. The result has the name, the bytes and the lines of each, and how many transfers are tied."""
     buckets = min(len(blocks), parts.MOST_BUCKETS)
     read = steps.each("read", "parts.parts.read_block", [[list(block), buckets] for block in blocks])
@@ -248,7 +292,19 @@ def cut(steps, blocks, plan):
     return found, many
 
 
-def answered(steps, plan):
+def check_list(steps: Steps, names: list[str], words: list[str]) -> None:
+    """Stops if a list has a row that is a transfer of other banks. What is said of other rows is printed."""
+    *_, bank, day, path = words
+    found = steps.each("check", "parts.lists.held_in_part", [[name, path] for name in names])
+    faults, notes = lists.findings(bank, day, path, found)
+    steps.progress.end()
+    for text in faults + notes:
+        print(f"parts: {text}", file=sys.stderr)
+    if faults:
+        raise Stop(f"there is no report on {path}")
+
+
+def answered(steps: Steps, plan: dict[str, Any]) -> tuple[list[str], str, int]:
     """Asks the program on each part, and merges its answers. The result is a line that says what was done, and how many lines were
     refused."""
     blocks = parts.blocks_of([path for path, _, _ in plan["files"]], plan["block"])
@@ -256,6 +312,8 @@ def answered(steps, plan):
     names, commands = [name for name, _, _ in found], plan["wanted"] + plan["more"]
     refused = sum(steps.each("answer", "parts.answers.answer_part", [[name, plan["program"][0], commands] for name in names]))
     steps.drop("parts")
+    for words in [words for word, words in plan["wanted"] if word == "report"]:
+        check_list(steps, names, words)
     wanted = [word for word, _ in plan["wanted"]] + ["refused"]
     calls = [[names, word, len(plan["files"]), word in wanted] for word in [word for word, _ in commands] + ["refused"]]
     steps.each("merge", "parts.merge.merge", calls)
@@ -266,7 +324,7 @@ def answered(steps, plan):
 # ---- the workers
 
 @contextlib.contextmanager
-def workers(asked, work):
+def workers(asked: argparse.Namespace, work: pathlib.Path) -> Iterator[Client]:
     """The workers: those of a cluster, or some on this machine, which nobody else reaches."""
     if asked.scheduler:
         with Client(asked.scheduler, security=security_of(asked)) as client:
@@ -284,7 +342,7 @@ def workers(asked, work):
         yield client
 
 
-def security_of(asked):
+def security_of(asked: argparse.Namespace) -> Security | None:
     """How the scheduler of a cluster is spoken to."""
     address = urllib.parse.urlsplit(asked.scheduler)
     files = [asked.tls_ca, asked.tls_cert, asked.tls_key]
@@ -298,7 +356,7 @@ def security_of(asked):
     return None
 
 
-def is_here(host):
+def is_here(host: str) -> bool:
     """Whether a host is this machine."""
     try:
         return ipaddress.ip_address(host).is_loopback
@@ -306,37 +364,50 @@ def is_here(host):
         return host == "localhost"
 
 
-def is_taken(plan):
-    """Stops as the program does if it takes no such report: it reads the list before any message."""
+@contextlib.contextmanager
+def shown(asked: argparse.Namespace) -> Iterator[Progress]:
+    """What says how far the run is. Its line is gone in the end."""
+    progress = Progress([step for step in STEPS if step != "check" or asked.report], asked.progress)
+    try:
+        yield progress
+    finally:
+        progress.end()
+
+
+def is_taken(plan: dict[str, Any]) -> None:
+    """Stops if a report has wrong words, and as the program does if it takes no such list or day: it reads these before any message."""
     for word, its in plan["wanted"]:
         if word == "report":
+            wrong = lists.wrong_word(*its[1:3])
+            if wrong:
+                raise Stop(wrong)
+        if len(its) > 1:
             done = subprocess.run([plan["program"][0], *its], stdin=subprocess.DEVNULL, stdout=subprocess.DEVNULL, stderr=subprocess.PIPE)
             if done.returncode:
                 raise Stop(done.stderr.decode(errors="replace").strip(), done.returncode)
 
 
-def run(asked):
+def run(asked: argparse.Namespace) -> int:
     """The exit status of the run, which is 1 if a line was refused."""
     plan, folder = plan_of(asked), pathlib.Path(asked.folder).resolve()
     is_taken(plan)
     with alone_in(folder):
         work = prepared(folder, plan)
-        with workers(asked, work) as client:
-            says_all = asked.progress or sys.stderr.isatty()
-            wanted, done, refused = answered(Steps(client, work, asked.keep, says_all), plan)
+        with workers(asked, work) as client, shown(asked) as progress:
+            wanted, done, refused = answered(Steps(client, work, asked.leave_parts, progress), plan)
         if plan_of(asked) != plan:
             raise Stop("a file changed while it was read")
         remove_texts(folder)
         note_made(folder, {f"whole.{word}": work / "merged" / word for word in wanted})  # a file that is moved keeps its time
         for word in wanted:
             os.replace(work / "merged" / word, folder / f"whole.{word}")
-        if not asked.keep:
+        if not asked.leave_parts:
             remove_work(work)
     print(done)
     return 1 if refused else 0
 
 
-def main():
+def main() -> None:
     os.umask(0o077)  # parts and answers are payments of customers: nobody else of this machine reads them
     _, most = resource.getrlimit(resource.RLIMIT_NOFILE)
     resource.setrlimit(resource.RLIMIT_NOFILE, (min(most, 1 << 16) if most != resource.RLIM_INFINITY else 1 << 16, most))

@@ -1,15 +1,20 @@
 """codes.py: docs/users/codes.md has the numbers and names of the code and lines of the examples, and a manual page can be made of it.
 
 The numbers and names in the tables are those of the functions `number` of the code, and so are the numbers that the page says are not
-assigned. Each word of a status text or of a report has the remedy that services/hub/meanings.json has, which the pages show. Each line
-that a table shows in its column Line or Example is a line of some file of examples/, or is `fault N` and N ends a run by the code. The
-manual page that man_page.py makes has each section of the page, and is well-formed: troff reads each of its lines and signs as it is
+assigned. Each word of a status text or of a report has the remedy that services/hub/meanings.json has, which the pages show. The numbers
+that the service explains have the names and the sentences of the C header, or of the page, and its remedies. Each line
+that a table shows in its column Line or Example is a line of some file of examples/ or of tests/data/, or is `fault N` and N ends a run by
+the code. Each line with a bank that the page shows elsewhere is one of an example too. The manual page that man_page.py makes has each
+section of the page, and is well-formed: troff reads each of its lines and signs as it is
 meant.
 """
-import json, re
+import json
+import re
 from tests import harness
-from tests.documents import man_page, pages
-from tests.harness import CRATES, EXAMPLES, SERVICES, reported
+from tests.documents import pages
+from tests.harness import CRATES, DATA, EXAMPLES, SERVICES, TOP, reported
+from tools import man_page
+from tools.desk.page_tables import plain, tables
 
 SHOWN = ["Line", "Example"]
 MOST = 78  # the greatest number
@@ -40,9 +45,9 @@ def said_free(text):
 
 
 def example_lines():
-    """The lines of all files of examples/."""
+    """The lines of all files of examples/ and of tests/data/."""
     lines = set()
-    for path in EXAMPLES.rglob("*"):
+    for path in [*EXAMPLES.rglob("*"), *DATA.rglob("*")]:
         if path.is_file():
             lines.update(path.read_bytes().decode(errors="replace").split("\n"))
     return lines
@@ -61,9 +66,11 @@ def numbers(text, table, pairs):
     yield reported("codes.md says which numbers are not assigned", free == said_free(text))
 
 
-def lines_shown(table, ends):
-    """Whether each line that the tables show is one of an example, or ends a run."""
+def lines_shown(text, table, ends):
+    """Whether each line that the tables show is one of an example, or ends a run, and each line with a bank that the text shows."""
     examples = example_lines()
+    for line in re.findall(r"`((?:[TFR]\|)?[A-Z0-9]{11}[|,][^`]+)`", text):
+        yield reported(f"codes.md shows {line}", line in examples)
     for row in table:
         for column in SHOWN:
             for line in pages.codes(row.get(column, "")):
@@ -78,10 +85,37 @@ def remedies(text):
     sections = dict(part.split("\n", 1) for part in text.split("\n## ")[1:])
     yield reported("meanings.json has the tables of words", set(meanings) == set(WORDS.values()))
     for section, table in WORDS.items():
-        rows = {tuple(row.cells[:2]) for _, row in pages.tables(sections[section].splitlines())}
+        rows = {tuple(row.cells[:2]) for _, row in tables(sections[section].splitlines())}
         its = {(word, row["remedy"]) for word, row in meanings[table].items()}
         yield reported(f"the remedies of {section}", rows == its, f"{rows ^ its}")
         yield reported(f"the colors of {section}", {row["color"] for row in meanings[table].values()} <= COLORS)
+
+
+def of_header():
+    """The name and the sentence of each number in the C header."""
+    listed = (TOP / "include/niluppang.h").read_text(encoding="utf-8").partition("Refusals.")[2].partition("`place` counts")[0]
+    return {number: (name, sentence) for number, name, sentence in re.findall(r"^ \*     (\d+) (\w+) +(.*)$", listed, re.M)}
+
+
+def explained(text):
+    """Whether codes.json of the service has the names, the sentences and the remedies of the header and of the page."""
+    its, header = json.loads((SERVICES / "hub/codes.json").read_text(encoding="utf-8")), of_header()
+    sections = {title: body for marks, title, body in re.findall(r"^(##+) (.*)\n((?:(?!^##).*\n)*)", text, re.M)}
+
+    def table(title):
+        return [dict(zip(columns, row.cells)) for columns, row in tables(sections[title].splitlines())]
+
+    titles = ("Numbers of refused lines", "Types", "Rules", "Refused deltas")
+    rows = [row for title in titles for row in table(title) if row["Name"] != "`NoEvent`"]
+    right = {row["Number"]: (*header.get(row["Number"], (plain(row["Name"]), plain(row["Cause"]))), plain(row["Remedy"])) for row in rows}
+    for row in table("Replies of `serve`"):
+        number = re.match(r"`REFUSED (\d+)", row["Reply"]).group(1)
+        right[number] = (*header.get(number, ("Usage", plain(row["Cause"]))), plain(row["Remedy"]))
+    right["65"] = (*header["65"], "send it again later; if it fails again, the site needs more memory")
+    found = {number: (row["name"], row["why"], row["remedy"]) for number, row in its.items()}
+    yield reported("codes.json of the service", found == right, f"{set(found.items()) ^ set(right.items())}")
+    is_same = all(header[row["Number"]][0] == plain(row["Name"]) for row in rows if row["Number"] in header)
+    yield reported("the page and the header have the same names", is_same)
 
 
 def manual(text):
@@ -103,8 +137,8 @@ def manual(text):
 
 def main():
     text, (pairs, ends) = man_page.PAGE.read_text(encoding="utf-8"), numbers_of_code()
-    table = [dict(zip(columns, row.cells)) for columns, row in pages.tables(text.splitlines())]
-    harness.end_of([*numbers(text, table, pairs), *lines_shown(table, ends), *remedies(text), *manual(text)])
+    table = [dict(zip(columns, row.cells)) for columns, row in tables(text.splitlines())]
+    harness.end_of([*numbers(text, table, pairs), *lines_shown(text, table, ends), *remedies(text), *explained(text), *manual(text)])
 
 
 if __name__ == "__main__":

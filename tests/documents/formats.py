@@ -4,14 +4,19 @@ Section 2 has messages that are all read. A row of section 5 names one of them, 
 Section 3 has names of kinds, each given to the message of its kind, and reasons, each shown for a rejection and for the refusal of a
 recall, with `?` or without. No answer shows which codes are usual for a recall. Section 6 has a written form. Section 11 has refused
 lines of scripts, and a script. Sections 12 and 13 have lines of examples/hub-morning.refused and examples/hub-morning.run-refused.
-Section 14 has bad lists and a report. Section 10 has a delta, and section 15 what a site refuses of files of examples/exchange/cases/.
+Section 8 has dates, each given to a transfer that is done but for its date.
+Section 14 has bad lists and a report. Section 10 has a delta, and section 15 what a site refuses of files of tests/data/exchange/.
 Section 16 has requests to a new site, one after another, and their replies.
 A row in other words than those of the tables stops the check.
 """
-import json, os, pathlib, re, tempfile
+import json
+import os
+import pathlib
+import re
+import tempfile
 from bench.generate import samples
 from tests.documents.pages import Page, answered, codes
-from tests.harness import EXAMPLES, stop
+from tests.harness import DATA, EXAMPLES, stop
 
 NAMES = ["the instruction", "the confirmation", "the request", "the recall", "the return", "the resolution", "the batch"]
 ORDINALS = {"first": 0, "second": 1}
@@ -87,7 +92,20 @@ def refusals(program, page, messages):
 def messages_of(page):
     """The lines of section 2 by their names."""
     lines = "".join(block.text for block in page.blocks("Six messages")).splitlines()
-    return dict(zip(NAMES, lines))
+    return dict(zip(NAMES, [line for line in lines if line.startswith("{")]))
+
+
+def stories(program, page, messages):
+    """The answers on the first five messages, and on those with the sixth in place of the fifth. All six contradict each other."""
+    answers = [block for block in page.blocks("Six messages") if not block.text.startswith("{")]
+    lines = [messages[name] + "\n" for name in NAMES[:6]]
+    for block, story in zip(answers, (lines[:5], [*lines[:4], lines[5]])):
+        yield block.line, (block.text, "", 0), answered(program, ["status"], "".join(story))
+    finding = re.search(r"by the finding (\w+)\.", page.text)
+    text, *_ = answered(program, ["status"], "".join(lines))
+    found = [line.split("|")[::3][:2] for line in text.splitlines()[:2]]
+    yield page.line_at(finding.start()), [["T", "CONTRADICTED"], ["F", finding[1]]], found
+    yield answers[-1].line, 2, len(answers)
 
 
 def written_forms(program, page, messages):
@@ -116,7 +134,10 @@ def shown(program, code, usual):
     """The line of a transfer that is rejected for a reason, and that of a recall that is refused for it."""
     lines = [samples.instruction(), samples.confirmation({"TxSts": "RJCT", "Rsn": code}), samples.recall([samples.transaction()]),
              samples.refusal(Rsn=code)]
-    mark = lambda use: code if code in usual[use] else code + "?"
+
+    def mark(use):
+        return code if code in usual[use] else code + "?"
+
     text = (f"T|BANKDEFFXXX|T1|REJECTED|{mark('rejection')}\n"
             f"R|BANKDEFFXXX|T1|R1|REFUSED|{mark('refusal of a recall')}\n")
     return (text, "", 0), answered(program, ["status"], "".join(map(samples.line, lines)))
@@ -135,6 +156,16 @@ def reasons(program, page, _):
             if row.cells[0] == "return":
                 refused = ("", 0) if code in usual["return"] else ("line 1: 38 19\n", 1)
                 yield row.line, refused, answered(program, ["totals"], samples.line(samples.payback(Rsn=code)))[1:]
+
+
+# ---- section 8: dates
+
+def dates(program, page, _):
+    """Which messages were created before a day: what is kept of a transfer that is done by all but the date of its confirmation."""
+    for row in page.rows("8. Archive text", "`CreDtTm`", "Before 2026-01-02"):
+        lines = [samples.instruction(), samples.confirmation(CreDtTm=codes(row.cells[0])[0])]
+        text, refused, status = answered(program, ["keep", "2026-01-02"], "".join(map(samples.line, lines)))
+        yield row.line, ({"yes": 0, "no": 2}[row.cells[1]], "", 0), (text.count("\n"), refused, status)
 
 
 # ---- section 11: scripts
@@ -210,7 +241,7 @@ def deltas(program, page, _):
 def refused_files(program, page, _):
     """What a site refuses of a journal and two deltas."""
     *_, block = page.blocks("15. A site of several machines: `site`, `vector`, `cut`")
-    files = [str(EXAMPLES / "exchange" / "cases" / name) for name in ("bad", "e2", "empty")]
+    files = [str(DATA / "exchange" / name) for name in ("bad", "e2", "empty")]
     yield block.line, ("2:1\n", block.text, 1), answered(program, ["vector", "2", "2", *files], "")
 
 
@@ -219,7 +250,10 @@ def refused_files(program, page, _):
 def requests(program, page, messages):
     """Requests to a new site 1 of 2, one after another."""
     found = list(page.rows("16. A site that lasts: `serve`", "Request", "Reply"))
-    signs = lambda text: text.replace("<TAB>", "\t").replace("<LF>", "\n")
+
+    def signs(text):
+        return text.replace("<TAB>", "\t").replace("<LF>", "\n")
+
     lines = [signs(codes(row.cells[0])[0]) if row.cells[0].startswith("`") else messages[row.cells[0]] for row in found]
     stated = "READY -\n" + "".join(signs(codes(row.cells[1])[0]) + "\n" for row in found)
     with tempfile.TemporaryDirectory() as folder:
@@ -229,7 +263,8 @@ def requests(program, page, messages):
 
 # ---- the page
 
-PARTS = [refusals, written_forms, kinds, reasons, script_lines, script, example_lines, bad_lists, report, deltas, refused_files,
+PARTS = [stories, refusals, written_forms, kinds, reasons, dates, script_lines, script, example_lines, bad_lists, report, deltas,
+         refused_files,
          requests]
 
 

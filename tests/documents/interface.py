@@ -1,14 +1,17 @@
 """interface.py: VERSION, the C header, the Python package and the crate sct_c have one version, one interface and one list of numbers.
 
 VERSION has the version. The macros of include/niluppang.h, bindings/python, the crate sct_version and the function `sct_version` of
-sct_c, which returns the number of that crate, agree with it. Each call that the header explains is an inline function there. It hands its
+sct_c, which returns the number of that crate, agree with it, and so do the numbers in
+bindings/java and in the example in Rust. Each call that the header explains is an inline function there. It hands its
 arguments to the function of the library with the same name, result and parameters, and a word in place of a pointer to nothing. These
 functions are the exports of sct_c with the same types, and there is no other export. The class of C++ and the Python package have each
 call. The results have the same fields in the header, in the crate and in Python, and their sizes are those that the header asserts. The
 numbers, names and meanings of the header's table are those of its enumeration, of the crate sct_embed and of tests/embed/model.py, and are
 numbers of the code. What concerns sct_c is compared if crates.txt names it.
 """
-import collections, re, sys
+import collections
+import re
+import sys
 from tests import harness
 from tests.documents import codes
 from tests.embed import model
@@ -41,7 +44,10 @@ def parameter(text):
 def functions(pattern):
     """The functions of the header whose beginnings fit a pattern with a result, a name and parameters."""
     found = re.findall(pattern, HEADER, re.M)
-    parameters = lambda given: [] if given == "void" else [parameter(one) for one in given.split(",")]
+
+    def parameters(given):
+        return [] if given == "void" else [parameter(one) for one in given.split(",")]
+
     return {name: Function(result, parameters(given)) for result, name, given in found}
 
 
@@ -250,11 +256,20 @@ def python_checks(version):
         yield reported(f"{name} has the same fields in Python", same == python_fields(PYTHON_RESULTS[name]))
 
 
+def version_checks(version):
+    """Compares the numbers by which the Java package and the example in Rust know their library."""
+    major, minor, _ = map(int, version.split("."))
+    java = (TOP / "bindings" / "java" / "src" / "niluppang" / "Library.java").read_text(encoding="utf-8")
+    yield reported("the Java package is for VERSION", f" MAJOR = {major};" in java and f" MINOR = {minor};" in java)
+    rust = (TOP / "examples" / "embed" / "rust" / "src" / "site.rs").read_text(encoding="utf-8")
+    yield reported("the example in Rust is for VERSION", f"const VERSION: u32 = {1000 * major + minor};" in rust)
+
+
 def main():
     text = (TOP / "VERSION").read_text(encoding="utf-8")
     version = text.strip()
     right = [reported("VERSION is a line of three numbers", re.fullmatch(r"\d+\.\d+\.\d+\n", text) is not None)]
-    right += [*header_checks(version), *python_checks(version)]
+    right += [*header_checks(version), *python_checks(version), *version_checks(version)]
     if re.search(r"^sct_c\b", (TOP / "crates.txt").read_text(encoding="utf-8"), re.M):
         right += crate_checks(version)
     harness.end_of(right)

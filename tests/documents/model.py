@@ -3,7 +3,8 @@
 The messages of an example are written in the words of the table at the head of the page, whose values they have. An example is a block
 of a form of FORMS, or a script with its events. A block of another form stops the check, and so does a message in other words.
 """
-import json, re
+import json
+import re
 from bench.generate import samples
 from tests.documents.pages import Page, answered
 from tests.harness import stop
@@ -92,7 +93,7 @@ def lines_of(words):
 
 def written(program, command, lines):
     """What a command writes on some lines, to one output after the other, with the status that it ends with."""
-    text, refused, status = answered(program, [command], "".join(lines))
+    text, refused, status = answered(program, command.split(), "".join(lines))
     return text + refused, status
 
 
@@ -144,6 +145,15 @@ def in_parts(command):
     return compared
 
 
+def split(program, held, kept, closed):
+    """What is kept and what is closed on a day after all messages, by the identifications of the messages."""
+    lines = lines_of("; ".join(held))
+    for command, named in (("keep", kept), ("closed", closed)):
+        for given in (lines, lines[::-1], lines + lines):
+            text, status = written(program, f"{command} 9999-12-31", given)
+            yield (sorted(" ".join(named).split()), 0), (sorted(re.findall(r'"MsgId":"([^"]*)"', text)), status)
+
+
 def event_line(words):
     """The line of a script. A take has its message in words."""
     take = re.fullmatch(r"(take \S+ )(.*)", words)
@@ -190,10 +200,12 @@ def settling(_, words, gives):
 #   sites that are named so.
 # - `part 1`, `part 2`, `gives 1`, `gives 2` and `both`: the status text of each part, and of both together. With `totals 1` and
 #   `totals 2` it is the totals text.
+# - `held`, `kept` and `closed`: the identifications of the messages that are kept and of those that are closed, on a day after all of them.
 # - `events` and perhaps `site N`: a script with the outcome of each line, and the status text of a site at the end (replayed).
 FORMS = {
     ("held", "gives"): text_of("status"),
     ("held", "totals"): text_of("totals"),
+    ("held", "kept", "closed"): split,
     ("added", "held"): answers_to,
     ("settled", "gives"): settling,
     ("part 1", "part 2", "gives 1", "gives 2", "both"): in_parts("status"),

@@ -1,4 +1,4 @@
-"""names.py: the names that README.md, the pages in docs and examples/README.md write are those of the code.
+"""names.py: the names that README.md, the pages in docs and the README.md of some folders write are those of the code.
 
 Names in backquotes are declared in a crate, or are words of crates.txt, of the tests, benches or examples, or of OUTSIDE. Those of a
 crate, as "`settle` of sct_world", and those that follow a file, are declared there. Files in backquotes exist, and links lead to a file
@@ -6,14 +6,19 @@ and a heading. README.md links to every page. Rows of promises have functions of
 functions: without a clause a function has a single one, and a law has an empty body. The first line of each edit says what it does.
 So does that of each source and each file of definitions, and the files of the table of places declare what it names. The page for
 auditors has functions with their clauses, definitions and their number, code at its line, and every crate of the kit that is used.
+NOTICE has these crates too.
 """
-import functools, os, pathlib, re
+import functools
+import os
+import pathlib
+import re
 from tests import harness
 from tests.documents import sources
 from tests.documents.pages import codes, rows
 from tests.harness import CRATES, TOP
 
 PAGES = [*sorted(TOP.glob("*.md")), *sorted((TOP / "docs").rglob("*.md")), TOP / "examples" / "README.md"]
+OF_FOLDERS = [TOP / folder / "README.md" for folder in ("services", "tools/desk", "tests/data")]  # CONTRIBUTING.md has these folders
 
 # names of std, of the language and of the kit, commands of the shell, and names that a page has because they are wrong here
 OUTSIDE = set("""
@@ -277,16 +282,31 @@ def check_quotes(report, page, text):
         report.check(page, text.count("\n", 0, match.start()) + 1, str(at) == line, f"{file}:{line}: this code is at {at}")
 
 
-def check_kit(report, page, text):
-    """Whether the page names each crate that crates.txt has and this repository does not."""
+def crates_of_kit():
+    """Each crate that crates.txt has and this repository does not."""
     lines = [line.partition(":") for line in (TOP / "crates.txt").read_text().splitlines() if not line.startswith("#")]
     own = {head.split()[0] for head, _, _ in lines if head.strip()}
-    for crate in sorted({word for _, _, uses in lines for word in uses.split()} - own):
+    return sorted({word for _, _, uses in lines for word in uses.split()} - own)
+
+
+def check_kit(report, page, text):
+    """Whether the page names each crate of the kit that is used."""
+    for crate in crates_of_kit():
         report.check(page, 1, f"`{crate}`" in text, f"the page does not name the crate {crate} of the kit")
 
 
+def check_notice(report, page, text):
+    """Whether NOTICE, to which the page points, names each crate of the kit that is used, and both say that there is no licence."""
+    notice = TOP / "NOTICE"
+    words = set(re.findall(r"\w+", notice.read_text(encoding="utf-8")))
+    for crate in crates_of_kit():
+        report.check(notice, 1, crate in words, f"NOTICE does not name the crate {crate} of the kit")
+    for one in (page, notice):
+        report.check(one, 1, "No licence has been granted yet" in one.read_text(encoding="utf-8"), "it does not say that no licence has been granted yet")
+
+
 BY_PAGE = {
-    "README.md": [check_pages],
+    "README.md": [check_pages, check_notice],
     "docs/auditors/promises.md": [check_promises],
     "docs/auditors/review.md": [check_edits],
     "docs/developers/architecture.md": [check_places, check_sources],
@@ -296,7 +316,7 @@ BY_PAGE = {
 
 def main():
     report = Report()
-    for page in PAGES:
+    for page in [*PAGES, *OF_FOLDERS]:
         text = page.read_text()
         for check in [check_names, check_files, check_declared, check_links, *BY_PAGE.get(page.relative_to(TOP).as_posix(), [])]:
             check(report, page, text)

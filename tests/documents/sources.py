@@ -1,10 +1,23 @@
 """sources.py: the names in the code: files, functions with their clauses, definitions, edits, and the words of tests and examples."""
-import collections, functools, re
+from __future__ import annotations
+import collections
+import functools
+import pathlib
+import re
+from typing import Iterator, NamedTuple
 from tests.harness import CRATES, TOP
+
 
 # A function, with the type and the trait of its `impl` or None, the names of its clauses, None for one without a name, and whether its
 # body does nothing. The ghost members of an `impl`, and the ghost fields of a type, make up one that has no name.
-Function = collections.namedtuple("Function", "name type trait file clauses is_law")
+class Function(NamedTuple):
+    name: str | None
+    type: str | None
+    trait: str | None
+    file: str
+    clauses: list[str | None]
+    is_law: bool
+
 
 HEAD = re.compile(r"( *)(?:pub(?:\([a-z]+\))? )?(?:const |unsafe |extern \"C\" )*fn (\w+)")
 OWNER = re.compile(r"(?:pub(?:\([a-z]+\))? )?(impl|trait)\b(?:<(?:[^<>]|<[^<>]*>)*>)? +(.*?)(?: where .*)?\{?$")
@@ -19,19 +32,19 @@ OF_SOURCE = re.compile(r"\b(?:fn|struct|enum|trait|type|const|static|mod|impl|en
 OF_DEFINITIONS = re.compile(r"^ *(?:(?:abbrev|unfoldable|data|record|pub|mutual) )*(\w+)(?: [({]| :|$)", re.MULTILINE)
 
 
-def base(name):
+def base(name: str) -> str:
     """A type without its reference, its path and its parameters."""
     return re.sub(r"<.*", "", name.strip().lstrip("&")).split("::")[-1].strip()
 
 
-def owner_of(line):
+def owner_of(line: str) -> tuple[str, str | None]:
     """The type and the trait of an `impl`. A `trait` is a type here."""
-    word, rest = OWNER.match(line).groups()
+    word, rest = OWNER.findall(line)[0]
     trait, found, of = rest.partition(" for ")
     return (base(of), trait.strip()) if found and word == "impl" else (base(rest.split(":")[0] if word == "trait" else rest), None)
 
 
-def clauses_of(lines, indent):
+def clauses_of(lines: list[str], indent: str) -> tuple[list[str | None], bool]:
     """The names of the clauses of the function that begins with these lines, and whether its body does nothing but call laws."""
     clauses = []
     for place, line in enumerate(lines):
@@ -49,15 +62,17 @@ def clauses_of(lines, indent):
     return clauses, False
 
 
-def functions_of(path, file):
+def functions_of(path: pathlib.Path, file: str) -> Iterator[Function]:
     """The functions of a source."""
     lines = path.read_text().splitlines()
-    owner, members = (None, None), collections.defaultdict(list)
+    owner: tuple[str | None, str | None] = (None, None)
+    members: dict[tuple[str | None, str | None], list[str | None]] = collections.defaultdict(list)
     for place, line in enumerate(lines):
+        struct = STRUCT.match(line)
         if OWNER.match(line):
             owner = owner_of(line)
-        elif STRUCT.match(line):
-            owner = (STRUCT.match(line).group(1), None)
+        elif struct:
+            owner = (struct.group(1), None)
         elif line == "}":
             owner = (None, None)
         derived, member, head = DERIVED.match(line), MEMBER.match(line), HEAD.match(line)
@@ -74,39 +89,39 @@ def functions_of(path, file):
 
 
 @functools.lru_cache(maxsize=None)
-def names():
+def names() -> list[str]:
     """The names of the crates."""
     return sorted(path.name for path in CRATES.iterdir() if (path / "src").is_dir())
 
 
 @functools.lru_cache(maxsize=None)
-def files(crate):
+def files(crate: str) -> dict[str, pathlib.Path]:
     """The sources of a crate, by their paths below its src/."""
     top = CRATES / crate / "src"
     return {path.relative_to(top).as_posix(): path for path in sorted(top.rglob("*.rt"))}
 
 
 @functools.lru_cache(maxsize=None)
-def written(crate):
+def written(crate: str) -> list[Function]:
     """The functions of a crate as they are written, each with its file from crates/ on."""
     return [function for file, path in files(crate).items() for function in functions_of(path, f"{crate}/src/{file}")]
 
 
 @functools.lru_cache(maxsize=None)
-def functions(crate):
+def functions(crate: str) -> list[Function]:
     """The functions of a crate. One of a trait without clauses of its own has those of the trait, if that is of the crate."""
     of_trait = {(one.type, one.name): one.clauses for one in written(crate) if one.name and not one.trait}
-    return [one._replace(clauses=one.clauses or of_trait.get((base(one.trait or ""), one.name), [])) for one in written(crate)]
+    return [one._replace(clauses=one.clauses or of_trait.get((base(one.trait or ""), one.name or ""), [])) for one in written(crate)]
 
 
 @functools.lru_cache(maxsize=None)
-def edits(crate):
+def edits(crate: str) -> set[str]:
     """The names of the edits of a crate."""
     return {path.stem for path in (CRATES / crate / "must-fail").iterdir()} if (CRATES / crate / "must-fail").is_dir() else set()
 
 
 @functools.lru_cache(maxsize=None)
-def declared(path):
+def declared(path: pathlib.Path) -> set[str]:
     """What a source or a file of definitions gives a name to, and the words of the texts of a source."""
     if path.suffix == ".antt":
         return set(OF_DEFINITIONS.findall(path.read_text()))
@@ -114,7 +129,7 @@ def declared(path):
 
 
 @functools.lru_cache(maxsize=None)
-def defined(crate):
+def defined(crate: str) -> set[str]:
     """What has a name in a crate: its files and edits, and what these declare."""
     found = {crate, *edits(crate)}
     paths = [path for folder in ("specs", "proofs") for path in (CRATES / crate / folder).rglob("*.antt")]
@@ -124,7 +139,7 @@ def defined(crate):
     return found
 
 
-def rests_on(paths):
+def rests_on(paths: list[pathlib.Path]) -> set[pathlib.Path]:
     """Some files of definitions with all files of definitions that they use."""
     found, left = set(), list(paths)
     while left:
@@ -137,7 +152,7 @@ def rests_on(paths):
 
 
 @functools.lru_cache(maxsize=None)
-def everywhere():
+def everywhere() -> set[str]:
     """What has a name in any crate, and the words of crates.txt, of the tests but for this check, of the benches, of the examples, and
     of the header, the packages and the tools."""
     found = set(re.findall(r"\w+", (TOP / "crates.txt").read_text()))

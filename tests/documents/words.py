@@ -4,7 +4,7 @@ Words in backquotes and in blocks of code do not count. ALLOWED has the uses of 
 """
 import re
 from tests import harness
-from tests.documents.names import PAGES, prose
+from tests.documents.names import OF_FOLDERS, PAGES, prose
 from tests.harness import TOP, reported
 
 # words, each with what a page says in its place
@@ -38,7 +38,7 @@ def used(text):
 
 
 def main():
-    found = {page.relative_to(TOP).as_posix(): list(used(page.read_text(encoding="utf-8"))) for page in [*PAGES, *MORE_PAGES]}
+    found = {page.relative_to(TOP).as_posix(): list(used(page.read_text(encoding="utf-8"))) for page in [*PAGES, *OF_FOLDERS, *MORE_PAGES]}
     harness.end_of([reported(name, not faults, "\n".join(f"  {fault}" for fault in faults)) for name, faults in found.items()])
 
 

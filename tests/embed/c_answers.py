@@ -1,7 +1,8 @@
 """c_answers.py: the library answers the examples to the byte, refuses by each number, and holds sites 1 to 1024, in 256 KB of stack.
 
 - The examples of examples/: the answers that their files have, of messages taken at once, one by one, and restored from a journal. What
-  the site reads in their lines, its journal and its newest messages are the lines of these files.
+  the site reads in their lines, its journal and its newest messages are the lines of these files. What is kept of them and what is closed
+  are those of tests/oracle/keep.py.
 - The three sites of hub-morning, which exchange deltas, and the cases of examples/exchange that one delta decides.
 - Each number of the header once, with its place and with why, and each call on a handle without a site.
 - Why a call was refused, until the next call; parts of an answer; an evaluation; the name and the meaning of each of 256 numbers.
@@ -13,18 +14,21 @@
 - The structures have their sizes. The library gives away the names of the header and no other, in the shared one under its version. It
   needs nothing but the C library, and no stack whose bytes run.
 """
-import json, re, signal
+import json
+import re
+import signal
 from bench.generate import messages, samples
 from tests import harness
 from tests.embed import driving, model
 from tests.golden.examples import REPORTS
-from tests.harness import EXAMPLES, TOP, reported
+from tests.harness import DATA, EXAMPLES, TOP, reported
 from tests.inputs import delta, instruction
-from tests.oracle import status
+from tests.oracle import keep, status
 
 CALLED = {"malloc", "realloc", "free", "memcpy", "memmove", "memset", "memcmp"}
 OF_COMPILER = {"__udivti3", "__umodti3"}  # of the library that each compiler of C links
 BANK, DAY, STACK = b"BANKDEFF", b"2024-05-02", 256 * 1024
+LATER = "2025-03-11"  # the day after the messages of most examples
 MOST_SITES, LONG, MOST = 1024, 20_000, 2 ** 64 - 1
 HELD = 200, 6000  # messages
 # what only_reads.c writes: the answer, a part of it, the reason and the counts of a site that took two refused lines
@@ -73,6 +77,9 @@ def answers_of(stem):
     if stem in REPORTS:
         words = [word.encode() for word in REPORTS[stem]]
         yield ("report", 0, *words, (EXAMPLES / (stem + ".list")).read_bytes()), (OK, (EXAMPLES / (stem + ".report")).read_bytes())
+    messages, _ = status.messages_in((EXAMPLES / (stem + ".jsonl")).read_bytes())
+    for name, part in (("kept_text", keep.kept), ("closed_text", keep.closed)):
+        yield (name, 0, LATER.encode()), (OK, status.archive_text(part(LATER, messages)).encode())
 
 
 def takes_of(lines, refused):
@@ -135,8 +142,8 @@ def hub(program):
 
 
 def exchanged(program):
-    """A site of a journal and one delta, as the command `site` makes it, for each pair of files of examples/exchange/cases."""
-    folder = EXAMPLES / "exchange" / "cases"
+    """A site of a journal and one delta, as the command `site` makes it, for each pair of files of tests/data/exchange."""
+    folder = DATA / "exchange"
     files = sorted(path for path in folder.iterdir() if path.suffix == "")
     journals = [path for path in files if not path.read_bytes().startswith(b"delta")]
     deltas = [path for path in files if path.read_bytes().startswith(b"delta")]
@@ -152,9 +159,15 @@ def exchanged(program):
 
 def refused_takes():
     """An object for each number that refuses an object, with the place, and with why."""
-    of = lambda **more: samples.line(samples.instruction(**more)).encode()
+
+    def of(**more):
+        return samples.line(samples.instruction(**more)).encode()
+
     without = {key: value for key, value in samples.instruction().items() if key != "TxId"}
-    recall = lambda *transactions: samples.line({**samples.recall([{}]), "TxInf": list(transactions)}).encode()
+
+    def recall(*transactions):
+        return samples.line({**samples.recall([{}]), "TxInf": list(transactions)}).encode()
+
     one, other = samples.transaction(), samples.transaction(CxlId="R2")
     less = {key: value for key, value in one.items() if key != "CxlId"}
     return [(b"{", 0, "31"), (b"", 0, "31"), (b"\xff", 0, "31"), (b"[]", 0, "32"), (b"{}", 0, "33"),
@@ -178,7 +191,8 @@ def refused_calls():
                 (("cut", 0, b""), 72, 0, "72")]
     yield from [(("open", 0, 1, 1), 71, 0, "72"), (("restore", 0, 1, 1, b"", EMPTY_DELTA), 71, 0, "72")]
     yield from [(("report", 0, BANK, DAY, b""), 48, 1, "48 1"), (("report", 0, BANK, DAY, header + b"\nx\n"), 48, 2, "48 2"),
-                (("report", 0, b"bankdeff", DAY, header), 73, 1, "73 1"), (("report", 0, BANK, b"today", header), 73, 2, "73 2")]
+                (("report", 0, b"bankdeff", DAY, header), 73, 1, "73 1"), (("report", 0, BANK, b"today", header), 73, 2, "73 2"),
+                (("kept_text", 0, b"2024-5-02"), 73, 1, "73 1"), (("closed_text", 0, b""), 73, 1, "73 1")]
     yield from [(("transfer_text", 0, b"", b"T1"), 73, 1, "73 1"), (("transfer_text", 0, BANK, b""), 73, 2, "73 2"),
                 (("messages_text", 0, b"BANK", b"T1"), 73, 1, "73 1"), (("messages_text", 0, BANK, b"T//1"), 73, 2, "73 2"),
                 (("bank_totals", 0, b"X"), 73, 1, "73 1"), (("restore", 2, 0, 1, b"", EMPTY_DELTA), 44, 0, None)]
@@ -224,8 +238,9 @@ def refusals(program):
 def on_no_site():
     """Each call that needs a site."""
     words = {"take": [b"{}"], "take_lines": [b""], "accept": [EMPTY_DELTA], "counts": [1], "cut": [b"-"], "cut_above": [[]],
-             "journal_text": [0], "newest_text": [1], "reading_text": [b"{}"], "report": [BANK, DAY, b""], "transfer_text": [BANK, b"T1"],
-             "messages_text": [BANK, b"T1"], "bank_totals": [BANK], "answer": [0], "answer_part": [0, 1], "why": [10]}
+             "journal_text": [0], "newest_text": [1], "reading_text": [b"{}"], "report": [BANK, DAY, b""], "kept_text": [DAY],
+             "closed_text": [DAY], "transfer_text": [BANK, b"T1"], "messages_text": [BANK, b"T1"], "bank_totals": [BANK],
+             "answer": [0], "answer_part": [0, 1], "why": [10]}
     texts = ["vector_text", "archive_text", "status_text", "totals_text", "contradictions_text", "changes", "evaluate", "answer_end"]
     return [*words.items(), *((name, []) for name in texts)]
 
@@ -241,8 +256,8 @@ def reasons(program):
     done = [("take", 0, instruction(1).encode()), ("take", 0, instruction(1).encode()), ("take_lines", 0, b"{"), ("accept", 0, EMPTY_DELTA),
             ("cut", 0, b"-"), ("cut_above", 0, []), ("report", 0, BANK, DAY, b"DbtrAgt,TxId,Amt,Sts\n"), ("transfer_text", 0, BANK, b"T1"),
             ("messages_text", 0, BANK, b"T1"), ("bank_totals", 0, BANK), ("journal_text", 0, 0), ("newest_text", 0, 0), ("evaluate", 0),
-            ("reading_text", 0, b"{}"), *((name, 0) for name in ("vector_text", "archive_text", "status_text", "totals_text",
-                                                                 "contradictions_text", "changes"))]
+            ("kept_text", 0, DAY), ("closed_text", 0, DAY), ("reading_text", 0, b"{}"),
+            *((name, 0) for name in ("vector_text", "archive_text", "status_text", "totals_text", "contradictions_text", "changes"))]
     well, refused = ({"ok": 1}, None), (("take", 0, wrong), ({"ok": 0}, None))
     begin = [(("open", 0, 1, 1), well), (ask, none), (("open", 1, 1, 1), well)]
     kept = [pair for one in silent for pair in ((one, ({}, None)), (ask, told))]
@@ -283,9 +298,9 @@ def numbers(program):
 
 def nothing(program):
     """Each call that takes a pointer, with nothing there."""
-    texts = [("take",), ("take_lines",), ("accept",), ("cut",), ("reading_text",), ("bank_totals",), ("transfer_text", b""),
-             ("transfer_text", BANK), ("messages_text", b""), ("messages_text", BANK), ("report", b"", b""), ("report", BANK, b""),
-             ("report", BANK, DAY), ("report", b"", DAY)]
+    texts = [("take",), ("take_lines",), ("accept",), ("cut",), ("reading_text",), ("bank_totals",), ("kept_text",), ("closed_text",),
+             ("transfer_text", b""), ("transfer_text", BANK), ("messages_text", b""), ("messages_text", BANK), ("report", b"", b""),
+             ("report", BANK, b""), ("report", BANK, DAY), ("report", b"", DAY)]
     rooms = [("answer", 0), ("answer_part", 0, 0), ("answer_part", 9, 0), ("why", 0), ("counts", 0), ("cut_above", [])]
     requests = [("open", 0, 1, 2), ("take", 0, instruction(1).encode()), ("restore", 1, 2, 2, b"", b""),
                 ("restore", 2, 1, 2, instruction(1).encode(), b""), ("restore", 3, 1, 2, b"", delta(2, 1, 2)), ("answer", 1, 0)]

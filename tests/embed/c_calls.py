@@ -9,7 +9,12 @@ text or a room without bytes is a null pointer. The address sanitizer checks dri
 is lost. model.py has what each call must come to: no crate is in it. A tenth of a usual number of calls is made under valgrind too, which
 sees each access of the library itself. Each call has to be met, and each number but 65, both as it is and as a why.
 """
-import argparse, collections, concurrent.futures, os, random, shutil
+import argparse
+import collections
+import concurrent.futures
+import os
+import random
+import shutil
 from tests import harness
 from tests.embed import driving, model
 from tests.oracle import exchange, status
@@ -20,9 +25,9 @@ from tests.property.worlds import refused_list, refused_text
 
 USUAL, LONG, OF_VALGRIND, DAYS_OF_A_RUN = 20_000, 1_000_000, 2_000, 10
 CALLS = {"take": 24, "take_lines": 6, "accept": 16, "changes": 6, "transfer_text": 6, "messages_text": 4, "status_text": 5,
-         "archive_text": 3, "totals_text": 4, "contradictions_text": 3, "bank_totals": 4, "report": 4, "counts": 3, "vector_text": 3,
-         "cut": 4, "cut_above": 3, "journal_text": 4, "newest_text": 4, "reading_text": 4, "evaluate": 4, "answer": 4, "answer_part": 6,
-         "answer_end": 2, "why": 8, "code_name": 1, "code_text": 1, "close": 2, "open": 4, "restore": 4}
+         "archive_text": 3, "totals_text": 4, "contradictions_text": 3, "bank_totals": 4, "report": 4, "kept_text": 4, "closed_text": 3,
+         "counts": 3, "vector_text": 3, "cut": 4, "cut_above": 3, "journal_text": 4, "newest_text": 4, "reading_text": 4, "evaluate": 4,
+         "answer": 4, "answer_part": 6, "answer_end": 2, "why": 8, "code_name": 1, "code_text": 1, "close": 2, "open": 4, "restore": 4}
 NUMBERS = [31, 32, 33, 34, 35, 36, 37, 38, 41, 42, 43, 44, 45, 46, 48, 56, 70, 71, 72, 73]
 REASONS = [f"why {number}" for number in NUMBERS if number not in (70, 71)]
 DAYS = ["2024-05-02", "2024-05-02", "2024-05-03", "2024-5-2", ""]
@@ -134,6 +139,11 @@ class Day:
         header = ",".join(model.HEADER) + "\n" if self.r.random() < 0.95 else ""
         data = (header + text).encode()
         return [self.bank(), self.r.choice(DAYS).encode(), data if self.r.random() < 0.95 else data.replace(b"PEND", b"PEND\xff", 1)]
+
+    def kept_text(self):
+        return [self.r.choice([*DAYS, "2024-05-04", "2024-06-01", "2024-06-01"]).encode()]
+
+    closed_text = kept_text
 
     def reading_text(self):
         return self.take_lines()

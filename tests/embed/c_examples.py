@@ -4,7 +4,9 @@ examples/embed/hub.c is built by gcc, and by clang if it is there. It runs under
 docs/users/embedding.md. The Rust one is built by cargo, without a crate of a registry. The header is read as C99, as C11 and as C++. The
 programs of header_alone.py, which were written from it alone, print what the definitions have. Each compiler that is missing is named.
 """
-import os, re, shutil
+import os
+import re
+import shutil
 from tests import harness
 from tests.documents.pages import Page
 from tests.embed import driving, header_alone
@@ -52,7 +54,10 @@ def is_hub(name, program, errors, before=()):
 
 def c_example(folder):
     """The C example by each compiler."""
-    is_told = lambda errors: errors == of_c()
+
+    def is_told(errors):
+        return errors == of_c()
+
     for compiler in filter(has, ("gcc", "clang")):
         program = driving.built(folder, FOLDER / "hub.c", "-std=c99", "-O2", name=f"hub_{compiler}", wraps=(), compiler=compiler)
         yield is_hub(f"hub.c by {compiler}", program, is_told)
@@ -82,7 +87,10 @@ def rust_example(folder):
     yield reported("the Rust example is built", made.status == 0, made.errors.decode(errors="replace"))
     if made.status == 0:
         lines = sorted(f"site {file} {line}" for file, line in refused_lines())
-        found = lambda errors: sorted(line for line in errors.decode().splitlines() if " line " in line)
+
+        def found(errors):
+            return sorted(line for line in errors.decode().splitlines() if " line " in line)
+
         yield is_hub("the Rust example", folder / "target" / "debug" / "hub", lambda errors: found(errors) == lines)
 
 

@@ -7,7 +7,8 @@ After a `why` that was refused, why is what it was. Only `take_lines` may have t
 what it comes to with ample memory, and so do all texts. The site is closed then, and holds no memory. A call that has to ask for memory
 and never does has failed, and so has one that asks for some and must not.
 """
-import collections, os
+import collections
+import os
 from concurrent.futures import ThreadPoolExecutor
 from bench.generate import samples
 from tests import harness
@@ -47,6 +48,7 @@ CALLS = [
     Tried("counts", [GROUP], True), Tried("vector_text", [], True), Tried("cut", [b"1:1,2:1"], True), Tried("cut_above", [[1]], True),
     Tried("archive_text", [], True), Tried("status_text", [], True), Tried("totals_text", [], True),
     Tried("contradictions_text", [], True), Tried("report", [b"BANKDEFF", b"2024-05-02", LIST.encode()], True),
+    Tried("kept_text", [b"2024-06-01"], True), Tried("closed_text", [b"2024-06-01"], True),
     Tried("transfer_text", [b"BANKDEFF", b"T1"], True), Tried("messages_text", [b"BANKDEFF", b"T1"], True),
     Tried("bank_totals", [b"BANKDEFF"], True), Tried("changes", [], True), Tried("journal_text", [2], True),
     Tried("newest_text", [6], True), Tried("reading_text", [LINES], True), Tried("evaluate", [], True), Tried("why", [1 << 12], True),
@@ -58,7 +60,10 @@ def site_of(tried):
     """Requests that make the site on which a call is tried."""
     if not tried.on_site:
         return []
-    takes = lambda lines: [("take", HANDLE, one) for one in lines]
+
+    def takes(lines):
+        return [("take", HANDLE, one) for one in lines]
+
     return [("open", HANDLE, 1, GROUP), *takes(EARLIER[:2]), ("changes", HANDLE), ("status_text", HANDLE), *takes(EARLIER[2:]),
             ("accept", HANDLE, delta(2, 1, 4, 5)), ("transfer_text", HANDLE, b"BANKDEFF", b"T2"), *takes(LATER), ("cut", HANDLE, b"1:3"),
             *takes([REFUSED] if tried.name == "why" else [])]

@@ -26,13 +26,14 @@ REFUSED = [("take", 0, b"{"), ("take", 0, b'{"MsgNmId":"pacs.008","MsgId":7}'),
            ("accept", 0, delta(3, 9, 5)), ("accept", 0, delta(2, 1, 12)), ("accept", 0, delta(1, 999, 5)), ("accept", 0, delta(4, 1, 5)),
            ("accept", 0, delta(2, 9, 5)[:-2]), ("accept", 0, b"x"), ("open", 0, 1, 3), ("restore", 0, 1, 3, LINES, delta(2, 1, 2)),
            ("cut", 0, b"1"), ("cut_above", 0, [0] * 1025), ("report", 0, BANK, DAY, b"x"), ("report", 0, BANK, b"today", LIST),
-           ("transfer_text", 0, b"", b"T1"), ("messages_text", 0, BANK, b""), ("bank_totals", 0, b"X"), ("counts", 0, 1025)]
+           ("transfer_text", 0, b"", b"T1"), ("messages_text", 0, BANK, b""), ("bank_totals", 0, b"X"), ("counts", 0, 1025),
+           ("kept_text", 0, b"today"), ("closed_text", 0, b"")]
 REPEATS = [TAKES[0], ACCEPTS[0], ("accept", 0, b"delta 2\nend 0\n"), ("take_lines", 0, LINES)]
 QUESTIONS = [("vector_text", 0), ("archive_text", 0), ("status_text", 0), ("totals_text", 0), ("contradictions_text", 0),
              ("changes", 0), ("evaluate", 0), ("cut", 0, b"1:3"), ("cut_above", 0, [2]), ("journal_text", 0, 2), ("newest_text", 0, 5),
              ("reading_text", 0, LINES), ("report", 0, BANK, DAY, LIST), ("transfer_text", 0, BANK, b"T1"),
-             ("messages_text", 0, BANK, b"T1"), ("bank_totals", 0, BANK), ("why", 0, 99), ("answer", 0, 1 << 20),
-             ("answer_part", 0, 1, 9), ("counts", 0, 3)]
+             ("messages_text", 0, BANK, b"T1"), ("bank_totals", 0, BANK), ("kept_text", 0, DAY), ("closed_text", 0, b"2025-01-01"),
+             ("why", 0, 99), ("answer", 0, 1 << 20), ("answer_part", 0, 1, 9), ("counts", 0, 3)]
 OPEN, CLOSE, HELD = ("open", 0, 1, 3), ("close", 0), ("held", 0)
 RESTORE = ("restore", 0, 1, 3, LINES, delta(2, 1, 11, 12))
 

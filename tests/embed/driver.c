@@ -51,6 +51,7 @@ static const struct form {
     {"cut", 0, 1, true},          {"cut_above", 0, 1, true},     {"journal_text", 1, 0, true},  {"newest_text", 1, 0, true},
     {"reading_text", 0, 1, true}, {"evaluate", 0, 0, false},     {"archive_text", 0, 0, true},  {"status_text", 0, 0, true},
     {"totals_text", 0, 0, true},  {"contradictions_text", 0, 0, true}, {"report", 0, 3, true},  {"transfer_text", 0, 2, true},
+    {"kept_text", 0, 1, true},    {"closed_text", 0, 1, true},
     {"messages_text", 0, 2, true}, {"bank_totals", 0, 1, true},  {"changes", 0, 0, true},       {"answer", 1, 0, false},
     {"answer_part", 2, 0, false}, {"answer_end", 0, 0, true},    {"why", 1, 0, false},          {"code_name", 2, 0, false},
     {"code_text", 2, 0, false},   {"version", 0, 0, false},      {"layout", 0, 0, false},       {"refuse", 2, 0, false},
@@ -212,6 +213,8 @@ static sct_outcome outcome_of(const char *name, sct_site *site, const unsigned l
     if (is(name, "contradictions_text")) return sct_site_contradictions_text(site);
     if (is(name, "report"))
         return sct_site_report(site, t[0].at, t[0].length, t[1].at, t[1].length, t[2].at, t[2].length);
+    if (is(name, "kept_text")) return sct_site_kept_text(site, t[0].at, t[0].length);
+    if (is(name, "closed_text")) return sct_site_closed_text(site, t[0].at, t[0].length);
     if (is(name, "transfer_text")) return sct_site_transfer_text(site, t[0].at, t[0].length, t[1].at, t[1].length);
     if (is(name, "messages_text")) return sct_site_messages_text(site, t[0].at, t[0].length, t[1].at, t[1].length);
     if (is(name, "bank_totals")) return sct_site_bank_totals(site, t[0].at, t[0].length);

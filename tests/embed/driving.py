@@ -4,7 +4,16 @@ The library is the one that tools/library.py makes: of crates/sct_c/out/libsct_c
 names. If the variable NILUPPANG_STANDIN is 1, it is tests/standin/library.c, a stand-in of the definitions. That tries the checks
 themselves: nothing is said of the library then. A program is built in a temporary folder, which has the libraries too.
 """
-import collections, contextlib, os, pathlib, shlex, shutil, struct, tempfile
+from __future__ import annotations
+import collections
+import contextlib
+import os
+import pathlib
+import shlex
+import shutil
+import struct
+import tempfile
+from typing import Any, Iterator
 from tests import harness
 from tests.harness import TOP
 from tools import library
@@ -28,12 +37,12 @@ FIELDS = collections.defaultdict(lambda: OUTCOME, {
 Reply = collections.namedtuple("Reply", "fields asked refused text")
 
 
-def stands_in():
+def stands_in() -> bool:
     """Whether the library is the stand-in."""
     return os.environ.get("NILUPPANG_STANDIN") == "1"
 
 
-def end_if_missing(*commands):
+def end_if_missing(*commands: Any) -> None:
     """Ends the check with one line if something is missing that it needs."""
     try:
         if stands_in():
@@ -47,13 +56,13 @@ def end_if_missing(*commands):
             skip(f"there is no command {name} on this machine: apt-get install {name}")
 
 
-def skip(why):
+def skip(why: Any) -> None:
     """Ends the check, with one line that says why. Nothing has passed, and nothing failed."""
     print(f"skipped: {why}")
     harness.end(0, 0)
 
 
-def make_stand_in(folder):
+def make_stand_in(folder: Any) -> None:
     """Makes both libraries of the stand-in in a folder."""
     source = harness.STAND_IN.parent
     words = ["-std=gnu11", "-O1", "-Wall", "-Wextra", "-Werror", "-fPIC", f"-I{TOP / 'include'}", f'-DSERVER="{source / "library.py"}"']
@@ -66,14 +75,14 @@ def make_stand_in(folder):
 
 
 @contextlib.contextmanager
-def libraries():
+def libraries() -> Iterator[Any]:
     """A temporary folder with both libraries."""
     with tempfile.TemporaryDirectory() as folder:
         (make_stand_in if stands_in() else library.make)(folder)
         yield pathlib.Path(folder)
 
 
-def built(folder, source, *words, name=None, wraps=WRAPPED, compiler="gcc"):
+def built(folder: Any, source: Any, *words: Any, name: Any = None, wraps: Any = WRAPPED, compiler: str = "gcc") -> Any:
     """The program that a compiler makes of a source and the archive in a folder. Each warning is an error."""
     path = folder / (name or pathlib.Path(source).stem)
     made = harness.run([compiler, *STANDARDS[compiler], *WARNINGS, *words, f"-I{TOP / 'include'}", source, "-x", "none",
@@ -83,13 +92,13 @@ def built(folder, source, *words, name=None, wraps=WRAPPED, compiler="gcc"):
     return path
 
 
-def built_driver(folder, *words, name="driver"):
+def built_driver(folder: Any, *words: Any, name: str = "driver") -> Any:
     return built(folder, SOURCES / "driver.c", *(words or ["-O1"]), name=name)
 
 
 # ---- requests and replies
 
-def request(name, handle=0, *arguments):
+def request(name: Any, handle: int = 0, *arguments: Any) -> Any:
     """A request: the name of a call, the number of a handle, and arguments, which are numbers, texts, or lists of counts."""
     data = [struct.pack(f"={len(argument)}Q", *argument) if isinstance(argument, list) else
             argument.encode() if isinstance(argument, str) else argument for argument in arguments]
@@ -98,12 +107,12 @@ def request(name, handle=0, *arguments):
     return head.encode() + b"".join(argument for argument in data if not isinstance(argument, int))
 
 
-def counts_in(text):
+def counts_in(text: Any) -> Any:
     """The counts in what was written."""
     return list(struct.unpack(f"={len(text) // 8}Q", text))
 
 
-def replies(names, data):
+def replies(names: Any, data: Any) -> Any:
     """The replies in what the driver wrote, to requests with these names."""
     place, found = 0, []
     for name in names:
@@ -114,7 +123,7 @@ def replies(names, data):
     return found, data[place:]
 
 
-def asked(program, requests, before=(), words=()):
+def asked(program: Any, requests: Any, before: Any = (), words: Any = ()) -> Any:
     """The replies to requests, each a tuple of a name, a handle and arguments. The driver must end well, and write no more."""
     answer = harness.run([*before, program, *words], b"".join(request(*one) for one in requests))
     names = [one[0] for one in requests if one[0] != "refuse"]

@@ -316,6 +316,16 @@ static void read_lines(struct life *life, struct text lines) {
     free(answered_by(life, sct_site_reading_text(&life->site, lines.at, lines.length)).at);
 }
 
+static void kept_text(struct life *life, struct text day) {
+    write_call("kept_text", life->number, 0, NULL, 1, &day);
+    free(answered_by(life, sct_site_kept_text(&life->site, day.at, day.length)).at);
+}
+
+static void closed_text(struct life *life, struct text day) {
+    write_call("closed_text", life->number, 0, NULL, 1, &day);
+    free(answered_by(life, sct_site_closed_text(&life->site, day.at, day.length)).at);
+}
+
 static void evaluate(struct life *life) {
     write_call("evaluate", life->number, 0, NULL, 0, NULL);
     written(life, sct_site_evaluate(&life->site), none);
@@ -453,13 +463,15 @@ static void begin_again(struct life *life, const char *folder, uint16_t group) {
 }
 
 static void question(struct life *life) {
-    struct text vector = {(uint8_t *)"-", 1}; /* a cast of a literal, which nobody writes to */
-    switch (below(6)) {
+    struct text vector = {(uint8_t *)"-", 1}, day = {(uint8_t *)"2025-03-11", 10}; /* casts of literals, to which nobody writes */
+    switch (below(8)) {
     case 0: evaluate(life); break;
     case 1: answer_end(life); break;
     case 2: read_lines(life, life->lines); break;
     case 3: free(asked(life, "changes", changes_of).at); break;
     case 4: free(asked(life, "status_text", status_of).at); break;
+    case 5: kept_text(life, day); break;
+    case 6: closed_text(life, day); break;
     default:
         free(life->whole.at);
         life->whole = cut(life, vector);

@@ -185,6 +185,8 @@ class Life {
     string changes() { return asked("changes", {}, {}, [&] { return its_.changes(); }); }
     string answer_end() { return asked("answer_end", {}, {}, [&] { return its_.answer_end(); }); }
     string bank_totals(const string &bank) { return asked("bank_totals", {}, {bank}, [&] { return its_.bank_totals(bank); }); }
+    string kept_text(const string &day) { return asked("kept_text", {}, {day}, [&] { return its_.kept_text(day); }); }
+    string closed_text(const string &day) { return asked("closed_text", {}, {day}, [&] { return its_.closed_text(day); }); }
     string transfer_text(const string &bank, const string &tx) {
         return asked("transfer_text", {}, {bank, tx}, [&] { return its_.transfer_text(bank, tx); });
     }
@@ -337,7 +339,7 @@ class Hub {
         must(refused.empty() && life.counts(static_cast<std::size_t>(life.number)).back() == life.kept, "a site lost messages");
     }
     void ask(Life &life) {
-        switch (below(10)) {
+        switch (below(12)) {
         case 0: life.evaluate(); break;
         case 1: life.answer_end(); break;
         case 2: life.reading_text(life.lines); break;
@@ -347,6 +349,8 @@ class Hub {
         case 6: life.bank_totals("RHEIDE3KXXX"); break;
         case 7: life.contradictions_text(); break;
         case 8: life.report("RHEIDE3K", "2025-03-10", "DbtrAgt,TxId,Amt,Sts\nRHEIDE3K,RK-77,1.00,PENDING\n"); break;
+        case 9: life.kept_text("2025-03-11"); break;
+        case 10: life.closed_text("2025-03-11"); break;
         default: life.whole = life.cut("-");
         }
     }

@@ -4,27 +4,31 @@
   its stand-in, which ends the process if a function of the library is given a null pointer.
 - header_alone.c and header_alone.cc are hubs of three sites, which take the lines of hub-morning. Each of their calls, at random, comes to
   what model.py has for it, with why, and the last answers are those of the example.
-- They are the commands `site`, `vector` and `cut` too, on the files of examples/exchange/cases and on words that are refused.
+- They are the commands `site`, `vector` and `cut` too, on the files of tests/data/exchange and on words that are refused.
 
 All runs under the sanitizers for addresses and for undefined behaviour.
 """
-import collections, pathlib, random, shutil, tempfile
+import collections
+import pathlib
+import random
+import shutil
+import tempfile
 from bench.generate import samples
 from tests import harness
 from tests.embed import driving, model
-from tests.harness import EXAMPLES, reported
+from tests.harness import DATA, EXAMPLES, reported
 from tests.inputs import delta, instruction
 from tests.oracle import exchange
 
 FILES = sorted(EXAMPLES.glob("hub-morning.site*"))
-CASES = EXAMPLES / "exchange" / "cases"
+CASES = DATA / "exchange"
 OTHER = samples.line(samples.instruction(MsgId="OTHER", TxId="OTHER")).strip()
 SEEDS, STEPS, RUNS = (1, 2, 3), 250, 30
 COMPILERS = {"header_alone.c": ["gcc", "clang"], "header_alone.cc": ["g++", "clang++"], "nulls.c": ["gcc", "clang", "g++", "clang++"]}
 MORE = ["-Wshadow", "-Wconversion"]
 # what the calls of hubs must meet: calls, and the numbers of refusals
 TO_MEET = ["open", "restore", "close", "take", "take_lines", "accept", "counts", "cut", "cut_above", "vector_text", "journal_text",
-           "newest_text", "reading_text", "evaluate", "changes", "answer_end", "status_text", "archive_text",
+           "newest_text", "reading_text", "evaluate", "changes", "answer_end", "status_text", "archive_text", "kept_text", "closed_text",
            "refused 41", "refused 42", "refused 43", "refused 45", "a repeat", "a delta again", "a cut that was kept"]
 
 
@@ -42,7 +46,8 @@ def programs(folder, source):
 def results_of_nulls():
     """What nulls.c must print."""
     empty = {"take": [b""], "take_lines": [b""], "accept": [b""], "counts": [0], "cut": [b""], "reading_text": [b""],
-             "report": [b"", b"", b""], "transfer_text": [b"", b""], "messages_text": [b"", b""], "bank_totals": [b""], "cut_above": [[]]}
+             "report": [b"", b"", b""], "kept_text": [b""], "closed_text": [b""], "transfer_text": [b"", b""], "messages_text": [b"", b""],
+             "bank_totals": [b""], "cut_above": [[]]}
     last = [("answer", [0]), ("answer_part", [3, 0]), ("answer_end", []), ("answer", [0]), ("why", [0])]
     handle = model.Handle()
     for name, arguments in [("restore", [1, 2, b"", b""]), *empty.items(), *last]:
@@ -173,7 +178,7 @@ WORKED = [["site", "2", "2", "two", "second", "first"], ["site", "2", "2", "two"
 
 
 def made_files(folder):
-    """A folder with the files of examples/exchange/cases, and some others. The names of the journals, and of the deltas."""
+    """A folder with the files of tests/data/exchange, and some others. The names of the journals, and of the deltas."""
     for path in CASES.iterdir():
         if path.is_file():
             shutil.copy(path, folder)

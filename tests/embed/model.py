@@ -4,8 +4,10 @@ A handle has a site of tests/oracle/exchange.py, its journal, the answer that wa
 held when its changes were asked for last. Each call returns the fields of its result by their names, and the text that it makes or copies,
 or None. Memory never runs out here.
 """
-import csv, io, struct
-from tests.oracle import exchange, status
+import csv
+import io
+import struct
+from tests.oracle import exchange, keep, status
 from tests.oracle.status import by_transfer, contradicted, lines_of, standing, transfers
 from tests.property.views import touched
 
@@ -332,6 +334,12 @@ class Handle:
     def report(self, bank, day, rows):
         bank, day = element(status.bic, bank, 1), element(status.day, day, 2)
         return self.made(report_text(self.site.messages, bank, day, rows_in(rows)))
+
+    def kept_text(self, day):
+        return self.made(status.archive_text(keep.kept(element(status.day, day, 1), self.site.messages)))
+
+    def closed_text(self, day):
+        return self.made(status.archive_text(keep.closed(element(status.day, day, 1), self.site.messages)))
 
     def transfer_text(self, bank, tx):
         key = transfer(bank, tx)

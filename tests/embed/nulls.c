@@ -23,6 +23,8 @@ static void ask_nothing(void) {
     made("cut", sct_site_cut(&site, NULL, 0));
     made("reading_text", sct_site_reading_text(&site, NULL, 0));
     made("report", sct_site_report(&site, NULL, 0, NULL, 0, NULL, 0));
+    made("kept_text", sct_site_kept_text(&site, NULL, 0));
+    made("closed_text", sct_site_closed_text(&site, NULL, 0));
     made("transfer_text", sct_site_transfer_text(&site, NULL, 0, NULL, 0));
     made("messages_text", sct_site_messages_text(&site, NULL, 0, NULL, 0));
     made("bank_totals", sct_site_bank_totals(&site, NULL, 0));

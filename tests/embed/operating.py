@@ -4,7 +4,17 @@ systemd and Prometheus judge their files. Each rule is tried on made-up numbers:
 example between clients and an echo. It passes on what comes, and holds to its limit. Its logs lead from the port that a site sees to the
 client.
 """
-import contextlib, json, pathlib, re, socket, subprocess, tempfile, threading, tomllib
+from __future__ import annotations
+import contextlib
+import json
+import pathlib
+import re
+import socket
+import subprocess
+import tempfile
+import threading
+import tomllib
+from typing import Any, Iterator
 from tests import harness
 from tests.harness import SERVICES, reported
 from tests.hub import sites
@@ -17,7 +27,7 @@ LIMIT = 20  # connections of an address
 
 # ---- the unit
 
-def unit():
+def unit() -> Iterator[Any]:
     """How systemd judges the unit, and whether the example of a site fits it."""
     done = harness.run(["systemd-analyze", "security", "--offline=true", f"--threshold={MOST_EXPOSURE}", UNIT])
     said = (done.text + done.errors).decode(errors="replace")
@@ -32,14 +42,14 @@ def unit():
     yield reported("the folder of the example is that of the unit", example["folder"] == f"/var/lib/{folder}" and example["site"] == 1)
 
 
-def exec_start():
+def exec_start() -> Any:
     """The command line of the unit, for site 1."""
     return re.search(r"^ExecStart=(.*)$", UNIT.read_text(), re.M).group(1).replace("%i", "1").split()
 
 
 # ---- the rules for a monitor
 
-def series(name, **labels):
+def series(name: Any, **labels: Any) -> Any:
     texts = {"instance": "site1", "job": "niluppang", **labels}
     return f"{name}{{{', '.join(f'{key}={json.dumps(text)}' for key, text in texts.items())}}}"
 
@@ -77,7 +87,7 @@ SCENES = [
 ]
 
 
-def scene(name, differs, after, warned):
+def scene(name: Any, differs: Any, after: Any, warned: Any) -> Any:
     """A test of promtool: which rules warn."""
     given = [{"series": key, "values": values} for key, values in {**FINE, **differs}.items() if values]
     samples = [{"labels": f'{{alertname="{alert}"}}', "value": 1} for alert in warned]
@@ -85,7 +95,7 @@ def scene(name, differs, after, warned):
         {"expr": 'count by (alertname) (ALERTS{alertstate="firing"})', "eval_time": after, "exp_samples": samples}]}
 
 
-def rules(metrics):
+def rules(metrics: Any) -> Iterator[Any]:
     """The rules, which use the numbers that a site has."""
     path = SYSTEM / "alerts.yml"
     text = path.read_text()
@@ -114,11 +124,11 @@ SENT = b"\x16\x03\x01 not for nginx\n"
 class Echo:
     """In place of a site: it sends back what comes, and keeps the ports that it saw."""
 
-    def __init__(self, port):
+    def __init__(self, port: Any) -> None:
         self.ports, self.server = [], socket.create_server(("127.0.0.1", port))
         threading.Thread(target=self.serve, daemon=True).start()
 
-    def serve(self):
+    def serve(self) -> None:
         with contextlib.suppress(OSError):
             while True:
                 its, (_, port) = self.server.accept()
@@ -126,13 +136,13 @@ class Echo:
                 threading.Thread(target=self.answer, args=[its], daemon=True).start()
 
     @staticmethod
-    def answer(its):
+    def answer(its: Any) -> None:
         with its, contextlib.suppress(OSError):
             while data := its.recv(1 << 16):
                 its.sendall(data)
 
 
-def passed(port, source="127.0.0.1"):
+def passed(port: Any, source: str = "127.0.0.1") -> Any:
     """A connection through the server, and what came back of a few bytes that are no HTTP."""
     its = socket.create_connection(("127.0.0.1", port), timeout=20, source_address=(source, 0))
     with contextlib.suppress(ConnectionError):
@@ -142,7 +152,7 @@ def passed(port, source="127.0.0.1"):
 
 
 @contextlib.contextmanager
-def nginx(folder, port, behind):
+def nginx(folder: Any, port: Any, behind: Any) -> Iterator[Any]:
     """nginx with the example, at other ports, and with its logs in a folder."""
     text = (SYSTEM / "nginx.conf").read_text()
     others = {"listen 8700;": f"listen 127.0.0.1:{port};", "listen [::]:8700;": "", ":8701;": f":{behind};", "/var/log/nginx": str(folder)}
@@ -162,7 +172,7 @@ def nginx(folder, port, behind):
         process.wait()
 
 
-def joined(folder):
+def joined(folder: Any) -> Any:
     """The port that a site saw, for each port of a client, by the two logs: and the rows of the second."""
     began = (folder / "niluppang-began.log").read_text()
     seen = dict(re.findall(r" \*(\d+) proxy 127\.0\.0\.1:(\d+) connected to ", began))
@@ -170,7 +180,7 @@ def joined(folder):
     return {row["port"]: int(seen[str(row["connection"])]) for row in rows if str(row["connection"]) in seen}, rows
 
 
-def before():
+def before() -> Iterator[Any]:
     """The server before a site, between clients and an echo."""
     with tempfile.TemporaryDirectory() as name:
         folder, port = pathlib.Path(name), sites.free_ports(2)

@@ -5,7 +5,17 @@ definitions, and a line says so. As root the check installs them by dpkg on this
 the commands run, three sites and a site with the examples of its configuration answer, and systemd and nginx read their files. Then the
 packages are removed, and nothing is left but journals, and keys of others. operating.py tries the files for operators.
 """
-import contextlib, pathlib, re, shutil, socket, struct, subprocess, tarfile, tempfile, time, tomllib
+import contextlib
+import pathlib
+import re
+import shutil
+import socket
+import struct
+import subprocess
+import tarfile
+import tempfile
+import time
+import tomllib
 from tests import harness
 from tests.embed import operating, roots
 from tests.harness import EXAMPLES, TOP, reported
@@ -62,33 +72,35 @@ def made(folder):
 
 SHARED, LIBRARIES = "usr/share/niluppang/", "usr/lib/x86_64-linux-gnu/"
 DESK = ["ask_sqlite.py", "check_list.py", "codes.md", "explain.py", "fields.py", "from_iso20022.py", "list_from_csv.py", "load_sqlite.py",
-        "queries.sql"]
+        "page_tables.py", "queries.sql"]
 MODULES = ["__init__.py", "_errors.py", "_library.py", "_site.py", "_version.py", "py.typed"]
 # what each package has beside what all have; its mode is 0644 if MODES has no other. Below the folders of MORE it has other files, too
 HAS = {
-    "niluppang": ["usr/bin/sct_sites", "usr/share/man/man1/sct_sites.1.gz", SHARED + "niluppang.html", SHARED + "desk/desk.sh",
+    "niluppang": ["usr/bin/sct_sites", "usr/bin/niluppang", "usr/share/man/man1/sct_sites.1.gz", "usr/share/man/man1/niluppang.1.gz",
+                  SHARED + "niluppang.html", SHARED + "desk/desk.sh",
                   *(f"{SHARED}desk/{name}" for name in DESK),
                   *(f"usr/share/doc/niluppang/{name}" for name in ("BUILD", "README.md", "docs/users/hub.md", "examples/bank-day.jsonl"))],
-    "libniluppang0.2": [LIBRARIES + "libniluppang.so.0.2"],
+    "libniluppang0.3": [LIBRARIES + "libniluppang.so.0.3"],
     "libniluppang-dev": ["usr/include/niluppang.h", LIBRARIES + "libniluppang.a", LIBRARIES + "libniluppang.so",
                          LIBRARIES + "pkgconfig/niluppang.pc"],
     "python3-niluppang": [f"usr/lib/python3/dist-packages/niluppang/{name}" for name in MODULES],
     "niluppang-hub": ["etc/niluppang", "usr/bin/niluppang-hub", "usr/bin/hubctl", "lib/systemd/system/niluppang-hub@.service",
                       "usr/share/man/man1/niluppang-hub.1.gz", "usr/share/man/man1/hubctl.1.gz",
-                      *(f"{SHARED}services/hub/{name}" for name in ("main.py", "hubctl.py", "desk.html", "meanings.json")),
+                      *(f"{SHARED}services/hub/{name}" for name in ("main.py", "hubctl.py", "desk.html", "meanings.json", "codes.json")),
                       *(f"usr/share/doc/niluppang-hub/examples/{name}" for name in ("alerts.yml", "dashboard.json", "nginx.conf")),
                       *(f"usr/share/doc/niluppang-hub/examples/{name}" for name in ("certificates.sh", "roles.toml", "site.toml"))],
 }
 MODES = {"usr/bin/sct_sites": 0o755, "usr/bin/niluppang-hub": 0o755, "usr/bin/hubctl": 0o755, SHARED + "desk/desk.sh": 0o755,
+         "usr/bin/niluppang": 0o777, "usr/share/man/man1/niluppang.1.gz": 0o777,
          "usr/share/doc/niluppang-hub/examples/certificates.sh": 0o755, "etc/niluppang": 0o750,
          LIBRARIES + "libniluppang.so": 0o777, "usr/share/man/man1/hubctl.1.gz": 0o777}
 MORE = {"niluppang": ("usr/share/doc/niluppang/",), "niluppang-hub": (SHARED + "services/hub/", "usr/share/doc/niluppang-hub/examples/")}
 LIBC, NUMBER = r"libc6 \(>= 2\.\d+\)", re.escape(library.VERSION + "-1")
 # section and architecture of each package, and what it depends on, as a pattern
 FIELDS = {
-    "niluppang": ("utils", "amd64", LIBC), "libniluppang0.2": ("libs", "amd64", LIBC),
-    "libniluppang-dev": ("libdevel", "amd64", rf"libniluppang0\.2 \(= {NUMBER}\), libc6-dev"),
-    "python3-niluppang": ("python", "all", rf"libniluppang0\.2 \(>= {re.escape(library.VERSION)}\), python3 \(>= 3\.8\)"),
+    "niluppang": ("utils", "amd64", LIBC), "libniluppang0.3": ("libs", "amd64", LIBC),
+    "libniluppang-dev": ("libdevel", "amd64", rf"libniluppang0\.3 \(= {NUMBER}\), libc6-dev"),
+    "python3-niluppang": ("python", "all", rf"libniluppang0\.3 \(>= {re.escape(library.VERSION)}\), python3 \(>= 3\.8\)"),
     "niluppang-hub": ("net", "all", rf"niluppang \(= {NUMBER}\), python3-niluppang \(= {NUMBER}\), python3 \(>= 3\.11\), "
                       r"python3-aiohttp \(>= 3\.8\.4-1\+deb12u2\), adduser"),
 }
@@ -145,7 +157,7 @@ SAME = {"usr/bin/sct_sites": "bin/sct_sites", LIBRARIES + library.SONAME: "lib/"
         LIBRARIES + "libniluppang.a": "lib/libniluppang.a", "usr/include/niluppang.h": "include/niluppang.h",
         "usr/lib/python3/dist-packages/niluppang/_site.py": "share/niluppang/python/niluppang/_site.py",
         SHARED + "services/hub/main.py": "share/niluppang/services/hub/main.py", SHARED + "niluppang.html": package.PAGE,
-        SHARED + "desk/explain.py": "share/doc/niluppang/examples/desk/explain.py"}
+        SHARED + "desk/explain.py": "share/niluppang/desk/explain.py"}
 
 
 def same_bytes(debs, archive):
@@ -166,7 +178,10 @@ def listed(release, archive):
     debs, made = {row for row in rows if row.endswith(".deb")}, {name for name in release if name.endswith(".deb")}
     yield reported("the packages that package.py lists", debs == made, f"{sorted(debs ^ made)}")
     paths = [path for row in rows if not row.endswith(".deb") for path in row.split(", ")]
-    is_in = lambda path, one: path == one or one.endswith("/") and path.startswith(one)
+
+    def is_in(path, one):
+        return path == one or one.endswith("/") and path.startswith(one)
+
     lost = [path for path in archive if not any(is_in(path, one) for one in paths)]
     empty = [one for one in paths if not any(is_in(path, one) for path in archive)]
     yield reported("what the archive has, and package.py lists", not lost and not empty, f"{lost} {empty}")
@@ -211,7 +226,8 @@ def paths_of(debs):
 def commands(root):
     """The program, the Python package, the tools of the desk and the commands of the hub."""
     day, status = (EXAMPLES / "bank-day.jsonl").read_bytes(), (EXAMPLES / "bank-day.status").read_bytes()
-    yield reported("sct_sites", root.run("sct_sites", "status", data=day) == (status, b"", 0))
+    for name in "sct_sites", "niluppang":
+        yield reported(name, root.run(name, "status", data=day) == (status, b"", 0))
     ask = "import niluppang, sys; it = niluppang.Site(1, 1); it.take_lines(sys.stdin.buffer.read()); print(it.status_text(), end='')"
     yield reported("the Python package", root.run("python3", "-c", ask, data=day) == (status, b"", 0))
     desk = root.run(f"/{SHARED}desk/desk.sh", "/tmp/niluppang-day", "/usr/share/doc/niluppang/examples/bank-day.jsonl")
@@ -245,7 +261,7 @@ def read_by_others(root):
     with open(root.path / "etc/nginx/nginx.conf", "a") as file:
         file.write("include /etc/nginx/niluppang.conf;\n")
     yield root.does("nginx -t", "nginx", "-t")
-    yield reported("pages of the manual", all(root.run("man", "-w", name).status == 0 for name in ("sct_sites", "niluppang-hub", "hubctl")))
+    yield reported("pages of the manual", all(root.run("man", "-w", name).status == 0 for name in ("sct_sites", "niluppang", "niluppang-hub", "hubctl")))
 
 
 # ---- sites in a root
@@ -314,7 +330,10 @@ def listening(path):
 def heard(its, site, *wanted):
     """Whether all that is wanted comes at that socket, from the process of the site itself and from no other."""
     found, end = [], time.monotonic() + WAIT
-    has_all = lambda: all(any(word in text for text, _ in found) for word in wanted)
+
+    def has_all():
+        return all(any(word in text for text, _ in found) for word in wanted)
+
     while not has_all() and site.poll() is None and time.monotonic() < end:
         with contextlib.suppress(socket.timeout):
             text, more, _, _ = its.recvmsg(4096, socket.CMSG_SPACE(12))
@@ -338,8 +357,11 @@ def configured(root):
     port = sites.free_ports(1)
     yield from settled(root, port)
     etc = "/etc/niluppang"
-    ask = lambda who: root.run("hubctl", "--url", f"https://127.0.0.1:{port}", "--ca", f"{etc}/authority.crt", "--cert", f"{etc}/{who}.crt",
-                               "--key", f"{etc}/{who}.key", "totals")
+
+    def ask(who):
+        return root.run("hubctl", "--url", f"https://127.0.0.1:{port}", "--ca", f"{etc}/authority.crt", "--cert", f"{etc}/{who}.crt",
+                        "--key", f"{etc}/{who}.key", "totals")
+
     roles = root.path / "etc/niluppang/roles.toml"
     variables = {"NOTIFY_SOCKET": "/run/niluppang-notify", "WATCHDOG_USEC": "1500000"}
     with listening(root.path / "run/niluppang-notify") as its, started(root, *operating.exec_start(), **variables) as site:

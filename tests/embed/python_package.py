@@ -5,7 +5,19 @@ mypy judges the types if it is there, also those that a program sees. pip instal
 the installed package finds the library beside it. The wheel of tools/bindings.py is installed in a new environment of Python, without
 setuptools and without a network. A small program runs there, and nothing is left after its removal.
 """
-import base64, contextlib, csv, email, hashlib, io, os, pathlib, re, shutil, sys, tempfile, zipfile
+import base64
+import contextlib
+import csv
+import email
+import hashlib
+import io
+import os
+import pathlib
+import re
+import shutil
+import sys
+import tempfile
+import zipfile
 from tests import harness
 from tests.documents.pages import Page
 from tests.embed import driving
@@ -24,6 +36,7 @@ USE = """from typing import Iterator, List, Optional
 from mmap import mmap
 from niluppang import BytesSite, Closed, DeltaRefused, LinesTaken, MessageRefused, NiluppangError, OutOfMemory, Refused, Site, Transfer
 with Site.restore(1, 3, b"", "delta 2\\nend 0\\n") as site, BytesSite(2, 3) as twin, mmap(-1, 2) as mapped:
+    split: str = site.kept_text("2024-05-02") + site.closed_text(b"2024-05-02")
     text: str = site.status_text() + site.journal(1) + site.newest(2) + site.reading(mapped) + site.answer()
     data: bytes = twin.cut([1, 2]) + twin.journal()
     taken: LinesTaken[bytes] = twin.take_lines(bytearray(b""))
@@ -107,7 +120,10 @@ def types(folder):
         without("mypy", "mypy")
         return
     words = [python, "-m", "mypy", "--strict", "--cache-dir", folder / "mypy"]
-    judged = lambda path: harness.run([*words, path], env=clean(MYPYPATH=str(FOLDER)))
+
+    def judged(path):
+        return harness.run([*words, path], env=clean(MYPYPATH=str(FOLDER)))
+
     (folder / "use.py").write_text(USE)
     for name, path in (("the package", FOLDER / "niluppang"), ("a program that uses it", folder / "use.py")):
         answer = judged(path)
@@ -174,7 +190,10 @@ def in_wheel(name, data, its_library):
     form = email.message_from_bytes(archive.read(info + "WHEEL"))
     said = form["Wheel-Version"], form["Root-Is-Purelib"], form.get_all("Tag")
     yield reported("its tag", name == f"niluppang-{library.VERSION}-{tag}.whl" and said == ("1.0", "false", [tag]), f"{name} {said}")
-    digest = lambda one: base64.urlsafe_b64encode(hashlib.sha256(archive.read(one)).digest()).decode().rstrip("=")
+
+    def digest(one):
+        return base64.urlsafe_b64encode(hashlib.sha256(archive.read(one)).digest()).decode().rstrip("=")
+
     rows = [[one, f"sha256={digest(one)}", str(len(archive.read(one)))] for one in names[:-1]] + [[names[-1], "", ""]]
     yield reported("its list", list(csv.reader(archive.read(info + "RECORD").decode().splitlines())) == rows)
     moments = {one.date_time for one in archive.filelist}
@@ -184,9 +203,10 @@ def in_wheel(name, data, its_library):
 
 
 def said_of(about):
-    """What the wheel says of itself. It names no licence and no address."""
+    """What the wheel says of itself. It has no licence and names no address."""
     message = email.message_from_string(about)
     right = {"Metadata-Version": "2.1", "Name": "niluppang", "Version": library.VERSION, "Author": "The authors of Niluppang",
+             "License": "No licence has been granted yet.",
              "Summary": "The proved site of a clearing hub for SEPA Instant Credit Transfers", "Requires-Python": ">=3.8",
              "Description-Content-Type": "text/markdown"}
     said, listed = dict(message.items()), message.get_all("Classifier")
@@ -205,7 +225,10 @@ def in_venv(folder, wheel):
     place = folder / "venv"
     made = harness.run([python, "-m", "venv", place], env=clean())
     yield reported("an environment of Python", made.status == 0, (made.text + made.errors).decode(errors="replace"))
-    pip = lambda *words: harness.run([place / "bin" / "python", "-m", "pip", *words], env=clean())
+
+    def pip(*words):
+        return harness.run([place / "bin" / "python", "-m", "pip", *words], env=clean())
+
     before = {path for path in place.rglob("*")}
     done = pip("install", "--no-index", wheel)
     yield reported("pip installs the wheel", done.status == 0, (done.text + done.errors).decode(errors="replace"))
@@ -235,7 +258,10 @@ def tags(folder):
     place = folder / "tags"
     place.mkdir()
     words = ["gcc", "-shared", "-fPIC", "-nostartfiles", "-x", "c", "-", "-o"]
-    gcc = lambda text, name, *more: harness.run([*words, name, *more], text.encode(), cwd=place)
+
+    def gcc(text, name, *more):
+        return harness.run([*words, name, *more], text.encode(), cwd=place)
+
     gcc("int of_others(void) { return 0; }", "libothers.so")
     for text, right in TAGS.items():
         made = gcc(text, "libtried.so", "-L.", "-lothers") if "others" in text else gcc(text, "libtried.so")

@@ -1,11 +1,17 @@
 """release.py: the release is the same bytes when it is made again, and works in any folder, without the repository.
 
 tools/package.py makes it twice. It is unpacked into a temporary folder. Its sums hold, BUILD names the version and the toolchain, and the
-program answers an example. By pkg-config and the release alone, the C example is built with each library and answers. Python imports the
+program answers an example by each of its names. By pkg-config and the release alone, the C example is built with each library and answers. Python imports the
 package from its place in the release, and finds the library there. It also imports it from the wheel beside the archive. A program in Java
 runs on niluppang.jar. The service of sites there runs on the program of the release.
 """
-import os, pathlib, re, shutil, tarfile, tempfile, zipfile
+import os
+import pathlib
+import re
+import shutil
+import tarfile
+import tempfile
+import zipfile
 from tests import harness
 from tests.embed import driving
 from tests.harness import EXAMPLES, reported
@@ -58,8 +64,12 @@ def contents(place):
     text = (place / "share" / "doc" / "niluppang" / "BUILD").read_text()
     pattern = rf"niluppang {re.escape(library.VERSION)}\ncommit (\w{{40}}|unknown)(, with changes)?\ntoolchain \S+ logic \w+\n"
     yield reported("BUILD", re.fullmatch(pattern, text) is not None, text)
-    answer = harness.run([place / "bin" / "sct_sites", "status"], (EXAMPLES / "bank-day.jsonl").read_bytes(), env=without_repository())
-    yield reported("the program", answer == ((EXAMPLES / "bank-day.status").read_bytes(), b"", 0), answer.errors.decode(errors="replace"))
+    for name in "sct_sites", "niluppang":
+        answer = harness.run([place / "bin" / name, "status"], (EXAMPLES / "bank-day.jsonl").read_bytes(), env=without_repository())
+        right = answer == ((EXAMPLES / "bank-day.status").read_bytes(), b"", 0)
+        yield reported(f"the program as {name}", right, answer.errors.decode(errors="replace"))
+    manual = place / "share" / "man" / "man1"
+    yield reported("the manual page of both names", (manual / "niluppang.1").read_bytes() == (manual / "sct_sites.1").read_bytes())
 
 
 def without_repository(**more):

@@ -2,7 +2,14 @@
 
 The mounts are those of the process of the check alone, and of what it starts. So nothing of them is left, however it ends.
 """
-import contextlib, ctypes, filecmp, os, pathlib, tempfile
+from __future__ import annotations
+import contextlib
+import ctypes
+import filecmp
+import os
+import pathlib
+import tempfile
+from typing import Any, Iterator
 from tests import harness
 from tests.hub import sites
 
@@ -13,23 +20,23 @@ NEW_MOUNTS = 0x20000  # of unshare(2)
 class Root:
     """A root. `upper` has what was written there, by the same paths."""
 
-    def __init__(self, folder):
+    def __init__(self, folder: Any) -> None:
         self.upper, self.path = folder / "upper", folder / "root"
 
-    def words(self, user, *words):
+    def words(self, user: Any, *words: Any) -> Any:
         """The command line of a command there, which ends when the process that starts it ends."""
         return ["chroot", self.path, "setpriv", f"--reuid={user}", f"--regid={user}", "--init-groups", "--pdeathsig=KILL", *words]
 
-    def run(self, *words, data=None, user="root", **variables):
+    def run(self, *words: Any, data: Any = None, user: str = "root", **variables: Any) -> Any:
         """The answer of a command there."""
         return harness.run(self.words(user, *words), data, env={**PLAIN, **variables})
 
-    def does(self, name, *words):
+    def does(self, name: Any, *words: Any) -> Any:
         """Whether a command there ends well, which is printed."""
         done = self.run(*words)
         return harness.reported(name, done.status == 0, (done.text + done.errors).decode(errors="replace"))
 
-    def written(self):
+    def written(self) -> Iterator[Any]:
         """The paths of what was changed, made or removed there. A folder counts if the machine has none with its path."""
         for folder, names, files in os.walk(self.upper):
             its = pathlib.Path(folder).relative_to(self.upper)
@@ -37,19 +44,19 @@ class Root:
             yield from (str(its / name) for name in names if not os.path.lexists(f"/{its / name}"))
 
 
-def is_same(path, other):
+def is_same(path: Any, other: Any) -> Any:
     """Whether two paths have files with the same bytes."""
     return os.path.isfile(path) and os.path.isfile(other) and filecmp.cmp(path, other, shallow=False)
 
 
-def mount(*words):
+def mount(*words: Any) -> None:
     done = harness.run(["mount", *words])
     if done.status:
         raise sites.Skipped(f"this machine has no overlay: {done.errors.decode(errors='replace').strip()}")
 
 
 @contextlib.contextmanager
-def overlaid():
+def overlaid() -> Iterator[Any]:
     """This machine as a root of its own. Skipped if it gives none."""
     if os.geteuid():
         raise sites.Skipped("packages are installed by root alone")

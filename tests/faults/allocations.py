@@ -10,12 +10,12 @@ If it is a thread that `run` lacks, it writes `fault 67` and ends with 2. That i
 thread, and if it was the last one before the first start, which is for what the thread runs. Before that it must be 65. Later ones may
 be for what another thread runs too, but at most one in ten of them is. Runs of each kind must come.
 """
-import collections, tempfile
+import collections
+import tempfile
 from tests import harness
 from tests.harness import EXAMPLES, NO_WORKER, OUT_OF_MEMORY, Answer, case, is_refused
-from tests.inputs import confirmation, exchanging, instruction, returned, two_files
+from tests.inputs import commands_on, confirmation, exchanging, instruction, returned, two_files
 from tests.oracle import exchange
-from tests.oracle import status as definitions
 
 READ = ["hub-morning.jsonl", "recall-batch.jsonl"]
 REPORTED = "settlement-day"
@@ -37,7 +37,10 @@ def small_input():
 
 def small_cases():
     """What is run once, each on an input that is too small for several threads."""
-    read = lambda name, suffix: (EXAMPLES / (name + suffix)).read_bytes()
+
+    def read(name, suffix):
+        return (EXAMPLES / (name + suffix)).read_bytes()
+
     yield returned()
     words = ["report", "BANKDEFF", "2024-05-02", str(EXAMPLES / (REPORTED + ".list"))]
     yield case("report", words, read(REPORTED, ".jsonl"), read(REPORTED, ".report"), read(REPORTED, ".refused"))
@@ -47,9 +50,8 @@ def small_cases():
 def commands(folder):
     """What is run. The small files of `run`, and of the commands of sites that exchange deltas, go into the folder."""
     data = small_input()
-    for word in definitions.TEXT:
-        text, refused, status = definitions.answer(word, data)
-        yield Command([word], data, 1, Answer(text.encode(), refused.encode(), status))
+    for words, (text, refused, status) in commands_on(data):
+        yield Command(words, data, 1, Answer(text.encode(), refused.encode(), status))
     for one in small_cases():
         yield Command(one.words, one.input, 1, Answer(one.text, one.refused, one.status), 1)
     for words in exchanging(folder):

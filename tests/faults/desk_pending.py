@@ -5,7 +5,8 @@ a publication, the same message once more, a cut, a delta that is refused for a 
 publication is refused, the answer must be 51 with position 1 while the message is pending, and 50 while it is not. Memory that is
 refused before that is answered by 50. After each refusal the desk is closed: with an arrival pending that is 53 with its position.
 """
-import collections, tempfile
+import collections
+import tempfile
 from tests import harness
 from tests.faults import growths
 from tests.faults.growths import Trial, instruction

@@ -5,7 +5,9 @@ driver must print the number of the fault, and then what it should: that nothing
 made again. If the allocation is one of the driver itself, it prints a beginning of what it prints with ample memory, and ends with 1.
 The growths of a call come one after another. Between them may be allocations that do no harm if they are refused.
 """
-import collections, json, tempfile
+import collections
+import json
+import tempfile
 from bench.generate import samples
 from tests import harness
 

@@ -9,11 +9,11 @@ worker, and end with 2. Runs of each command must do the one and the other.
 A `run` of two long files has room for the stacks of all threads before it has room for its messages. So `fault 65` must come at a
 limit above one with `fault 67`.
 """
-import collections, tempfile
+import collections
+import tempfile
 from tests import harness
 from tests.harness import NO_WORKER, OUT_OF_MEMORY, Answer
-from tests.inputs import lines_in_turn, long_input, two_files
-from tests.oracle import status as definitions
+from tests.inputs import commands_on, lines_in_turn, long_input, two_files
 
 MESSAGES = 8_000
 STEP, LONG_STEP = 1 << 20, 4 << 20
@@ -46,9 +46,8 @@ def is_short_of_both(answers):
 def tries(program):
     """The numbers of each command."""
     data = long_input(MESSAGES)
-    for command in definitions.TEXT:
-        text, refused, status = definitions.answer(command, data)
-        yield tried([command], runs_of(program, [command], data), Answer(text.encode(), refused.encode(), status), [OUT_OF_MEMORY])
+    for words, (text, refused, status) in commands_on(data):
+        yield tried(words, runs_of(program, words, data), Answer(text.encode(), refused.encode(), status), [OUT_OF_MEMORY])
     with tempfile.TemporaryDirectory() as folder:
         for run, step in (two_files(folder), STEP), (lines_in_turn(folder, data, 2), LONG_STEP):
             answers = runs_of(program, run.words, b"", step)

@@ -4,7 +4,10 @@ A short session has rounds of messages and deltas, and each question between the
 torn. A run must write the right replies. If an allocation was refused, it may instead stop with the replies of whole rounds, `fault 65`
 and status 3. The journal then keeps what the replied rounds brought, and all or nothing of the next one, and opens as those lines.
 """
-import collections, os, pathlib, tempfile
+import collections
+import os
+import pathlib
+import tempfile
 from concurrent.futures import ThreadPoolExecutor
 from tests import harness
 from tests.harness import is_refused

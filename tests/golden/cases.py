@@ -1,4 +1,4 @@
-"""cases.py: the program answers each case of examples/cases/ as its file says, each input of made_inputs.py, and blank inputs with nothing.
+"""cases.py: the program answers each case of tests/data/cases/ as its file says, each input of made_inputs.py, and blank inputs with nothing.
 
 A file has one case after another: a line `== TITLE`, the lines of the input, after each line `-- COMMAND` what that command must
 write to standard output, and after `-- refused` what each of them must write to standard error. For the command `report BANK DAY`
@@ -9,11 +9,13 @@ line, which is not a text and changes nothing: the program reads such an object 
 run with its lines in the opposite order, and with each line twice. The answer must be the same. The events of a script keep their
 order.
 """
-import pathlib, re, tempfile
+import pathlib
+import re
+import tempfile
 from tests import harness
 from tests.golden.made_inputs import made_inputs
 from tests.golden.titled import before_answers, titled
-from tests.harness import EXAMPLES, Case, case
+from tests.harness import DATA, Case, case
 
 # inputs that have no message and no refused line
 BLANK = [b"", b"\n", b"\r\n \t\r\n\r", b"\n \t\r\n\r"]
@@ -35,7 +37,7 @@ def status_of(refused):
 
 def cases(folder):
     """Of each case and each of its commands the inputs that must be answered alike. Lists of banks are put into the folder."""
-    for path in sorted((EXAMPLES / "cases").glob("*.txt")):
+    for path in sorted((DATA / "cases").glob("*.txt")):
         for place, (title, rest) in enumerate(titled(path.read_bytes().decode(), "==")):
             texts = dict(titled(rest[:-1] if rest.endswith("\n\n") else rest, "--"))
             refused, words = texts.pop("refused", ""), []

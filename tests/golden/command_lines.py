@@ -1,4 +1,4 @@
-"""command_lines.py: the program answers each command line of examples/command-lines/, and the test driver each of examples/test-driver/.
+"""command_lines.py: the program answers each command line of tests/data/command-lines/, and the test driver each of tests/data/test-driver/.
 
 A file NAME.txt has one command line after another: a line `== TITLE`, a line `$ WORDS`, the lines of standard input, after `-- out`
 and `-- err` what must be written to the two outputs, and a line `-- exit STATUS`. The other files there are those that the words
@@ -6,11 +6,11 @@ name.
 """
 from tests import harness
 from tests.golden.titled import before_answers, titled
-from tests.harness import EXAMPLES, Case
+from tests.harness import DATA, Case
 
 
 def command_lines(folder):
-    """Each command line of a folder of examples, run there."""
+    """Each command line of a folder, run there."""
     for path in sorted(folder.glob("*.txt")):
         for title, rest in titled(path.read_text(), "=="):
             words, rest = rest[len("$ "):].split("\n", 1)
@@ -22,8 +22,8 @@ def command_lines(folder):
 
 def main():
     program, driver = harness.program(), harness.program("sct_test_driver")
-    right = [harness.fits(program, one) for one in command_lines(EXAMPLES / "command-lines")]
-    right += [harness.fits(driver, one) for one in command_lines(EXAMPLES / "test-driver")]
+    right = [harness.fits(program, one) for one in command_lines(DATA / "command-lines")]
+    right += [harness.fits(driver, one) for one in command_lines(DATA / "test-driver")]
     harness.end_of(right)
 
 

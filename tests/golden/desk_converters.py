@@ -1,10 +1,12 @@
-"""desk_converters.py: the converters of examples/desk/ make the lines and lists that they must, and none of what is wrong.
+"""desk_converters.py: the converters in tools/desk/ make the lines and lists that they must, and none of what is wrong.
 
 - from_iso20022.py makes iso20022.jsonl of the XML messages of iso20022/. Other messages are made here, by changing these: for each
   it is said what its line is, or why there is none.
 - list_from_csv.py makes lists of what spreadsheets save, and refuses those that the program refuses.
 """
-import hashlib, json, re
+import hashlib
+import json
+import re
 from tests.golden import lists
 from tests.golden.desk_tools import answers, tried
 from tests.golden.shown import shell
@@ -17,7 +19,7 @@ XML = EXAMPLES / "desk" / "iso20022"
 
 def converted(folder, commands):
     """Whether the example converter makes the lines that it must of the XML messages, and none of a wrong one."""
-    convert = "python3 desk/from_iso20022.py "
+    convert = "python3 ../tools/desk/from_iso20022.py "
     text, status = shell(convert + "--archive bank-day.archive desk/iso20022/*.xml > made.jsonl", folder, commands)
     yield reported("from_iso20022 ends well", (text, status) == ("", 0), text)
     made, right = [path.read_text(encoding="utf-8") for path in (folder / "made.jsonl", folder / "desk" / "iso20022.jsonl")]
@@ -28,6 +30,7 @@ def converted(folder, commands):
         (folder / "changed.xml").write_text(file, encoding="utf-8")
         right = f"from_iso20022: changed.xml: {why}\n"
         yield answers(f"from_iso20022 leaves out {name}", convert + "changed.xml", (right, 1), folder, commands)
+    yield from remittance(folder, commands, convert)
     yield from other_files(folder, commands, convert)
     yield from chosen(folder, commands, convert)
     yield from looked_up(folder, commands, convert)
@@ -152,6 +155,18 @@ def chosen(folder, commands, convert):
         yield reported(f"from_iso20022 takes {name}", {key: line.get(key) for key in keys} == right, made)
 
 
+def remittance(folder, commands, convert):
+    """Whether it is said that texts of remittance have no place in a line, and that all other keys are kept."""
+    text = xml("pacs.008.xml").replace("April</Ustrd>", f"April</Ustrd><Ustrd>{LONG}</Ustrd><Ustrd>{LONG[:27]}</Ustrd>", 1)
+    (folder / "changed.xml").write_text(text, encoding="utf-8")
+    right, _ = shell(convert + "desk/iso20022/pacs.008.xml", folder, commands)
+    lines = right.splitlines()
+    lines[0] = re.sub(r',"Ustrd":"[^"]*"', "", lines[0])
+    note = "from_iso20022: changed.xml: Ustrd is left out: its 3 texts have 141 characters together"
+    made, status = shell(convert + "changed.xml", folder, commands)
+    yield reported("from_iso20022 says which remittance it leaves out", (made.splitlines(), status) == ([*lines, note], 1), made)
+
+
 REFERENCE = "<OrgnlTxRef><DbtrAgt><FinInstnId><BICFI>HANSDEHH</BICFI></FinInstnId></DbtrAgt></OrgnlTxRef>"
 
 
@@ -160,8 +175,11 @@ def looked_up(folder, commands, convert):
     archive are known."""
     (folder / "changed.xml").write_text(xml("pacs.002.xml").replace(REFERENCE, ""), encoding="utf-8")
     right, _ = shell(convert + "desk/iso20022/pacs.002.xml", folder, commands)
-    banks = lambda text: [json.loads(line).get("DbtrAgt") for line in text.splitlines() if line.startswith("{") and "pacs.002" in line]
-    shell("python3 desk/from_iso20022.py desk/iso20022/pacs.008.xml > made.jsonl; sct_sites archive < made.jsonl > one.archive", folder, commands)
+
+    def banks(text):
+        return [json.loads(line).get("DbtrAgt") for line in text.splitlines() if line.startswith("{") and "pacs.002" in line]
+
+    shell("python3 ../tools/desk/from_iso20022.py desk/iso20022/pacs.008.xml > made.jsonl; sct_sites archive < made.jsonl > one.archive", folder, commands)
     for name, words in ("in the files", "changed.xml desk/iso20022/pacs.008.xml"), ("in the archive", "--archive one.archive changed.xml"):
         text, status = shell(convert + words, folder, commands)
         made = banks(text)
@@ -173,7 +191,7 @@ def looked_up(folder, commands, convert):
     (folder / "second.xml").write_text(other, encoding="utf-8")
     answer, status = shell(convert + "changed.xml second.xml desk/iso20022/pacs.008.xml", folder, commands)
     yield reported("from_iso20022 chooses none of two banks", banks(answer) == [] and status == 1 and "HANSDEHHXXX, LUTEFRPPXXX" in answer, answer)
-    shell("python3 desk/from_iso20022.py desk/iso20022/camt.056.xml > made.jsonl; sct_sites archive < made.jsonl > recalls.archive", folder, commands)
+    shell("python3 ../tools/desk/from_iso20022.py desk/iso20022/camt.056.xml > made.jsonl; sct_sites archive < made.jsonl > recalls.archive", folder, commands)
     text, status = shell(convert + "--archive recalls.archive desk/iso20022/camt.029.xml", folder, commands)
     yield reported("from_iso20022 finds a recall in the archive", status == 0 and json.loads(text)["OrgnlCxlId"] == "HH-R502", text)
     text, status = shell(convert + "desk/iso20022/camt.029.xml", folder, commands)
@@ -271,7 +289,7 @@ WRONG_CSVS = [(ROW.format("T1", "10"), "row 1: the header is not DbtrAgt,TxId,Am
 
 def csvs(folder, commands):
     """Whether a list is made of what a spreadsheet saved, and none of what is no list."""
-    make = "python3 desk/list_from_csv.py saved.csv"
+    make = "python3 ../tools/desk/list_from_csv.py saved.csv"
     for name, data in CSVS.items():
         (folder / "saved.csv").write_bytes(data)
         yield answers(f"list_from_csv reads {name}", make, (LIST, 0), folder, commands)

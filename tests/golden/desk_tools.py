@@ -1,17 +1,26 @@
-"""desk_tools.py: the desk's tools of examples/desk/ write what the files there have, and refuse what they must.
+"""desk_tools.py: the desk's tools in tools/desk/ write what the files in examples/desk/ have, and refuse what they must.
 
 - desk.sh makes the folder day/ of bank-day.archive and iso20022.jsonl. It makes no folder after a status of 2 or 3, and leaves a
   folder that is there as it is. It warns of a day that is empty or that lost messages. It reports on no list of another bank.
-- load_sqlite.py loads the refused lines, and ask_sqlite.py takes no mistyped day, time or bank.
-- explain.py prints a name of the code for each number of a refused line.
+- desk.sh splits the archive of a folder as the definitions do. After a bad day, and after a fault of the program, it leaves the folder.
+- load_sqlite.py loads the refused lines, and ask_sqlite.py takes no mistyped day, time or bank. It finds a transfer by what a caller knows,
+  and says so if there is none. The page has the tables.
+- explain.py prints a name of the code for each number of a refused line, and why a line is no JSON.
 
 desk_converters.py has the two tools that convert.
 """
-import contextlib, re, shutil, sqlite3, tempfile
+import contextlib
+import re
+import shlex
+import shutil
+import sqlite3
+import tempfile
 from bench.generate import samples
 from tests import harness
-from tests.golden.shown import copied, place, shell
-from tests.harness import EXAMPLES, reported
+from tests.documents import pages
+from tests.golden.shown import copied, place, shell, tools_of
+from tests.harness import DATA, EXAMPLES, reported
+from tools.desk.page_tables import plain, tables
 
 # a program that writes half an answer and ends with a fault
 FAULTY = "#!/bin/sh\ncat > /dev/null\necho 'T|HANSDEHHXXX|'\necho 'fault {}' >&2\nexit {}\n"
@@ -41,7 +50,7 @@ def files_in(folder):
 
 def days(folder, commands):
     """Whether desk.sh keeps the answers that it must, and no others."""
-    desk = "sh desk/desk.sh made bank-day.archive desk/iso20022.jsonl"
+    desk = "sh ../tools/desk/desk.sh made bank-day.archive desk/iso20022.jsonl"
     text, status = shell(desk, folder, commands)
     yield reported("desk.sh ends with the status of the program", (text, status) == ("", 1), text)
     before = files_in(folder / "made")
@@ -83,17 +92,49 @@ WARNED = [
 
 def warnings(folder, commands):
     """Whether desk.sh warns of files without a message, of an empty day, of an archive that lost messages, and of nothing else."""
-    for place, (before, files, warned, status) in enumerate(WARNED):
+    for number, (before, files, warned, status) in enumerate(WARNED):
         text = "".join(f"desk.sh: WARNING: {warning}\n" for warning in warned)
-        command = f"{before}; sh desk/desk.sh warned{place} {files}"
+        command = f"{before}; sh ../tools/desk/desk.sh warned{number} {files}"
         yield answers(f"desk.sh warns on {files}", command, (text, status), folder, commands)
     for words in ("x=1 bank-day.archive", "new bank-day.archive x=1"):
         right = (f"desk.sh: awk takes no path with = in it: {words}\n", 2)
-        yield answers(f"desk.sh takes no {words}", f"sh desk/desk.sh {words}", right, folder, commands)
-    (folder / "desk" / "explain.py").unlink()
-    shell("sh desk/desk.sh plain bank-day.archive desk/iso20022.jsonl", folder, commands)
+        yield answers(f"desk.sh takes no {words}", f"sh ../tools/desk/desk.sh {words}", right, folder, commands)
+    (tools_of(folder) / "explain.py").unlink()
+    shell("sh ../tools/desk/desk.sh plain bank-day.archive desk/iso20022.jsonl", folder, commands)
     right = (folder / "desk" / "day" / "day.explained").read_bytes().splitlines(True)[0]
     yield reported("desk.sh needs no explanation", (folder / "plain" / "day.explained").read_bytes() == right)
+
+
+# of the 23 messages of bank-day, which are all from 2025-03-10: how many are kept on a day, and on how many transfers
+KEPT = {"2025-03-10": (23, 12), "2025-03-11": (9, 6)}
+NOT_DONE = {"HH-0303", "LU,10", "LU20250310B3", "LU20250310B5", "LU20250310B6", "LU20250310B9"}
+
+
+def splits(folder, commands):
+    """Whether desk.sh splits the archive of a folder, and leaves the folder as it is if it cannot."""
+    shell("sh ../tools/desk/desk.sh day bank-day.archive", folder, commands)
+    before, archive = files_in(folder / "day"), (folder / "bank-day.archive").read_bytes().splitlines(True)
+    split = "sh ../tools/desk/desk.sh --keep {} day"
+    faulty = folder / "faulty"
+    faulty.write_text('#!/bin/sh\n[ "$1" = closed ] && exec sct_sites "$@"\necho "{}"\necho "fault 65" >&2\nexit 3\n')
+    faulty.chmod(0o755)
+    wrong = "fault 64\nerror: invalid value '{}' for '<DAY>': expected a day, written as 2024-05-02\n"
+    for day in ("2025-3-11", "tomorrow", "-x"):
+        yield answers(f"desk.sh keeps nothing by {day}", split.format(day), (wrong.format(day), 2), folder, commands)
+    right = ("fault 65\n", 3)
+    yield answers("desk.sh keeps nothing after a fault", split.format("2025-03-11"), right, folder, commands, SCT_SITES=str(faulty))
+    right = ("desk.sh: desk is not a folder of desk.sh\n", 2)
+    yield answers("desk.sh keeps of its own folders", "sh ../tools/desk/desk.sh --keep 2025-03-11 desk", right, folder, commands)
+    right = ("desk.sh: usage: desk.sh --keep DAY FOLDER\n", 2)
+    yield answers("desk.sh keeps by a day and a folder", "sh ../tools/desk/desk.sh --keep day", right, folder, commands)
+    yield reported("desk.sh leaves the folder then", files_in(folder / "day") == before)
+    for day, many in KEPT.items():
+        yield answers(f"desk.sh splits by {day}", split.format(day), ("", 0), folder, commands)
+        after = files_in(folder / "day")
+        kept, closed = (after.pop(name, b"").splitlines(True) for name in ("kept.archive", "closed.archive"))
+        on = set(re.findall(r'TxId":"([^"]*)"', b"".join(kept).decode()))
+        right = (len(kept), len(on)) == many and on >= NOT_DONE and sorted(kept + closed) == sorted(archive) and after == before
+        yield reported(f"desk.sh keeps {many[0]} messages on {day}", right, f"{len(kept)} and {len(closed)}, {on}, {sorted(after)}")
 
 
 # the words of a report on bank-day.list, and for each row that is named what is said of it
@@ -105,8 +146,8 @@ OTHERS = {2: "LUTEFRPPXXX LU20250310B1 is a transfer to ARNOITFFXXX", 3: "LUTEFR
 
 def reports(folder, commands):
     """Whether desk.sh checks a list before it prints a report."""
-    shell("sh desk/desk.sh day bank-day.archive", folder, commands)
-    report = "sh desk/desk.sh --report {} {} {} day"
+    shell("sh ../tools/desk/desk.sh day bank-day.archive", folder, commands)
+    report = "sh ../tools/desk/desk.sh --report {} {} {} day"
     right = (EXAMPLES / "bank-day.report").read_text()
     row = "check_list: row 9: LUTEFRPPXXX LU20250310B9 is of 2025-03-11, and not of 2025-03-10; the report compares it all the same"
     command = report.format("LUTEFRPP", "2025-03-10", "bank-day.list")
@@ -122,7 +163,7 @@ def reports(folder, commands):
     text, status = shell(command, folder, commands)
     yield reported("desk.sh reports on a list without rows", status == 0 and "ONLY_IN_ARCHIVE" in text, text)
     right = ("fault 48 2\n", 2)
-    command = report.format("BANKDEFF", "2024-05-02", "command-lines/bad-row")
+    command = report.format("BANKDEFF", "2024-05-02", str(DATA / "command-lines" / "bad-row"))
     yield answers("desk.sh leaves it to the program what a list is", command, right, folder, commands)
 
 
@@ -136,13 +177,13 @@ def lists(folder, commands):
     for bank, statuses in banks.items():
         for row, right in zip(("T1", "T9"), statuses):
             (folder / "rows").write_text(f"DbtrAgt,TxId,Amt,Sts\nBANKDEFF,{row},1,ACCEPTED\nBANKDEFF,T77,1,ACCEPTED\n")
-            text, status = shell(f"python3 desk/check_list.py {bank} 2024-05-02 rows two.archive", folder, commands)
+            text, status = shell(f"python3 ../tools/desk/check_list.py {bank} 2024-05-02 rows two.archive", folder, commands)
             yield reported(f"check_list on {row} of {bank}", status == right and text.count("row 2") == right and "row 3" not in text, text)
 
 
 def private(folder, commands):
     """Whether nobody else may read what the desk's tools write."""
-    shell("umask 022; sh desk/desk.sh day bank-day.archive; python3 desk/load_sqlite.py day day.db", folder, commands)
+    shell("umask 022; sh ../tools/desk/desk.sh day bank-day.archive; python3 ../tools/desk/load_sqlite.py day day.db", folder, commands)
     paths = [folder / "day", *(folder / "day").iterdir(), folder / "day.db"]
     yield reported("desk.sh and load_sqlite write for their owner alone", len(paths) > 5 and not any(
         path.stat().st_mode & 0o077 for path in paths))
@@ -152,16 +193,16 @@ def private(folder, commands):
 
 # questions with a wrong value, and what a value is
 MISTYPED = [(f"{name}={text}", f"{name}={text}", f"a {what}") for name, what, texts in [
-    ("keep since", "day such as 2025-03-10", ["2025-3-11", "yesterday", "11.03.2025", "2025-02-31", "2025-03-11T00:00:00Z", "now"]),
-    ("open_recalls day", "day such as 2025-03-10", ["20.03.2025", "2025-13-01"]),
+    ("open_recalls day", "day such as 2025-03-10",
+     ["2025-3-11", "yesterday", "20.03.2025", "2025-13-01", "2025-02-31", "2025-03-11T00:00:00Z"]),
     ("waiting before", "time such as 2025-03-10T12:00:00Z", ["10.03.2025", "yesterday", "2025-03-10T25:00:00Z", "2025-03-1012:00", "2025-03-10T12:00Zulu"]),
     ("bank bank", "BIC of 8 or 11 capitals and digits", ["suomfihh", "SUOMFIH", "SUOMFIHHX"])] for text in texts]
 
 
 def asked(folder, commands):
-    """Whether a mistyped value ends a question, a right one does not, and nothing is dropped by a day that is none."""
-    shell("sh desk/desk.sh day bank-day.archive; python3 desk/load_sqlite.py day day.db", folder, commands)
-    ask = "python3 desk/ask_sqlite.py day.db "
+    """Whether a mistyped value ends a question, and a right one does not."""
+    shell("sh ../tools/desk/desk.sh day bank-day.archive; python3 ../tools/desk/load_sqlite.py day day.db", folder, commands)
+    ask = "python3 ../tools/desk/ask_sqlite.py day.db "
     for words, given, what in MISTYPED:
         right = (f"ask_sqlite: {given.partition(' ')[2]} is not {what}\n", 1)
         yield answers(f"ask_sqlite takes no {words}", ask + words, right, folder, commands)
@@ -170,32 +211,70 @@ def asked(folder, commands):
         yield reported(f"{question} has rows", status == 0 and long != "", long)
         yield answers(f"ask_sqlite knows {short}", ask + question.format(short), (long, 0), folder, commands)
     listed, _ = shell(ask, folder, commands)
-    right = (f"ask_sqlite: there is no question kept\n{listed}", 1)
-    yield answers("ask_sqlite lists the questions", ask + "kept since=2025-03-11", right, folder, commands)
+    right = (f"ask_sqlite: there is no question keep\n{listed}", 1)
+    yield answers("ask_sqlite lists the questions", ask + "keep since=2025-03-11", right, folder, commands)
     for before in ("2025-03-11", "2025-03-10T23:59", "2025-03-10T23:59:59.5+01:00"):
         text, status = shell(ask + f"waiting before={before}", folder, commands)
         yield reported(f"ask_sqlite takes {before}", status == 0 and text.count("\n") == 4, text)
-    yield keeps_all(folder)
     yield loads_refused(folder, commands)
+
+
+# what a caller may know of a transfer of FOUND, or of none
+FOUND = ("pacs.008", {"TxId": "T7", "EndToEndId": "E-7/A", "IntrBkSttlmAmt": "20.50", "DbtrAcct": "DE89370400440532013000"})
+KNOWN = [("T7", 1), (" T7 ", 1), ("t7", 0), ("E-7/A", 1), ("E-7", 0), ("20.50", 1), ("20,5", 1), ("20.5", 1), ("20.500", 0), ("2050", 0), ("20", 0),
+         ("de89 3704 0044 0532 0130 00", 1), ("DE89370400440532013000", 1), ("DE8937040044053201300", 0), ("7.25", 1), ("1.00", 0), ("%", 0), ("'", 0)]
+
+
+def finds(folder, commands):
+    """Whether a transfer is found by its TxId, its EndToEndId, an IBAN or an amount, and by nothing else. A question that finds none says so."""
+    one = samples.instruction(**FOUND[1])
+    back = samples.line({**samples.payback(), "OrgnlTxId": "T7", "OrgnlIntrBkSttlmAmt": "20.50", "RtrdIntrBkSttlmAmt": "7.25"})
+    (folder / "lines").write_text(samples.line(one) + back)
+    shell("sh ../tools/desk/desk.sh found lines; python3 ../tools/desk/load_sqlite.py found found.db", folder, commands)
+    ask = "python3 ../tools/desk/ask_sqlite.py found.db "
+    row = f"{one['CreDtTm']}|BANKDEFFXXX|T7|PENDING|20.50|E-7/A|DE89370400440532013000|{one['CdtrAcct']}|{one['CdtrAgt']:X<11}\n"
+    for known, is_found in KNOWN:
+        right = (row, 0) if is_found else ("ask_sqlite: no such transfer\n", 1)
+        yield answers(f"ask_sqlite finds {is_found} by {known}", ask + f"find what={shlex.quote(known)}", right, folder, commands)
+    for question, nothing in (("history bank=BANKDEFF transfer=T8", "no such transfer"), ("bank bank=SUOMFIHH", "no transfer of this bank")):
+        yield answers(f"{question} finds none", ask + question, (f"ask_sqlite: {nothing}\n", 1), folder, commands)
+
+
+def breaks_off(folder, commands):
+    """Whether a tool whose reader goes away ends without a word. A pipe has less room than it writes."""
+    many = [samples.instruction(MsgId=f"M{number}", TxId=f"T{number}") for number in range(1500)]
+    (folder / "lines").write_text("".join(map(samples.line, many)))
+    (folder / "many.csv").write_text("DbtrAgt,TxId,Amt,Sts\n" + "".join(f"BANKDEFF,TX-{number},20.50,PENDING\n" for number in range(5000)))
+    shell("sh ../tools/desk/desk.sh many lines; python3 ../tools/desk/load_sqlite.py many many.db", folder, commands)
+    for words in ("ask_sqlite.py many.db bank bank=BANKDEFF", "explain.py lines", "list_from_csv.py many.csv",
+                  "from_iso20022.py" + 100 * " desk/iso20022/pacs.008.xml"):
+        command = f"(python3 ../tools/desk/{words}; echo $? > status) | head -n 1 > first; cat status"
+        yield answers(f"{words[:40]} | head", command, ("141\n", 0), folder, commands)
+
+
+def listed_tables(folder, commands):
+    """Whether the page has each table of a database with its columns, and each column of message."""
+    shell("sh ../tools/desk/desk.sh day bank-day.archive; python3 ../tools/desk/load_sqlite.py day day.db", folder, commands)
+    with contextlib.closing(sqlite3.connect(folder / "day.db")) as connection:
+        names = [name for name, in connection.execute("SELECT name FROM sqlite_master WHERE type = 'table' ORDER BY rowid")]
+        made = {name: [row[1] for row in connection.execute(f"PRAGMA table_info({name})")] for name in names}
+    found = [row.cells for _, row in tables((harness.TOP / "tools/desk/README.md").read_text(encoding="utf-8").partition("## The tables")[2].splitlines())]
+    shown = {cells[0].strip("`"): pages.codes(cells[1]) for cells in found if cells[0].strip("`") in made}
+    yield reported("the page of the tools has the tables", shown == made, f"{shown} {made}")
+    columns = [name for cells in found if len(cells) == 2 for name in pages.codes(cells[0])]
+    right = [name for name in made["message"] if name not in ("bank", "transfer_id")]
+    yield reported("the page of the tools has the columns of message", sorted(columns) == sorted(right), f"{columns} {right}")
 
 
 def loads_refused(folder, commands):
     """Whether the table refused has each refused line with its fault, its place and its text, and nothing of the lines between."""
-    shell("sh desk/desk.sh morning hub-morning.jsonl; python3 desk/load_sqlite.py morning morning.db", folder, commands)
+    shell("sh ../tools/desk/desk.sh morning hub-morning.jsonl; python3 ../tools/desk/load_sqlite.py morning morning.db", folder, commands)
     with contextlib.closing(sqlite3.connect(folder / "morning.db")) as connection:
         made = list(connection.execute("SELECT fault, place, text FROM refused ORDER BY rowid"))
     lines, refused = [(EXAMPLES / f"hub-morning.{end}").read_text(encoding="utf-8").splitlines() for end in ("jsonl", "refused")]
     right = [re.match(r"line (\d+): (.*)", line).groups() for line in refused]
     right = [(fault, f"hub-morning.jsonl:{number}", lines[int(number) - 1]) for number, fault in right]
     return reported("load_sqlite has the refused lines", made == right, str(made))
-
-
-def keeps_all(folder):
-    """Whether the question `keep` drops nothing by a text that is no day, also if another program asks it."""
-    select = (folder / "desk" / "queries.sql").read_text(encoding="utf-8").partition("-- keep")[2].partition("\n")[2]
-    with contextlib.closing(sqlite3.connect(folder / "day.db")) as connection:
-        made = [len(connection.execute(select, {"since": day}).fetchall()) for day in ("2025-3-11", None, "2025-03-20")]
-    return reported("keep drops nothing without a day", made[:2] == [23, 23] and made[2] < 23, str(made))
 
 
 # ---- explain.py
@@ -208,10 +287,39 @@ EXPLAINED = [("fault 62", ["Read"]), ("fault 64", ["Usage"]), ("fault 66 42", ["
              ("{}", []), (6 * "x," + 200000 * "y", []), ("line 5", []), ("", []), ("T|HANSDEHHXXX|T1|ACCEPTED", []), ("line 8: 99", [])]
 
 
+# lines that are no JSON, each with the cause that the page has
+LINE = b'{"MsgNmId":"pacs.008","MsgId":"M1"}'
+CAUSES = [(b"\xef\xbb\xbf" + LINE, "a byte order mark is before it"), (LINE + b",", "a comma is after the message"),
+          (LINE + b",\r", "a comma is after the message"), (LINE + b"\r" + LINE, "carriage returns are between messages"),
+          (LINE + b" " + LINE, "more than one message is on it"), (LINE + b"x", "more than one message is on it"),
+          (b"{", "it is a piece of a message over several lines"), (b'"MsgId": "M1",', "it is a piece of a message over several lines"),
+          (b"},", "it is a piece of a message over several lines"), (b'{"MsgId":"M', "it is cut off"), (b'{"MsgId":"M1"', "it is cut off"),
+          (b'<?xml version="1.0"?>', "it is XML"), (b"\x1f\x8b\x08", "it is compressed"), (b"PK\x03\x04", "it is compressed"),
+          (b"{'MsgId':'M1'}", "its quotes are not those of JSON"), ("{\u201cMsgId\u201d:1}".encode(), "its quotes are not those of JSON"),
+          (b'{"MsgId":"a\tb"}', "a text has a tab or another control character"), (b'{"Dbtr":"M\xfcller"}', "it is not UTF-8"),
+          (b"\xff\xfe{\0", "it is UTF-16"), (b"{\0}\0", "it is UTF-16"), (b'{"Amt":1e999}', "a number, a character or the depth is out of range"),
+          (b"[" * 200000 + b"]" * 200000, "a number, a character or the depth is out of range"), (b"hello", "it is no JSON for another cause")]
+
+
+def causes(folder, commands):
+    """Whether explain.py says why a line is no JSON if it has the line. The program refuses each of them by 31."""
+    page = (harness.TOP / "docs" / "users" / "codes.md").read_text(encoding="utf-8").partition("### Causes of 31")[2].partition("###")[0]
+    (folder / "odd").write_bytes(b"\n".join(line for line, _ in CAUSES) + b"\n")
+    right = "".join(f"line {number}: 31\n" for number in range(1, len(CAUSES) + 1))
+    yield answers("the program refuses all of them", "sct_sites archive < odd", (right, 1), folder, commands)
+    (folder / "lines").write_bytes(b"".join(b"odd:%d: 31: %b\n" % (number, line) for number, (line, _) in enumerate(CAUSES, 1)))
+    text, status = shell("python3 ../tools/desk/explain.py lines", folder, commands)
+    found = re.findall(r"^    NotJson, ([^:]*): (.*)$", text, re.MULTILINE)
+    yield reported("explain says why a line is no JSON", [cause for cause, _ in found] == [cause for _, cause in CAUSES] and status == 0, str(found))
+    shown = {row.cells[0]: plain(row.cells[1]) for _, row in tables(page.splitlines())}
+    yield reported("with the remedy of the page", all(shown.get(cause, "") == remedy for cause, remedy in found) and set(shown) == {
+        cause for _, cause in CAUSES}, str(sorted(set(shown) ^ {cause for _, cause in CAUSES})))
+
+
 def explained(folder, commands):
     """Whether each number of a refused line gets its name, each remedy is that of the page, and other lines nothing."""
     page = (harness.TOP / "docs" / "users" / "codes.md").read_text(encoding="utf-8")
-    explain = "python3 desk/explain.py "
+    explain = "python3 ../tools/desk/explain.py "
     text, status = shell(explain + "refusals.refused", folder, commands)
     names = re.findall(r"^    (\w+): ", text, re.MULTILINE)
     lines = [line for line in text.splitlines() if not line.startswith("    ")]
@@ -232,13 +340,13 @@ def explained(folder, commands):
                          ('LUTEFRPPXXX,"LU,10",LISTED_TWICE,,,1.00,ACCEPTED', "leave one row")]:
         (folder / "lines").write_text(line)
         yield answers(f"explain says {remedy}", explain + "lines", (f"{line}\n    {remedy}\n", 0), folder, commands)
-    (folder / "desk" / "codes.md").write_text(page.replace("remove spaces; ask", "REMOVE SPACES; ask"))
+    (tools_of(folder) / "codes.md").write_text(page.replace("remove spaces; ask", "REMOVE SPACES; ask"))
     text, _ = shell("echo 'line 1: 36 DbtrAcct 2' | " + explain, folder, commands)
     yield reported("explain reads the page beside it", "REMOVE SPACES" in text, text)
 
 
 def main():
-    tried([days, warnings, reports, lists, private, asked, explained])
+    tried([days, warnings, reports, splits, lists, private, asked, finds, breaks_off, listed_tables, explained, causes])
 
 
 if __name__ == "__main__":

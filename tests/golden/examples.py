@@ -17,7 +17,9 @@ REPORTS = {"bank-day": ["LUTEFRPP", "2025-03-10"], "settlement-day": ["BANKDEFF"
 def examples():
     """Each example with each command."""
     for example in sorted(EXAMPLES.iterdir()):
-        read = lambda suffix: example.with_suffix(suffix).read_bytes()
+        def read(suffix):
+            return example.with_suffix(suffix).read_bytes()
+
         for command in COMMANDS.get(example.suffix, []):
             yield case(f"{example.stem} {command}", [command], example.read_bytes(), read("." + command), read(".refused"))
         if example.suffix == ".run":

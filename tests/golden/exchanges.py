@@ -1,4 +1,4 @@
-"""exchanges.py: the program answers `site`, `vector` and `cut` on files as examples/exchange/cases/ says, and hub.sh writes what it must.
+"""exchanges.py: the program answers `site`, `vector` and `cut` on files as tests/data/exchange/ says, and hub.sh writes what it must.
 
 A file NAME.txt of cases has one command line after another: a line `== TITLE`, a line `$ WORDS`, after `-- out` and `-- err` what must
 be written to the two outputs, and a line `-- exit STATUS`. After `-- out FILE` the text is that of a file beside it. The words name the
@@ -8,15 +8,18 @@ Two cases are made up here: a hundred deltas that are given in the opposite orde
 
 examples/exchange/hub.sh runs with each shell of this machine. It must print hub.expected, and stop with one line if the program fails.
 """
-import pathlib, shlex, shutil, tempfile
+import pathlib
+import shlex
+import shutil
+import tempfile
 from tests import harness
 from tests.golden.shown import place, shell
 from tests.golden.titled import titled
-from tests.harness import EXAMPLES, Case, case, reported
+from tests.harness import DATA, EXAMPLES, Case, case, reported
 from tests.inputs import delta, files_of, instruction
 from tests.oracle.status import archive_text, read_message
 
-FOLDER = EXAMPLES / "exchange"
+HUB = EXAMPLES / "exchange"
 SHELLS = ["sh", "dash", "bash"]
 FAULTY = "#!/bin/sh\necho 'fault 65' >&2\nexit 3\n"  # a program that has no memory
 MANY, MOST_SITES = 100, 1024
@@ -26,7 +29,7 @@ MANY, MOST_SITES = 100, 1024
 
 def command_lines():
     """Each command line of the files of cases, run in their folder."""
-    folder = FOLDER / "cases"
+    folder = DATA / "exchange"
     for path in sorted(folder.glob("*.txt")):
         for title, rest in titled(path.read_text(), "=="):
             words, rest = rest[len("$ "):].split("\n", 1)
@@ -73,12 +76,12 @@ def of_most_sites(folder):
 def hubs(folder, commands):
     """Whether hub.sh prints what it must with each shell, keeps a folder that is named and takes none that is there, and stops if the
     program fails."""
-    wanted = (FOLDER / "hub.expected").read_text()
+    wanted = (HUB / "hub.expected").read_text()
     for name in filter(shutil.which, SHELLS):
-        text, status = shell(f"{name} hub.sh", FOLDER, commands)
+        text, status = shell(f"{name} hub.sh", HUB, commands)
         yield reported(f"hub.sh by {name}", (text, status) == (wanted, 0), text)
     hub = pathlib.Path(folder, "hub")
-    text, status = shell(f"sh hub.sh {hub}", FOLDER, commands)
+    text, status = shell(f"sh hub.sh {hub}", HUB, commands)
     kept = {path.name for path in hub.glob("site2/*")}
     yield reported("hub.sh keeps a folder", (text, status) == (wanted, 0) and kept == {"journal", "in", "archive", "status"}, f"{kept}")
     faulty = pathlib.Path(folder, "faulty")
@@ -87,7 +90,7 @@ def hubs(folder, commands):
     for words, program, why in (("", faulty, "vector at site 2 ended with 3: fault 65"),
                                 ("", "/nowhere", "there is no program /nowhere; SCT_SITES may name it"),
                                 (hub, faulty, f"there is a {hub} already, or it cannot be made")):
-        text, status = shell(f"sh hub.sh {words}", FOLDER, commands, SCT_SITES=str(program))
+        text, status = shell(f"sh hub.sh {words}", HUB, commands, SCT_SITES=str(program))
         yield reported(f"hub.sh stops: {why}", status == 2 and text.endswith(f"hub.sh: {why}\n"), text)
 
 

@@ -2,12 +2,15 @@
 
 A read that fails is 62, and nothing is written. A write that fails is 63, and what was written is a prefix of the right text. If the
 error output fails too, the exit status alone reports it. No bytes are written of an empty text. For sites that exchange deltas, a
-journal or a delta opens and then fails, and the outputs are full.
+journal or a delta opens and then fails, and the outputs are full. A day that is none ends `keep` and `closed` before they read.
 """
-import os, pty, tempfile, tty
+import os
+import pty
+import tempfile
+import tty
 from tests import harness
-from tests.inputs import exchanging, instruction
-from tests.oracle import exchange
+from tests.inputs import DAY, confirmation, exchanging, instruction
+from tests.oracle import exchange, keep
 
 MOST_ROOMS = 100  # in so many sizes at most a file is full
 FAILING = "/proc/self/mem"  # a file that opens, and of which the first read fails
@@ -22,10 +25,10 @@ def front_then_failure(front):
     return end
 
 
-def after_failing_read(program, front):
-    """The answer of `status` to an input that fails after these bytes."""
+def after_failing_read(program, front, words=("status",)):
+    """The answer of a command to an input that fails after these bytes."""
     end = front_then_failure(front)
-    answer = harness.run([program, "status"], stdin=end)
+    answer = harness.run([program, *words], stdin=end)
     os.close(end)
     return answer
 
@@ -54,6 +57,22 @@ def runs(program):
     }
 
 
+def splits(program):
+    """Whether each run of `keep` and `closed` ends as it must, by what fails."""
+    data, found = ("foo\n" + instruction(1) + confirmation(1) + instruction(2)).encode(), {}
+    for word in keep.PARTS:
+        text, refused = (part.encode() for part in keep.answer(word, DAY, data)[:2])
+        found[f"{word}, an input of which a read fails"] = [
+            after_failing_read(program, data[:length], [word, DAY]) == (b"", b"fault 62\n", 2) for length in (0, 3, len(data))]
+        found[f"{word}, an input that fails, after a day that is none"] = [
+            after_failing_read(program, b"", [word, day]) == (b"", keep.answer(word, day, b"")[1].encode(), 2)
+            for day in ("2025-3-11", "", "2025-03-11Z")]
+        found[f"{word}, an output that is full"] = [
+            into_little_room(program, data, room, "stdout", [word, DAY]) == (text[:room], refused + b"fault 63\n", 2)
+            for room in rooms(text)]
+    return found
+
+
 def rooms(text):
     """Some sizes of a file that are too small for a text."""
     return range(0, len(text), 1 + len(text) // MOST_ROOMS)
@@ -75,7 +94,7 @@ def exchanges(program, folder):
 def main():
     program = harness.program()
     with tempfile.TemporaryDirectory() as folder:
-        of_each = {**runs(program), **exchanges(program, folder)}
+        of_each = {**runs(program), **splits(program), **exchanges(program, folder)}
     harness.end_of([harness.reported(f"{name}, in {len(right)} ways", all(right)) for name, right in of_each.items()])
 
 

@@ -3,7 +3,8 @@
 Of a bad list nothing is written but that number, counted from 1 with the header. The long list has a row for each of 4,999
 instructions, which is MATCHED, and one that is ONLY_IN_LIST.
 """
-import pathlib, tempfile
+import pathlib
+import tempfile
 from tests import harness
 from tests.harness import Case, case
 from tests.inputs import instruction

@@ -1,14 +1,13 @@
 """long_inputs.py: the program answers inputs that it reads in several threads as the definitions say, on any number of processors.
 
 The long input has made-up messages, recalls of several transfers, blank lines and refused ones. Its lines in turn are also the
-sixteen files of a `run`, which must answer the same status text, and report the refused lines of each file. tests/oracle/status.py
-has the right answers. On a machine with fewer processors all of them are used.
+sixteen files of a `run`, which must answer the same status text, and report the refused lines of each file. tests/oracle/ has the
+right answers. On a machine with fewer processors all of them are used.
 """
 import tempfile
 from tests import harness
 from tests.harness import PROCESSORS, case
-from tests.inputs import lines_in_turn, long_input
-from tests.oracle import status as definitions
+from tests.inputs import commands_on, lines_in_turn, long_input
 
 LONG = 2000  # messages: about a megabyte, which is read in several parts
 FILES = 16
@@ -18,9 +17,8 @@ BLOCK = 1 << 24  # bytes that the program reads at a time
 def long_cases():
     """The long input with each command."""
     data = long_input(LONG)
-    for command in definitions.TEXT:
-        text, refused, _ = definitions.answer(command, data)
-        yield case(f"{LONG} messages {command}", [command], data, text.encode(), refused.encode())
+    for words, (text, refused, _) in commands_on(data):
+        yield case(f"{LONG} messages {words[0]}", words, data, text.encode(), refused.encode())
 
 
 def blocks():
@@ -39,9 +37,8 @@ def blocks():
 def block_cases():
     """The input of some blocks with each command."""
     padded, plain = blocks()
-    for command in definitions.TEXT:
-        text, refused, _ = definitions.answer(command, plain)
-        yield case(f"some blocks {command}", [command], padded, text.encode(), refused.encode())
+    for words, (text, refused, _) in commands_on(plain):
+        yield case(f"some blocks {words[0]}", words, padded, text.encode(), refused.encode())
 
 
 def main():

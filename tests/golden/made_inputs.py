@@ -1,4 +1,4 @@
-"""made_inputs.py: inputs that are too long or too deep for examples/cases/, or have bytes that no text shows there, with their answers.
+"""made_inputs.py: inputs that are too long or too deep for tests/data/cases/, or have bytes that no text shows there, with their answers.
 
 Each is a Made: a name, the command, the input, what must be written to standard output, and what to standard error. cases.py runs them.
 """
@@ -72,8 +72,13 @@ def after_feeds():
 
 def deep():
     """Lists in lists: as a line, at a key that no message has, and in a list of transactions."""
-    nested = lambda depth: "[" * depth + "]" * depth
-    at_a_key = lambda depth: TRANSFER.replace("{", '{"Foo":' + nested(depth) + ",", 1)
+
+    def nested(depth):
+        return "[" * depth + "]" * depth
+
+    def at_a_key(depth):
+        return TRANSFER.replace("{", '{"Foo":' + nested(depth) + ",", 1)
+
     yield refused_lines("lists that nest", (nested(127), "32"), (nested(128), "31"))
     yield refused_lines("an extra key that nests", (at_a_key(126), '37 "Foo"'), (at_a_key(127), "31"))
     yield refused_lines("a list of transactions that nests", (listed(nested(125)), "46 1"), (listed(nested(126)), "31"))
@@ -93,12 +98,15 @@ def many_members():
 
 def counted():
     """Lists of one element many times, and a last one."""
-    repeated = lambda element, count, last: listed(*[element] * count, last)
+
+    def repeated(element, count, last):
+        return listed(*[element] * count, last)
+
     yield refused_lines("lists of 100 elements", (repeated("{}", 99, "{}"), "56 1 34 CxlId"), (repeated("{}", 99, "7"), "46 100"),
-               (repeated("[]", 99, "{}"), "46 1"))
+                        (repeated("[]", 99, "{}"), "46 1"))
     yield refused_lines("lists of more elements", (repeated("{}", 100, "{}"), "46 0"), (repeated("7", 100, "{}"), "46 0"),
-               (repeated("{}", 100, "7"), "46 0"), (repeated("{}", 100_000, "{}"), "46 0"), (repeated("[[]]", 100_000, "7"), "46 0"),
-               (listed(*numbered(101)), "46 0"))
+                        (repeated("{}", 100, "7"), "46 0"), (repeated("{}", 100_000, "{}"), "46 0"), (repeated("[[]]", 100_000, "7"), "46 0"),
+                        (listed(*numbered(101)), "46 0"))
     most = listed(*numbered(100)) + "\n"
     yield Made("100 transactions", "archive", most.encode(), most.encode(), b"")
 
@@ -127,7 +135,10 @@ def rules():
 
 def scripts():
     """Scripts with carriage returns, and for the greatest number of sites."""
-    answers = lambda sites: "".join(f"S|{site}\n" for site in range(1, sites + 1))
+
+    def answers(sites):
+        return "".join(f"S|{site}\n" for site in range(1, sites + 1))
+
     written = TRANSFER_WRITTEN + PENDING + "BANKDEFFXXX|0|0.00|0.00|0|1|0|0|0|0.00|0.00\n"
     report = REPORT.replace('"TxSts":"ACCP"', '"TxSts":"ACSP"')
     lines = ["", " \t\r", "sites 1", "", "take 9 []", "take 0 {}", 'take 1 {"MsgNmId":"pacs.002"}',

@@ -6,23 +6,41 @@
 - Made-up small inputs, on the workers of a cluster that has an address. `tests/golden/parts.py N` tries N of them.
 - A full disk, a run that goes on where another one stopped, a run on other files in its folder, one with other code, and messages that are
   tied together and too large for a part.
+- A list with rows of other banks or of another day, sizes with units, and how far a run is, by a clock that is set.
 - A folder with what the program did not make, errors that nobody foresaw, who listens while it works, a cluster over TLS, and texts of more
   parts than a process may have files.
 - A program that names one transfer or one identity in each part, and one that takes what is not a message: the check finds that.
 - The commands of docs/users/parts.md.
 
-On the stand-in of the program the large input is smaller. It needs the Debian packages python3-dask and python3-distributed. Without them nothing passes and nothing fails, and a line says so.
+On the stand-in of the program the large input is smaller. It needs the Debian packages python3-dask and python3-distributed. Without them
+nothing passes and nothing fails, and a line says so.
 """
-import collections, contextlib, fcntl, glob, json, os, pathlib, random, re, shutil, subprocess, sys, tempfile, time
+import collections
+import contextlib
+import fcntl
+import glob
+import io
+import json
+import os
+import pathlib
+import random
+import re
+import shutil
+import subprocess
+import sys
+import tempfile
+import time
 from concurrent.futures import ThreadPoolExecutor
 from bench.generate import messages, samples
 from tests import harness, inputs
 from tests.golden.shown import is_printed, place, shell, shown
 from tests.hub.secure import certificate
-from tests.harness import EXAMPLES, SERVICES, TOP, reported
+from tests.harness import DESK, EXAMPLES, SERVICES, TOP, reported
 from tests.oracle.status import Refused, read_message
 from tests.property.messages import Pool, shuffled, written_out
 from tests.property.worlds import refused_list, refused_text
+sys.path.insert(0, str(SERVICES))
+from parts import progress
 
 MAIN = SERVICES / "parts" / "main.py"
 PACKAGES = "python3-dask python3-distributed python3-cryptography"
@@ -30,19 +48,20 @@ MANY, MOST = 20000, 500000  # messages of the large input, and bytes of a part t
 FEW, LESS, FEWER_MADE_UP = 4000, 200000, 4  # on the stand-in
 MADE_UP, SEED = 12, 20261127
 COMMANDS = ["status", "totals", "archive"]
-REPORT = ["HANSDEHH", "2025-03-10"]
+KEEP = {"kept": ["keep", inputs.DAY], "closed": ["closed", inputs.DAY]}
 NOT_MESSAGES = ["foo", "{}", "[]", "\x0c", '{"MsgNmId":"pacs.008"}', '{"MsgNmId":"camt.056","TxInf":[]}', "\ufeff{}", " \t\r", ""]
 
 # a program that runs another one, after it did something to the worker that runs it
 ONCE_KILLED = '#!/bin/sh\n[ "$1" = status ] && mkdir "$0.killed" 2> /dev/null && kill -9 $PPID\nexec {} "$@"\n'
-# a program that ends with status 2 from its seventh call on, as long as a file is there; each call adds a line to another file
-STOPS = '#!/bin/sh\necho "$1" >> "$0.calls"\n[ -e "$0.stop" ] && [ $(wc -l < "$0.calls") -gt 6 ] && exit 2\nexec {} "$@"\n'
+# a program that ends with status 2 from its eleventh call on, as long as a file is there; each call adds a line to another file
+STOPS = '#!/bin/sh\necho "$1" >> "$0.calls"\n[ -e "$0.stop" ] && [ $(wc -l < "$0.calls") -gt 10 ] && exit 2\nexec {} "$@"\n'
 
 # programs that answer what they must not: each part has one transfer, or one identity, or refuses nothing
 LIES = {
     "a transfer": '#!/bin/sh\n[ "$1" = status ] || exec {0} "$@"\n{0} "$@" > /dev/null\nstatus=$?\necho "T|A|T1|PENDING"\nexit $status\n',
     "an identity": '#!/bin/sh\n[ "$1" = archive ] || exec {0} "$@"\n{0} "$@" > /dev/null\nstatus=$?\n'
-                   'echo \'{{"InstgAgt":"A","MsgId":"M","MsgNmId":"pacs.008"}}\'\nexit $status\n',
+                   'echo \'{{"CdtrAgt":"B","DbtrAgt":"A","InstgAgt":"A","IntrBkSttlmDt":"","MsgId":"M","MsgNmId":"pacs.008","TxId":"T"}}\'\n'
+                   'exit $status\n',
     "no refused line": '#!/bin/sh\n{0} "$@" 2> /dev/null\nexit 0\n',
 }
 
@@ -121,13 +140,20 @@ def list_of(r, lines):
     return bank, day, ("DbtrAgt,TxId,Amt,Sts\n" + text).encode()
 
 
+def listed(r, lines, path):
+    """Writes a list of a bank on some lines to a file. The words of a report on it."""
+    bank, day, text = list_of(r, lines)
+    path.write_bytes(text)
+    return [bank, day, str(path)]
+
+
 # ---- what sct_sites alone answers, and what the program in parts does
 
 def alone(program, files, report):
     """What `sct_sites` writes on all files together, by the name of the text, and its exit status."""
     lines = b"\n".join(pathlib.Path(file).read_bytes() for file in files)
     texts, status = {}, None
-    for word, words in [(word, [word]) for word in COMMANDS] + [("report", ["report", *report])]:
+    for word, words in [(word, [word]) for word in COMMANDS] + [*KEEP.items(), ("report", ["report", *report])]:
         answer = harness.run([program, *words], lines)
         texts[f"whole.{word}"], status = answer.text, answer.status
     refused = harness.run([program, "run", *files]).errors if len(files) > 1 else answer.errors
@@ -151,7 +177,8 @@ class Tried:
 
     def run(self, folder, *words, program=None, **more):
         """The answer of the program in parts, which writes to the folder."""
-        words = ["--program", program or self.program, *words, "--report", *self.report]
+        days = ["--keep", inputs.DAY, "--closed", inputs.DAY]
+        words = ["--program", program or self.program, *days, *words, "--report", *self.report]
         return harness.run([self.python, self.main, *words, folder, *self.files], **more)
 
     def is_right(self, name, folder, *words, **more):
@@ -179,16 +206,21 @@ def script(folder, name, text, program):
     return str(path)
 
 
+def copied_code(folder):
+    """A copy of the program, which may be changed, beside the package that finds the tools of the desk."""
+    code = shutil.copytree(SERVICES / "parts", pathlib.Path(folder, "code", "parts"), ignore=shutil.ignore_patterns("__pycache__"))
+    (code.parent / "hub").symlink_to(SERVICES / "hub")
+    return code
+
+
 # ---- what is tried
 
 def large(r, python, program, folder):
     """The large input: as it is, in smaller parts than fit, and with a worker that is killed."""
     many, most = (FEW, LESS) if program == str(harness.STAND_IN) else (MANY, MOST)
     lines = large_input(r, many)
-    *report, text = list_of(r, lines)
-    path = pathlib.Path(folder, "rows.list")
-    path.write_bytes(text)
-    tried = Tried(python, program, files_of(r, folder, lines, 7), [*report, str(path)])
+    report = listed(r, lines, pathlib.Path(folder, "rows.list"))
+    tried = Tried(python, program, files_of(r, folder, lines, 7), report)
     out = pathlib.Path(folder, "out")
     yield tried.is_right(f"{many} messages in 7 files", out, "--workers", "2", "--parts", "7", "--block", "300000")
     yield tried.is_right(f"the same in parts of {most} bytes at most", out, "--workers", "2", "--most", str(most))
@@ -214,19 +246,19 @@ def asks(tried, calls, name, everything, out, *asked, program):
 def going_on(r, python, program, folder):
     """A run that goes on where another one stopped, and one on a file that changed, which begins anew."""
     lines, path, out = small_input(r) + small_input(r), pathlib.Path(folder, "rows.list"), pathlib.Path(folder, "out")
-    path.write_bytes(list_of(r, lines)[2])
+    report = listed(r, lines, path)
     files, stopping = files_of(r, folder, lines, 2), script(folder, "stopping", STOPS, program)
     stop, calls = pathlib.Path(stopping + ".stop"), pathlib.Path(stopping + ".calls")
     asked, more = ["--workers", "1", "--parts", "4"], b"\n" + shuffled(r, Pool(r).message())
     for name, change in ("a run that goes on", b""), ("a run on a file that changed", more):
         stop.touch()
-        tried = Tried(python, program, files, [*REPORT, str(path)])
+        tried = Tried(python, program, files, report)
         yield tried.stops("a program that fails", "ended with status 2", out, *asked, program=stopping)
         stop.unlink()
         calls.unlink()
         with open(files[0], "ab") as file:
             file.write(change)
-        tried = Tried(python, program, files, [*REPORT, str(path)])
+        tried = Tried(python, program, files, report)
         yield tried.is_right(name, out, *asked, program=stopping)
         yield from asks(tried, calls, name, bool(change), pathlib.Path(folder, f"{name} at once"), *asked, program=stopping)
 
@@ -236,9 +268,12 @@ def refusing(r, python, program, folder):
     lines = [line.encode() for line in messages.lines(40)]
     tie = inputs.recall(1, [line.decode() for line in lines])[:-1].encode()
     path, out = pathlib.Path(folder, "rows.list"), pathlib.Path(folder, "out")
-    path.write_bytes(list_of(r, lines)[2])
-    tried = Tried(python, program, files_of(r, folder, lines + [tie, b"foo"], 2), [*REPORT, str(path)])
+    report = listed(r, lines, path)
+    tried = Tried(python, program, files_of(r, folder, lines + [tie, b"foo"], 2), report)
     yield tried.stops("messages that are tied together", "|camt.056|K1 names 2", out, "--most", "8000", "--workers", "1")
+    for word in "--keep", "--closed":
+        yield tried.stops(f"{word} of a day that is none", "fault 64", out, word, "2025-3-11", "--workers", "1")
+        yield tried.stops(f"{word} of a word that is an option of the program", "fault 64", out, word + "=--help", "--workers", "1")
     for what, text in LIES.items():
         lying = script(folder, "lying", text, program)
         why = "has no keys" if what == "no refused line" else f"share the {what.split()[-1]}"
@@ -256,13 +291,95 @@ def examples(python, program, folder):
         yield reported(name, (texts_in(out), answer.status) == (right, 1 if right["whole.refused"] else 0), f"{answer}")
 
 
+# ---- the check of a list, sizes, and how far a run is
+
+def checking(python, program, folder):
+    """A list is checked before a report, as the desk does it: with the same sentences, and also if the archive is not asked for."""
+    listed = EXAMPLES / "bank-day.list"
+    begin, check = [python, MAIN, "--program", program, "--workers", "1"], [sys.executable, DESK / "check_list.py"]
+
+    def report(out, words, *asked):
+        return harness.run([*begin, *asked, "--report", *words, listed, folder + out, EXAMPLES / "bank-day.jsonl"])
+
+    def checked(*words):
+        return harness.run([*check, *words, listed, EXAMPLES / "bank-day.archive"]).errors
+
+    def as_said(*words):
+        return checked(*words).replace(b"check_list: ", b"parts: ")
+
+    right, said = (EXAMPLES / "bank-day.report").read_bytes(), as_said("LUTEFRPP", "2025-03-10")
+    for out, *asked in (["/all", "--parts", "3"], ["/less", "--ask", "totals", "--unchecked"]):
+        answer = report(out, ("LUTEFRPP", "2025-03-10"), *asked)
+        yield reported(f"a report with a row of another day, {' '.join(asked)}", (texts_in(folder + out).get("whole.report"), answer.status,
+                       answer.errors) == (right, 0, said) and said.count(b"row 9: ") == 1, f"{answer}")
+    answer, said = report("/wrong", ("DEUTDEFF", "2025-03-10"), "--parts", "3"), as_said("DEUTDEFF", "2025-03-10")
+    last = f"parts: there is no report on {listed}\n".encode()
+    yield reported("no report on transfers of others", (answer.status, answer.errors) == (2, said + last) and said.count(b"row ") == 9
+                   and not texts_in(folder + "/wrong"), f"{answer}")
+    for words, why in ((("LUTEFRPP", "2025-02-31"), b"2025-02-31 is not a day such as 2025-03-10"),
+                       (("lutefrpp", "2025-03-10"), b"lutefrpp is not a BIC of 8 or 11 capitals and digits")):
+        answer = report("/words", words)
+        yield reported(f"a report with the words {words}", (answer.status, answer.errors) == (2, b"parts: " + why + b"\n"), f"{answer}")
+
+
+def sizing(python, program, folder):
+    """Sizes may have units, and a file is no folder for the answers."""
+    batch = EXAMPLES / "recall-batch.jsonl"
+
+    def run(*words):
+        return harness.run([python, MAIN, "--program", program, "--workers", "1", *words])
+
+    for text, many in (("2000", 2000), ("2kB", 2000), ("2 KiB", 2048), ("3KB", 3000), ("3072B", 3072)):
+        answer = run("--most", text, folder + "/out", batch)
+        yield reported(f"--most {text}", answer.status == 2 and b"a part has at most %d bytes" % many in answer.errors, f"{answer}")
+    for text, why in (("2GiB", b"more than 1073741824 bytes"), ("128MiX", b"is not a size such as"), ("0", b"is not a size such as"),
+                      ("-1", b"is not a size such as"), ("1.5GiB", b"is not a size such as"), ("128mib", b"is not a size such as")):
+        answer = run("--most", text, folder + "/out", batch)
+        yield reported(f"no --most {text}", answer.status == 2 and why in answer.errors, f"{answer}")
+    answer = run(batch, EXAMPLES / "bank-day.jsonl")
+    right = answer.status == 2 and b"is a file: the first word is the folder" in answer.errors
+    yield reported("a file in place of the folder", right, f"{answer}")
+
+
+class Screen(io.StringIO):
+    """A terminal, or a file, to which lines are written."""
+
+    def __init__(self, is_terminal):
+        super().__init__()
+        self.isatty = lambda: is_terminal
+
+
+def progressing():
+    """How far a run is, by a clock that is set by hand. The read step has 84 of 241 seconds, and the answer step 157."""
+    clock = [0.0]
+
+    def made(screen, is_asked):
+        return progress.Progress(["read", "answer"], is_asked, screen, lambda: clock[0])
+
+    lines = ["parts: step 1 of 2, read: 0 of 2 blocks", "parts: step 1 of 2, read: 1 of 2 blocks, about 3:19 left",
+             "parts: step 2 of 2, answer: 0 of 4 parts, about 2:37 left", "parts: step 2 of 2, answer: 4 of 4 parts, about 0:00 left"]
+    for name, is_terminal, is_asked, right in (
+            ("a terminal has one line", True, False, "".join("\r\033[K" + line for line in lines) + "\r\033[K"),
+            ("a file has a line for each call that ended", False, True, "".join(line + "\n" for line in (lines[1], lines[3]))),
+            ("a file has none if it is not asked for", False, False, "")):
+        screen, clock[0] = Screen(is_terminal), 0.0
+        shown = made(screen, is_asked)
+        for at, words in ((0, ("read", 0, 2)), (42, ("read", 1, 2)), (84, ("answer", 0, 4)), (241, ("answer", 4, 4))):
+            clock[0] = at
+            shown.say(*words)
+        shown.end()
+        yield reported(name, screen.getvalue() == right, repr(screen.getvalue()))
+    yield reported("hours, minutes and seconds", [progress.clock(at) for at in (0.4, 59.6, 61, 3599, 3600, 36_061)] == [
+        "0:00", "1:00", "1:01", "59:59", "1:00:00", "10:01:01"])
+
+
 # ---- what is not its own, errors, and who listens
 
 def keeping(r, python, program, folder):
     """Folders with what the program did not make: it ends, and leaves all of it. Errors that nobody foresaw: status 2."""
     lines, path = small_input(r), pathlib.Path(folder, "rows.list")
-    path.write_bytes(list_of(r, lines)[2])
-    tried = Tried(python, program, files_of(r, folder, lines, 2), [*REPORT, str(path)])
+    report = listed(r, lines, path)
+    tried = Tried(python, program, files_of(r, folder, lines, 2), report)
     asked = ["--workers", "1", "--parts", "2"]
     for name in ("work/thesis.txt", "work/plan.json", "whole.status"):
         out = pathlib.Path(folder, f"mine-{name.partition('/')[0]}-{name[-4:]}")
@@ -275,7 +392,8 @@ def keeping(r, python, program, folder):
                        and left == ['{"mine": 1}', "mine"], f"{answer}")
     out = pathlib.Path(folder, "out")
     yield tried.is_right("a folder of its own", out, *asked, "--progress")
-    yield reported("it says how far it is", b"parts: answer 2 of 2\n" in tried.answer.errors, f"{tried.answer}")
+    right = b"parts: step 5 of 7, answer: 2 of 2 parts, about 0:0" in tried.answer.errors
+    yield reported("it says how far it is", right, f"{tried.answer}")
     modes = {path.stat().st_mode & 0o077 for path in [out, *out.iterdir()]}
     yield reported("nobody else reads the answers", modes == {0})
     yield tried.is_right("the same folder again", out, *asked)
@@ -295,15 +413,15 @@ def keeping(r, python, program, folder):
 def noticing(r, python, program, folder):
     """A file that changes while it is read, a second run in the folder, and a cut that loses a line: the run ends without an answer."""
     lines, path, out = small_input(r) + small_input(r), pathlib.Path(folder, "rows.list"), pathlib.Path(folder, "out")
-    path.write_bytes(list_of(r, lines)[2])
+    report = listed(r, lines, path)
     files = files_of(r, folder, lines, 2)
-    tried, asked = Tried(python, program, files, [*REPORT, str(path)]), ["--workers", "1", "--parts", "2"]
+    tried, asked = Tried(python, program, files, report), ["--workers", "1", "--parts", "2"]
     changing = script(folder, "changing", f'#!/bin/sh\n[ "$1" = status ] && echo >> {files[1]}\nexec {{}} "$@"\n', program)
     yield tried.stops("a file that changes while it is read", "a file changed", out, *asked, program=changing)
     with open(out / "lock", "rb") as lock:
         fcntl.flock(lock, fcntl.LOCK_EX)
         yield tried.stops("a second run in the folder", "another run is at work", out, *asked)
-    code = shutil.copytree(SERVICES / "parts", pathlib.Path(folder, "code", "parts"), ignore=shutil.ignore_patterns("__pycache__"))
+    code = copied_code(folder)
     source = (code / "parts.py").read_text()
     lossy = source.replace("        if transfer != BLANK:\n", "        if transfer != BLANK and number % 2:\n")
     (code / "parts.py").write_text(lossy)
@@ -315,11 +433,11 @@ def noticing(r, python, program, folder):
 def beginning_anew(r, python, program, folder):
     """A run that was cut off, with a result that a power cut emptied, and then one of other code, which begins anew."""
     lines, path, out = small_input(r) + small_input(r), pathlib.Path(folder, "rows.list"), pathlib.Path(folder, "out")
-    path.write_bytes(list_of(r, lines)[2])
+    report = listed(r, lines, path)
     stopping = script(folder, "stopping", STOPS, program)
     stop, calls = pathlib.Path(stopping + ".stop"), pathlib.Path(stopping + ".calls")
-    tried = Tried(python, program, files_of(r, folder, lines, 2), [*REPORT, str(path)])
-    code = shutil.copytree(SERVICES / "parts", pathlib.Path(folder, "code", "parts"), ignore=shutil.ignore_patterns("__pycache__"))
+    tried = Tried(python, program, files_of(r, folder, lines, 2), report)
+    code = copied_code(folder)
     tried.main, asked = code / "main.py", ["--workers", "1", "--parts", "4"]
     for name, changes in ("the same code", False), ("other code", True):
         stop.touch()
@@ -407,8 +525,10 @@ pathlib.Path(work, "answers").mkdir(parents=True)
 for name in names:
     bank, other = f"BANK{int(name) % 7}", "1" if wrong == ["status"] and name in ("3", "906") else name
     texts = {"status": f"T|{bank}|{other}|PENDING\\nF|{bank}|{other}|Identity\\n", "refused": f"1 {int(name) + 1} 31\\n",
-             "archive": f'{{"InstgAgt":"{bank}","MsgId":"{1 if wrong == ["archive"] and name in ("3", "906") else name}","MsgNmId":"pacs.008.001.08","Part":"{name}"}}\\n',
+             "archive": f'{{"InstgAgt":"{bank}","MsgId":"{1 if wrong == ["archive"] and name in ("3", "906") else name}",'
+                        f'"MsgNmId":"pacs.008.001.08","Part":"{name}"}}\\n',
              "report": f"HEADER\\nAA,9,UNKNOWN\\n{bank},{name},x\\n", "totals": f"{bank}|1|0.10\\n"}
+    texts.update(kept=texts["archive"] if int(name) % 3 else "", closed="" if int(name) % 3 else texts["archive"])
     for word, text in texts.items():
         pathlib.Path(answers.answer_file(work, name, word)).write_text(text)
 try:
@@ -421,13 +541,21 @@ except Stop as stop:
 
 def levels(python, folder):
     """Texts of 1,100 parts, merged by a process that may have 256 files."""
-    ran = lambda place, *words: harness.run([python, "-c", LEVELS, str(SERVICES), f"{folder}/{place}", "1100", *words])
+
+    def ran(place, *words):
+        return harness.run([python, "-c", LEVELS, str(SERVICES), f"{folder}/{place}", "1100", *words])
+
     done, texts = ran("work"), {}
     for path in pathlib.Path(folder, "work", "merged").glob("*"):
         texts[path.name] = path.read_text().splitlines()
     keys = sorted((f"BANK{part % 7}", f"{part}") for part in range(1100))
+
+    def messages_of(some):
+        return [f'{{"InstgAgt":"{bank}","MsgId":"{tx}","MsgNmId":"pacs.008.001.08","Part":"{tx}"}}' for bank, tx in some]
+
     right = {"status": [line for bank, tx in keys for line in (f"T|{bank}|{tx}|PENDING", f"F|{bank}|{tx}|Identity")],
-             "archive": [f'{{"InstgAgt":"{bank}","MsgId":"{tx}","MsgNmId":"pacs.008.001.08","Part":"{tx}"}}' for bank, tx in keys],
+             "archive": messages_of(keys), "kept": messages_of(key for key in keys if int(key[1]) % 3),
+             "closed": messages_of(key for key in keys if not int(key[1]) % 3),
              "report": ["HEADER", "AA,9,UNKNOWN", *(f"{bank},{tx},x" for bank, tx in keys)],
              "totals": [f"BANK{n}|{len(range(n, 1100, 7))}|{len(range(n, 1100, 7)) / 10:.2f}" for n in range(7)],
              "refused": [f"line {part + 1}: 31" for part in range(1100)]}
@@ -468,9 +596,8 @@ def made_up(number, python, program, folder, address):
     r, its = random.Random(SEED + number), pathlib.Path(folder, f"{number}")
     its.mkdir()
     lines = small_input(r)
-    bank, day, text = list_of(r, lines)
-    (its / "rows.list").write_bytes(text)
-    tried = Tried(python, program, files_of(r, its, lines, r.randint(1, 4)), [bank, day, str(its / "rows.list")])
+    report = listed(r, lines, its / "rows.list")
+    tried = Tried(python, program, files_of(r, its, lines, r.randint(1, 4)), report)
     return tried.is_right(f"made-up input {number}", its / "out", "--scheduler", address, "--parts", str(r.randint(1, 6)),
                           "--block", str(r.choice([1, 1000, 10000])))
 
@@ -487,8 +614,8 @@ def over_tls(r, python, program, folder):
     mine = [str(place / name) for name in ("authority.crt", "mine.crt", "mine.key")]
     path = place / "rows.list"
     lines = small_input(r)
-    path.write_bytes(list_of(r, lines)[2])
-    tried = Tried(python, program, files_of(r, folder, lines, 2), [*REPORT, str(path)])
+    report = listed(r, lines, path)
+    tried = Tried(python, program, files_of(r, folder, lines, 2), report)
     with cluster(python, folder, *mine) as address:
         words = [word for kind, its in zip(("ca", "cert", "key"), mine) for word in (f"--tls-{kind}", its)]
         yield tried.is_right("a cluster over TLS", place / "out", "--scheduler", address, "--parts", "2", *words)
@@ -513,9 +640,13 @@ def main():
     right = []
     for tried in (lambda folder: examples(python, program, folder), lambda folder: large(r, python, program, folder),
                   lambda folder: going_on(r, python, program, folder), lambda folder: refusing(r, python, program, folder),
-                  lambda folder: keeping(r, python, program, folder), lambda folder: noticing(r, python, program, folder), lambda folder: beginning_anew(r, python, program, folder),
+                  lambda folder: checking(python, program, folder),
+                  lambda folder: sizing(python, program, folder), lambda folder: progressing(),
+                  lambda folder: keeping(r, python, program, folder), lambda folder: noticing(r, python, program, folder),
+                  lambda folder: beginning_anew(r, python, program, folder),
                   lambda folder: private(r, python, program, folder), lambda folder: levels(python, folder),
-                  lambda folder: over_tls(r, python, program, folder), lambda folder: all_made_up(many, python, program, folder), lambda folder: page(python, program, folder)):
+                  lambda folder: over_tls(r, python, program, folder), lambda folder: all_made_up(many, python, program, folder),
+                  lambda folder: page(python, program, folder)):
         with tempfile.TemporaryDirectory() as folder:
             right += tried(folder)
     harness.end_of(right)

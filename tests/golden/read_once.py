@@ -8,12 +8,17 @@ program that reads on waits for more. It is stopped then, and has failed.
 
 The input comes from a socket that gives one line to each read, and loses what is beyond the room. So each read must have room for a line.
 """
-import contextlib, os, pathlib, pty, socket, subprocess, tempfile
+import contextlib
+import os
+import pathlib
+import pty
+import socket
+import subprocess
+import tempfile
 from tests import harness
 from tests.harness import EXAMPLES, SECONDS, Answer, reported
-from tests.inputs import exchanging, instruction, two_files
+from tests.inputs import commands_on, exchanging, instruction, two_files
 from tests.oracle import exchange, replay
-from tests.oracle import status as definitions
 from tests.serve.serving import restored
 
 END = b"\x04"  # Ctrl-D
@@ -104,9 +109,8 @@ def inputs(folder):
     """Commands, with the lines of an input for each and the right answer."""
     message = instruction(1).encode()
     lines = b"foo\n" + message
-    for word in definitions.TEXT:
-        text, refused, status = definitions.answer(word, lines)
-        yield [word], lines, Answer(text.encode(), refused.encode(), status)
+    for words, (text, refused, status) in commands_on(lines):
+        yield words, lines, Answer(text.encode(), refused.encode(), status)
     path = pathlib.Path(folder, "list")
     path.write_bytes(LIST)
     yield [*REPORT, str(path)], message, Answer(ROWS, b"", 0)

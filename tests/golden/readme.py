@@ -1,13 +1,16 @@
 """readme.py: the commands of README.md print what the page shows, at the top of the repository.
 
-`rt try -- WORDS` and `rt run -- WORDS` build the program and run it. Here the program runs with these words in their place. It must
-end with status 0 and print what the example has for its input. A file that `--data` names has its path in place of that name. The page
-has each of the two, and the command of `.ci/run`.
+The page has two commands of the toolchain and no other. `rt try -- WORDS` builds the program and runs it. Here the program runs with these
+words in its place: it must end with status 0 and print what the example has for its input. The other one is the command of `.ci/run`. The
+page has 8,000 bytes at most.
 """
-import re, tempfile
+import re
+import tempfile
 from tests import harness
 from tests.golden.shown import is_printed, place, shell, shown
 from tests.harness import EXAMPLES, TOP
+
+MOST = 8000  # bytes of the page
 
 
 def prints(command, lines, commands):
@@ -16,23 +19,24 @@ def prints(command, lines, commands):
     return bool(lines) and is_printed(lines, text)
 
 
-def built(page, verb):
-    """Each command of the page that builds and runs the program by `rt VERB`, with the program and the paths of its files in place, and
-    the text that it must print."""
-    for found in re.finditer(rf"(\(cd .*)rt {verb} (?:--data (\w+)=(\S+) )?-- ((\w+)[^<\n]* < \S*/([\w-]+)\.jsonl\))", page):
-        before, name, path, words, job, example = found.groups()
-        yield f"{before}sct_sites {words.replace(f' {name} ', f' {path} ')}", (EXAMPLES / f"{example}.{job}").read_text()
+def of_toolchain(page):
+    """The commands of the page that it does not show with what they print, each in a line of its own."""
+    return re.findall(r"^    ((?:[^$>\n].*)?\brt .*)$", page, re.M)
 
 
-def is_built_as_shown(page, verb, commands):
-    """Whether the program that `rt VERB` runs answers the examples that the page gives it."""
-    ones = list(built(page, verb))
-    return bool(ones) and all(shell(command, TOP, commands) == (text, 0) for command, text in ones)
+def command_of_gate():
+    """The one command of .ci/run."""
+    first, command = (TOP / ".ci" / "run").read_text().splitlines()
+    return command if first == "#!/usr/bin/env bash" else None
 
 
-def has_gate(page):
-    """Whether the page has the command of the gate in a line of its own."""
-    return "\n    " + (TOP / ".ci" / "run").read_text() in page
+def is_built_as_shown(line, commands):
+    """Whether the program that a line builds by `rt try` prints the answer of the example that it is given."""
+    found = re.fullmatch(r"(\(cd \S+ && )rt try -- ((\w+)[^<]* < \S*/([\w-]+)\.jsonl\))", line)
+    if found is None:
+        return False
+    before, words, job, example = found.groups()
+    return shell(f"{before}sct_sites {words}", TOP, commands) == ((EXAMPLES / f"{example}.{job}").read_text(), 0)
 
 
 def main():
@@ -41,8 +45,11 @@ def main():
     with tempfile.TemporaryDirectory() as folder:
         commands = place(folder, program)
         right = [harness.reported(command, prints(command, lines, commands)) for _, command, lines in shown(page)]
-        right += [harness.reported(f"rt {verb}", is_built_as_shown(page, verb, commands)) for verb in ("try", "run")]
-    harness.end_of([*right, harness.reported("the gate", has_gate(page))])
+        first, *others = of_toolchain(page)
+        right.append(harness.reported(first, is_built_as_shown(first, commands)))
+    right.append(harness.reported("the gate, and no other command of the toolchain", others == [command_of_gate()], f"{others}"))
+    right.append(harness.reported("8,000 bytes", len(page.encode()) <= MOST))
+    harness.end_of(right)
 
 
 if __name__ == "__main__":

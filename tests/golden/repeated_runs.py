@@ -3,7 +3,9 @@
 `run` takes two small files at two sites, 200 times. The test `desk_shared` of crates/sct_run_tests, in which three threads share a
 desk, must pass 100 times and print the same each time.
 """
-import os, pathlib, tempfile
+import os
+import pathlib
+import tempfile
 from tests import harness
 from tests.inputs import two_files
 

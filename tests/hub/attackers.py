@@ -3,7 +3,20 @@
 The rows are those of the table of attackers in docs/users/hub.md: strangers, pages of the web, banks, peers, people in the middle, users of the
 machine, monitors and operators.
 """
-import asyncio, contextlib, hashlib, http.client, json, os, pathlib, shutil, signal, socket, sqlite3, ssl, sys, time
+import asyncio
+import contextlib
+import hashlib
+import http.client
+import json
+import os
+import pathlib
+import shutil
+import signal
+import socket
+import sqlite3
+import ssl
+import sys
+import time
 from concurrent.futures import ThreadPoolExecutor
 from bench.generate import samples
 from tests import harness, inputs
@@ -15,7 +28,7 @@ from tests.hub.secure import DESK_TOKEN, OLD_TOKEN, ROLES
 from tests.hub.sites import Hub, outcomes, until
 from tests.hub.troubles import tried
 sys.path.insert(0, str(SERVICES))
-from hub import record
+from hub import mirror, record
 
 LUX, HAN, SCA = "LUTEFRPPXXX", "HANSDEHHXXX", "SCALBEBBXXX"
 # of each address, a path and a body that somebody may send, and the roles that may ask it
@@ -24,7 +37,7 @@ PATHS = {
     "POST /iso20022": ("/iso20022", (EXAMPLES / "desk/iso20022/pacs.008.xml").read_bytes(), "lutefrpp hansdehh scalbebb operator gateway"),
     "GET /waiting": ("/waiting", None, "lutefrpp hansdehh scalbebb desk operator gateway"),
     "GET /transfers": (f"/transfers/{LUX}/T0", None, "lutefrpp desk gateway"), "GET messages": (f"/transfers/{LUX}/T0/messages", None, "lutefrpp desk gateway"),
-    "GET /totals/BANK": (f"/totals/{LUX}", None, "lutefrpp desk gateway"),
+    "GET /find": ("/find?what=T0", None, "desk gateway"), "GET /totals/BANK": (f"/totals/{LUX}", None, "lutefrpp desk gateway"),
     "POST /report": (f"/report/{LUX}/2025-03-10", b"DbtrAgt,TxId,Amt,Sts\n", "lutefrpp desk gateway"), "GET /totals": ("/totals", None, "desk gateway"),
     "GET /status": ("/status", None, "desk gateway"), "GET /archive": ("/archive", None, "desk gateway"),
     "GET /contradictions": ("/contradictions", None, "desk gateway"), "GET /vector": ("/vector", None, "desk monitor operator gateway site1 site2 site3 site4"),
@@ -109,7 +122,9 @@ def strangers(trial):
         from_page = [it.asked(hub, "/messages", b"{}\n", Origin="https://evil.example").status, it.asked(hub, "/archive", Sec_Fetch_Site="cross-site").status]
         yield "a page of another server, in a browser with a certificate: 403", from_page == [403, 403]
     with it.site("optional", clients="optional") as hub:
-        got = lambda token, path="/status": it.asked(hub, path, who=None, **({"Authorization": f"Bearer {token}"} if token else {})).status
+        def got(token, path="/status"):
+            return it.asked(hub, path, who=None, **({"Authorization": f"Bearer {token}"} if token else {})).status
+
         yield "if certificates are optional, who has none needs a token", [got(None), got("x"), got(DESK_TOKEN), got(OLD_TOKEN)] == [401, 401, 200, 200]
         yield "a token has its role and no other", [got(DESK_TOKEN, path) for path in ("/metrics", "/delta", "/vector")] == [403, 403, 200]
         yield "a peer needs a certificate or a token", got(None, "/delta") == 401
@@ -117,13 +132,18 @@ def strangers(trial):
 
 def each_role(trial):
     """Each role asks each address."""
-    it = Secure(trial)
-    with it.site("matrix") as hub:
+    it, path = Secure(trial), trial.fresh("matrix.db")
+    made = mirror.Database(path)
+    made.open()
+    made.load({}, mirror.State(1, 64, "", "-", "", ""))
+    made.close()
+    with it.site("matrix", mirror=str(path)) as hub:
         for name, (path, body, roles) in PATHS.items():
             got = {who: it.asked(hub, path, body, who=who).status for who in ROLES}
             right = {who: who in roles.split() for who in ROLES}
             yield f"{name}: {roles}", {who: status not in (401, 403) for who, status in got.items()} == right, str(got)
-        yield "who may ask is not refused for another reason", [it.asked(hub, path, body, who=roles.split()[0]).status for path, body, roles in PATHS.values()] == [
+        yield "who may ask is not refused for another reason", [
+            it.asked(hub, path, body, who=roles.split()[0]).status for path, body, roles in PATHS.values()] == [
             200] * len(PATHS)
 
 
@@ -145,7 +165,7 @@ def describes_itself(trial):
     routes, roles = json.loads(done.text)
     text = json.loads((SERVICES / "hub" / "openapi.json").read_text())
     wrong = clients.describes(text, [tuple(one) for one in routes], roles)
-    yield "the OpenAPI text has each of them, with its roles", wrong == [] and len(routes) == 19, f"{wrong} {len(routes)}"
+    yield "the OpenAPI text has each of them, with its roles", wrong == [] and len(routes) == 20, f"{wrong} {len(routes)}"
     less = clients.describes(text, [tuple(one) for one in routes[1:]], roles)
     more = clients.describes(text, [tuple(one) for one in routes], {**roles, "GET /archive": ["monitor"]})
     yield "and would be found out without", bool(less) and bool(more)
@@ -155,7 +175,9 @@ def banks(trial):
     """A bank in the name of another one."""
     it = Secure(trial)
     with it.site("banks", waiting=3) as hub:
-        words = lambda who, *lines: it.words(hub, who, *lines)
+        def words(who, *lines):
+            return it.words(hub, who, *lines)
+
         mine = instruction(LUX, SCA, 1)
         yield "an instruction of its own", words("lutefrpp", mine) == ["TAKEN"]
         yield "the same of another bank", words("hansdehh", instruction(LUX, SCA, 2)) == ["FORBIDDEN"]
@@ -174,8 +196,8 @@ def banks(trial):
         twice = b'{"InstgAgt":"LUTEFRPPXXX",' + instruction(HAN, SCA, 3)[1:]
         yield "a name that is there twice is read as the core reads it", [words("lutefrpp", twice), words("hansdehh", twice)] == [["FORBIDDEN"], ["TAKEN"]]
         yield "a line that is a delta or a question is no message", words("lutefrpp", b"delta 2\tend 0\n", b"? archive\n") == ["REFUSED", "REFUSED"]
-        refused = [one["why"] for one in outcomes(it.asked(hub, "/messages", (EXAMPLES / "refusals.jsonl").read_bytes(), who="lutefrpp"))
-                   if one["outcome"] == "REFUSED"]
+        answer = it.asked(hub, "/messages", (EXAMPLES / "refusals.jsonl").read_bytes(), who="lutefrpp")
+        refused = [sites.refusal_of(one) for one in outcomes(answer) if one["outcome"] == "REFUSED"]
         right = [line.partition(": ")[2] for line in (EXAMPLES / "refusals.refused").read_text().splitlines()]
         yield "lines that are no messages are refused in the words of the program", refused == right and len(right) == 29, str(refused)
         yield "and are counted", b'niluppang_messages_total{outcome="REFUSED"} 31\n' in it.asked(hub, "/metrics", who="monitor").body
@@ -186,19 +208,27 @@ def banks(trial):
 
 def reads_own(it, hub):
     """What a bank reads, after a transfer from LUX to SCA and one from HAN to SCA."""
-    got = lambda who, path, body=None: it.asked(hub, path, body, who=who).status
+
+    def got(who, path, body=None):
+        return it.asked(hub, path, body, who=who).status
+
     paths = [f"/transfers/{LUX}/T1", f"/transfers/{LUX}/T1/messages"]
     yield "its own transfers, as originator and as beneficiary bank", [got(who, path) for who in ("lutefrpp", "scalbebb") for path in paths] == [200] * 4
     yield "no transfer of others", [got("hansdehh", path) for path in paths] == [403] * 2
     said = [it.asked(hub, f"/transfers/{LUX}/{tx}", who="hansdehh").body for tx in ("T1", "NONE")]
     yield "and not whether it is there", said[0] == said[1]
     yield "totals of its own", [got("hansdehh", f"/totals/{bank}") for bank in ("HANSDEHH", HAN, LUX)] == [200, 200, 403]
-    rows = lambda *names: b"DbtrAgt,TxId,Amt,Sts\n" + b"".join(f"{bank},{tx},1.00,ACCEPTED\n".encode() for bank, tx in names)
-    report = lambda who, bank, *names: got(who, f"/report/{bank}/2024-05-02", rows(*names))
+
+    def rows(*names):
+        return b"DbtrAgt,TxId,Amt,Sts\n" + b"".join(f"{bank},{tx},1.00,ACCEPTED\n".encode() for bank, tx in names)
+
+    def report(who, bank, *names):
+        return got(who, f"/report/{bank}/2024-05-02", rows(*names))
+
     yield "a report on its own list", [report("scalbebb", "SCALBEBB", (LUX, "T1"), (HAN, "T9")), report("hansdehh", HAN, (HAN, "T9"))] == [200, 200]
     yield "no report with rows of others, and none in another name", [report("hansdehh", HAN, (LUX, "T1")), report("hansdehh", LUX, (LUX, "T1"))] == [403, 403]
-    said = it.asked(hub, f"/report/{HAN}/2024-05-02", rows((HAN, "T9"), (LUX, "T1")), who="hansdehh").body
-    yield "the row is named, and nothing of the transfer", said == b"no transfer of this bank: row 3\n"
+    said = sites.error_of(it.asked(hub, f"/report/{HAN}/2024-05-02", rows((HAN, "T9"), (LUX, "T1")), who="hansdehh"))
+    yield "the row is named, and nothing of the transfer", said == (403, 403, "Forbidden", "no transfer of this bank: row 3")
     row = "list", "hansdehh", {"rows": 1, "first": "row 3: LUTEFRPPXXX T1 is a transfer to SCALBEBBXXX, and not of HANSDEHHXXX"}
     yield "the record has what the rule says", until(lambda: row in recorded(hub))
     words = [it.words(hub, "lutefrpp", *lines) for lines in ([instruction(LUX, HAN, 31), instruction(LUX, SCA, 32)], [recall(LUX, LUX, 31, 32)])]
@@ -210,8 +240,13 @@ def reads_own(it, hub):
 
 def waits(it, hub):
     """An answer before its instruction."""
-    words = lambda who, *lines: it.words(hub, who, *lines)
-    waiting = lambda who: [(one["tx"], one["state"]) for one in map(json.loads, it.asked(hub, "/waiting", who=who).body.splitlines())]
+
+    def words(who, *lines):
+        return it.words(hub, who, *lines)
+
+    def waiting(who):
+        return [(one["tx"], one["state"]) for one in map(json.loads, it.asked(hub, "/waiting", who=who).body.splitlines())]
+
     yield "an answer whose instruction is not there waits, also if it is sent again", words("scalbebb", confirmation(SCA, LUX, 5)) == ["WAITING"] and words(
         "scalbebb", confirmation(SCA, LUX, 5)) == ["WAITING"]
     yield "one of a third bank waits, too: nobody knows yet", words("hansdehh", confirmation(HAN, LUX, 5)) == ["WAITING"]
@@ -234,7 +269,9 @@ def floods(trial):
     """A bank that posts and asks as much as it can."""
     it = Secure(trial)
     with it.site("floods") as hub:
-        post = lambda body, who="lutefrpp": it.asked(hub, "/messages", body, who=who)
+        def post(body, who="lutefrpp"):
+            return it.asked(hub, "/messages", body, who=who)
+
         with ThreadPoolExecutor(5) as pool:
             answers = list(pool.map(post, [b"{}\n" * 20_000] * 5))
         late = [int(one.headers["Retry-After"]) for one in answers if one.status == 429]
@@ -317,14 +354,18 @@ def on_record(trial):
             cells[0].startswith("127.0.0.1:") and cells[1] == answer.headers["Niluppang-Request"] and cells[2].startswith(time.strftime("%Y-", time.gmtime())))
         log = [json.loads(line) for line in hub.text().splitlines() if line.startswith("{")]
         yield "the log has the request too", any(one.get("request") == cells[1] and one["who"] == "lutefrpp" for one in log)
-        audit = lambda *words: harness.run([trial.python, str(sites.MAIN), f"--config={hub.config}", "--audit", *words],
-                                           env={**os.environ, "SCT_SITES": trial.program})
+
+        def audit(*words):
+            return harness.run([trial.python, str(sites.MAIN), f"--config={hub.config}", "--audit", *words],
+                               env={**os.environ, "SCT_SITES": trial.program})
+
         first = audit()
         yield "an audit while the site runs finds nothing wrong", first.status == 0 and b"WRONG" not in first.text
         last = first.text.decode().splitlines()[0].rsplit(" ", 1)[1]
         yield "a row that was kept is still there", audit("--since", last).status == 0
         yield "its sum and no other", audit("--since", last[:-1] + ("0" if last[-1] != "0" else "1")).status == 1
-        operator = harness.run([trial.python, str(sites.MAIN), f"--config={hub.config}", f"--backup={hub.folder}/copy"], env={**os.environ, "SCT_SITES": trial.program})
+        operator = harness.run([trial.python, str(sites.MAIN), f"--config={hub.config}", f"--backup={hub.folder}/copy"],
+                               env={**os.environ, "SCT_SITES": trial.program})
         yield "an operator's act is on record", operator.status == 0 and [row[0] for row in recorded(hub, "backup")][-1] == "backup", operator.errors.decode()
     with contextlib.closing(sqlite3.connect(hub.folder / "site1.record")) as connection:
         for statement in ("UPDATE record SET who = 'x'", "DELETE FROM record"):
@@ -359,9 +400,16 @@ def peers(trial):
     """A peer that speaks for another site, or is another one, and who is between two sites."""
     it = Secure(trial)
     ports = sites.free_ports(3)
-    url = lambda number: f"https://localhost:{ports + number - 1}"
-    its = lambda number, *others: ["[peers]", *(f'{other} = "{url(other)}"' for other in others)]
-    held = lambda port, who="gateway": it.made.asked(port, "/vector", who=who).body.strip().decode()
+
+    def url(number):
+        return f"https://localhost:{ports + number - 1}"
+
+    def its(number, *others):
+        return ["[peers]", *(f'{other} = "{url(other)}"' for other in others)]
+
+    def held(port, who="gateway"):
+        return it.made.asked(port, "/vector", who=who).body.strip().decode()
+
     with it.site("one", *its(1, 2, 3), port=ports, is_well=False) as one, it.site("two", *its(2, 1), number=2, port=ports + 1) as two:
         yield "two sites hear each other by their certificates", until(lambda: it.made.is_well(ports))
         it.words(two, "operator", instruction(LUX, SCA, 1))
@@ -375,14 +423,17 @@ def peers(trial):
         one.config.write_text(swapped)
         one.process.send_signal(signal.SIGHUP)
         with it.site("three", *its(3, 2), number=3, port=ports + 2):
-            said = lambda: json.loads(it.made.asked(ports, "/health", who="desk").body)["peers"]
+            def said():
+                return json.loads(it.made.asked(ports, "/health", who="desk").body)["peers"]
+
             yield "a site at the address of another one is not heard: its certificate is not that of the other one", until(
                 lambda: "Certificate" in said().get("2", "")), str(said())
         one.config.write_text(config)
         one.process.send_signal(signal.SIGHUP)
         it.words(two, "operator", instruction(LUX, SCA, 3))
         yield "with the right address it goes on", until(lambda: held(ports) == "2:2,3:1")
-        yield "a peer is given deltas, and nothing else", [it.made.asked(ports, path, who="site2").status for path in ("/delta?have=-", "/archive", "/totals")] == [
+        yield "a peer is given deltas, and nothing else", [
+            it.made.asked(ports, path, who="site2").status for path in ("/delta?have=-", "/archive", "/totals")] == [
             200, 403, 403]
 
 
@@ -390,7 +441,10 @@ def overtakes(trial):
     """An answer that comes to another site than its instruction, before it, and that lasts over a kill."""
     it = Secure(trial)
     ports = sites.free_ports(2)
-    its = lambda number, other: ["[peers]", f'{other} = "https://localhost:{ports + other - 1}"']
+
+    def its(number, other):
+        return ["[peers]", f'{other} = "https://localhost:{ports + other - 1}"']
+
     line = confirmation(SCA, LUX, 1)
     with it.site("late", *its(2, 1), number=2, port=ports + 1, hear=0) as two:
         yield "an answer at a site that never heard of its transfer waits", it.words(two, "scalbebb", line) == ["WAITING"]
@@ -421,7 +475,9 @@ def goes_on(trial):
         await its.close()
     asyncio.run(put())
     with it.site("goes-on", data=data) as hub:
-        status = lambda number: it.asked(hub, f"/transfers/{LUX}/T{number}").body.split(b"|")[3].strip()
+        def status(number):
+            return it.asked(hub, f"/transfers/{LUX}/T{number}").body.split(b"|")[3].strip()
+
         yield "what waited is taken when the site starts and holds its instruction", until(lambda: status(1) == b"ACCEPTED")
         yield "and not if the instruction is to another bank", until(lambda: "forbidden" in {row[0] for row in recorded(hub)}) and status(2) == b"PENDING"
 
@@ -443,7 +499,10 @@ def handed_on(trial):
             yield "what a peer gives to remember is not remembered", until(lambda: len(cookies) > 3) and set(cookies) == {None}
             yield "a peer is asked for its own entries", all("of=2" in words for words in asked_for)
     own = inputs.delta(2, 1, 3)
-    answer = lambda it: it.send(delta if "of=5" in it.path else own, vector="2:1,5:2")
+
+    def answer(it):
+        return it.send(delta if "of=5" in it.path else own, vector="2:1,5:2")
+
     with odd_peer(answer) as server:
         words = ["--hear=0", f"--peer=2=http://127.0.0.1:{server.server_port}", "--through=5=2"]
         with trial.site(trial.fresh("through"), *words, is_well=False) as hub:
@@ -463,14 +522,18 @@ def insiders(trial):
         modes = {path.name: path.stat().st_mode & 0o077 for path in [hub.folder, *hub.folder.iterdir()]}
         yield "no other user reads a file of the site", len(modes) > 2 and not any(modes.values()), str(modes)
         yield "what another user of the machine asks needs a certificate, too", is_cut(lambda: it.asked(hub, "/health", who=None))
-        yield "a monitor reads no payment", [it.asked(hub, path, who="monitor").status for path in ("/archive", f"/transfers/{LUX}/T1", "/changes", "/metrics")] == [
+        yield "a monitor reads no payment", [
+            it.asked(hub, path, who="monitor").status for path in ("/archive", f"/transfers/{LUX}/T1", "/changes", "/metrics")] == [
             403, 403, 403, 200]
         yield "an operator reads none either, and posts on record", it.asked(hub, "/archive", who="operator").status == 403 and (
             "post", "operator") in [row[:2] for row in recorded(hub)]
         words = pathlib.Path(f"/proc/{hub.process.pid}/cmdline").read_bytes() + pathlib.Path(f"/proc/{hub.process.pid}/environ").read_bytes()
         yield "no secret is in the words or the environment of the process", DESK_TOKEN.encode() not in words
         connection = http.client.HTTPSConnection("localhost", hub.port, context=it.made.context("desk"))
-        get = lambda: (connection.request("GET", "/totals"), answer_of(connection))[1]
+
+        def get():
+            return (connection.request("GET", "/totals"), answer_of(connection))[1]
+
         before, stream = get(), it.made.context("desk").wrap_socket(socket.create_connection(("localhost", hub.port), 20), server_hostname="localhost")
         stream.sendall(b"GET /changes HTTP/1.0\r\nHost: localhost\r\n\r\n")
         stream.recv(100)
@@ -490,9 +553,11 @@ def insiders(trial):
 def other_roles(trial):
     """A configuration that gives addresses other roles, and one that gives a bank too much."""
     it = Secure(trial)
-    own = f'"GET /transfers/{{bank}}/{{tx}}/messages" = ["desk"]'
+    own = '"GET /transfers/{bank}/{tx}/messages" = ["desk"]'
     with it.site("other-roles", "[access]", '"GET /totals" = ["monitor"]', own) as hub:
-        got = lambda who, path: it.asked(hub, path, who=who).status
+        def got(who, path):
+            return it.asked(hub, path, who=who).status
+
         yield "an address has the roles that the configuration gives it", [got(who, "/totals") for who in ("monitor", "desk")] == [200, 403]
         paths = [f"/transfers/{LUX}/T1", f"/transfers/{LUX}/T1/messages"]
         yield "a transfer and its messages are two addresses", [got("lutefrpp", path) for path in paths] == [200, 403]
@@ -521,7 +586,9 @@ def new_certificates(trial):
     """A site is given another certificate and another authority while it runs."""
     it = Secure(trial)
     with it.site("renewed") as hub:
-        serial = lambda: peer_certificate(it, hub)
+        def serial():
+            return peer_certificate(it, hub)
+
         before = serial()
         secure.certificate(it.made.folder / "tls", "site1", "localhost", "127.0.0.1")
         hub.process.send_signal(signal.SIGHUP)
@@ -538,7 +605,8 @@ def peer_certificate(it, hub):
         return connection.getpeercert()["serialNumber"]
 
 
-CHECKS = [describes_itself, strangers, each_role, banks, floods, crowds, on_record, peers, overtakes, goes_on, handed_on, insiders, other_roles, new_certificates, certificates_are_kept]
+CHECKS = [describes_itself, strangers, each_role, banks, floods, crowds, on_record, peers, overtakes, goes_on, handed_on, insiders,
+          other_roles, new_certificates, certificates_are_kept]
 
 
 def check(python, program):

@@ -3,14 +3,20 @@
 They run in a folder that has services/ and examples/. Ports are free ones in place of those of the page. A command that ends with & goes on, and
 the next one waits until the site is well.
 """
-import os, pathlib, re, shlex, signal, subprocess, tempfile
+import os
+import pathlib
+import re
+import shlex
+import signal
+import subprocess
+import tempfile
 from tests import harness
 from tests.harness import TOP, reported
 from tests.hub import sites
 from tests.hub.sites import until
 
 PAGE = TOP / "docs" / "users" / "hub.md"
-SECTIONS = [["A first look", "Messages in XML"], ["Three sites with TLS and roles"]]  # those in a row are about one hub
+SECTIONS = [["A first look", "Ask it", "Messages in XML"], ["Three sites with TLS and roles"]]  # those in a row are about one hub
 SILENT = {"stdout": subprocess.DEVNULL, "stderr": subprocess.DEVNULL}
 
 
@@ -31,7 +37,10 @@ def is_ready(folder, port, is_secure):
     """Whether the first site is well, as the desk asks it."""
     words = ["--cacert", "tls/authority.crt", "--cert", "tls/desk.crt", "--key", "tls/desk.key"] if is_secure else []
     scheme = "https" if is_secure else "http"
-    ask = lambda site: harness.run(["curl", "-s", "--max-time", "10", *words, f"{scheme}://localhost:{port + site}/ready"], cwd=folder).text == b"ready\n"
+
+    def ask(site):
+        return harness.run(["curl", "-s", "--max-time", "10", *words, f"{scheme}://localhost:{port + site}/ready"], cwd=folder).text == b"ready\n"
+
     return all(map(ask, range(3)))
 
 

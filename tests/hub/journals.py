@@ -4,9 +4,17 @@ A journal lost its last lines, and its peer is there, away or slow; it has a lin
 open it; it is copied while its site takes lines; a new number adopts it; it is made of an SQLite journal of an older version. A site that
 was halted stays so.
 """
-import contextlib, os, shutil, signal, sqlite3, stat, subprocess, threading, time
+import contextlib
+import os
+import shutil
+import signal
+import sqlite3
+import stat
+import subprocess
+import threading
+import time
 from tests import harness, inputs
-from tests.harness import EXAMPLES, SERVICES
+from tests.harness import DESK, SERVICES
 from tests.hub import sites
 from tests.hub.sites import asked, kept, outcomes, own_lines, until, write_journal
 from tests.hub.trial import lines_of
@@ -213,7 +221,10 @@ def old_journal(path, own, runs):
 def reads_over(trial):
     folder = trial.fresh("over")
     folder.mkdir()
-    lines = lambda delta: b"".join(delta.splitlines(True)[2:-1])
+
+    def lines(delta):
+        return b"".join(delta.splitlines(True)[2:-1])
+
     own = [(number, line) for number, line in enumerate(lines_of(1, 4).splitlines(), 1)]
     runs = [(3, 1, 2, lines(inputs.delta(3, 1, 11, 12))), (1, 1, 1, lines(inputs.delta(1, 1, 21))), (3, 3, 1, lines(inputs.delta(3, 3, 13)))]
     old_journal(folder / "site2.db", own, runs)
@@ -240,7 +251,7 @@ def reads_over(trial):
 def is_released(trial):
     """The service in the layout of a release finds the program of the release."""
     release = trial.fresh("release")
-    for folder, place in (SERVICES, "niluppang/services"), (EXAMPLES / "desk", "doc/niluppang/examples/desk"):
+    for folder, place in (SERVICES, "niluppang/services"), (DESK, "niluppang/desk"):
         shutil.copytree(folder, release / "share" / place, ignore=shutil.ignore_patterns("__pycache__"))
     (release / "bin").mkdir()
     (release / "bin" / "sct_sites").write_text(f'#!/bin/sh\nexec {trial.program} "$@"\n')
@@ -270,8 +281,8 @@ def comes_back(trial):
         yield "and catches up", taken == 200 and until(lambda: asked(port + 1, "/vector").body == b"1:2\n")
 
 
-CHECKS = [is_released, comes_back, refuses_a_second_process, refuses_changed_lines, notices_a_lost_line, waits_for_a_peer, starts_alone, copies, retires_a_number,
-          reads_over]
+CHECKS = [is_released, comes_back, refuses_a_second_process, refuses_changed_lines, notices_a_lost_line, waits_for_a_peer, starts_alone, copies,
+          retires_a_number, reads_over]
 
 
 def check(python, program):

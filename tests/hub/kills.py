@@ -1,9 +1,9 @@
 """kills.py: sites that are killed at any moment lose nothing and make nothing up.
 
-Three sites run after one command, each with a process `serve` below it. Several clients post lines to any of them: messages, some of them twice and at two sites, messages that
-contradict each other, refused lines and blank ones. A client sends a post again, to any site, until it is acknowledged; some posts it
-gives up after the first failure. Meanwhile sites are killed by signal 9, and every second time the process of one, and start again. In the
-end:
+Three sites run after one command, each with a process `serve` below it. Several clients post lines to any of them: messages, some of
+them twice and at two sites, messages that contradict each other, refused lines and blank ones. A client sends a post again, to any site,
+until it is acknowledged; some posts it gives up after the first failure. Meanwhile sites are killed by signal 9, and every second time the
+process of one, and start again. In the end:
 
 - each outcome is the right one, and each acknowledged number has its line in that site's journal;
 - each acknowledged message is held, and each message that is held was sent;
@@ -16,7 +16,21 @@ whole, by an audit.
 
 `python3 -m tests.hub.kills --kills 100 --messages 20000` is the long form. The gate runs the short one. It ends after --seconds in any case.
 """
-import argparse, collections, contextlib, functools, http.client, json, os, pathlib, random, re, shutil, signal, tempfile, threading, time
+import argparse
+import collections
+import contextlib
+import functools
+import http.client
+import json
+import os
+import pathlib
+import random
+import re
+import shutil
+import signal
+import tempfile
+import threading
+import time
 from tests import harness, inputs
 from tests.harness import reported
 from tests.hub import secure, sites
@@ -135,7 +149,7 @@ def is_right(sent):
     _, refusal = message_in(sent.line)
     if refusal is None:
         return sent.outcome["outcome"] in ("TAKEN", "REPEAT")
-    return sent.outcome["outcome"] == "REFUSED" and sent.outcome["why"] == refusal
+    return sent.outcome["outcome"] == "REFUSED" and sites.refusal_of(sent.outcome) == refusal
 
 
 def journals(folder):

@@ -1,5 +1,10 @@
 """limits.py: who may ask a site of services/hub, and that nobody without a right uses up its memory, its connections or its time."""
-import gzip, json, os, pathlib, threading, time
+import gzip
+import json
+import os
+import pathlib
+import threading
+import time
 from tests.hub import sites
 from tests.hub.sites import asked, until
 from tests.hub.trial import answered, events, head, is_closed, lines_of, raw, status_of, watched
@@ -19,8 +24,13 @@ def guards(trial):
     """Who asks a site without roles: programs of this machine, by a name of the site, and pages of its own."""
     with trial.site(trial.fresh("local"), "--name=hub.example") as hub:
         own = f"http://127.0.0.1:{hub.port}"
-        post = lambda **headers: asked(hub.port, "/messages", lines_of(1, 1), **headers).status
-        get = lambda **headers: asked(hub.port, "/archive", **headers).status
+
+        def post(**headers):
+            return asked(hub.port, "/messages", lines_of(1, 1), **headers).status
+
+        def get(**headers):
+            return asked(hub.port, "/archive", **headers).status
+
         hosts = {"hub.example": 200, f"hub.example:{hub.port}": 200, "evil.example": 403, "hub.example.evil.example": 403, "[": 400}
         yield "only by a name of its own, to write and to read", {name: {post(Host=name), get(Host=name)} for name in hosts} == {
             name: {status} for name, status in hosts.items()}
@@ -75,9 +85,14 @@ def is_private(trial):
 def bounds_posts(trial):
     """What a post may have: bytes, lines, and bytes of a line."""
     with trial.site(trial.fresh("posts")) as hub:
-        post = lambda body, **more: asked(hub.port, "/messages", body, **more).status
+        def post(body, **more):
+            return asked(hub.port, "/messages", body, **more).status
+
         line = lines_of(1, 1)
-        padded = lambda size: line[:-1] + b" " * (size - len(line) + 1) + b"\n"
+
+        def padded(size):
+            return line[:-1] + b" " * (size - len(line) + 1) + b"\n"
+
         yield "a post that is too long is refused", post(b" " * (9 * MIB)) == 413
         yield "a line that is too long is refused, and the post with it", post(lines_of(5, 1) + padded((64 << 10) + 1)) == 413
         yield "nothing of it is taken", asked(hub.port, "/vector").body == b"-\n"
@@ -225,7 +240,10 @@ def bounds_pages(trial):
         for mark in [began + "-" + "9" * 4400, "x", began + "-", began + "-\u00b2".encode().decode("latin-1")] * 30:
             with raw(hub.port, head("GET", "/changes", f"Last-Event-ID: {mark}")) as connection:
                 status_of(connection)
-        again = lambda: [it["event"] for it in events(watched(hub.port, began + "-" + "9" * 1000), 1)]
+
+        def again():
+            return [it["event"] for it in events(watched(hub.port, began + "-" + "9" * 1000), 1)]
+
         yield "after 120 odd marks, as soon as pages that are gone are forgotten, a page watches and loads again", until(lambda: again() == ["reset"], 40)
         asked(hub.port, "/messages", lines_of(1, 1))
         yield "pages that are gone are forgotten", until(lambda: b"niluppang_pages 1\n" in asked(hub.port, "/metrics").body
@@ -240,7 +258,7 @@ def bounds_pages(trial):
         body = asked(hub.port, "/delta?have=-&of=5&wait=1").body
         yield "a peer that waits is answered after its seconds", body == b"delta 2\nend 0\n" and 0.9 < time.monotonic() - began < 5
         wrong = [f"/delta?{words}" for words in ("have=1:1:1", "have=1:1:1&of=1", "have=-5000:7", "have=2:1,1:1", "have=1:" + "9" * 5000,
-                                                  "of=65", "of=-1", "of=x", "have=-&wait=x&of=1", "of=1&wait=nan")]
+                                                 "of=65", "of=-1", "of=x", "have=-&wait=x&of=1", "of=1&wait=nan")]
         yield "vectors and words that are none", [asked(hub.port, path).status for path in wrong] == [400] * len(wrong)
 
 

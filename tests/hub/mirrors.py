@@ -4,8 +4,23 @@ sites, and after somebody removed or dropped something of them. The panels of th
 The rows that must be there are made here, of tests/oracle. Some sites are those of services/hub. Others are of the definitions, answer in
 this process, and are led by hand: what they publish, and what they answer at which moment.
 """
-import calendar, collections, contextlib, hashlib, http.server, json, os, pathlib, queue, random, signal, sqlite3, subprocess, sys
-import threading, time, urllib.parse
+import calendar
+import collections
+import contextlib
+import hashlib
+import http.server
+import json
+import os
+import pathlib
+import queue
+import random
+import signal
+import sqlite3
+import subprocess
+import sys
+import threading
+import time
+import urllib.parse
 from bench.generate import samples
 from tests import harness, inputs
 from tests.embed import model
@@ -17,7 +32,7 @@ from tests.hub.troubles import tried
 from tests.oracle import status as oracle
 from tests.property.views import touched
 
-MIRROR, DASHBOARD, DESK = SERVICES / "hub" / "mirror.py", SERVICES / "hub" / "dashboard.json", EXAMPLES / "desk"
+MIRROR, DASHBOARD, DESK = SERVICES / "hub" / "mirror.py", SERVICES / "hub" / "dashboard.json", harness.DESK
 KILLS, LINES, SEED = 10, 500, 20261128
 PACE = 0.25  # seconds between two posts of a client, so that kills meet posts
 SOON = 1.0  # seconds in which a change must be in the tables
@@ -37,7 +52,8 @@ def row_of(message, transaction):
     amount = m.get("IntrBkSttlmAmt" if kind == "pacs.008" else "OrgnlIntrBkSttlmAmt")
     word = {"pacs.002": "TxSts", "camt.029": "Conf"}.get(kind, "-")
     return (head["InstgAgt"], kind, head["MsgId"], head["CreDtTm"], bank, tx, oracle.recall_named(kind, m), m.get(word), m.get("Rsn"),
-            amount, m.get("RtrdIntrBkSttlmAmt"), m.get("IntrBkSttlmDt"), m.get("CdtrAgt"), oracle.written(message))
+            amount, m.get("RtrdIntrBkSttlmAmt"), m.get("IntrBkSttlmDt"), m.get("CdtrAgt"),
+            m.get("EndToEndId" if kind == "pacs.008" else "OrgnlEndToEndId"), m.get("DbtrAcct"), m.get("CdtrAcct"), oracle.written(message))
 
 
 def right_rows(messages):
@@ -312,7 +328,10 @@ STRANGE = "a\u2028b\u0085c\u001cd\"e\\f\ng|h%"  # characters at which a text cou
 def odd_posts():
     """Lines of several posts: identifications with signs that have a meaning in an address, recalls of several transfers, contradictions by
     an identity that messages on different transfers have, and messages that change no line."""
-    line = lambda *messages: "".join(map(samples.line, messages)).encode()
+
+    def line(*messages):
+        return "".join(map(samples.line, messages)).encode()
+
     yield line(*(instruction(tx, Ustrd=STRANGE, Dbtr=STRANGE) for tx in ODD))
     yield line(*map(confirmation, ODD[:6]), recall(*ODD[:5], "nowhere", MsgId="K1"))
     yield line(recall("T/1", "T/1", "T 1", MsgId="K2"), rejection("T?1", MsgId="C2"))
@@ -470,7 +489,10 @@ def is_made_again(trial):
     """What somebody removes or drops of a database while it is kept is made again."""
     with Led() as site, Mirror(site.url, trial.fresh("dropped.db")) as mirror:
         site.take(*map(instruction, "ABC"), recall("A", "B"), confirmation("A"), rejection("A", MsgId="X"))
-        is_right = lambda: equals(mirror.path, site.held, site.vector(), 5)
+
+        def is_right():
+            return equals(mirror.path, site.held, site.vector(), 5)
+
         index = "SELECT name FROM sqlite_master WHERE name = 'message_on'"
         yield "the tables are the texts", is_right()
         for name, done in DONE.items():
@@ -672,7 +694,10 @@ def asks_in_turn(trial):
         many = len(site.asked)
         yield "a site that is away is asked after pauses", 4 <= many <= 8 and mirror.said().count("tried again") == 1
         site.instead = None
-        words = lambda: [mirror.said().count(word) for word in ("tried again", "it goes on")]
+
+        def words():
+            return [mirror.said().count(word) for word in ("tried again", "it goes on")]
+
         yield "it is followed again, and both are said once", until(lambda: words() == [1, 1])
         yield "each request has the token", {token for _, _, token in site.asked} == {"Bearer one-token"}
         site.instead = lambda request: request.send(b"who is it?\n", status=401) or True
@@ -766,8 +791,9 @@ def values_of(names, r, held):
     """Values for the names that a question needs. Some are of transfers with several messages."""
     keys = sorted(key for key, said in model.by_transfer(held).items() if len(said) > 3)
     keys = r.sample(keys, 4) + r.sample(sorted({key for message in held for key in oracle.transfers(message)}), 3)
-    known = {"before": ["2025-04-01"], "day": ["2025-04-20"], "since": ["2025-03-12", "2026-01-01"],
-             "bank": [bank.decode() for bank, _ in keys], "transfer": [tx.decode() for _, tx in keys]}
+    known = {"before": ["2025-04-01"], "day": ["2025-04-20"],
+             "bank": [bank.decode() for bank, _ in keys], "transfer": [tx.decode() for _, tx in keys],
+             "what": [keys[0][1].decode(), "NOTPROVIDED", "310", "DE48200997000088120045"]}
     return zip(*([f"{name}={value}" for value in known[name]] for name in names)) if names else [()]
 
 
@@ -797,6 +823,44 @@ def answers_questions(trial):
         yield "and after it was killed", ask(mirror.path, "contradicted") == ask(path, "contradicted")
 
 
+def finds(trial):
+    """A site finds transfers in its mirror, by the question of the desk, and says so if it cannot."""
+    folder = trial.fresh("finds")
+    path, one = pathlib.Path(f"{folder}.db"), samples.instruction(TxId="T7", EndToEndId="E-7/A", IntrBkSttlmAmt="20.50")
+    with trial.site(folder, f"--mirror={path}") as hub:
+        def found(what):
+            return asked(hub.port, f"/find?{urllib.parse.urlencode({'what': what})}")
+
+        def said(what):
+            return sites.error_of(found(what))[:3]
+
+        yield "without a database it says so", said("T7") == (503, 503, "Busy")
+        with Mirror(f"http://127.0.0.1:{hub.port}", path) as its:
+            others = [samples.instruction(MsgId=f"N{number}", TxId=f"N{number}", IntrBkSttlmAmt="7.00") for number in range(101)]
+            asked(hub.port, "/messages", "".join(map(samples.line, [one, *others])).encode())
+            until(lambda: state(path).get("vector") == "1:102")
+            right = {"at": one["CreDtTm"], "bank": "BANKDEFFXXX", "tx": "T7", "status": "PENDING", "amount": "20.50", "endToEnd": "E-7/A",
+                     "debtorIban": one["DbtrAcct"], "creditorIban": one["CdtrAcct"], "beneficiary": "BANQFRPPXXX"}
+            answers = [found(what) for what in ("T7", "E-7/A", "20,50")]
+            yield "a transfer is found", [[json.loads(line) for line in it.body.splitlines()] for it in answers] == [[right]] * 3
+            yield "with the vector of the mirror", {it.headers["Niluppang-Vector"] for it in answers} == {"1:102"}
+            yield "no such transfer", [(it.status, it.body) for it in map(found, ("T8", "", "' OR 1 --"))] == [(200, b"")] * 3
+            many = found("7")
+            yield "of many the first ones are there", (many.body.count(b"\n"), many.headers.get("Niluppang-Partial")) == (100, "1")
+
+            def hubctl(what):
+                return harness.run([PYTHON, SERVICES / "hub" / "hubctl.py", "--url", its.words[-2], "find", what])
+
+            yield "hubctl finds it", (hubctl("T7").text, hubctl("T7").status) == (answers[0].body, 0)
+            yield "hubctl says that there is none", hubctl("T8") == (b"", b"hubctl: no such transfer\n", 1)
+            does(path, "UPDATE mirror SET site = 2")
+            yield "the mirror of another site is not asked", said("T7") == (503, 503, "Busy")
+        path.write_bytes(b"no database" * 1000)
+        yield "a damaged one is not asked", said("T7") == (503, 503, "Busy")
+    with trial.site(trial.fresh("alone")) as hub:
+        yield "a site without a mirror", said("T7") == (404, 404, "NotFound")
+
+
 # the answers of the panels on the messages of `has_panels`, at 10 o'clock on 2024-05-20, by hand
 PANELS = {
     "Age of the mirror": [(42,)],
@@ -813,9 +877,14 @@ PANELS = {
 
 def small_day():
     """Transfers of each status, with recalls of several ages."""
-    euros = lambda amount: {"OrgnlIntrBkSttlmAmt": amount}
-    asked_back = lambda cxl, tx, at, **more: samples.recall(
-        [samples.transaction(CxlId=cxl, OrgnlTxId=tx, **more)], MsgId=f"K {cxl}", CreDtTm=f"2024-05-{at}T08:00:00Z")
+
+    def euros(amount):
+        return {"OrgnlIntrBkSttlmAmt": amount}
+
+    def asked_back(cxl, tx, at, **more):
+        return samples.recall(
+            [samples.transaction(CxlId=cxl, OrgnlTxId=tx, **more)], MsgId=f"K {cxl}", CreDtTm=f"2024-05-{at}T08:00:00Z")
+
     yield from (instruction("T1", IntrBkSttlmAmt="1000.00"), confirmation("T1"), instruction("T2", IntrBkSttlmAmt="2.50"))
     yield from (instruction("T3", CreDtTm="2024-05-10T12:00:00+02:00"), samples.request(OrgnlTxId="T3"))
     yield from (samples.instruction(MsgId="M4", TxId="T4"), samples.instruction(MsgId="M4", TxId="T4", IntrBkSttlmAmt="3.00"))
@@ -866,7 +935,7 @@ def is_shown(path, title, panel, right):
 
 def check(python, program):
     checks = [loads_after_many, survives_kills, survives_sites, follows, compares, is_made_again, asks_in_turn, says_what_it_has,
-              brings_the_last, loads_at_odd_moments, goes_on, opens_again, is_a_desk, answers_questions, has_panels]
+              brings_the_last, loads_at_odd_moments, goes_on, opens_again, is_a_desk, answers_questions, finds, has_panels]
     return tried("mirrors", checks, python, program)
 
 

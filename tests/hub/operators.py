@@ -4,7 +4,19 @@ Most of it is tried on journals that are written by hand, with faults of each ki
 a journal is copied while clients post, that a copy is put back, and that a number is retired while the others go on. Children that only
 write down which signals they get show how several sites are kept.
 """
-import asyncio, contextlib, hashlib, io, json, logging, os, signal, sqlite3, subprocess, sys, threading, time
+import asyncio
+import contextlib
+import hashlib
+import io
+import json
+import logging
+import os
+import signal
+import sqlite3
+import subprocess
+import sys
+import threading
+import time
 from tests import harness, inputs
 from tests.harness import SERVICES
 from tests.hub import sites
@@ -229,7 +241,10 @@ def backs_up(trial):
     names = in_folder(out)
     unnoted = said(words.backup, its, trial.program, out / "new", Noted(Unable("no record")))
     write_journal(its.journal, 1, GROUP, [lines[0], changed(lines[1])])
-    backup = lambda: said(words.backup, its, trial.program, out / "new", Noted())
+
+    def backup():
+        return said(words.backup, its, trial.program, out / "new", Noted())
+
     yield "backup: a line that is refused", is_wrong(backup(), "nothing was done", "line 3: ")
     write_journal(its.journal, 2, GROUP, lines)
     yield "backup: the journal of another site", is_wrong(backup(), "fault 76")
@@ -343,7 +358,9 @@ def halts_after_an_old_copy(trial):
         done = trial.ran(one, f"--restore={copy}")
         yield "a copy is put in its place", done.status == 0 and done.text.startswith(b"1:15\nmessages 15, ")
         with trial.site(one, f"--peer=2=http://127.0.0.1:{peer.port}", is_well=False) as again:
-            answer = lambda: asked(again.port, "/messages", lines_of(30, 1))
+            def answer():
+                return asked(again.port, "/messages", lines_of(30, 1))
+
             yield "the site starts on it, and halts since its peer knows more", until(lambda: answer().status == 409, 15)
             yield "and gives no number twice", asked(again.port, "/vector").body == b"1:15\n" and b"43 OwnAhead" in answer().body
         cleared = trial.ran(one, "--clear-halt")
@@ -414,7 +431,7 @@ def adopts(trial):
         await keeper.take([one])
     found, errors, halt = adopted(trial, its, path, noted, prepare)
     yield "adopt: what is printed", found == ("taken 2, repeats 1, refused 2\nnew entries of other sites 5, refused parts of deltas 1\n"
-                                             "the site holds 2:4,3:2,4:4", 1)
+                                              "the site holds 2:4,3:2,4:4", 1)
     yield "adopt: each line that is refused is on standard error", sorted(errors.splitlines()) == sorted([
         "line 12: 45 2 (delta)", f"line 5: {why} (message 3)", "line 7: blank (message 4)", "4 bytes after line 12 do not count"])
     yield "adopt: a line that the site has in another form does not halt it", halt is None
@@ -436,7 +453,7 @@ def adopts(trial):
                                    b"delta 2\torigin 0 1 1\t{}\tend 1"])
     found, errors, _ = adopted(trial, its, path, Noted())
     yield "adopt: what is no delta is refused as it is", (found[1], errors) == (1, "line 2: 45 2 (delta)\nline 3: 45 3 (delta)\n"
-                                                                               "line 4: 45 2 (delta)\nline 5: 45 2 (delta)\n")
+                                                                                "line 4: 45 2 (delta)\nline 5: 45 2 (delta)\n")
 
 
 def adopts_nothing(trial):
@@ -659,7 +676,8 @@ def keeps_several_in_trouble(trial):
         parent.ask()
         yield "several: asked again, one that must not start is tried again", parent.are(["begins"] * 2, 2)
         yield "several: and so is one that had no program", parent.are(["begins"], 4)
-        yield "several: then all go on", parent.are(["begins", "again"], 1) and len(list(sites.below(parent.process.pid))) == 4
+        yield "several: then all go on", parent.are(["begins", "again"], 1) and until(
+            lambda: len(list(sites.below(parent.process.pid))) == 4)
 
 
 def ends_several(trial):
@@ -700,7 +718,10 @@ def retires_a_number(trial):
     with sites.Hub(trial.python, trial.program, folder, config=config) as hub:
         def words_of_4(*its):
             return harness.run([*hub.command, "--site=4", *its], env=hub.variables, seconds=60)
-        vectors = lambda *numbers: {asked(port + number - 1, "/vector").body for number in numbers}
+
+        def vectors(*numbers):
+            return {asked(port + number - 1, "/vector").body for number in numbers}
+
         until(lambda: all(sites.is_well(port + number) for number in range(3)))
         asked(port, "/messages", lines_of(1, 20))
         until(lambda: vectors(2, 3) == {b"1:20\n"})

@@ -2,13 +2,25 @@
 
 `python3 -m tests.hub.page PICTURE` writes a picture of it too.
 """
-import asyncio, contextlib, json, pathlib, shutil, socket, subprocess, sys, tempfile, threading, time
+import asyncio
+import contextlib
+import json
+import pathlib
+import re
+import shutil
+import socket
+import sys
+import tempfile
+import threading
+import time
+import urllib.request
+from tests.chromium import Browser, Failed
 from tests.harness import EXAMPLES, SERVICES, reported
-from tests.hub import sites
+from tests.hub import mirrors, sites
 sys.path.insert(0, str(SERVICES))
 from hub import record
 
-DRIVER = pathlib.Path(__file__).with_name("chromium.py")
+SECONDS = 15  # in which a script must become true
 SEARCH = 'document.getElementById("transfer").innerText'
 TIMES = '[...document.querySelectorAll("#transfer tbody tr td:first-child")]'
 FIRST = 'document.querySelector("#news .id").textContent'
@@ -17,11 +29,16 @@ WAITING = 'document.getElementById("waitingRows").innerText'
 
 
 def steps(post):
-    """What is done with the page, and what must be on it then. `post` is a script that posts an example at the site."""
+    """What is done with the page, and what must be on it then. `post` is a script that posts an example at the site.
+
+    A step is a script whose value must become true, or one that is done, a key, a text that is typed, a width, a height and whether it is
+    dark, or an address that must answer what fits a pattern.
+    """
     return [
-        {"size": [1280, 900]},
+        {"look": [1280, 900]},
         'document.getElementById("state").textContent === "well"',
         'document.getElementById("many").textContent === "none yet"',
+        'document.getElementById("before").hidden && document.getElementById("group").textContent === ""',
         'document.querySelectorAll("#totals tr").length > 3',
         f'!document.getElementById("waiting").hidden && {WAITING}.includes("SCALBEBBXXX") && {WAITING}.includes("LATE/1")',
         {"key": "/"}, {"text": "lutefrpp"},
@@ -47,11 +64,25 @@ def steps(post):
         f'document.querySelectorAll("#transfer .finding").length > 0 && {SEARCH}.includes({FIRST}.split(" ")[0])',
         '/^[0-9]/.test(document.querySelector("#totals td.number").innerText)',
         'document.documentElement.scrollWidth <= innerWidth',
-        {"size": [420, 900]},
+        {"look": [420, 900]},
         'document.documentElement.scrollWidth <= innerWidth',
-        {"dark": True},
+        {"look": [420, 900, True]},
         'getComputedStyle(document.body).backgroundColor === "rgb(18, 22, 28)"',
-        {"dark": False}, {"size": [1280, 900]},
+        {"look": [1280, 900]},
+        'find("1250,00").then(() => location.hash === "#HANSDEHHXXX/HH-0003")',
+        {"key": "Escape"},
+        {"do": 'document.getElementById("tx").focus()'},
+        {"text": " HH-0003 "}, {"key": "Enter"},
+        f'/HANSDEHHXXX\\s+HH-0003\\s+REJECTED/.test({SEARCH}) && location.hash === "#HANSDEHHXXX/HH-0003"',
+        {"do": 'find("NOTPROVIDED")'},
+        'document.querySelectorAll("#transfer .found tbody tr").length > 5',
+        {"do": 'document.querySelector("#transfer .found button").click()'},
+        f'document.querySelectorAll("#transfer .found").length === 0 && /ACCEPTED/.test({SEARCH})',
+        {"do": 'find("NOPE")'},
+        f'{SEARCH} === "No such transfer."',
+        {"do": 'show("HANSDEHHXXX", "NOPE")'},
+        f'/UNKNOWN/.test({SEARCH}) && {SEARCH}.endsWith("No such transfer.")',
+        {"key": "Escape"},
         'fetch("/transfers/RHEIDE3K/RK-78").then(it => it.ok)',
         {"do": 'show("SUOMFIHHXXX", "FI-1")'},
         f'["BothConfirmed", "Identity", "ReasonsDiffer"].every(it => {SEARCH}.includes(it))',
@@ -66,7 +97,6 @@ def steps(post):
 # what is done with a page whose site is away for a time, and is back. The browser gives up the stream of changes, and the page opens it anew
 def away(url):
     return [
-        {"quiet": True},
         'document.getElementById("state").textContent === "well"',
         {"ask": [f"{url}/toggle/refuse", ".*"]},
         'document.getElementById("state").textContent === "not reached; no changes are received"',
@@ -80,6 +110,14 @@ def away(url):
         {"do": 'show("LUTEFRPPXXX", "LU20250310B6")'},
         f'/CONTRADICTED/.test({SEARCH})',
     ]
+
+
+# what is done with the page of a site whose group is closed, and came after another one
+CLOSED = [
+    'document.getElementById("group").textContent === "closed group: ask it about what was done before 2025-03-11"',
+    {"do": 'show("LUTEFRPPXXX", "A/B")'},
+    '!document.getElementById("before").hidden && document.getElementById("before").href === "http://old.example:8701/#LUTEFRPPXXX/A%2FB"',
+]
 
 
 class Between:
@@ -132,14 +170,57 @@ def handed_on(source, target):
             one.shutdown(socket.SHUT_RDWR)
 
 
-def used(python, url, steps, *picture):
-    """Whether each script became true on a page, and whether all were tried and the page reported no error."""
-    done = subprocess.run([python, DRIVER, url, json.dumps(steps), *picture], stdout=subprocess.PIPE, stderr=subprocess.STDOUT)
-    text = done.stdout.decode(errors="replace")
-    print(text, end="")
-    right = [line.endswith(": ok") for line in text.splitlines() if line.endswith((": ok", ": DIFFERS"))]
-    scripts = sum(isinstance(step, str) for step in steps)
-    return [*right, reported("the page reports no error, and all was tried", done.returncode == 0 and len(right) == scripts)]
+# ---- the steps in a browser
+
+def becomes(is_right):
+    """Whether something becomes right in some seconds."""
+    end = time.monotonic() + SECONDS
+    while time.monotonic() < end:
+        if is_right():
+            return True
+        time.sleep(0.05)
+    return False
+
+
+def is_true(browser, script):
+    """Whether the value of a script is true. A script may fail as long as the page is not there."""
+    with contextlib.suppress(Failed):
+        return browser.value(script) is True
+    return False
+
+
+def answers(address, pattern):
+    """Whether an address answers what fits a pattern. The page does not see it."""
+    with urllib.request.urlopen(address) as answer:
+        return re.fullmatch(pattern, answer.read().decode()) is not None
+
+
+# what is done in a step that is no script
+DOES = {"do": lambda browser, script: browser.value(f"{{{script}}}; 0"), "key": Browser.press, "text": Browser.type,
+        "look": lambda browser, sizes: browser.look(*sizes)}
+
+
+def tried(browser, step):
+    """Takes a step. Yields whether it is right, if it says what must be."""
+    if isinstance(step, str):
+        yield reported(step[:150], becomes(lambda: is_true(browser, step)))
+    elif "ask" in step:
+        yield reported(step["ask"][0], becomes(lambda: answers(*step["ask"])))
+    else:
+        [(kind, what)] = step.items()
+        DOES[kind](browser, what)
+
+
+def used(url, steps, *picture, is_away=False):
+    """Whether each script became true on a page, and whether all were tried and the page reported no error. While a site is away, answers
+    that fail are no errors."""
+    with Browser() as browser:
+        browser.go(url)
+        right = [is_right for step in steps for is_right in tried(browser, step)]
+        if picture:
+            browser.picture(*picture)
+        faults = browser.faults(and_failed=not is_away)
+        return [*right, reported("the page reports no error", not faults, "\n".join(faults))]
 
 
 def make_waiting(folder, site):
@@ -153,6 +234,17 @@ def make_waiting(folder, site):
     asyncio.run(put())
 
 
+def used_closed(python, program, folder):
+    """Uses the page of a site whose group is closed."""
+    port, its, config = sites.free_ports(1), folder / "closed", folder / "closed.toml"
+    its.mkdir(mode=0o700)
+    (its / "site1.closed").write_text("2025-03-11\n")
+    config.write_text(f'folder = "{its}"\nsite = 1\nport = {port}\nbefore = "http://old.example:8701/"\n')
+    with sites.Hub(python, program, its, config=config):
+        sites.until(lambda: sites.is_well(port))
+        return used(f"http://localhost:{port}/", CLOSED)
+
+
 def check(python, program):
     if shutil.which("chromium") is None:
         raise sites.Skipped("there is no chromium: apt-get install chromium")
@@ -161,13 +253,16 @@ def check(python, program):
     with tempfile.TemporaryDirectory(prefix="hub-page-") as folder:
         port = sites.free_ports(3)
         make_waiting(pathlib.Path(folder, "hub"), 2)
-        with sites.Hub(python, program, f"{folder}/hub", f"--port={port}"):
+        words = f"--port={port}", f"--mirror={folder}/site{{site}}.db"
+        with sites.Hub(python, program, f"{folder}/hub", *words), contextlib.ExitStack() as held:
             sites.until(lambda: all(sites.is_well(port + site) for site in range(3)))
+            held.enter_context(mirrors.Mirror(f"http://localhost:{port + 1}", f"{folder}/site2.db"))
             sites.asked(port, "/messages", (EXAMPLES / "bank-day.jsonl").read_bytes())
             sites.until(lambda: sites.asked(port + 1, "/vector").body == b"1:23\n")
-            right = used(python, f"http://localhost:{port + 1}/", steps(post), *sys.argv[1:])
+            right = used(f"http://localhost:{port + 1}/", steps(post), *sys.argv[1:])
             url = f"http://localhost:{Between(port).port}"
-            return right + used(python, f"{url}/#%", away(url))
+            right += used(f"{url}/#%", away(url), is_away=True)
+        return right + used_closed(python, program, pathlib.Path(folder))
 
 
 if __name__ == "__main__":

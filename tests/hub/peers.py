@@ -1,5 +1,11 @@
 """peers.py: sites of services/hub and peers that are odd, slow, an hour behind, or another site than they should be."""
-import contextlib, http.server, os, re, signal, threading, time
+import contextlib
+import http.server
+import os
+import re
+import signal
+import threading
+import time
 from bench.generate import messages
 from tests import inputs
 from tests.harness import TOP
@@ -176,7 +182,10 @@ def catches_up(trial):
 def takes_from_a_third(trial):
     """Entries of a site that is away come over a third one, if the configuration names it, and else not."""
     ports = sites.free_ports(2)
-    url = lambda number: f"--peer={number}=http://127.0.0.1:{ports + number - 1}"
+
+    def url(number):
+        return f"--peer={number}=http://127.0.0.1:{ports + number - 1}"
+
     with trial.site(trial.fresh("a"), "--hear=0", url(2), port=ports) as first:
         with trial.site(trial.fresh("b"), "--hear=0", url(1), number=2, port=ports + 1) as second:
             asked(first.port, "/messages", lines_of(1, 3))
@@ -193,7 +202,10 @@ def changes_peers(trial):
     """A configuration that is read again: with other peers while the site still hears them, and with a file that is not there."""
     ports, folder = sites.free_ports(2), trial.fresh("changed")
     config = folder.with_suffix(".toml")
-    write = lambda address, *more: config.write_text("\n".join([f'folder = "{folder}"', "site = 1", f"port = {ports}", *more, "[peers]", f'2 = "{address}"']))
+
+    def write(address, *more):
+        return config.write_text("\n".join([f'folder = "{folder}"', "site = 1", f"port = {ports}", *more, "[peers]", f'2 = "{address}"']))
+
     write("http://127.0.0.1:1")
     with trial.site(trial.fresh("other"), "--hear=0", f"--peer=1=http://127.0.0.1:{ports}", number=2, port=ports + 1):
         with sites.Hub(trial.python, trial.program, folder, config=config) as hub:

@@ -2,7 +2,22 @@
 
 Sums are made here again with hashlib. Files are edited through a connection of SQLite of their own. No package is needed.
 """
-import asyncio, contextlib, datetime, hashlib, itertools, json, logging, os, pathlib, re, shutil, sqlite3, subprocess, sys, tempfile, time
+import asyncio
+import contextlib
+import datetime
+import hashlib
+import itertools
+import json
+import logging
+import os
+import pathlib
+import re
+import shutil
+import sqlite3
+import subprocess
+import sys
+import tempfile
+import time
 from tests import harness
 from tests.harness import SERVICES, reported
 sys.path.insert(0, str(SERVICES))
@@ -874,7 +889,10 @@ def knows_crashes(folder):
 
 def knows_odd_rows(folder):
     """Rows that fit into the chain, and that no site writes."""
-    outcome = lambda *outcomes: ("outcome", record.outcomes_of(2, outcomes))
+
+    def outcome(*outcomes):
+        return ("outcome", record.outcomes_of(2, outcomes))
+
     repeat, twice = Outcome("REPEAT", 0, ""), ("outcome", {"of": 2, "outcomes": [["TAKEN", "x"], ["TAKEN", 10 ** 30], []]})
     odd = [[outcome()], [POST, outcome(repeat)], [WAIT, end_of_waiting("expired"), end_of_waiting("expired")], [end_of_waiting("taken", 3)],
            [WAIT, end_of_waiting("taken", 3, OTHER)], [("post", {"lines": 5})], [("post", {"lines": [[1]]}), ("outcome", {"of": [2]})],

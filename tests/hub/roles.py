@@ -2,7 +2,11 @@
 
 No site runs, and no package is needed but Python 3.11.
 """
-import base64, hashlib, pathlib, sys, tempfile
+import base64
+import hashlib
+import pathlib
+import sys
+import tempfile
 from tests import harness
 from tests.harness import SERVICES, reported
 if sys.version_info < (3, 11):
@@ -25,6 +29,7 @@ roles = "roles.toml"
 host = "10.0.0.2"
 peer_token = "/etc/peer.token"
 program = "/usr/bin/sct_sites"
+before = "https://site9.example:8700"
 [tls]
 certificate = "s{site}.crt"
 key = "/keys/s{site}.key"
@@ -75,8 +80,8 @@ def reads_configurations():
     found, folder = made(config.of_file, ONE)
     tls = config.Tls(f"{folder}/s2.crt", "/keys/s2.key", f"{folder}/ca.crt", "required")
     right = config.Settings(f"{folder}/data", 2, 8, "10.0.0.2", 8702, ("site2.example",), 1, 2.5, 2000, 30.0, 60, "/usr/bin/sct_sites",
-                            f"{folder}/roles.toml", "/etc/peer.token", tls,
-                            {1: "https://site1.example:8700", 3: "https://site3.example:8700"}, {4: 3})
+                            f"{folder}/roles.toml", "/etc/peer.token", tls=tls, through={4: 3}, before="https://site9.example:8700",
+                            peers={1: "https://site1.example:8700", 3: "https://site3.example:8700"})
     yield "a site", found == {2: right}
     found, _ = made(config.of_file, SEVERAL)
     yield "several sites have ports in a row, and know each other", {number: (it.port, it.peers) for number, it in found.items()} == {
@@ -92,7 +97,8 @@ def refuses_configurations():
     short = 'folder = "x"\nsite = 1\n'
     wrong = {
         "no key colour": short + 'colour = "red"\n', "[tls] has no key cert": short + TLS + 'cert = "x"\n', "has a folder": "site = 1\n",
-        "either a site or sites": short + "sites = [1]\n", "sites has a number twice": 'folder = "x"\nsites = [1, 1]\n', "twice, or none": 'folder = "x"\nsites = []\n',
+        "either a site or sites": short + "sites = [1]\n", "sites has a number twice": 'folder = "x"\nsites = [1, 1]\n',
+        "twice, or none": 'folder = "x"\nsites = []\n',
         "site in ": 'folder = "x"\nsite = "1"\n', "port in ": short + "port = true\n", "host in ": short + "host = 1\n",
         "[tls] lacks key and authority": short + '[tls]\ncertificate = "x"\n', "required or optional": short + TLS + 'clients = "none"\n',
         "[tls] needs roles": short + TLS, "only this machine is served": short + 'host = "0.0.0.0"\n',
@@ -101,7 +107,9 @@ def refuses_configurations():
         "hear is a number of peers": short + "hear = 1\n", "a peer that hands its entries on": short + "[through]\n4 = 2\n",
         "[through] is for sites that are no peers": short + '[peers]\n2 = "http://x"\n3 = "http://y"\n[through]\n2 = 3\n',
         "numbers of sites to numbers": short + "[through]\n4 = true\n", "names is not a list of texts": short + "names = [1]\n",
-        "is not TOML": "folder = \n", "a token goes in clear": short + 'roles = "r"\n' + TLS + '[peers]\n2 = "http://x"\n', "is out of range": short + "port = 0\n", "tls is not a table": short + 'tls = "x"\n',
+        "is not TOML": "folder = \n", "a token goes in clear": short + 'roles = "r"\n' + TLS + '[peers]\n2 = "http://x"\n',
+        "is out of range": short + "port = 0\n",
+        "before is the address of a site": short + 'before = "javascript:x"\n', "tls is not a table": short + 'tls = "x"\n',
         "[peers] is for one site": SEVERAL + '[peers]\n2 = "http://x"\n', "silence, or waiting is out of range": short + "waiting = -1\n",
     }
     found = {text: why(config.of_file, its) for text, its in wrong.items()}
@@ -121,7 +129,10 @@ def certificate(*names):
 
 def knows_who_asks():
     roles, _ = made(access.Roles, ROLES)
-    who = lambda header="", *names: getattr(roles.who(certificate(*names), header), "name", None)
+
+    def who(header="", *names):
+        return getattr(roles.who(certificate(*names), header), "name", None)
+
     yield "by a name of a certificate", [who("", name) for name in ("DNS:site2.example", "URI:spiffe://hub/lutefrpp")] == ["site-2", "lutefrpp"]
     yield "a name of another kind, another letter, or another certificate is nobody's", [
         who("", name) for name in ("URI:site2.example", "DNS:Site2.example", "DNS:site2.example.evil", "email:site2.example")] == ["nobody"] * 4
@@ -138,7 +149,8 @@ def knows_who_asks():
     yield "the banks of a who have 11 characters", bank.banks == {"LUTEFRPPXXX", "HANSDEHH370"} and roles.has_banks()
     yield "which sites a certificate is", [roles.is_peer(n, certificate("DNS:site2.example")) for n in (2, 3, 5)] == [True, False, True]
     yield "and that one that is two at once is none", not roles.is_peer(2, certificate("DNS:site2.example", "DNS:gateway.lutefrpp.example"))
-    yield "who sends in the name of a bank", [roles.may_send(*it) for it in (("lutefrpp", "LUTEFRPPXXX"), ("lutefrpp", "SCALBEBBXXX"), ("desk", "LUTEFRPPXXX"))] == [
+    yield "who sends in the name of a bank", [
+        roles.may_send(*it) for it in (("lutefrpp", "LUTEFRPPXXX"), ("lutefrpp", "SCALBEBBXXX"), ("desk", "LUTEFRPPXXX"))] == [
         True, False, False]
     yield "a bank is no peer", not roles.is_peer(2, certificate("DNS:gateway.lutefrpp.example")) and peer.peers == {2, 5}
     yield "without a file everyone may do all", access.Roles().who(None, "Bearer x") is access.LOCAL and all(

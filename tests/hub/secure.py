@@ -1,5 +1,11 @@
 """secure.py: sites of services/hub with TLS and roles for a check: certificates of an authority of its own, a file of roles, a configuration."""
-import hashlib, http.client, json, pathlib, ssl
+from __future__ import annotations
+import hashlib
+import http.client
+import json
+import pathlib
+import ssl
+from typing import Any
 from tests import harness
 from tests.harness import SERVICES
 from tests.hub.sites import answer_on
@@ -13,28 +19,31 @@ ROLES = {
 }
 
 
-def sum_of(token):
+def sum_of(token: Any) -> Any:
     return f"sha256:{hashlib.sha256(token.encode()).hexdigest()}"
 
 
-def certificate(folder, name, *others):
+def certificate(folder: pathlib.Path, name: str, *others: Any) -> None:
     """Makes a certificate, whose authority is made first if it is not there."""
     done = harness.run(["sh", CERTIFICATES, folder, name, *others])
     if done.status:
         harness.stop(f"certificates.sh failed: {done.errors.decode(errors='replace')}")
 
 
-def roles_text(roles, tokens):
+def roles_text(roles: Any, tokens: Any) -> Any:
     """A file of roles."""
-    table = lambda name: [f"[{name}]", f"roles = {json.dumps(roles[name])}", f'certificates = ["DNS:{name}"]'] + (
-        [f"tokens = {json.dumps(list(map(sum_of, tokens[name])))}"] if name in tokens else [])
+
+    def table(name: Any) -> Any:
+        return [f"[{name}]", f"roles = {json.dumps(roles[name])}", f'certificates = ["DNS:{name}"]'] + (
+            [f"tokens = {json.dumps(list(map(sum_of, tokens[name])))}"] if name in tokens else [])
+
     return "\n".join(line for name in roles for line in table(name)) + "\n"
 
 
 class Secured:
     """Certificates, roles and configurations in a folder."""
 
-    def __init__(self, folder, roles=None):
+    def __init__(self, folder: Any, roles: Any = None) -> None:
         self.folder, self.roles = pathlib.Path(folder), dict(roles or ROLES)
         self.folder.mkdir(parents=True, exist_ok=True)
         for name in self.roles:
@@ -42,11 +51,11 @@ class Secured:
         certificate(self.folder / "other", "desk")  # of another authority
         self.write_roles()
 
-    def write_roles(self, **changed):
+    def write_roles(self, **changed: Any) -> None:
         self.roles.update(changed)
         (self.folder / "roles.toml").write_text(roles_text(self.roles, {"desk": [DESK_TOKEN, OLD_TOKEN]}))
 
-    def configured(self, data, sites, port, *lines, clients="required", **keys):
+    def configured(self, data: Any, sites: Any, port: Any, *lines: Any, clients: str = "required", **keys: Any) -> Any:
         """The path of the configuration of some sites of this machine, or of one."""
         path = self.folder / f"{data.name}.toml"
         more = [f"{key} = {json.dumps(value)}" for key, value in keys.items()]
@@ -57,17 +66,18 @@ class Secured:
             f'authority = "{self.folder}/tls/authority.crt"', f'clients = "{clients}"', *lines]) + "\n")
         return path
 
-    def context(self, who="gateway", authority="tls"):
+    def context(self, who: str = "gateway", authority: str = "tls") -> Any:
         """How a client connects, with the certificate of somebody or without one."""
         it = ssl.create_default_context(cafile=self.folder / "tls" / "authority.crt")
         if who:
             it.load_cert_chain(self.folder / authority / f"{who}.crt", self.folder / authority / f"{who}.key")
         return it
 
-    def asked(self, port, path, body=None, who="gateway", timeout=60, authority="tls", context=None, **headers):
+    def asked(self, port: Any, path: Any, body: Any = None, who: str = "gateway", timeout: int = 60, authority: str = "tls", context: Any = None,
+              **headers: Any) -> Any:
         """The answer of a site to somebody."""
         its = context or self.context(who, authority)
         return answer_on(http.client.HTTPSConnection("localhost", port, timeout=timeout, context=its), path, body, headers)
 
-    def is_well(self, port):
+    def is_well(self, port: Any) -> bool:
         return self.asked(port, "/health", who="desk").status == 200

@@ -2,10 +2,21 @@
 
 The lines are those of somebody who means harm. They are read by the library, or by its stand-in of the definitions. No package is needed.
 """
-import concurrent.futures, copy, io, json, os, pathlib, random, shutil, subprocess, sys, tempfile, types
+import concurrent.futures
+import copy
+import io
+import json
+import os
+import pathlib
+import random
+import shutil
+import subprocess
+import sys
+import tempfile
+import types
 from bench.generate import samples
 from bench.generate.samples import confirmation, instruction, payback, recall, refusal, request, transaction
-from tests.harness import SERVICES, TOP, reported
+from tests.harness import DESK, SERVICES, TOP, reported
 from tests.hub import sites
 from tests.oracle.status import read_message, written
 sys.path.insert(0, str(SERVICES))
@@ -83,7 +94,10 @@ def reads_kinds(reader):
 
 def reads_tricks(reader):
     """Lines that another reader of JSON may read in another way."""
-    read = lambda line: bare(reader.read([line]))[0]
+
+    def read(line):
+        return bare(reader.read([line]))[0]
+
     plain = posted(instruction())
     yield "of a key twice the last one counts", read(with_more(instruction(), b'"InstgAgt":"SUOMFIHH"')) == ("pacs.008", C, (T1,), B)
     yield "in the other order, too", read(b'{"InstgAgt":"SUOMFIHH",' + plain[1:]) == INSTRUCTION
@@ -220,7 +234,10 @@ def fails_closed(reader):
     """A line that is not read must never look like one that the core refuses: the program may take it."""
     lines = [posted(instruction()), b"x", posted(confirmation())]
     one, other = (it.line + b"\n" for it in reader.read(lines) if it)
-    of = lambda *found: other_library(reader, lambda *_: b"".join(found))
+
+    def of(*found):
+        return other_library(reader, lambda *_: b"".join(found))
+
     right = of(one, b"line 2: 31\n", other)
     yield "a library that does what it must", bare(right.read(lines)) == [INSTRUCTION, None, CONFIRMATION]
 
@@ -419,7 +436,9 @@ def looks_up(reader):
 # ---- what a bank may read
 
 def reads_own(reader):
-    may = lambda text, *banks, name=T1: [senders.may_read({bank}, *name, text) for bank in banks]
+    def may(text, *banks, name=T1):
+        return [senders.may_read({bank}, *name, text) for bank in banks]
+
     held = archived(instruction(InstdAgt="LUTEFRPP"), confirmation(InstdAgt="LUTEFRPP"))
     yield "the two banks of a transfer", may(held, A, B, C, D, E) == may(bytearray(held), A, B, C, D, E) == [
         True, True, False, False, False]
@@ -467,8 +486,7 @@ def list_of(*names):
 def names_rows(reader):
     named = senders.rows_of_list
     data = list_of(("BANKDEFF", "T2"), T1, (C, "T1"), ("BANKDEFF", "T1"))
-    yield "the transfers of a list, each once", named(data) == named(data, B) == [T2, T1, (C, "T1")]
-    yield "without those of the bank that asks", [named(data, bank) for bank in (A, "BANKDEFF", C)] == [[(C, "T1")], [(C, "T1")], [T2, T1]]
+    yield "the transfers of a list, each once", named(data) == named(data, False) == [T2, T1, (C, "T1")]
     yield "a list without rows", named(HEADER) == named(b"") == named(BOM + HEADER) == named(b"\n\r\n\n" + HEADER + b"\n") == []
     yield "quotes", named(HEADER + b'"BANKDEFF","T,1",1,PENDING\n"BANK"DEFF,T2,1,PENDING\n') == [(A, "T,1"), T2]
     ends = BOM + b"\n\nx\rBANKDEFF,T1,1,PENDING\r\r\nBANKDEFF,T2,1,PENDING\r\n\n\rBANKDEFF,T3,1,PENDING"
@@ -483,6 +501,8 @@ def names_rows(reader):
     many = [(A, f"T{number}") for number in range(20_000)]
     yield "a list of 20,000 rows", named(list_of(*many)) == many
     yield "a longer one", all("20000 rows" in failure(BadList, named, list_of(*it)) for it in (many + [T1], [T1] * 20_001))
+    more = list_of(*many, T1, ("BANKDEFF", "T20001")).ljust(3 << 20, b"\n")
+    yield "one of the desk is not bounded", named(more, False) == [*many, (A, "T20001")]
     longest = HEADER.ljust((2 << 20) - 1, b"\n")
     too_long = failure(BadList, named, longest + b"\n\n")
     yield "a list of 2 MiB, and a longer one", named(longest + b"\n") == [] and "2097152 bytes" in too_long
@@ -531,21 +551,40 @@ def compares(reader):
     texts = {T1: archived(instruction()), (A, "T9"): alone, (A, "T77"): b"",
              T2: archived(instruction(TxId="T2"), instruction(TxId="T2", MsgId="M2", CdtrAgt="ARNOITFF"))}
     data = b"\n" + list_of(T1, ("BANKDEFF", "T9"), (A, "T77"), T2, T1)
-    faults = lambda bank, data=data, day="2024-05-02": senders.list_faults(bank, day, data, texts)
-    to_b = lambda row, bank, tx="T1": f"row {row}: {A} {tx} is a transfer to {B}, and not of {bank}"
-    no_bank = lambda bank: f"row 3: {A} T9 has no instruction, and {bank} is not one of its banks"
+    held = {transfer: senders.held_on(text, *transfer) for transfer, text in texts.items()}
+
+    def findings(bank, data=data, day="2024-05-02"):
+        return senders.list_findings(bank, day, data, held)
+
+    def faults(*words):
+        return findings(*words)[0]
+
+    def to_b(row, bank, tx="T1"):
+        return f"row {row}: {A} {tx} is a transfer to {B}, and not of {bank}"
+
+    def no_bank(bank):
+        return f"row 3: {A} T9 has no instruction, and {bank} is not one of its banks"
+
     yield "the originator bank", faults(A) == faults("BANKDEFF") == []
     yield "the beneficiary bank of some rows", faults(B) == faults("BANQFRPP") == [no_bank(B)]
     yield "that of others", faults(D) == [to_b(2, D), to_b(6, D)]
     yield "another bank", faults(C) == [to_b(2, C), no_bank(C), to_b(5, C, "T2"), to_b(6, C)]
     yield "a bank that a message was sent to", faults(E, list_of((A, "T9"))) == []
-    yield "another day forbids nothing", faults(B, list_of(T1), "2030-01-01") == faults(B, list_of(T1), "no day") == []
+    other_day = "is of 2024-05-02, and not of 2030-01-01; the report compares it all the same"
+    yield "another day forbids nothing, and is said", findings(B, list_of(T1, (A, "T77"), T2), "2030-01-01") == (
+        [], [f"row {row}: {A} {tx} {other_day}" for row, tx in ((2, "T1"), (4, "T2"))]) and findings(B, list_of(T1)) == ([], [])
+    yield "to the originator bank too", findings(A, list_of(T1), "2030-01-01") == ([], [f"row 2: {A} T1 {other_day}"])
     yield "a row that nothing is held of", faults(C, list_of((A, "T77"))) == []
     broken = [b"", b"x,y\n", b"BANKDEFF,T1\xff,1,PENDING\n", b"\x00", b'BANKDEFF,"T\n? archive",1,PENDING\n', b'BANKDEFF,"T1']
     yield "lists that the program refuses", [faults(C, HEADER + it) for it in broken] == [*[[]] * 5, [to_b(2, C)]]
-    yield "a row that nobody looked up", failure(KeyError, faults, C, list_of((A, "T78"))) != "" and faults(A, list_of((A, "T78"))) == []
-    texts.update({transfer: senders.deciding(text) for transfer, text in texts.items()})
-    yield "what is deciding of the texts is enough", faults(C) == [to_b(2, C), no_bank(C), to_b(5, C, "T2"), to_b(6, C)]
+    yield "a row that nobody looked up", [failure(KeyError, faults, bank, list_of((A, "T78"))) != "" for bank in (A, C)] == [True, True]
+    both = archived(recall([transaction(), transaction(CxlId="R2", OrgnlTxId="T2")], InstdAgt="ARNOITFF"))
+    parts = [senders.held_on(both, *transfer) for transfer in (T1, T2, (A, "T3"))]
+    yield "of a recall of several transfers each has its part alone", parts == [
+        ([], {A, D}), ([], {A, D}), ([], set())]
+    wrong = [failure(senders.BadText, senders.must_be_words, *words) for words in (("bankdeff", "2024-05-02"), ("BANKDEFF", "2024-02-30"))]
+    yield "words of a report", senders.must_be_words("BANKDEFF", "2024-02-29") is None and wrong == [
+        "bankdeff is not a BIC of 8 or 11 capitals and digits", "2024-02-30 is not a day such as 2025-03-10"]
     forms = [BOM + list_of(T1), HEADER + b'"BANKDEFFXXX","T1",1,ACCEPTED\r', HEADER.replace(b"\n", b"\r\n\r\n") + b"BANKDEFF,T1"]
     yield "other forms of a list", [faults(C, it) for it in forms] == [[to_b(2, C)]] * 3
     yield "a list that is too long", "20000 rows" in failure(BadList, faults, C, list_of(*[T1] * 20_001))
@@ -568,22 +607,23 @@ for find, words in ((places.niluppang_package, []), (places.desk_module, ["field
         print("Wrong:", why)
 print(sys.path == before)
 """
-DESK, PACKAGE = ("fields.py", "check_list.py"), "niluppang/__init__.py"
+TOOLS, PACKAGE = ("fields.py", "check_list.py"), "niluppang/__init__.py"
 
 
 def put_desk(folder, is_empty=False):
     """Puts the tools of the desk into a new folder, or empty files of their names."""
     folder.mkdir(parents=True)
-    for name in DESK:
-        (folder / name).write_bytes(b"" if is_empty else (TOP / "examples" / "desk" / name).read_bytes())
+    for name in TOOLS:
+        (folder / name).write_bytes(b"" if is_empty else (DESK / name).read_bytes())
     return folder
 
 
 def put_services(folder):
     """Puts the services into a new folder."""
     (folder / "hub").mkdir(parents=True)
-    for name in ("__init__", "files", "keeper", "places", "process", "senders", "vectors"):
+    for name in ("__init__", "errors", "files", "keeper", "notify", "opening", "places", "process", "senders", "vectors"):
         shutil.copy(SERVICES / "hub" / f"{name}.py", folder / "hub")
+    shutil.copy(SERVICES / "hub" / "codes.json", folder / "hub")
     return folder
 
 
@@ -599,22 +639,20 @@ def found(services, before="", **variables):
 
 def parts(package, desk):
     """What is printed if these folders have the parts."""
-    return [f"{package}/{PACKAGE}", *(f"{desk}/{name}" for name in DESK), "True"]
+    return [f"{package}/{PACKAGE}", *(f"{desk}/{name}" for name in TOOLS), "True"]
 
 
 def finds(reader):
-    yield "the parts of a clone", found(SERVICES) == parts(TOP / "bindings" / "python", TOP / "examples" / "desk")
+    yield "the parts of a clone", found(SERVICES) == parts(TOP / "bindings" / "python", DESK)
     with tempfile.TemporaryDirectory() as folder:
         top = pathlib.Path(folder).resolve()
         share = top / "release" / "share"
-        package, desk = put_package(share / "niluppang" / "python"), put_desk(share / "doc" / "niluppang" / "examples" / "desk")
+        package, desk = put_package(share / "niluppang" / "python"), put_desk(share / "niluppang" / "desk")
         yield "those of a release", found(put_services(share / "niluppang" / "services")) == parts(package, desk)
         share = top / "usr" / "share"
         package, desk = put_package(top / "usr" / "lib" / "python3" / "dist-packages"), put_desk(share / "niluppang" / "desk")
         services = put_services(share / "niluppang" / "services")
         yield "those of Debian", found(services, PYTHONPATH=str(package)) == parts(package, desk)
-        put_desk(share / "doc" / "niluppang" / "examples" / "desk", is_empty=True)
-        yield "and not those among its documents", found(services, PYTHONPATH=str(package)) == parts(package, desk)
         other = put_desk(top / "other", is_empty=True)
         yield "nor others of their names", found(services, PYTHONPATH=f"{other}:{package}") == parts(package, desk)
         loaded = found(services, "fields,check_list", PYTHONPATH=f"{other}:{package}")
@@ -633,7 +671,7 @@ def finds_nothing(reader):
         services = put_services(pathlib.Path(folder).resolve() / "share" / "niluppang" / "services")
         package, *tools, is_same = found(services)
         yield "there is no package, and how to get it", package.startswith("Wrong: there is no ") and "python3-niluppang" in package
-        begins = [line.startswith(f"Wrong: there is no {name}") and "/usr/share/niluppang/desk" in line for name, line in zip(DESK, tools)]
+        begins = [line.startswith(f"Wrong: there is no {name}") and "/usr/share/niluppang/desk" in line for name, line in zip(TOOLS, tools)]
         yield "there are no tools, and where they are", begins == [True] * 2
         yield "the folders of modules are as before", is_same == "True"
         (services.parents[2] / "empty" / "niluppang").mkdir(parents=True)

@@ -1,5 +1,20 @@
 """sites.py: starts sites of services/hub for a check, and asks them over HTTP. They run on the program, or on its stand-in."""
-import collections, contextlib, glob, http.client, itertools, json, os, pathlib, resource, socket, subprocess, sys, tempfile, threading, time
+from __future__ import annotations
+import contextlib
+import glob
+import http.client
+import itertools
+import json
+import os
+import pathlib
+import resource
+import socket
+import subprocess
+import sys
+import tempfile
+import threading
+import time
+from typing import Any, Callable, Iterator, NamedTuple
 from tests import harness
 from tests.harness import SERVICES, TOP
 from tools import library as libraries
@@ -8,14 +23,18 @@ MAIN = SERVICES / "hub" / "main.py"
 PACKAGES = "python3-aiohttp"
 LATEST = 30  # seconds in which something must come about
 
-Answer = collections.namedtuple("Answer", "status body headers")
+
+class Answer(NamedTuple):
+    status: int
+    body: bytes
+    headers: Any
 
 
 class Skipped(Exception):
     """Why the check cannot run on this machine."""
 
 
-def interpreter():
+def interpreter() -> str:
     """A Python that has aiohttp. Debian's packages are those of /usr/bin/python3."""
     for path in (sys.executable, "/usr/bin/python3"):
         if os.path.isfile(path) and harness.run([path, "-c", "import aiohttp"]).status == 0:
@@ -24,7 +43,7 @@ def interpreter():
 
 
 @contextlib.contextmanager
-def library():
+def library() -> Iterator[str]:
     """The path of the library: the one that a variable names, else one that is made of what the gate leaves, else a stand-in of the
     definitions. Nothing is proved for it. A line says which it is."""
     named = os.environ.get("NILUPPANG_LIBRARY")
@@ -40,7 +59,7 @@ def library():
         yield os.path.abspath(made)
 
 
-def stand_in(folder):
+def stand_in(folder: str) -> pathlib.Path:
     """A stand-in for the library, made in a folder."""
     path, source = pathlib.Path(folder, "libniluppang.so"), harness.STAND_IN.parent
     words = ["-std=gnu11", "-Wall", "-Wextra", "-Werror", "-shared", "-fPIC", f"-I{TOP / 'include'}", f'-DSERVER="{source / "library.py"}"']
@@ -50,7 +69,7 @@ def stand_in(folder):
     return path
 
 
-def ended(check, *words):
+def ended(check: Callable[..., Any], *words: Callable[..., Any]) -> None:
     """Runs a check, and ends with its last line. A machine without the parts skips it, and a line says why."""
     try:
         right = check(*(word() for word in words))
@@ -60,7 +79,7 @@ def ended(check, *words):
     harness.end_of(right)
 
 
-def checked(check):
+def checked(check: Callable[..., Any]) -> None:
     """Runs a check on the program or its stand-in."""
     ended(check, interpreter, harness.program_or_stand_in)
 
@@ -71,7 +90,7 @@ handed_out = [21000 + os.getpid() % 4000 * 4]  # the port after those that this 
 one_at_a_time = threading.Lock()
 
 
-def free_ports(many):
+def free_ports(many: int) -> int:
     """Ports in a row that nobody listens at, and that this check was not given before: a site that is killed comes back to its own."""
     with one_at_a_time:
         for first in range(handed_out[-1], 60000, many):
@@ -83,7 +102,7 @@ def free_ports(many):
     raise Skipped("no port is free")
 
 
-def until(is_so, seconds=LATEST):
+def until(is_so: Callable[..., Any], seconds: float = LATEST) -> bool:
     """Whether something comes about in some seconds."""
     end = time.monotonic() + seconds
     while time.monotonic() < end:
@@ -94,12 +113,12 @@ def until(is_so, seconds=LATEST):
     return False
 
 
-def asked(port, path, body=None, timeout=60, **headers):
+def asked(port: int, path: str, body: bytes | None = None, timeout: int = 60, **headers: str) -> Answer:
     """The answer of a site to a request."""
     return answer_on(http.client.HTTPConnection("127.0.0.1", port, timeout=timeout), path, body, headers)
 
 
-def answer_on(connection, path, body, headers):
+def answer_on(connection: http.client.HTTPConnection, path: str, body: bytes | None, headers: dict[str, str]) -> Answer:
     """The answer to a request on a connection, which is closed then. A low line in a name of a header is written for a dash."""
     try:
         connection.request("GET" if body is None else "POST", path, body, {name.replace("_", "-"): it for name, it in headers.items()})
@@ -109,15 +128,27 @@ def answer_on(connection, path, body, headers):
         connection.close()
 
 
-def outcomes(answer):
+def outcomes(answer: Answer) -> list[dict[str, int | str]]:
     """The outcomes that a site answered to a post of lines."""
     return [json.loads(line) for line in answer.body.splitlines()]
+
+
+def refusal_of(outcome: dict[str, Any]) -> str:
+    """What the program prints of a line, in an outcome that is REFUSED. The name of its code and a sentence follow it there."""
+    return outcome["why"].partition(f" ({outcome['name']}: ")[0]
+
+
+def error_of(answer: Answer) -> tuple[int, int, str, str]:
+    """The status, the code and the name of an error, and what the program prints of it or the reason."""
+    found = json.loads(answer.body)
+    return answer.status, found["code"], found["name"], refusal_of(found)
 
 
 class Hub:
     """A process of main.py with these words, in a folder, whose output goes to a file."""
 
-    def __init__(self, python, program, folder, *words, room=None, config=None, **variables):
+    def __init__(self, python: str, program: str, folder: pathlib.Path, *words: str, room: Any = None, config: pathlib.Path | None = None,
+                 **variables: Any) -> None:
         self.folder, self.log = pathlib.Path(folder), pathlib.Path(f"{folder}.log")
         clean = {name: it for name, it in os.environ.items() if name not in ("PYTHONHOME", "PYTHONPATH")}
         self.command = [python, "-u", str(MAIN), *([f"--config={config}"] if config else [str(folder)]), *map(str, words)]
@@ -125,22 +156,22 @@ class Hub:
         self.room = room
         self.start()
 
-    def start(self):
-        def limit():
+    def start(self) -> None:
+        def limit() -> None:
             if self.room is not None:
                 resource.setrlimit(resource.RLIMIT_FSIZE, (self.room, resource.RLIM_INFINITY))
         with open(self.log, "ab") as log:
             self.process = subprocess.Popen(self.command, stdout=log, stderr=log, env=self.variables, preexec_fn=limit,
                                             restore_signals=False)
 
-    def text(self):
+    def text(self) -> str:
         return self.log.read_text(errors="replace")
 
-    def kill(self):
+    def kill(self) -> None:
         self.process.kill()
         self.process.wait()
 
-    def end(self):
+    def end(self) -> int | None:
         """Ends it as a machine that is switched off does. The exit status."""
         self.process.terminate()
         try:
@@ -149,23 +180,23 @@ class Hub:
             self.kill()
             return None
 
-    def children(self):
+    def children(self) -> dict[Any, Any]:
         """The processes of the sites that it runs, by number."""
         return {int(words[words.index("--only") + 1]): process for process, words in below(self.process.pid) if "--only" in words}
 
-    def served(self):
+    def served(self) -> dict[int, int]:
         """The processes `serve`, each below a site, by number."""
         sites = list(self.children().values()) or [self.process.pid]
         return {int(words[words.index("serve") + 1]): process for site in sites for process, words in below(site) if "serve" in words}
 
-    def __enter__(self):
+    def __enter__(self) -> Hub:
         return self
 
-    def __exit__(self, *_):
+    def __exit__(self, *_: object) -> None:
         self.end()
 
 
-def below(parent):
+def below(parent: int) -> Iterator[tuple[int, list[str]]]:
     """The processes that a process started and that run, each with its words."""
     for path in glob.glob("/proc/[0-9]*/stat"):
         with contextlib.suppress(OSError, IndexError, ValueError):
@@ -174,25 +205,25 @@ def below(parent):
                 yield int(path.split("/")[2]), pathlib.Path(path).with_name("cmdline").read_text().split("\0")
 
 
-def is_well(port):
+def is_well(port: int) -> bool:
     """Whether a site serves and takes messages."""
     return asked(port, "/health").status == 200
 
 
 # ---- journals
 
-def kept(path):
+def kept(path: pathlib.Path) -> list[bytes]:
     """The lines that a journal keeps, without the first. A space before a line says that it counts."""
     lines = pathlib.Path(path).read_bytes().split(b"\n")[:-1]
     counted = list(itertools.takewhile(lambda line: line.startswith(b" "), lines))
     return [line[1:] for line in counted[1:]]
 
 
-def own_lines(path):
+def own_lines(path: pathlib.Path) -> list[bytes]:
     """The messages of a journal, in the order of their numbers."""
     return [line for line in kept(path) if not line.startswith(b"delta ")]
 
 
-def write_journal(path, site, group, lines):
+def write_journal(path: pathlib.Path, site: int, group: int, lines: list[bytes] | tuple[()]) -> None:
     """Makes a journal that keeps these lines."""
     pathlib.Path(path).write_bytes(b"".join(b" " + line + b"\n" for line in [b"site %d %d" % (site, group), *lines]) + b"\t")

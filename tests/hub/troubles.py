@@ -1,10 +1,17 @@
 """troubles.py: sites of services/hub on the examples, on a full disk, with clients that are slow or cut off, and with pages that watch."""
-import json, os, resource, shutil, sys, tempfile, time, traceback
+import json
+import os
+import resource
+import shutil
+import sys
+import tempfile
+import time
+import traceback
 from concurrent.futures import ThreadPoolExecutor
 from tests import harness, inputs
 from tests.harness import EXAMPLES, reported
 from tests.hub import sites
-from tests.hub.sites import asked, outcomes, until
+from tests.hub.sites import asked, error_of, outcomes, refusal_of, until
 from tests.hub.trial import Trial, events, head, lines_of, named, raw, same_set, watched
 
 SIDE_BY_SIDE = 4
@@ -19,7 +26,7 @@ def answers_examples(trial):
     for name in EXAMPLE:
         with trial.site(trial.fresh(name)) as hub:
             answer = asked(hub.port, "/messages", (EXAMPLES / f"{name}.jsonl").read_bytes())
-            refused = "".join(f"line {it['line']}: {it['why']}\n" for it in outcomes(answer) if it["outcome"] == "REFUSED")
+            refused = "".join(f"line {it['line']}: {refusal_of(it)}\n" for it in outcomes(answer) if it["outcome"] == "REFUSED")
             texts = {word: asked(hub.port, f"/{word}").body for word in ("status", "totals", "archive")}
             yield f"{name}: the texts and the refused lines", (
                 all(text == (EXAMPLES / f"{name}.{word}").read_bytes() for word, text in texts.items())
@@ -35,16 +42,25 @@ def one_answers(hub, texts):
     """Answers about one transfer, one bank and one list."""
     report = asked(hub.port, "/report/LUTEFRPP/2025-03-10", (EXAMPLES / "bank-day.list").read_bytes())
     yield "the report", report.body == (EXAMPLES / "bank-day.report").read_bytes()
+    yield "a row of another day is named", json.loads(report.headers["Niluppang-Notes"]) == [
+        "row 9: LUTEFRPPXXX LU20250310B9 is of 2025-03-11, and not of 2025-03-10; the report compares it all the same"]
+    yield from wrong_reports(hub)
     wrong = asked(hub.port, "/report/LUTEFRPP/2025-03-10", b"DbtrAgt,TxId,Amt,Sts\n\nLUTEFRPP,A,1,PENDING\n,\tB\n")
-    yield "a list with a tab in a row is refused by that row", (wrong.status, wrong.body) == (400, b"48 3\n")
+    yield "a list with a tab in a row is refused by that row", error_of(wrong) == (400, 48, "BadList", "48 3")
     yield "one transfer", asked(hub.port, "/transfers/LUTEFRPP/LU%2C10").body == b"T|LUTEFRPPXXX|LU,10|INVESTIGATED\n"
     held = [line for line in texts["archive"].splitlines(True) if b'TxId":"LU20250310B6"' in line]
     yield "its messages", asked(hub.port, "/transfers/LUTEFRPP/LU20250310B6/messages").body == b"".join(held) and len(held) == 3
     bank = [line for line in texts["totals"].splitlines(True) if line.startswith(b"LUTEFRPPXXX|")]
     yield "one bank", [asked(hub.port, "/totals/LUTEFRPP").body] == bank
     refused = ["/transfers/bank/T1", "/transfers/A%20LUTEFRPP/T1", "/transfers/%0A/T1", "/totals/bank", "/transfers/LUTEFRPP/T%0A1"]
-    answers = [(it.status, it.body) for it in (asked(hub.port, path) for path in refused)]
-    yield "words that are none", answers == [(400, b"73 1\n")] * 4 + [(400, b"73 2\n")]
+    answers = [error_of(asked(hub.port, path)) for path in refused]
+    yield "words that are none", answers == [(400, 73, "BadArgument", "73 1")] * 4 + [(400, 73, "BadArgument", "73 2")]
+    others = [asked(hub.port, path) for path in ("/nothing", "/delta?have=x")]
+
+    def is_json(it):
+        return set(json.loads(it.body)) == {"code", "name", "why", "remedy"} and it.headers["Content-Type"].startswith("application/json")
+
+    yield "other errors", [error_of(it)[:3] for it in others] == [(404, 404, "NotFound"), (400, 400, "Wrong")] and all(map(is_json, others))
     yield "a slash in an identification", asked(hub.port, "/transfers/BANKDEFF/A%2FB").body == b"T|BANKDEFFXXX|A/B|UNKNOWN\n"
     with raw(hub.port, head("GET", f"http://localhost:{hub.port}/transfers/BANKDEFF/A%2FB", "Connection: close")) as proxied:
         yield "a request as a proxy sends it", b"T|BANKDEFFXXX|A/B|UNKNOWN" in proxied.makefile("rb").read()
@@ -52,6 +68,23 @@ def one_answers(hub, texts):
     yield "a line that looks like a delta or a question is no message", [(it["line"], it.get("code")) for it in both] == [
         (1, 31), (2, 31), (4, 31)]
     yield "nothing is not a message", asked(hub.port, "/messages", b"\n \n\r\n").body == b""
+
+
+def wrong_reports(hub):
+    """A report for a bank or a day that the list is not of. desk.sh says the same."""
+    listed = (EXAMPLES / "bank-day.list").read_bytes()
+    wrong = asked(hub.port, "/report/DEUTDEFF/2025-03-10", listed)
+    others = [b"row 2: LUTEFRPPXXX LU20250310B1 is a transfer to ARNOITFFXXX, and not of DEUTDEFFXXX",
+              b"row 11: HANSDEHHXXX HH-0301 is a transfer to LUTEFRPPXXX, and not of DEUTDEFFXXX"]
+    yield "another bank gets no report", wrong.status == 400 and all(text in wrong.body for text in others) and b"MATCHED" not in wrong.body
+    wrong = [asked(hub.port, f"/report/{words}", listed) for words in ("LUTEFRPP/2025-02-31", "LUTEFRPP/today", "lutefrpp/2025-03-10")]
+    why = (b"2025-02-31 is not a day such as", b"today is not a day such as", b"lutefrpp is not a BIC of 8 or 11 capitals and digits")
+    yield "nor is there one for what is no day or no bank", [it.status for it in wrong] == [400] * 3 and all(
+        text in it.body for it, text in zip(wrong, why))
+    other_days = asked(hub.port, "/report/LUTEFRPP/2025-03-09", listed)
+    notes = json.loads(other_days.headers["Niluppang-Notes"])
+    right = (200, 6, "and 4 other rows of other days")
+    yield "of many rows of another day only some are named", (other_days.status, len(notes), notes[-1]) == right
 
 
 # ---- the disk
@@ -130,7 +163,9 @@ def survives_its_process(trial):
 # ---- clients
 
 def survives_clients(trial):
-    post = lambda length: head("POST", "/messages", length=length)
+    def post(length):
+        return head("POST", "/messages", length=length)
+
     with trial.site(trial.fresh("clients"), "--seconds=3") as hub:
         lines = lines_of(1, 3)
         cut_off = raw(hub.port, post(len(lines)) + lines[:-10])

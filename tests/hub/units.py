@@ -2,15 +2,23 @@
 
 Deltas are cut at random places, and a site of the definitions takes the pieces. No package is needed.
 """
-import asyncio, itertools, logging, os, random, subprocess, sys, tempfile, time
+import asyncio
+import itertools
+import logging
+import os
+import random
+import subprocess
+import sys
+import tempfile
+import time
 from tests import harness, inputs
 from tests.harness import SERVICES, reported
 from tests.oracle import exchange
 sys.path.insert(0, str(SERVICES))
-from hub import events, guard, texts, vectors
+from hub import errors, events, guard, keeper, opening, texts, vectors
 from hub.files import Files, Wrong
-from hub.keeper import EVALUATE, MOST_WAITING, Answer, Busy, Keeper
-from hub.process import Reply
+from hub.keeper import EVALUATE, MOST_WAITING, Answer, Busy, Keeper, Outcome
+from hub.process import Process, Reply
 
 SEED, TRIES = 20261128, 60
 
@@ -107,7 +115,8 @@ def marks_events():
     one.queues |= {queue, slow}
     one.add([("BANKDEFFXXX", "T1", "T|BANKDEFFXXX|T1|PENDING\n")])
     first = queue.get_nowait()
-    yield "an event", first == f'id: {one.began}-1\nevent: transfers\ndata: [{{"bank": "BANKDEFFXXX", "tx": "T1", "lines": ["T|BANKDEFFXXX|T1|PENDING"]}}]\n\n'.encode()
+    data = '[{"bank": "BANKDEFFXXX", "tx": "T1", "lines": ["T|BANKDEFFXXX|T1|PENDING"]}]'
+    yield "an event", first == f"id: {one.began}-1\nevent: transfers\ndata: {data}\n\n".encode()
     one.add([("BANKDEFFXXX", f"T{number}", None) for number in range(events.MOST_NAMES + 1)])
     one.add(None)
     one.add([("BANKDEFFXXX", "T2", "x" * (2 << 20))])
@@ -125,7 +134,10 @@ def marks_events():
         one.add([("BANKDEFFXXX", f"T{number}", "x" * 600_000)])
     yield "events that are kept have bytes at most", sum(len(event) for _, event in one.last) == one.size <= events.MOST_BYTES
     now = one.number
-    since = lambda mark: one.since(mark)[:1]
+
+    def since(mark):
+        return one.since(mark)[:1]
+
     yield "a page that has all gets nothing more", one.since(f"{one.began}-{now}") == []
     yield "one that lacks the last gets it", since(f"{one.began}-{now - 1}") == [one.last[-1][1]]
     resets = [f"{one.began}-{now + 1}", f"{one.began}-0", f"{other.began}-{now}", "x", f"{one.began}-", f"{one.began}-\u00b2", f"{one.began}-" + "9" * 4400]
@@ -278,7 +290,8 @@ def gives_room():
     yield "and more after a while", not is_refused(guard.TooMany, rates.take, "a", 50) and is_refused(guard.TooMany, rates.take, "a", 90)
 
 
-ROOM = ("import pathlib, resource, sys\nsys.path.insert(0, sys.argv[1])\nfrom hub.files import Files\nresource.setrlimit(resource.RLIMIT_FSIZE, (200000,) * 2)\n"
+ROOM = ("import pathlib, resource, sys\nsys.path.insert(0, sys.argv[1])\nfrom hub.files import Files\n"
+        "resource.setrlimit(resource.RLIMIT_FSIZE, (200000,) * 2)\n"
         "files = Files(sys.argv[2], 1, 64)\nfiles.try_room(int(sys.argv[3]))\n")
 
 
@@ -286,10 +299,14 @@ def looks_at_files():
     with tempfile.TemporaryDirectory() as folder:
         files = Files(folder, 1, 64)
         files.journal.write_bytes(b" site 1 64\n" + b" x\n" * 30000 + b"\t")
-        tried = lambda size: subprocess.run([sys.executable, "-c", ROOM, str(SERVICES), folder, str(size)], stderr=subprocess.DEVNULL).returncode
+
+        def tried(size):
+            return subprocess.run([sys.executable, "-c", ROOM, str(SERVICES), folder, str(size)], stderr=subprocess.DEVNULL).returncode
+
         yield "the disk is tried behind the journal, with the bytes that did not fit", [tried(1000), tried(150_000)] == [0, 1]
         yield "and nothing is left of it", os.listdir(folder) == ["site1.journal"]
-        files.journal.write_bytes(b' site 1 64\n {1}\n delta 2\torigin 3 1 2\t{2}\t{3}\tend 2\n {4}\n delta 1\tentry 5 1 {7}\tentry 5 2 {8}\tend 2\n\t{5}\n {6}\n')
+        files.journal.write_bytes(b' site 1 64\n {1}\n delta 2\torigin 3 1 2\t{2}\t{3}\tend 2\n {4}\n delta 1\tentry 5 1 {7}'
+                                  b'\tentry 5 2 {8}\tend 2\n\t{5}\n {6}\n')
         yield "what a journal keeps ends at the first line that does not count", list(files.own_lines()) == [b"{1}", b"{4}"]
         counts = [2, 0, 2, 0, 2] + [0] * 59
         yield "its counts are those of its words", files.counts() == counts and files.check(counts) is None
@@ -317,8 +334,105 @@ def counts_entries():
             yield f"{delta.decode()!r} is no delta of a journal", is_refused(Wrong, its.counts)
 
 
+# a process that reads a file, and then waits until its input ends
+READS = "import sys\nopen(sys.argv[1], 'rb').read()\nprint('READY 1:2', flush=True)\nsys.stdin.read()\n"
+
+
+class Spoken(logging.Handler):
+    """The lines of a log."""
+
+    def __init__(self):
+        super().__init__()
+        self.texts = []
+
+    def emit(self, one):
+        self.texts.append(one.getMessage())
+
+
+def says_how_far_a_start_is():
+    clock, many = [0.0], {7: 0}
+    reading, counted = opening.Reading(200_000_000, lambda: clock[0]), opening.read_by
+    opening.read_by = lambda process: many.get(process, 0)
+    clock[0] = 5.0
+    yield "nothing is read yet", reading.text() == "the journal is read: 0 of 200 MB"
+    reading.began(7)
+    clock[0], many[7] = 15.0, 50_000_000
+    yield "a quarter in 10 seconds", reading.text() == "the journal is read: 50 of 200 MB, about 30 seconds left"
+    many[7] = 300_000_000
+    yield "more is read than the journal has", reading.text() == "the journal is read: 200 of 200 MB, about 0 seconds left"
+    opening.read_by = counted
+    yield "a process that is none has read nothing", opening.read_by(None) == 0
+    with tempfile.NamedTemporaryFile() as file:
+        file.write(bytes(3_000_000))
+        file.flush()
+
+        async def counts():
+            found = []
+            child = await Process.started([sys.executable, "-c", READS, file.name], found.append)
+            many = opening.read_by(child.child.pid)
+            await child.end()
+            return found == [child.child.pid], many
+        is_said, many = asyncio.run(counts())
+        yield "the process is named when it begins", is_said
+        yield "what a process has read is counted", not os.path.exists("/proc/self/io") or 3_000_000 <= many < 9_000_000
+
+    async def speaks(seconds):
+        with opening.saying(lambda: "x"):
+            await asyncio.sleep(seconds)
+        many = len(spoken.texts)
+        await asyncio.sleep(0.3)
+        return len(spoken.texts) == many
+    spoken, log, level = Spoken(), logging.getLogger("hub"), logging.getLogger("hub").level
+    log.addHandler(spoken)
+    log.setLevel(logging.INFO)
+    opening.FIRST, opening.EVERY = 0.2, 0.02
+    yield "a short start says nothing", asyncio.run(speaks(0)) and spoken.texts == []
+    is_over = asyncio.run(speaks(0.6))
+    yield "a long one says it again and again, and not afterwards", is_over and len(spoken.texts) > 1 and set(spoken.texts) == {"x"}
+    log.removeHandler(spoken)
+    log.setLevel(level)
+    opening.FIRST, opening.EVERY = 5.0, 10.0
+
+
+MISSING = "Missing: a key that the kind needs is absent"
+AT = "At: the transaction of TxInf at the place has a fault"
+# what the program prints of a line, with the name of its code, the key, and the sentences of its numbers
+REFUSALS = [
+    ("31", "NotJson", None, "NotJson: the bytes are not one JSON text in UTF-8"), ("34 EndToEndId", "Missing", "EndToEndId", MISSING),
+    ("35 Amt", "NotText", "Amt", "NotText: the value of a key is not a text"),
+    ("36 CdtrAgt 1", "Element", "CdtrAgt", "Element: the text of a key is not of the key's type; BadBic: not a BIC of 8 or 11 capitals and"
+     " digits"),
+    ('37 "Purp"', "Extra", "Purp", "Extra: the object has a key that the kind does not have"),
+    ('37 "\\" (x: y)\\n"', "Extra", '" (x: y)\n', "Extra: the object has a key that the kind does not have"),
+    ("38 11", "Rule", None, "Rule: a rule of the kind is broken; WrongCurrency: Ccy is not EUR"),
+    ("46 3", "BadTransactions", None, "BadTransactions: TxInf is not a list of 1 to 100 objects: the place is that of the first one that is"
+     " no object, or 0"),
+    ("56 2 34 CxlId", "At", "CxlId", f"{AT}; {MISSING}"),
+    ("56 9 36 CxlId 3", "At", "CxlId", f"{AT}; Element: the text of a key is not of the key's type; BadId: not an identification of 1 to 35"
+     " characters of the allowed set, or a / at an end, or //")]
+
+
+def puts_words_beside_numbers():
+    for text, name, key, words in REFUSALS:
+        right = {"name": name, **({"key": key} if key else {}), "why": f"{text} ({words})"}
+        yield f"words of {text}", errors.refusal(text) == right
+    yield "words of what is not known", [errors.refusal(text) for text in ("99", "", "x")] == [{"why": "99"}, {"why": ""}, {"why": "x"}]
+    line = keeper.outcome_line(7, Outcome("REFUSED", 35, "35 Amt"))
+    yield "a line of an answer", line == ('{"line":7,"outcome":"REFUSED","code":35,"name":"NotText","key":"Amt",'
+                                          '"why":"35 Amt (NotText: the value of a key is not a text)"}\n')
+    yield "an error with a number", errors.error(400, "72", 72) == {
+        "code": 72, "name": "BadVector", "why": "72 (BadVector: the text is not a version vector)",
+        "remedy": "write it as in 1:3,2:5, or -"}
+    yield "an error without one", errors.error(503, "too much waits") == {
+        "code": 503, "name": "Busy", "why": "too much waits", "remedy": "send it again later"}
+    yield "a number that is not known", errors.error(400, "99 x", 99) == {
+        "code": 400, "name": "Wrong", "why": "99 x", "remedy": "correct the request; it is not sent again as it is"}
+    yield "another status", errors.error(418, "x")["name"] == "Failed"
+
+
 def main():
-    checks = [reads_vectors, cuts_deltas, marks_events, shares_texts, keeps_a_queue, follows_changes, gives_room, looks_at_files, counts_entries]
+    checks = [puts_words_beside_numbers, says_how_far_a_start_is,
+              reads_vectors, cuts_deltas, marks_events, shares_texts, keeps_a_queue, follows_changes, gives_room, looks_at_files, counts_entries]
     harness.end_of([reported(name, right) for each in checks for name, right in each()])
 
 

@@ -2,7 +2,13 @@
 
 In place of the site is a dictionary with messages that are made by hand. The right lines are those of examples/desk. No package is needed.
 """
-import asyncio, codecs, json, re, sys, threading, time
+import asyncio
+import codecs
+import json
+import re
+import sys
+import threading
+import time
 from tests import harness
 from tests.harness import EXAMPLES, SERVICES, reported
 sys.path.insert(0, str(SERVICES))
@@ -58,7 +64,10 @@ class Site:
             raise Refused(b"73 1")
         if not re.fullmatch("[A-Za-z0-9-]{1,35}", tx):
             raise Refused(b"73 2")
-        is_on = lambda part: (part["DbtrAgt"], part["OrgnlTxId"]) == (bank.ljust(11, "X"), tx)
+
+        def is_on(part):
+            return (part["DbtrAgt"], part["OrgnlTxId"]) == (bank.ljust(11, "X"), tx)
+
         held = [keys for keys in self.lines if any(map(is_on, keys.get("TxInf", [keys])))]
         return bytearray("".join(f"{json.dumps(keys)}\n" for keys in held).encode())
 
@@ -123,7 +132,10 @@ def makes_lines():
         yield f"lines of {name}", items_of(xml(name).encode(), Site(FIRST)) == right
     items = items_of(batch(*map(xml, FILES)))
     yield "lines of all of them in one body", items == [(place, line, None) for place, line in zip(PLACES, RIGHT)]
-    head = lambda name: f'<?xml version="1.0" encoding="{name}"?>' + xml("pacs.008")
+
+    def head(name):
+        return f'<?xml version="1.0" encoding="{name}"?>' + xml("pacs.008")
+
     wide = head("UTF-16")
     little, big = wide.encode("utf-16-le"), wide.encode("utf-16-be")
     encoded = [codecs.BOM_UTF16_LE + little, codecs.BOM_UTF16_BE + big, little, big, codecs.BOM_UTF8 + xml("pacs.008").encode(),
@@ -408,7 +420,8 @@ OUTCOMES = [
     (iso.Item("message 1", b"{}", None), Outcome("TAKEN", 7, ""), '{"message":"message 1","outcome":"TAKEN","number":7}\n'),
     (iso.Item("message 2", b"{}", None), Outcome("REPEAT", 0, ""), '{"message":"message 2","outcome":"REPEAT"}\n'),
     (iso.Item("message 3, transaction 2", b"{}", NONE), Outcome("REFUSED", 34, "34 OrgnlCxlId"),
-     '{"message":"message 3, transaction 2","outcome":"REFUSED","code":34,"why":"34 OrgnlCxlId",'
+     '{"message":"message 3, transaction 2","outcome":"REFUSED","code":34,"name":"Missing","key":"OrgnlCxlId",'
+     '"why":"34 OrgnlCxlId (Missing: a key that the kind needs is absent)",'
      '"note":"OrgnlCxlId is left out; recalls of HH-0502: none"}\n'),
     (iso.Item("message 4", b"{}", None), Outcome("WAITING", 0, "2026-11-29T18:00:00Z"),
      '{"message":"message 4","outcome":"WAITING","until":"2026-11-29T18:00:00Z"}\n'),

@@ -7,9 +7,14 @@ Usage: tests/oracle/exchange.py site SITE SITES JOURNAL [DELTA]..
 It takes the words of the program, writes what the program must write, and ends as it must. It has no help, and after `fault 64` no
 text of clap. A site is a list of messages for each origin. A delta is a list of runs, each an origin, a first number and messages.
 """
-import collections, contextlib, functools, os, pathlib, re, sys
+import collections
+import functools
+import os
+import pathlib
+import re
+import sys
 sys.path.insert(0, str(pathlib.Path(__file__).resolve().parents[2]))
-from tests.oracle.status import Refused, archive_text, lines_of, read_message, written
+from tests.oracle.status import Refused, archive_text, end_with, lines_of, read_message, written
 
 MOST_BYTES, MOST_SITES, MOST_SITES_OF_FORM_1, BELOW = 1 << 30, 1024, 64, 1 << 64
 
@@ -276,24 +281,5 @@ def answer(words, at="."):
     return text, "".join(ended.refused), 1 if ended.refused else 0
 
 
-def write(stream, text):
-    """Writes a text to a stream, whole or as much as there is room for."""
-    data = text.encode()
-    while data:
-        data = data[os.write(stream, data):]
-
-
-def main():
-    text, refused, status = answer(sys.argv[1:])
-    try:
-        write(2, refused)
-        write(1, text)
-    except OSError:
-        status = 2
-        with contextlib.suppress(OSError):
-            write(2, "fault 63\n")
-    sys.exit(status)
-
-
 if __name__ == "__main__":
-    main()
+    end_with(*answer(sys.argv[1:]))

@@ -1,13 +1,15 @@
 """What `replay` must answer for a script, by the definitions alone: text, refused lines, exit status.
 
-Usage: tests/oracle/replay.py SCRIPT TEXT REFUSED   (writes the last two)
+Usage: tests/oracle/replay.py replay < SCRIPT
 
 A site is a set of entries, each an origin, a number and a message, and nothing else: no log, no archive, no view. Its answers are
 those of the set of its messages (status.py).
 """
-import pathlib, re, sys
+import pathlib
+import re
+import sys
 sys.path.insert(0, str(pathlib.Path(__file__).resolve().parents[2]))
-from tests.oracle.status import Refused, archive_text, lines_of, read_message, status_text, totals_text, write_answer
+from tests.oracle.status import Refused, archive_text, lines_of, read_message, status_text, totals_text, end_on
 
 MOST_SITES = 1024
 
@@ -163,4 +165,4 @@ def answer(data):
 
 
 if __name__ == "__main__":
-    write_answer(answer, sys.argv[1:], __doc__)
+    end_on(answer, sys.argv[1:] == ["replay"])

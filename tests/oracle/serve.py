@@ -6,11 +6,18 @@ It takes the words of the program, reads requests on standard input, and can sta
 `fault 64` no text of clap. The site is a handle of tests/embed/model.py, so a question answers what the library's call of that name
 answers.
 """
-import contextlib, fcntl, itertools, os, pathlib, stat, sys
+import contextlib
+import fcntl
+import itertools
+import os
+import pathlib
+import stat
+import sys
 sys.path.insert(0, str(pathlib.Path(__file__).resolve().parents[2]))
 from tests.embed.model import Handle
 from tests.oracle import exchange
 from tests.oracle.exchange import BadDelta, Fault
+from tests.oracle.status import end_with
 
 MOST_READ, MOST_REQUEST = 1 << 20, 64 << 20
 OPEN, SHUT = b" ", b"\t"
@@ -261,9 +268,7 @@ def main():
     try:
         life(sys.argv[1:])
     except Fault as fault:
-        with contextlib.suppress(OSError):
-            exchange.write(2, f"fault {fault}\n")
-        sys.exit(2)
+        end_with("", f"fault {fault}\n", 2)
 
 
 if __name__ == "__main__":

@@ -1,10 +1,14 @@
 """What the program must answer for an input, by the definitions alone: text, refused lines, exit status.
 
-Usage: tests/oracle/status.py [status|archive|totals] INPUT TEXT REFUSED   (writes the last two)
+Usage: tests/oracle/status.py status|archive|totals < MESSAGES
 
-TEXT gets the status text, with `archive` the archive text, and with `totals` the totals text.
+It takes the words of the program, writes what the program must write, and ends as it must. It has no help, and is for small inputs.
 """
-import json, pathlib, re, sys
+import contextlib
+import json
+import os
+import re
+import sys
 
 IDSET = r"[A-Za-z0-9/\-?:().,'+ ]"
 
@@ -161,7 +165,10 @@ def original_kind(kind, m):
 
 def rules_broken_in(kind, m):
     """The numbers of the rules that one transaction of a message breaks."""
-    has = lambda key, *right: m.get(key) in right
+
+    def has(key, *right):
+        return m.get(key) in right
+
     if kind in ("pacs.008", "camt.056", "pacs.004") and not has("Ccy", "EUR"):
         yield 11
     if kind == "pacs.008":
@@ -306,7 +313,10 @@ def euros(cents):
 
 def written(msg):
     """The written form of a message, without a line feed."""
-    text = lambda elements: {k: euros(x) if isinstance(x, int) else x for k, x in elements}
+
+    def text(elements):
+        return {k: euros(x) if isinstance(x, int) else x for k, x in elements}
+
     head, transactions = text(msg[1]), [text(m) for m in msg[2]]
     whole = {**head, **transactions[0]} if len(transactions) == 1 else {**head, LIST: transactions}
     return json.dumps(whole, ensure_ascii=False, separators=(",", ":"), sort_keys=True)
@@ -347,7 +357,10 @@ class Clean:
 
     def __init__(self, said, against):
         said = [(msg, transactions) for msg, transactions in said if identity(msg) not in against]
-        of = lambda kind: [m for msg, transactions in said if msg[0] == kind for m in transactions]
+
+        def of(kind):
+            return [m for msg, transactions in said if msg[0] == kind for m in transactions]
+
         confirmations = of("pacs.002")
         self.instructions = of("pacs.008")
         self.accepts = [m for m in confirmations if m["TxSts"] == "ACCP"]
@@ -361,7 +374,9 @@ class Clean:
         self.named = recalls_named(said)
 
     def findings(self):
-        twice = lambda cxls: sorted({c for c in cxls if cxls.count(c) > 1}, key=str.encode)
+        def twice(cxls):
+            return sorted({c for c in cxls if cxls.count(c) > 1}, key=str.encode)
+
         returned = {c for _, c, _ in self.returns}
         if len(self.instructions) > 1:
             yield "TwoInstructions"
@@ -453,7 +468,10 @@ def totals_text(messages):
         else:
             place = {"REJECTED": 3, "PENDING": 4, "INVESTIGATED": 4, "MISSING": 5, "CONTRADICTED": 6}[word]
             add(bank.decode(), place, 1)
-    fields = lambda row: [euros(n) if place in (1, 2, 8, 9) else str(n) for place, n in enumerate(row)]
+
+    def fields(row):
+        return [euros(n) if place in (1, 2, 8, 9) else str(n) for place, n in enumerate(row)]
+
     return "".join("|".join([bank.decode()] + fields(row)) + "\n" for bank, row in sorted(totals.items()) if any(row))
 
 
@@ -468,28 +486,51 @@ def lines_of(data):
     return [(n, line) for n, line in enumerate(lines, 1) if line.strip(b" \t\r")]
 
 
-def answer(job, data):
+def messages_in(data):
+    """The messages of an input, and the refused lines."""
     messages, refused = set(), []
     for n, line in lines_of(data):
         try:
             messages.add(read_message(line))
         except Refused as e:
             refused.append(f"line {n}: {e}\n")
-    return TEXT[job](messages), "".join(refused), 1 if refused else 0
+    return messages, "".join(refused)
 
 
-def write_answer(answer, words, usage):
-    """Writes the text and the refused lines of an input to files, and prints the exit status. The words name the three files."""
-    if len(words) != 3:
-        sys.exit(usage)
-    source, *files = map(pathlib.Path, words)
-    *texts, status = answer(source.read_bytes())
-    for file, text in zip(files, texts):
-        file.write_bytes(text.encode())
-    print("exit", status)
+def answer(job, data):
+    messages, refused = messages_in(data)
+    return TEXT[job](messages), refused, 1 if refused else 0
+
+
+def write(stream, text):
+    """Writes a text to a stream, in as many parts as it takes."""
+    data = text.encode()
+    while data:
+        data = data[os.write(stream, data):]
+
+
+def end_with(text, refused, status):
+    """Writes an answer to the two outputs as the program does, and ends with its exit status."""
+    try:
+        write(2, refused)
+        write(1, text)
+    except OSError:
+        status = 2
+        with contextlib.suppress(OSError):
+            write(2, "fault 63\n")
+    sys.exit(status)
+
+
+def end_on(answer, is_right):
+    """Answers standard input and ends. The words of the command line are right, or they are fault 64."""
+    if not is_right:
+        end_with("", "fault 64\n", 2)
+    try:
+        data = sys.stdin.buffer.read()
+    except OSError:
+        end_with("", "fault 62\n", 2)
+    end_with(*answer(data))
 
 
 if __name__ == "__main__":
-    words = sys.argv[1:]
-    job = words.pop(0) if words and words[0] in TEXT else "status"
-    write_answer(lambda data: answer(job, data), words, __doc__)
+    end_on(lambda data: answer(sys.argv[1], data), len(sys.argv) == 2 and sys.argv[1] in TEXT)

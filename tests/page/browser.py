@@ -4,16 +4,23 @@ The page is web/out/niluppang.html, which web/build makes. It is given each exam
 of the files of examples/. Made-up inputs are answered as the program answers them, also if they are taken in pieces of some bytes. After
 a question that is refused the site answers as before. With little memory the page says that a file needs more, and answers a smaller
 one. The page's words are whole in each language, its parts have roles and names, and its texts can be read in two sizes, light and dark
-(shown.py).
+(shown.py). Lists as spreadsheets save them, several files, searches, findings and refused lines are shown as a clerk needs them (clerk.py).
 --pictures FOLDER keeps pictures of the page.
 """
-import argparse, base64, http.server, json, pathlib, random, tempfile, threading
+import argparse
+import base64
+import http.server
+import json
+import pathlib
+import random
+import tempfile
+import threading
 from tests import harness
 from tests.golden import lists, made_inputs
 from tests.golden.examples import REPORTS
 from tests.harness import EXAMPLES
-from tests.page import shown
-from tests.page.chromium import Browser, Failed
+from tests.page import clerk, shown
+from tests.chromium import Browser, Failed
 from tests.page.driving import Checks, answered, opened, reported, saved, text_of, with_report
 
 MADE_UP, SEED = 300, 61
@@ -32,7 +39,9 @@ def many(browser, names, inputs):
 def by_files(browser, checks):
     """Each example, and each list, as a clerk gives them."""
     for example in sorted(EXAMPLES.glob("*.jsonl")):
-        read = lambda suffix: example.with_suffix(suffix).read_bytes()
+        def read(suffix):
+            return example.with_suffix(suffix).read_bytes()
+
         answered(browser, example)
         for name in TEXTS:
             checks.fits(f"{example.stem} {name}", saved(browser, name), read("." + name))
@@ -91,14 +100,20 @@ def by_changed_files(browser, checks, folder):
 
 def by_messages(browser, checks):
     """The messages on each transfer of an example, the earliest first."""
-    parts = lambda message: [message, *message.get("TxInf", [])]
+
+    def parts(message):
+        return [message, *message.get("TxInf", [])]
+
     for example in sorted(EXAMPLES.glob("*.jsonl")):
         answered(browser, example)
         lines = example.with_suffix(".archive").read_text().splitlines()
         archive = sorted(((json.loads(line), line) for line in lines), key=lambda both: both[0]["CreDtTm"])
         for transfer in example.with_suffix(".status").read_text().splitlines():
             kind, bank, tx, *_ = transfer.split("|")
-            is_on = lambda part: (part.get("DbtrAgt"), part.get("OrgnlTxId", part.get("TxId"))) == (bank, tx)
+
+            def is_on(part):
+                return (part.get("DbtrAgt"), part.get("OrgnlTxId", part.get("TxId"))) == (bank, tx)
+
             right = [line for message, line in archive if any(map(is_on, parts(message)))]
             if kind == "T":
                 got = browser.value(f"ask('messages', {json.dumps({'bank': bank, 'transfer': tx})})")
@@ -153,7 +168,10 @@ def by_refusals(browser, checks):
     """Each code of a question without an answer, with its place. The site answers as before then."""
     day, listed, right = ((EXAMPLES / f"bank-day.{name}").read_bytes() for name in ("jsonl", "list", "report"))
     before = many(browser, TEXTS, [day])[0]
-    report = lambda bank, date, rows: browser.value(f"report_on({json.dumps(bank)}, {json.dumps(date)}, {text_of(rows)})")
+
+    def report(bank, date, rows):
+        return browser.value(f"report_on({json.dumps(bank)}, {json.dumps(date)}, {text_of(rows)})")
+
     for name, words, fault in [("a wrong bank", ("lutefrpp", "2025-03-10", listed), [73, 1]), ("no bank", ("", "2025-03-10", b""), [73, 1]),
                                ("a wrong day", ("LUTEFRPP", "2025-3-10", listed), [73, 2]), ("no day", ("LUTEFRPP", "", listed), [73, 2]),
                                ("a wrong list", ("LUTEFRPP", "2025-03-10", lists.HEADER.encode() + b"A,B,C,D\n"), [48, 2]),
@@ -257,11 +275,16 @@ def main():
         if asked.pictures:
             shown.pictures(browser, asked.pictures)
             opened(browser)
-        in_folder = lambda step: lambda *both: step(*both, folder)
+
+        def in_folder(step):
+            return lambda *both: step(*both, folder)
+
         for step in (by_files, in_folder(by_wrong_files), in_folder(by_changed_files), by_messages, by_made_up, by_pieces, by_refusals,
                      in_folder(shown.by_memory), in_folder(shown.by_full_memory), in_folder(shown.by_reading), in_folder(shown.by_rows),
-                     shown.by_typing, shown.by_remedies, shown.by_words, shown.by_roles, shown.by_looks, shown.by_dropping, by_keys,
-                     by_connections, by_storage):
+                     shown.by_typing, shown.by_remedies, shown.by_words, shown.by_roles, shown.by_looks, in_folder(shown.by_dropping),
+                     in_folder(clerk.by_spreadsheets), in_folder(clerk.by_several_files), in_folder(clerk.by_other_kinds),
+                     clerk.by_refused_lines, clerk.by_searches, clerk.by_transfer, in_folder(clerk.by_foreign_rows), clerk.by_meanings,
+                     clerk.by_colors, by_keys, by_connections, by_storage):
             step(browser, checks)
             opened(browser)
     print(f"{checks.passed} passed, {checks.failed} failed")

@@ -7,7 +7,7 @@ const kept_text = async (name) => as_text(new Uint8Array(await (await ask("text"
 async function many(names, inputs) {
   const answers = [];
   for (const input of inputs) {
-    await ask("answers", { file: new File([as_bytes(input)], "messages") });
+    await ask("answers", { files: [new File([as_bytes(input)], "messages")] });
     const texts = [];
     for (const name of names) texts.push(await kept_text(name));
     answers.push(texts);

@@ -4,7 +4,11 @@ tools/package.py makes the release. The page in the archive and the one beside i
 right, and the sum is the one that docs/users/page.md has a clerk compare. With a toolchain that web/build does not find, the package
 says so, and leaves nothing.
 """
-import os, pathlib, sys, tarfile, tempfile
+import os
+import pathlib
+import sys
+import tarfile
+import tempfile
 from tests import harness
 from tests.embed import driving
 from tests.harness import TOP, reported

@@ -1,6 +1,8 @@
 """shown.py: what the page shows, with little memory, while it reads, in long tables, while somebody types, in each language, to a screen
 reader and to the eye."""
-import json, pathlib, re
+import json
+import pathlib
+import re
 from bench.generate import messages
 from tests import harness
 from tests.harness import EXAMPLES
@@ -9,6 +11,7 @@ from tests.page.driving import answered, saved, with_report
 LOOKS = [(1280, 1400, False), (1280, 1400, True), (420, 1500, False), (420, 1500, True)]
 LITTLE = 400  # pages of 64 KiB: 25 MiB, of which the stack has 8 MiB
 LANGUAGES = ["en", "de", "fr"]
+KEPT = 10_000  # refused lines whose text the worker keeps
 # the parts of a page with a report, by their roles and names as a screen reader has them
 PARTS = [("main", ""), ("form", "Files"), ("region", "Answers"), ("navigation", "Tables"), ("search", ""), ("status", ""), ("alert", ""),
          ("table", "Report"), ("columnheader", "Result"), ("heading", "Answers"), ("combobox", "Language"), ("searchbox", "Search"),
@@ -40,7 +43,10 @@ def by_memory(browser, checks, folder):
         checks.fits(f"a smaller file after {name}", after, ("", small.with_suffix(".status").read_bytes()))
     browser.value("limit_memory()")
     answered(browser, some)
-    run = lambda command: harness.run([harness.program(), command], some.read_bytes()).text
+
+    def run(command):
+        return harness.run([harness.program(), command], some.read_bytes()).text
+
     whole = browser.value("at('fault').textContent"), saved(browser, "status")
     checks.fits("the same file with the memory of the page", whole, ("", run("status")))
     checks.fits("its archive", saved(browser, "archive"), run("archive"))
@@ -51,7 +57,7 @@ def by_full_memory(browser, checks, folder):
     path = pathlib.Path(folder, "some")
     path.write_text("".join(messages.lines(10_000)))
     browser.value("start_with(1 << 16)")
-    give = "ask('answers', {file: at('messages').files[0]}).then(({ memory }) => memory)"
+    give = "ask('answers', {files: [...at('messages').files]}).then(({ memory }) => memory)"
     answered(browser, path)
     pages = browser.value(give) >> 16
     status = saved(browser, "status")
@@ -90,13 +96,23 @@ def by_rows(browser, checks, folder):
     path.write_bytes(b"x\n" * many + b"{}\n" + (EXAMPLES / "bank-day.jsonl").read_bytes())
     answered(browser, path)
     whole = {"search": "", "bank": "", "words": [], "count": 2}
-    rows = lambda table, start, **more: browser.value(f"ask('rows', {json.dumps({'table': table, 'from': start, **whole, **more})})")
-    wrong = lambda *numbers: [[str(number), "31", ""] for number in numbers]
+
+    def rows(table, start, **more):
+        return browser.value(f"ask('rows', {json.dumps({'table': table, 'from': start, **whole, **more})})")
+
+    def wrong(*numbers):
+        return [[str(number), "31", "", "wrong", str(number), "x" if number <= KEPT else ""] for number in numbers]
+
     checks.fits("the last of many rows", rows("refused", many - 2), {"rows": wrong(many - 1, many), "matched": many + 1})
-    checks.fits("rows of a code", rows("refused", 0, words=["33"]), {"rows": [[str(many + 1), "33", ""]], "matched": 1})
+    checks.fits("the last rows whose text is kept, and the next", rows("refused", KEPT - 1)["rows"], wrong(KEPT, KEPT + 1))
+    last = [str(many + 1), "33", "", "wrong", str(many + 1), ""]
+    checks.fits("rows of a code", rows("refused", 0, words=["33"]), {"rows": [last], "matched": 1})
     checks.fits("rows of a search", rows("refused", 0, search=f"Line {many}:"), {"rows": wrong(many), "matched": 1})
     status = (EXAMPLES / "bank-day.status").read_text().splitlines()
-    of = lambda begin: [line for line in status if line.startswith(begin)]
+
+    def of(begin):
+        return [line for line in status if line.startswith(begin)]
+
     checks.fits("rows of a bank", rows("transfers", 0, bank="HANSDEHH")["matched"], len(of("T|HANSDEHH")))
     accepted = [line for line in of("T|") if line.split("|")[3] == "ACCEPTED"]
     checks.fits("rows of a status", rows("transfers", 0, words=["ACCEPTED"])["matched"], len(accepted))
@@ -143,9 +159,14 @@ def by_remedies(browser, checks):
 def by_words(browser, checks):
     """The page in each language: it has all words, with the same places for what is put in, and shows them."""
     words = browser.value("WORDS")
-    places = lambda text: sorted(re.findall(r"\{\d\}", text))
-    form = lambda language: {name: places(text) if isinstance(text, str) else {table: len(heads) for table, heads in text.items()}
-                             for name, text in words[language].items()}
+
+    def places(text):
+        return sorted(re.findall(r"\{\d\}", text))
+
+    def form(language):
+        return {name: places(text) if isinstance(text, str) else {table: len(heads) for table, heads in text.items()}
+                for name, text in words[language].items()}
+
     answered(browser, EXAMPLES / "bank-day.jsonl")
     for language in LANGUAGES:
         checks.fits(f"the words in {language}", form(language), form("en"))
@@ -165,7 +186,10 @@ def by_roles(browser, checks):
     """What a screen reader has: each part by its role and its name, and no part without a name."""
     with_report(browser)
     browser.value("at('progress').hidden = false")
-    value = lambda node, name: node.get(name, {}).get("value", "")
+
+    def value(node, name):
+        return node.get(name, {}).get("value", "")
+
     nodes = browser.ask("Accessibility.getFullAXTree")["nodes"]
     parts = [(value(node, "role"), value(node, "name").strip()) for node in nodes if not node["ignored"]]
     for part in [*PARTS, ("progressbar", "Progress")]:
@@ -195,11 +219,11 @@ def by_looks(browser, checks):
     browser.look()
 
 
-def by_dropping(browser, checks):
-    """A file of messages that is dropped on the page, and then a list."""
-    def drop(path):
+def by_dropping(browser, checks, folder):
+    """A file of messages that is dropped on the page, and then a list. Two files of messages and a list at once."""
+    def drop(*paths):
         browser.value("document.body.dataset.done = ''")
-        data = {"items": [], "files": [str(path)], "dragOperationsMask": 1}
+        data = {"items": [], "files": [str(path) for path in paths], "dragOperationsMask": 1}
         for kind in "dragEnter", "dragOver", "drop":
             browser.ask("Input.dispatchDragEvent", type=kind, x=300, y=300, data=data)
         browser.until("document.body.dataset.done === '1'")
@@ -208,6 +232,14 @@ def by_dropping(browser, checks):
     browser.value("at('bank').value = 'LUTEFRPP'; at('day').value = '2025-03-10'")
     drop(EXAMPLES / "bank-day.list")
     checks.fits("a list that was dropped", saved(browser, "report"), (EXAMPLES / "bank-day.report").read_bytes())
+    lines = (EXAMPLES / "bank-day.jsonl").read_bytes().splitlines(True)
+    halves = [pathlib.Path(folder, name) for name in ("morning", "evening")]
+    for path, half in zip(halves, (lines[:7], lines[7:])):
+        path.write_bytes(b"".join(half))
+    drop(halves[0], EXAMPLES / "bank-day.list", halves[1])
+    texts = [saved(browser, name) for name in ("status", "report")]
+    checks.fits("files that were dropped at once", texts, [(EXAMPLES / f"bank-day.{name}").read_bytes() for name in ("status", "report")])
+    checks.fits("the names of both", "morning, evening:" in browser.value("at('state').textContent"), True)
 
 
 def pictures(browser, folder):

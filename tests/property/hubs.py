@@ -12,7 +12,15 @@ One hub of five is not honest: a journal loses or changes lines, a delta is dama
 There only the answers are compared. What has to be met in 300 hubs and was not counts as failed. The seed is printed: with it all is the
 same again.
 """
-import argparse, collections, concurrent.futures, datetime, os, pathlib, random, re, tempfile
+import argparse
+import collections
+import concurrent.futures
+import datetime
+import os
+import pathlib
+import random
+import re
+import tempfile
 from tests import harness
 from tests.oracle import exchange
 from tests.oracle.status import archive_text, lines_of

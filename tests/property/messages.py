@@ -18,7 +18,9 @@ class Pool:
     """What messages are made of: the fewer there are of each, the more messages meet."""
 
     def __init__(self, r):
-        few = lambda letter, most: [f"{letter}{n}" for n in range(1, r.randint(1, most) + 1)]
+        def few(letter, most):
+            return [f"{letter}{n}" for n in range(1, r.randint(1, most) + 1)]
+
         self.r = r
         self.banks = BANKS[:r.randint(1, 3)]
         self.transfers = few("T", 5)
@@ -80,7 +82,10 @@ class Pool:
     def longest_recalls(self, of_one_transfer):
         """Two recalls with the longest lists and one identification: of one transfer 200 times, or of 200 transfers."""
         head, same = {**self.head("camt.056", "K"), "MsgId": "K0"}, self.original()
-        own = lambda place: {**same, "CxlId": f"R{place}"} if of_one_transfer else {"OrgnlTxId": f"T{place}"}
+
+        def own(place):
+            return {**same, "CxlId": f"R{place}"} if of_one_transfer else {"OrgnlTxId": f"T{place}"}
+
         every = [{**self.transaction(), **own(place)} for place in range(1, 2 * MOST_TRANSACTIONS + 1)]
         return [{**head, "TxInf": every[:MOST_TRANSACTIONS]}, {**head, "TxInf": every[MOST_TRANSACTIONS:]}]
 

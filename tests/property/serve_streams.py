@@ -5,7 +5,13 @@ contradict each other, in any form, refused lines and lists, blank lines, repeat
 all questions, also wrong ones. After a stream the site starts again on its journal, and gets another stream. tests/oracle/serve.py has
 each reply to the byte, but for `? changes`, which tests/embed/model.py judges, and the bytes of the journal.
 """
-import collections, concurrent.futures, os, pathlib, random, re, tempfile
+import collections
+import concurrent.futures
+import os
+import pathlib
+import random
+import re
+import tempfile
 from tests import harness
 from tests.embed import model
 from tests.oracle import exchange, serve

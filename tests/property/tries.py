@@ -2,7 +2,8 @@
 
 A try asks the driver something, in the form that the driver's word has, and has the text that it must print. Runs go side by side.
 """
-import collections, os
+import collections
+import os
 from concurrent.futures import ThreadPoolExecutor
 from tests import harness
 
@@ -38,5 +39,7 @@ def answered(driver, word, tries):
     """How many tries of a word the driver answers as it must."""
     parts = [tries[place:place + TOGETHER] for place in range(0, len(tries), TOGETHER)]
     with ThreadPoolExecutor(len(os.sched_getaffinity(0))) as pool:
-        ask = lambda part: harness.run([driver, word], b"".join(one.asked for one in part), seconds=SECONDS)
+        def ask(part):
+            return harness.run([driver, word], b"".join(one.asked for one in part), seconds=SECONDS)
+
         return sum(map(passed, parts, pool.map(ask, parts)))

@@ -4,7 +4,8 @@ The messages of the seven are an instruction of one euro and its confirmation. W
 crash leaves between its two syncs is made by hand too. In examples/serve the lives of a morning and of an evening are on one journal.
 NAME.requests is standard input, NAME.replies what must be written, and `journal` the file after both.
 """
-import pathlib, tempfile
+import pathlib
+import tempfile
 from tests import harness
 from tests.golden.made_inputs import REPORT_WRITTEN, TRANSFER_WRITTEN
 from tests.harness import EXAMPLES, reported

@@ -7,7 +7,11 @@ told, now or before, or that it never had. A site is killed in the middle of req
 refused but as early. No number is told of two lines, and each told number is the place of its line in the journal. In the end each
 site is given what it lacks: then all answer equal vectors, archives, statuses and totals, which are those of all lines with a reply.
 """
-import argparse, collections, pathlib, tempfile, time
+import argparse
+import collections
+import pathlib
+import tempfile
+import time
 from tests import harness
 from tests.harness import reported
 from tests.oracle import status

@@ -14,7 +14,14 @@ gate, other bytes there, no gate, an open gate before no whole line. After each 
 A small journal is cut after each byte of its last batch. A session is stopped at each write, sync and cut, once before it and once after
 half of the bytes; stop_at.c does that. There each batch is all there or not at all, and no reply is written before the second sync.
 """
-import argparse, collections, concurrent.futures, os, pathlib, random, subprocess, tempfile, time
+import argparse
+import collections
+import concurrent.futures
+import os
+import pathlib
+import subprocess
+import tempfile
+import time
 from tests import harness
 from tests.harness import reported
 from tests.inputs import confirmation, delta, instruction
@@ -153,7 +160,7 @@ class Lives:
 
 def lives(program, asked, many):
     """How many lives were right, and what failed."""
-    right, numbers = 0, {}
+    right = 0
     with tempfile.TemporaryDirectory() as folder:
         site = Lives(asked.source("lives"), program, folder)
         try:

@@ -1,7 +1,11 @@
 """serve_troubles.py: `serve` in trouble: files that it must not touch, disks and readers that fail, requests that are too long or no
 requests, and a journal in its making.
 """
-import os, pathlib, shutil, subprocess, tempfile
+import os
+import pathlib
+import shutil
+import subprocess
+import tempfile
 from tests import harness
 from tests.harness import reported
 from tests.inputs import instruction

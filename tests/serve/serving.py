@@ -1,5 +1,10 @@
 """serving.py: processes of `serve` for a check: what is sent to them, what they reply, and how they end."""
-import os, select, subprocess, time
+from __future__ import annotations
+import os
+import select
+import subprocess
+import time
+from typing import Any
 from tests import harness
 from tests.oracle import serve
 
@@ -11,7 +16,7 @@ class Ended(Exception):
     """A process ended, or did not reply in time."""
 
 
-def reply_end(text, at=0):
+def reply_end(text: Any, at: int = 0) -> Any:
     """Where the reply ends that begins here, or None if it is not whole."""
     feed = text.find(b"\n", at)
     if feed < 0:
@@ -21,7 +26,7 @@ def reply_end(text, at=0):
     return end if end <= len(text) else None
 
 
-def replies_in(text):
+def replies_in(text: Any) -> Any:
     """The whole replies of a text, and what is behind them."""
     replies, at = [], 0
     while True:
@@ -35,7 +40,7 @@ def replies_in(text):
 class Process:
     """A process that serves a site. What it writes is kept until it is asked for."""
 
-    def __init__(self, program, own, group, journal, room=None, **variables):
+    def __init__(self, program: Any, own: Any, group: Any, journal: Any, room: Any = None, **variables: Any) -> None:
         self.unsent, self.text, self.is_open = bytearray(), bytearray(), True
         self.process = subprocess.Popen(
             [program, "serve", str(own), str(group), str(journal)], bufsize=0, stdin=subprocess.PIPE, stdout=subprocess.PIPE,
@@ -43,7 +48,7 @@ class Process:
             env={**os.environ, **variables})
         os.set_blocking(self.process.stdin.fileno(), False)
 
-    def step(self, seconds=0.0, most=MOST):
+    def step(self, seconds: float = 0.0, most: Any = MOST) -> None:
         """Writes some bytes and reads some, if that is possible in so many seconds."""
         into = [self.process.stdin] if self.unsent else []
         can_read, can_write, _ = select.select([self.process.stdout] if self.is_open else [], into, [], seconds)
@@ -57,10 +62,10 @@ class Process:
             self.text += found
             self.is_open = bool(found)
 
-    def send(self, data):
+    def send(self, data: Any) -> None:
         self.unsent += data
 
-    def reply(self, seconds=LATEST):
+    def reply(self, seconds: Any = LATEST) -> Any:
         """The next reply."""
         latest = time.monotonic() + seconds
         while reply_end(self.text) is None:
@@ -72,12 +77,12 @@ class Process:
         del self.text[:end]
         return found
 
-    def ask(self, line, seconds=LATEST):
+    def ask(self, line: Any, seconds: Any = LATEST) -> Any:
         """The reply to a request."""
         self.send(line + b"\n")
         return self.reply(seconds)
 
-    def rest(self):
+    def rest(self) -> Any:
         """What it writes until it ends."""
         latest = time.monotonic() + LATEST
         while self.is_open:
@@ -86,7 +91,7 @@ class Process:
                 self.process.kill()
         return bytes(self.text)
 
-    def kill(self):
+    def kill(self) -> Any:
         """The replies that it wrote before it was killed, which were not asked for."""
         self.process.kill()
         self.unsent.clear()
@@ -94,7 +99,7 @@ class Process:
         self.process.wait()
         return replies_in(text)[0]
 
-    def end(self):
+    def end(self) -> Any:
         """Ends its input once all is sent, and returns what it wrote, with how it ended."""
         latest = time.monotonic() + LATEST
         while self.unsent and self.is_open and time.monotonic() < latest:
@@ -105,27 +110,27 @@ class Process:
         errors = self.process.stderr.read()
         return harness.Answer(text, errors, self.process.wait())
 
-    def __enter__(self):
+    def __enter__(self) -> Any:
         return self
 
-    def __exit__(self, *_):
+    def __exit__(self, *_: Any) -> None:
         self.process.kill()
         self.process.wait()
         for stream in self.process.stdin, self.process.stdout, self.process.stderr:
             stream.close()
 
 
-def session(program, own, group, journal, data=b"", **more):
+def session(program: Any, own: Any, group: Any, journal: Any, data: bytes = b"", **more: Any) -> Any:
     """What a process writes that is given an input at once, and how it ends."""
     return harness.run([program, "serve", str(own), str(group), str(journal)], data, seconds=LATEST, **more)
 
 
-def delta_line(text):
+def delta_line(text: Any) -> Any:
     """The line that a delta text is as a request."""
     return text.rstrip(b"\n").replace(b"\n", b"\t")
 
 
-def restored(own, group, lines):
+def restored(own: Any, group: Any, lines: Any) -> Any:
     """The site that a journal with these lines gives."""
     serving = serve.Serving(own, group)
     for line in lines:
@@ -133,6 +138,6 @@ def restored(own, group, lines):
     return serving
 
 
-def kept(path):
+def kept(path: Any) -> Any:
     """The lines that a journal keeps, its header first."""
     return serve.kept_in(path.read_bytes())[0]

@@ -282,6 +282,14 @@ sct_outcome sct_raw_report(sct_site *site, const uint8_t *bank, size_t bank_leng
     return made_of(site, "report", of(bank, bank_length), of(day, day_length), of(list, list_length));
 }
 
+sct_outcome sct_raw_kept_text(sct_site *site, const uint8_t *day, size_t day_length) {
+    return made_of(site, "kept_text", of(day, day_length), none, none);
+}
+
+sct_outcome sct_raw_closed_text(sct_site *site, const uint8_t *day, size_t day_length) {
+    return made_of(site, "closed_text", of(day, day_length), none, none);
+}
+
 sct_outcome sct_raw_transfer_text(sct_site *site, const uint8_t *bank, size_t bank_length, const uint8_t *tx, size_t tx_length) {
     return made_of(site, "transfer_text", of(bank, bank_length), of(tx, tx_length), none);
 }

@@ -1,5 +1,7 @@
 """library.py: answers the calls of library.c, which is the other side, by the definitions of tests/embed/model.py."""
-import pathlib, struct, sys
+import pathlib
+import struct
+import sys
 sys.path.insert(0, str(pathlib.Path(__file__).resolve().parents[2]))
 from tests.embed.model import Handle
 
@@ -7,7 +9,7 @@ FIELDS = ["ok", "code", "place", "length", "is_repeat", "number", "fresh", "repe
 # the arguments of each call, of two numbers and three texts; the texts that a call copies are copied whole
 NUMBERS = {"open": 2, "restore": 2, "counts": 1, "journal_text": 1, "newest_text": 1, "why": 1, "code_name": 2, "code_text": 2}
 TEXTS = {"restore": 2, "take": 1, "take_lines": 1, "accept": 1, "cut": 1, "cut_above": 1, "reading_text": 1, "report": 3,
-         "transfer_text": 2, "messages_text": 2, "bank_totals": 1}
+         "kept_text": 1, "closed_text": 1, "transfer_text": 2, "messages_text": 2, "bank_totals": 1}
 COUNTS = "cut_above"
 
 

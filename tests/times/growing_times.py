@@ -1,21 +1,27 @@
 """growing_times.py: four times as much input takes at most eight times as long.
 
-The inputs are those that one participant could send to hold up a desk. Most of them have very many messages on one transfer. A script
-hands the same delta again and again. A run has two files. Of one input all lines are refused. Each is given in two sizes, and the
-processor time of the larger one may be at most 8 times that of the smaller. The square would be 16 times.
+The inputs are those that one participant could send to hold up a desk. Most of them have very many messages on one transfer. In one,
+recalls tie very many transfers in a chain. A script hands the same delta again and again. A run has two files. Of one input all lines are
+refused. Each is given in two sizes, and the processor time of the larger one may be at most 8 times that of the smaller. The square would
+be 16 times.
 
 One input is a single line of zeros, longer than the blocks that the program reads. Its reading hides how often it is searched for its
 end. So the larger size is 16 times the smaller one, and may take 32 times as long. The program takes up to 2 GiB of memory.
 
-Of each the least of three runs counts. The times are printed, and no limit is set for them.
+Of each size the least of three runs counts, and of six if the larger one took too long by three: a busy machine slows some runs, and a
+square all. The times are printed, and no limit is set for them.
 """
-import collections, os, pathlib, tempfile
+import collections
+import os
+import pathlib
+import tempfile
 from bench.generate import messages
 from tests import harness
 from tests.inputs import files_of
 from tests.times import hot_inputs
 
 SMALL, TIMES, MOST, RUNS = 5_000, 4, 8, 3
+DAY = "2025-01-01"  # after all messages
 LIST = b"DbtrAgt,TxId,Amt,Sts\nBANKDEFF,T1,1.00,ACCEPTED\n"
 ON_ONE_TRANSFER = [hot_inputs.recalls, hot_inputs.recalls_in_lists, hot_inputs.recalls_with_all, hot_inputs.contradicted_recalls,
                    hot_inputs.one_recall, hot_inputs.equal_confirmations, hot_inputs.contradicted_identities]
@@ -30,8 +36,10 @@ def cases(folder):
     """All that is timed."""
     [listed] = files_of(folder, "list", [LIST])
     for made in ON_ONE_TRANSFER:
-        for words in (["status"], ["totals"], ["report", "BANKDEFF", "2024-05-02", listed]):
+        for words in (["status"], ["totals"], ["report", "BANKDEFF", "2024-05-02", listed], ["keep", DAY]):
             yield Timed(f"{words[0]} of {made.__name__}", lambda many, words=words, made=made: (words, hot_inputs.lines(made(many))))
+    for word in ("keep", "closed"):
+        yield Timed(f"{word} of chained_recalls", lambda many, word=word: ([word, DAY], hot_inputs.lines(hot_inputs.chained_recalls(many))))
     yield Timed("replay of repeated deltas", lambda many: (["replay"], hot_inputs.repeated_deltas(many)))
     yield Timed("run of two files", lambda many: (["run", *halves(folder, many)], b""))
     yield Timed("status of refused lines", lambda many: (["status"], hot_inputs.refused_lines(many)), status=1)
@@ -68,12 +76,16 @@ def least(program, words, data, status):
 
 def grows(program, one):
     """Whether the larger input takes at most as many times as long as it may, which is printed too."""
-    small, large = [least(program, *one.made(many), one.status) for many in (one.small, one.times * one.small)]
-    if small is None or large is None:
-        print(f"{one.name}: FAILED", flush=True)
-        return False
+    found, is_right = [], False
+    while not is_right and len(found) < 2:
+        found.append([least(program, *one.made(many), one.status) for many in (one.small, one.times * one.small)])
+        if None in found[-1]:
+            print(f"{one.name}: FAILED", flush=True)
+            return False
+        small, large = map(min, zip(*found))
+        is_right = large <= one.most * small
     print(f"{one.name}: {small:.2f} s and {large:.2f} s, {large / small:.1f} times", flush=True)
-    return large <= one.most * small
+    return is_right
 
 
 def main():

@@ -1,4 +1,5 @@
-"""hot_inputs.py: inputs in which one transfer, or one delta, has very many messages, and one in which all lines are refused."""
+"""hot_inputs.py: inputs in which one transfer, or one delta, has very many messages, one in which recalls tie very many transfers in a
+chain, and one in which all lines are refused."""
 from bench.generate import messages, samples
 
 REFUSED = {"TxSts": "RJCT", "Rsn": "AC01"}
@@ -42,6 +43,18 @@ def contradicted_recalls(many):
                   samples.refusal(OrgnlCxlId=f"R{i}", MsgId=f"N{i}", CxlStsId=f"S{i}"),
                   samples.request(OrgnlCxlId=f"R{i}", OrgnlMsgNmId="camt.056", MsgId=f"Q{i}")]
     return found
+
+
+def chained_recalls(many):
+    """Accepted transfers, each recalled together with the next one. All recalls are refused, but that of the last transfer, which no
+    message instructs. So all are kept by a chain of ties."""
+    found = []
+    for i in range(many // 5):
+        recalled = [samples.transaction(OrgnlTxId=f"T{i + place}", CxlId=f"R{i}") for place in (0, 1)]
+        found += [samples.instruction(MsgId=f"M{i}", TxId=f"T{i}"), samples.confirmation(MsgId=f"C{i}", OrgnlTxId=f"T{i}"),
+                  samples.recall(recalled, MsgId=f"K{i}"), samples.refusal(OrgnlCxlId=f"R{i}", MsgId=f"N{i}", OrgnlTxId=f"T{i}"),
+                  samples.refusal(OrgnlCxlId=f"R{i - 1}", MsgId=f"L{i}", OrgnlTxId=f"T{i}")]
+    return found[:4] + found[5:]
 
 
 def one_recall(many):

@@ -51,8 +51,9 @@ CALLS: Dict[str, List[object]] = {
     "counts": [Outcome, *COUNTS], "vector_text": [Outcome], "cut": [Outcome, *TEXT], "cut_above": [Outcome, *COUNTS],
     "journal_text": [Outcome, ctypes.c_uint64], "newest_text": [Outcome, ctypes.c_uint64], "reading_text": [Outcome, *TEXT],
     "evaluate": [Outcome], "archive_text": [Outcome], "status_text": [Outcome], "totals_text": [Outcome],
-    "contradictions_text": [Outcome], "report": [Outcome, *TEXT, *TEXT, *TEXT], "transfer_text": [Outcome, *TEXT, *TEXT],
-    "messages_text": [Outcome, *TEXT, *TEXT], "bank_totals": [Outcome, *TEXT], "changes": [Outcome],
+    "contradictions_text": [Outcome], "report": [Outcome, *TEXT, *TEXT, *TEXT], "kept_text": [Outcome, *TEXT],
+    "closed_text": [Outcome, *TEXT], "transfer_text": [Outcome, *TEXT, *TEXT], "messages_text": [Outcome, *TEXT, *TEXT],
+    "bank_totals": [Outcome, *TEXT], "changes": [Outcome],
     "answer": [Outcome, *ROOM], "answer_part": [Outcome, ctypes.c_size_t, *ROOM], "answer_end": [Outcome], "why": [Outcome, *ROOM],
 }
 # of each other function, without sct_: the type of its result, and those of its arguments
@@ -93,7 +94,7 @@ def opened() -> ctypes.CDLL:
 
 
 def version_of(library: ctypes.CDLL) -> str:
-    """The version of a library, such as 0.2.0."""
+    """The version of a library, such as 0.3.0."""
     number = library.sct_version()
     return f"{number // 1000000}.{number // 1000 % 1000}.{number % 1000}"
 
@@ -144,5 +145,5 @@ def library() -> ctypes.CDLL:
 
 
 def library_version() -> str:
-    """The version of the library that is used, such as 0.2.0."""
+    """The version of the library that is used, such as 0.3.0."""
     return version_of(library())

@@ -382,6 +382,15 @@ class BaseSite(Generic[Text]):
         """The report on a bank's list for a settlement day, YYYY-MM-DD. Refusals: 48, 65, 73 (1: the bank, 2: the day)."""
         return self._answered("report", bank, day, rows)
 
+    def kept_text(self, day: Given) -> Text:
+        """The lines of the archive text that are kept on a day, YYYY-MM-DD: the messages on transfers that are not done before it, and
+        all that have an identity or a transfer in common with one that is kept. Refusals: 65, 73 (1)."""
+        return self._answered("kept_text", day)
+
+    def closed_text(self, day: Given) -> Text:
+        """The lines of the archive text that are closed on a day: those that are not kept. Refusals: 65, 73 (1)."""
+        return self._answered("closed_text", day)
+
     # ---- answers on one transfer or bank
 
     def transfer(self, bank: Given, tx: Given) -> Text:

@@ -54,6 +54,35 @@ def test_changes(kind):
         assert site.changes() == [("BANKDEFFXXX", "T3"), ("BANKDEFFXXX", "T4")]
 
 
+# the transfers of the bank's day that are not done on the day after it. All its messages are of 2025-03-10
+NOT_DONE = {"HH-0303", "LU,10", "LU20250310B3", "LU20250310B5", "LU20250310B6", "LU20250310B9"}
+
+
+@pytest.mark.parametrize("kind", SITES)
+def test_what_is_kept_and_what_is_closed(kind):
+    lines = bytes_in("bank-day.archive").decode().splitlines(keepends=True)
+    on = [message.get("TxId", message.get("OrgnlTxId")) for message in map(json.loads, lines)]
+    kept, closed = ("".join(line for line, tx in zip(lines, on) if (tx in NOT_DONE) == is_kept) for is_kept in (True, False))
+    with SITES[kind](1, 1) as site:
+        assert site.kept_text("2025-03-11") == site.closed_text("2025-03-11") == in_kind(kind, "")
+        site.take_lines(bytes_in("bank-day.jsonl"))
+        assert site.kept_text("2025-03-11") == site.answer() == in_kind(kind, kept)
+        assert site.closed_text(b"2025-03-11") == site.answer() == in_kind(kind, closed)
+        assert (site.kept_text("2025-03-10"), site.closed_text("2025-03-10")) == (in_kind(kind, "".join(lines)), in_kind(kind, ""))
+        assert site.archive_text() == in_kind(kind, "".join(lines))
+
+
+def test_what_is_kept_follows_what_comes():
+    with Site(1, 1) as site:
+        site.take(instruction(1))
+        assert (site.kept_text("2025-01-01"), site.closed_text("2025-01-01")) == (archived(1), "")
+        accepted = {"MsgNmId": "pacs.002", "MsgId": "C1", "CreDtTm": "2024-12-31T23:59:59-05:00", "InstgAgt": "BANQFRPP",
+                    "OrgnlMsgId": "M1", "OrgnlMsgNmId": "pacs.008", "OrgnlTxId": "T1", "TxSts": "ACCP", "DbtrAgt": "BANKDEFF"}
+        site.take(json.dumps(accepted))
+        assert site.kept_text("2025-01-01") == "" and site.closed_text("2025-01-01") == site.archive_text()
+        assert site.kept_text("2024-12-31") == site.archive_text() and site.closed_text("2024-12-31") == ""
+
+
 def test_contradictions():
     with Site(1, 1) as site:
         site.take(instruction(1))
@@ -173,7 +202,10 @@ def lines_of(data):
 @pytest.mark.parametrize("stem", STEMS)
 def test_lines_of_examples(kind, stem, part, monkeypatch):
     monkeypatch.setattr(_site, "PART", part)
-    as_bytes = lambda line: line.encode() if kind == "str" else line
+
+    def as_bytes(line):
+        return line.encode() if kind == "str" else line
+
     with SITES[kind](1, 1) as site:
         site.take_lines(bytes_in(stem + ".jsonl"))
         assert list(map(as_bytes, site.status_lines())) == lines_of(bytes_in(stem + ".status"))

@@ -2,7 +2,7 @@
 import re
 
 import pytest
-from conftest import EXAMPLES, bytes_in
+from conftest import EXAMPLES, TOP, bytes_in
 
 from niluppang import BytesSite, MessageRefused, Site
 
@@ -13,7 +13,10 @@ SITES = {"str": Site, "bytes": BytesSite}
 
 def right(site, stem):
     """Whether a site answers as the files of an example say."""
-    as_bytes = lambda text: text.encode() if isinstance(text, str) else text
+
+    def as_bytes(text):
+        return text.encode() if isinstance(text, str) else text
+
     assert as_bytes(site.archive_text()) == bytes_in(stem + ".archive")
     assert as_bytes(site.status_text()) == bytes_in(stem + ".status")
     assert as_bytes(site.totals_text()) == bytes_in(stem + ".totals")
@@ -94,13 +97,15 @@ def exchange(sites):
 
 
 def test_sites_that_exchange_by_files():
-    folder = "exchange/cases/"
-    with Site.restore(1, 2, bytes_in(folder + "one")) as one, Site.restore(2, 2, bytes_in(folder + "two"), one.cut()) as two:
+    def read(name):
+        return (TOP / "tests" / "data" / "exchange" / name).read_bytes()
+
+    with Site.restore(1, 2, read("one")) as one, Site.restore(2, 2, read("two"), one.cut()) as two:
         assert (one.vector_text(), two.vector_text()) == ("1:2", "1:2,2:1")
-        assert one.cut().encode() == bytes_in(folder + "d1")
-        assert one.cut("1:1").encode() == bytes_in(folder + "e2")
+        assert one.cut().encode() == read("d1")
+        assert one.cut("1:1").encode() == read("e2")
         one.accept(two.cut(one.counts()))
-        assert one.archive_text().encode() == two.archive_text().encode() == bytes_in(folder + "one-two.archive")
+        assert one.archive_text().encode() == two.archive_text().encode() == read("one-two.archive")
         whole = two.cut()
-    with Site.restore(2, 2, bytes_in(folder + "two"), whole) as again:
+    with Site.restore(2, 2, read("two"), whole) as again:
         assert (again.refused_text, again.cut()) == ("", whole)

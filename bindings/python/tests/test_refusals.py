@@ -42,6 +42,7 @@ OF_OTHERS = [
     ("cut", ["1"], "BadVector", 0, "72"), ("cut", [[0] * 1025], "BadSite", 0, "44"), ("cut_lines", ["1:1:1"], "BadVector", 0, "72"),
     ("report", ["BANKDEFF", DAY, ""], "BadList", 1, "48 1"), ("report", ["BANKDEFF", DAY, HEADER + "\nx\n"], "BadList", 2, "48 2"),
     ("report", ["bankdeff", DAY, HEADER], "BadArgument", 1, "73 1"), ("report", ["BANKDEFF", "today", HEADER], "BadArgument", 2, "73 2"),
+    ("kept_text", ["2024-5-02"], "BadArgument", 1, "73 1"), ("closed_text", [""], "BadArgument", 1, "73 1"),
     ("transfer", ["", "T1"], "BadArgument", 1, "73 1"), ("transfer", ["BANKDEFF", "T//1"], "BadArgument", 2, "73 2"),
     ("messages", ["BANK", "T1"], "BadArgument", 1, "73 1"), ("messages", ["BANKDEFF", ""], "BadArgument", 2, "73 2"),
     ("bank_totals", ["X"], "BadArgument", 1, "73 1")]

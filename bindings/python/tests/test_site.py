@@ -25,7 +25,8 @@ from niluppang._library import VARIABLE, library
 CALLS = {"take": [instruction()], "take_lines": [""], "accept": ["delta 2\nend 0\n"], "reading": [""], "counts": [], "vector_text": [],
          "cut": ["-"], "cut_lines": [[]], "journal": [], "journal_lines": [0], "newest": [1], "evaluate": [], "archive_text": [],
          "archive_lines": [], "status_text": [], "status_lines": [], "totals_text": [], "contradictions_text": [],
-         "report": ["BANKDEFF", "2024-05-02", ""], "transfer": ["BANKDEFF", "T1"], "messages": ["BANKDEFF", "T1"],
+         "report": ["BANKDEFF", "2024-05-02", ""], "kept_text": ["2024-05-02"], "closed_text": ["2024-05-02"],
+         "transfer": ["BANKDEFF", "T1"], "messages": ["BANKDEFF", "T1"],
          "bank_totals": ["BANKDEFF"], "changes": [], "answer": [], "answer_end": []}
 OTHERS = {"close", "restore", "number", "group", "is_closed", "refused_text"}
 
@@ -259,7 +260,9 @@ def test_the_library_is_never_given_nothing(empty):
     """Each text has an address, also one without bytes."""
     seen = []
     with Site(1, 1) as site:
-        note = lambda _, *more: seen.extend(zip(more[::2], more[1::2]))
+        def note(_, *more):
+            return seen.extend(zip(more[::2], more[1::2]))
+
         Hooked(site, take=note, take_lines=note, accept=note, cut=note, report=note, transfer_text=note, reading_text=note)
         for name in ("take", "take_lines", "accept", "cut", "report", "transfer", "reading"):
             words = [empty] * {"report": 3, "transfer": 2}.get(name, 1)

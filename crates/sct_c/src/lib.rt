@@ -4,7 +4,7 @@
 ghost use Rattle.std.specs.Prelude.{◌≡◌, None, false, length};
 ghost use Rattle.sct_embed.specs.Codes.{code_name, code_text};
 ghost use Rattle.sct_embed.specs.Outcomes.{refused_accept, refused_as, refused_lines, refused_take};
-ghost use Rattle.sct_embed.specs.Places.{Accepts, Asks, Copies, CopiesPart, Counts, EndsAnswer, Evaluates, IsCalled, IsCopied, Opens, Restores, Says, Takes, TakesLines};
+ghost use Rattle.sct_embed.specs.Places.{Accepts, Asks, Copies, CopiesPart, CopiesReason, Counts, EndsAnswer, Evaluates, IsCalled, IsCopied, Opens, Restores, Takes, TakesLines};
 ghost use Rattle.sct_embed.specs.declared.question.Question.TheVariants as question;
 ghost use Rattle.sct_version.specs.Numbers.{version_number};
 ghost use Rattle.sct_version.specs.declared.TheConstants.{VERSION};
@@ -216,6 +216,22 @@ pub extern "C" fn sct_raw_report(
     site.ask(alloc, Question::Report { bank, day, list })
 }
 
+/// What is kept on a day becomes the answer, as the archive text has it.
+#[unsafe(no_mangle)]
+pub extern "C" fn sct_raw_kept_text(alloc: Global, site: &mut Place, day: &[u8]) -> Outcome
+    ensures { IsCalled refused_as (Asks (question.Kept day.entry)) site.old.handle.held result site.new.handle.held }
+{
+    site.ask(alloc, Question::Kept(day))
+}
+
+/// What is closed on a day becomes the answer, as the archive text has it.
+#[unsafe(no_mangle)]
+pub extern "C" fn sct_raw_closed_text(alloc: Global, site: &mut Place, day: &[u8]) -> Outcome
+    ensures { IsCalled refused_as (Asks (question.Closed day.entry)) site.old.handle.held result site.new.handle.held }
+{
+    site.ask(alloc, Question::Closed(day))
+}
+
 /// What changed since the call before becomes the answer.
 #[unsafe(no_mangle)]
 pub extern "C" fn sct_raw_changes(alloc: Global, site: &mut Place) -> Outcome
@@ -258,7 +274,7 @@ pub extern "C" fn sct_raw_answer_end(alloc: Global, site: &mut Place) -> Outcome
 /// Copies why the last call was refused, if it fits, and says the length of that text.
 #[unsafe(no_mangle)]
 pub extern "C" fn sct_raw_why(alloc: Global, site: &mut Place, out: &mut [u8]) -> Outcome
-    ensures called { IsCalled refused_as (Says out.old out.new) site.old.handle.held result site.new.handle.held }
+    ensures called { IsCalled refused_as (CopiesReason out.old out.new) site.old.handle.held result site.new.handle.held }
     ensures unwritten { result.ok ≡ false → out.new ≡ out.old }
 {
     site.why(alloc, out)

@@ -24,7 +24,7 @@ use Rattle.sct_case.specs.Statuses.{Standing, Contradicted, Unknown, Missing, Re
 use Rattle.sct_case.specs.Sentences.{Goes, IsStatus}
 use Rattle.sct_case.specs.RecallSentences.{RecallGoes, IsUnanswered, IsRecallStatus}
 use Rattle.sct_case.specs.AnyOrder.{AnswersInAnyOrder}
-use Rattle.sct_case.specs.Laws.{AreApart, place, named_order, finding_order}
+use Rattle.sct_case.specs.Laws.{HaveDistinctIdentities, place, named_order, finding_order}
 use Rattle.sct_case.proofs.Membership.{empty, nothing, here, later, first_or_later}
 use Rattle.sct_case.proofs.Exact.{told_is_found, found_is_told}
 use Rattle.sct_case.proofs.InOrder.{tells_in_order}
@@ -83,7 +83,7 @@ module _ (t : TransferKey) (clean other : List Draft) (asides : List Identity)
   same_empty : clean ≡ [] → other ≡ []
   same_empty e = empty other (λ m h. nothing m (subst (λ ms. Contains ms m) e (fewer m h)))
 
-same_findings : (t : TransferKey) (clean other : List Draft) (asides : List Identity) → AreApart clean → AreApart other → IsStrictlySortedBy identity_order asides
+same_findings : (t : TransferKey) (clean other : List Draft) (asides : List Identity) → HaveDistinctIdentities clean → HaveDistinctIdentities other → IsStrictlySortedBy identity_order asides
     → ((m : Draft) → Contains clean m → Contains other m) → ((m : Draft) → Contains other m → Contains clean m) → findings_of t clean asides ≡ findings_of t other asides
 same_findings t clean other asides a b sorted more fewer =
     unique finding_order finding_flip (findings_of t clean asides) (findings_of t other asides) (tells_in_order t clean asides sorted) (tells_in_order t other asides sorted)

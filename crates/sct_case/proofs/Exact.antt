@@ -16,7 +16,7 @@ use Rattle.sct_case.specs.declared.finding.Finding.TheVariants as finding
 use Rattle.sct_case.specs.Said.{IsSaid, is_acceptance, rejections_by, recalls_made_by, returns_by, refusals_by}
 use Rattle.sct_case.specs.Findings.{IsFound, IsBothConfirmed, DoReasonsDiffer, DoRecallsDiffer, DoRefusalsDiffer, HasTwoReturns, HasReturnOfRejected}
 use Rattle.sct_case.specs.Told.{where_found, cxls, differ_among, is_both_confirmed, do_reasons_differ, recall_of_it, return_of_it, refusal_of_it, same_reason, same_recall_made, same_return, same_refusal, has_two_returns, has_return_of_rejected, findings_of}
-use Rattle.sct_case.specs.Laws.{AreApart, TellsExactly, place}
+use Rattle.sct_case.specs.Laws.{HaveDistinctIdentities, TellsExactly, place}
 use Rattle.sct_case.proofs.Membership.{both, nothing, here, only, in_map, mapped_in, in_filter, filtered_in, in_flat_map, flat_mapped_in, in_ascending, ascending_in, any-Decides, said_in, in_said, some_said-Decides, any_said-Decides, differ_said-Decides}
 use Rattle.sct_case.proofs.Same.{reason-Decides, recall-Decides, return-Decides, refusal-Decides}
 use Rattle.sct_case.proofs.Instructed.{two-Decides, amount-Decides}
@@ -87,7 +87,7 @@ module _ {X : Type 0} (recall : X → List ℕ) (by : Draft → List X) (clean :
       let r = in_map recall (flat_map by clean) c (in_ascending nat_list_cmp_total (slice_cmp-IsAntisymmetric nat_cmp-IsAntisymmetric) _ c f.0) in
       (r.0, in_said by clean r.0 r.1, r.2, f.1)
 
-module _ (t : TransferKey) (clean : List Draft) (asides : List Identity) (apart : AreApart clean) where
+module _ (t : TransferKey) (clean : List Draft) (asides : List Identity) (apart : HaveDistinctIdentities clean) where
   of_where : (b : Bool) (g f : Finding) → Decides b (IsFound t clean asides g) → Contains (where_found b g) f → IsFound t clean asides f
   of_where true g f d h = subst (IsFound t clean asides) (only g f h) (d.0 refl)
   of_where false g f d h = absurd (nothing f h)

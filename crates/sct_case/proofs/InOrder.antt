@@ -19,7 +19,7 @@ use Rattle.sct_message.proofs.AscendingLemmas.{ascending_rises}
 use Rattle.sct_case.specs.declared.finding.Finding.{Finding}
 use Rattle.sct_case.specs.declared.finding.Finding.TheVariants as finding
 use Rattle.sct_case.specs.Told.{where_found, cxls, has_two_instructions, is_both_confirmed, do_reasons_differ, does_amount_differ, recall_findings, answer_findings, refusal_findings, has_two_returns, has_return_of_rejected, findings_of_instruction, findings_of_recalls, findings_of}
-use Rattle.sct_case.specs.Laws.{place, named_order, finding_order, TellsInOrder}
+use Rattle.sct_case.specs.Laws.{place, named_order, finding_order, TellsFindingsInOrder}
 use Rattle.sct_case.proofs.Membership.{both, here, in_map, later, nothing, only}
 
 -- ---- the pieces
@@ -101,7 +101,7 @@ map_piece n g xs at sorted = record { sorted = sorted-map g finding_order xs sor
 kept_sorted : (p : List ℕ → Bool) (cs : List (List ℕ)) → IsStrictlySortedBy text_order (filter p (cxls cs))
 kept_sorted p cs = IsStrictlySortedBy-filter text_order p (cxls cs) (ascending_rises nat_list_cmp_total (slice_cmp-IsAntisymmetric nat_cmp-IsAntisymmetric) cs)
 
-pub tells_in_order : TellsInOrder
+pub tells_in_order : TellsFindingsInOrder
 tells_in_order t clean asides sorted =
     subst (IsStrictlySortedBy finding_order) (joined_pieces t clean asides) (rises 1 (pieces t clean asides)
     (both (map_piece 1 (λ i. finding.Identity i) asides (λ i. refl) sorted)

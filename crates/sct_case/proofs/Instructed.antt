@@ -17,7 +17,7 @@ use Rattle.sct_case.specs.Said.{IsSaid, amounts_by, instructions_by}
 use Rattle.sct_case.specs.Told.{does_amount_differ, has_some, has_two_instructions, names_another}
 use Rattle.sct_case.specs.Findings.{DoesAmountDiffer, HasTwoInstructions}
 use Rattle.sct_case.specs.Sentences.{IsInstructed}
-use Rattle.sct_case.specs.Laws.{AreApart}
+use Rattle.sct_case.specs.Laws.{HaveDistinctIdentities}
 use Rattle.sct_case.proofs.Membership.{any_said-Decides, filtered_in, here, in_filter, later, nothing, only, some-Decides}
 
 -- ---- the amounts that are instructed are those of the instructions
@@ -39,9 +39,9 @@ amount_said : (m : Draft) (a : InstructedAmount) → Contains (instructions_by m
 amount_said (CreditTransfer d) a h = only _ a h
 amount_said m a h = absurd (nothing a h)
 
-apart-filter : (p : Draft → Bool) (ms : List Draft) → AreApart ms → AreApart (filter p ms)
+apart-filter : (p : Draft → Bool) (ms : List Draft) → HaveDistinctIdentities ms → HaveDistinctIdentities (filter p ms)
 apart-filter p [] apart = tt
-apart-filter p (m ∷ ms) apart = elim (p m) as (λ b. AreApart (cond b (m ∷ filter p ms) (filter p ms))) [
+apart-filter p (m ∷ ms) apart = elim (p m) as (λ b. HaveDistinctIdentities (cond b (m ∷ filter p ms) (filter p ms))) [
   | true ↦ ((λ n h. apart.0 n (in_filter p ms n h).0), apart-filter p ms apart.1)
   | false ↦ apart-filter p ms apart.1
 ]
@@ -51,7 +51,7 @@ apart-filter p (m ∷ ms) apart = elim (p m) as (λ b. AreApart (cond b (m ∷ f
 abbrev AreTwo : List Draft → Type 0
 AreTwo is = (m : Draft) × (n : Draft) × Contains is m × Contains is n × (m ≢ n)
 
-are_two-Decides : (is : List Draft) → AreApart is → Decides (nat_lt 1 (length (map instructed_amount is))) (AreTwo is)
+are_two-Decides : (is : List Draft) → HaveDistinctIdentities is → Decides (nat_lt 1 (length (map instructed_amount is))) (AreTwo is)
 are_two-Decides [] apart = ((λ h. absurd (false≢true h)), λ s. absurd (nothing s.0 s.2))
 are_two-Decides (m ∷ []) apart = ((λ h. absurd (false≢true h)), λ s. absurd (s.4 (sym (only m s.0 s.2) ∙ only m s.1 s.3)))
 are_two-Decides (m ∷ (n ∷ is)) apart = (
@@ -66,7 +66,7 @@ DiffersFromSole t clean is =
     × ((o : OriginalAmount) × IsSaid (amounts_by t) clean o × (o.amount ≢ (instructed_amount m).amount))
 
 module _ (t : TransferKey) (clean : List Draft) where
-  differs-Decides : (is : List Draft) → AreApart is → Decides (names_another (map instructed_amount is) (flat_map (amounts_by t) clean)) (DiffersFromSole t clean is)
+  differs-Decides : (is : List Draft) → HaveDistinctIdentities is → Decides (names_another (map instructed_amount is) (flat_map (amounts_by t) clean)) (DiffersFromSole t clean is)
   differs-Decides [] apart = ((λ h. absurd (false≢true h)), λ s. absurd (nothing s.0 s.1))
   differs-Decides (m ∷ []) apart = Decides-like _
       (λ o. (m, here m [], (λ n h. sym (only m n h)), o))
@@ -86,7 +86,7 @@ module _ (clean : List Draft) where
       Decides-at _ _ (ap has_some (said_by_instructions clean) ∙ ap (λ n. not (n == 0)) (length-map instructions instructed_amount))
       (Decides-like _ (λ s. let one = in_filter is_instruction clean s.0 s.1 in (s.0, one.0, one.1)) (λ s. (s.0, filtered_in is_instruction clean s.0 s.1 s.2)) (some-Decides instructions))
 
-  pub two-Decides : AreApart clean → Decides (has_two_instructions clean) (HasTwoInstructions clean)
+  pub two-Decides : HaveDistinctIdentities clean → Decides (has_two_instructions clean) (HasTwoInstructions clean)
   two-Decides apart =
       Decides-at _ _ (ap (λ (xs : List InstructedAmount). nat_lt 1 (length xs)) (said_by_instructions clean))
       (Decides-like _
@@ -97,7 +97,7 @@ module _ (clean : List Draft) where
       (λ h. (h.one, h.other, filtered_in is_instruction clean h.one h.one_held h.one_instructs, filtered_in is_instruction clean h.other h.other_held h.other_instructs, h.different))
       (are_two-Decides instructions (apart-filter is_instruction clean apart)))
 
-  pub amount-Decides : (t : TransferKey) → AreApart clean → Decides (does_amount_differ t clean) (DoesAmountDiffer t clean)
+  pub amount-Decides : (t : TransferKey) → HaveDistinctIdentities clean → Decides (does_amount_differ t clean) (DoesAmountDiffer t clean)
   amount-Decides t apart =
       Decides-at _ _ (ap (λ (xs : List InstructedAmount). names_another xs (flat_map (amounts_by t) clean)) (said_by_instructions clean))
       (Decides-like _

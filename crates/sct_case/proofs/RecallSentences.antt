@@ -19,7 +19,7 @@ use Rattle.sct_case.specs.Told.{findings_of, recall_of_it, return_of_it, refusal
 use Rattle.sct_case.specs.Statuses.{named_of_it, request_of_it, amount_returned, reason_refused, is_named, is_made, first_recall, recall_facts_of, recall_standing_by, recall_status_of}
 use Rattle.sct_case.specs.Sentences.{IsConsistent}
 use Rattle.sct_case.specs.RecallSentences.{IsNamed, IsMade, IsReturnedAfter, IsRefusedFor, IsChased, RecallGoes, IsUnanswered, IsRecallStatus, TellsEachRecallStatus}
-use Rattle.sct_case.specs.Laws.{AreApart}
+use Rattle.sct_case.specs.Laws.{HaveDistinctIdentities}
 use Rattle.sct_case.proofs.Membership.{Picks, any_said-Decides, picks_like, picks_none, picks_some, said_picks}
 use Rattle.sct_case.proofs.Stays.{consistent_say_one_thing}
 
@@ -90,7 +90,7 @@ module _ (t : TransferKey) (clean : List Draft) (asides : List Identity) (c : Li
       (picks_none (IsReturnedAfter t clean c) _ (amount_picks t clean c) u.not_returned i)
       (picks_none (IsRefusedFor t clean c) _ (reason_picks t clean c) u.not_refused i) (asked i)
 
-  pub holds_told : AreApart clean → (s : RecallStatus) → IsRecallStatus t clean asides c s → recall_status_of t clean asides c ≡ s
+  pub holds_told : HaveDistinctIdentities clean → (s : RecallStatus) → IsRecallStatus t clean asides c s → recall_status_of t clean asides c ≡ s
   holds_told apart recall.Contradicted h = contradicted h
   holds_told apart recall.Unknown h = stands h.0 false _ (false_from_ne_true _ (λ n. h.1 ((named-Decides t clean c).0 n))) refl
   holds_told apart recall.Unasked h = stands h.0 true false ((named-Decides t clean c).1 h.1) (false_from_ne_true _ (λ m. h.2 ((made-Decides t clean c).0 m)))

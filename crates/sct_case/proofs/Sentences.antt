@@ -16,7 +16,7 @@ use Rattle.sct_case.specs.Said.{IsSaid, is_acceptance, is_investigation, instruc
 use Rattle.sct_case.specs.Told.{has_some, findings_of}
 use Rattle.sct_case.specs.Statuses.{Standing, Contradicted, Unknown, Missing, Rejected, Returned, Accepted, Investigated, Pending, first, rejection_reason, return_amount, first_standing, is_unknown, standing_by, standing_of, transfer_status_of}
 use Rattle.sct_case.specs.Sentences.{IsConsistent, IsInstructed, IsRejectedFor, IsAccepted, IsReturned, IsInvestigated, Goes, IsStatus, TellsEachStatus}
-use Rattle.sct_case.specs.Laws.{AreApart}
+use Rattle.sct_case.specs.Laws.{HaveDistinctIdentities}
 use Rattle.sct_case.proofs.Membership.{nothing, any-Decides, Picks, picks_none, picks_some, picks_like, said_picks}
 use Rattle.sct_case.proofs.Instructed.{instructed-Decides}
 use Rattle.sct_case.proofs.Judged.{contradicted, empty_of, found_of_asides, mapped_none, none_in, not_contradicted, unknown}
@@ -86,7 +86,7 @@ module _ (t : TransferKey) (clean : List Draft) (asides : List Identity) where
       instructed_stands g.consistent g.instructed
       ∙ ap (λ r. stands_by true r (list_any is_acceptance clean) (return_amount t clean) (list_any is_investigation clean)) (picks_none (IsRejectedFor clean) _ (rejection_picks clean) g.not_rejected)
 
-  pub holds_told : AreApart clean → (s : Standing) → IsStatus t clean asides s → transfer_status_of t clean asides ≡ s
+  pub holds_told : HaveDistinctIdentities clean → (s : Standing) → IsStatus t clean asides s → transfer_status_of t clean asides ≡ s
   holds_told apart (Contradicted found) h = sym (contradicted t clean asides found h.0 (true_from_ne_false _ (λ n. h.1 (none_in found n))))
   holds_told apart Unknown h = sym (unknown t clean asides [] (sym (ap (map (λ i. finding.Identity i)) h.1) ∙ found_of_asides t clean asides h.0) refl h.0)
   holds_told apart Missing h =

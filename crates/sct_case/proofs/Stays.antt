@@ -27,7 +27,7 @@ use Rattle.sct_case.specs.declared.finding.Finding.TheVariants as finding
 use Rattle.sct_case.specs.Said.{IsSaid}
 use Rattle.sct_case.specs.Findings.{IsFound, IsSoleInstruction}
 use Rattle.sct_case.specs.Told.{findings_of}
-use Rattle.sct_case.specs.Laws.{AreApart, findings_in, ContradictionsStay, MessagesAreApart, ConsistentSayOneThing}
+use Rattle.sct_case.specs.Laws.{HaveDistinctIdentities, findings_in, ContradictionsStay, MessagesAreApart, ConsistentSayOneThing}
 use Rattle.sct_case.proofs.Membership.{empty, nothing, here, later, in_map, mapped_in, in_filter, filtered_in, any-Decides, any_tie, ties-Decides, equal_unless, in_ascending, ascending_in}
 use Rattle.sct_case.proofs.Same.{reason-Decides, return-Decides, refusal-Decides}
 use Rattle.sct_case.proofs.Exact.{told_is_found, found_is_told}
@@ -65,7 +65,7 @@ is_aside held t m h c on =
     ascending_in identity_total identities_same (map identity_of (filter (is_on t) (contradicted_messages held))) (identity_of m)
     (mapped_in identity_of (filter (is_on t) (contradicted_messages held)) m (passed_in held t (λ x. is_contradicted held x) m h c on))
 
-apart_of : (xs : List Draft) → IsStrictlySortedBy message_order xs → ((m n : Draft) → Contains xs m → Contains xs n → identity_of m ≡ identity_of n → m ≡ n) → AreApart xs
+apart_of : (xs : List Draft) → IsStrictlySortedBy message_order xs → ((m n : Draft) → Contains xs m → Contains xs n → identity_of m ≡ identity_of n → m ≡ n) → HaveDistinctIdentities xs
 unfolding IsStrictlySortedBy
 apart_of [] h same = tt
 apart_of (m ∷ ms) h same = (
@@ -117,7 +117,7 @@ module _ {on larger : List Draft} (more : (m : Draft) → Contains on m → Cont
     still finding.ReturnOfRejected h =
         record { return = h.return; returned = moved h.returned; reason = h.reason; rejected = moved h.rejected }
 
-not_found : (t : TransferKey) (clean : List Draft) (asides : List Identity) → AreApart clean → findings_of t clean asides ≡ [] → (f : Finding) → IsFound t clean asides f → ⊥
+not_found : (t : TransferKey) (clean : List Draft) (asides : List Identity) → HaveDistinctIdentities clean → findings_of t clean asides ≡ [] → (f : Finding) → IsFound t clean asides f → ⊥
 not_found t clean asides apart none f h = nothing f (subst (λ fs. Contains fs f) none (found_is_told t clean asides apart f h))
 
 pub contradictions_stay : ContradictionsStay

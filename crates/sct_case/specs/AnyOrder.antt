@@ -7,11 +7,11 @@ use Rattle.sct_message.specs.declared.keys.Identity.{Identity}
 use Rattle.sct_message.specs.declared.keys.TransferKey.{TransferKey}
 use Rattle.sct_case.specs.Told.{findings_of}
 use Rattle.sct_case.specs.Statuses.{transfer_status_of, recall_status_of}
-use Rattle.sct_case.specs.Laws.{AreApart}
+use Rattle.sct_case.specs.Laws.{HaveDistinctIdentities}
 
 -- the lists have the same messages
-abbrev pub HaveSameMessages : List Draft → List Draft → Type 0
-HaveSameMessages clean other = (m : Draft) → Contains clean m ↔ Contains other m
+abbrev pub AreEqualAsSets : List Draft → List Draft → Type 0
+AreEqualAsSets clean other = (m : Draft) → Contains clean m ↔ Contains other m
 
 -- The same messages in another order have the same findings and statuses.
 pub record AnswersAlike (transfer : TransferKey) (clean other : List Draft) (asides : List Identity) : Type 0 where
@@ -22,7 +22,7 @@ pub record AnswersAlike (transfer : TransferKey) (clean other : List Draft) (asi
 
 abbrev pub AnswersInAnyOrder : Type 0
 AnswersInAnyOrder =
-    (transfer : TransferKey) (clean other : List Draft) (asides : List Identity) → AreApart clean
-    → AreApart other
-    → IsStrictlySortedBy identity_order asides → HaveSameMessages clean other
+    (transfer : TransferKey) (clean other : List Draft) (asides : List Identity) → HaveDistinctIdentities clean
+    → HaveDistinctIdentities other
+    → IsStrictlySortedBy identity_order asides → AreEqualAsSets clean other
     → AnswersAlike transfer clean other asides

@@ -22,13 +22,13 @@ use Rattle.sct_case.specs.Findings.{IsFound}
 use Rattle.sct_case.specs.Told.{findings_of}
 
 -- no two of the messages have the same identity, so no message is among them twice
-abbrev pub AreApart : List Draft → Type 0
-AreApart [] = ⊤
-AreApart (m ∷ ms) = ((n : Draft) → Contains ms n → identity_of m ≢ identity_of n) × AreApart ms
+abbrev pub HaveDistinctIdentities : List Draft → Type 0
+HaveDistinctIdentities [] = ⊤
+HaveDistinctIdentities (m ∷ ms) = ((n : Draft) → Contains ms n → identity_of m ≢ identity_of n) × HaveDistinctIdentities ms
 
 -- a finding is reported exactly if its relation holds
 abbrev pub TellsExactly : Type 0
-TellsExactly = (transfer : TransferKey) (clean : List Draft) (asides : List Identity) → AreApart clean
+TellsExactly = (transfer : TransferKey) (clean : List Draft) (asides : List Identity) → HaveDistinctIdentities clean
     → (found : Finding) → Contains (findings_of transfer clean asides) found
     ↔ IsFound transfer clean asides found
 
@@ -57,8 +57,8 @@ abbrev pub finding_order : Finding → Finding → Ordering
 finding_order f g = ordering_then (nat_cmp (place f) (place g)) (named_order f g)
 
 -- findings are reported in that order, each once
-abbrev pub TellsInOrder : Type 0
-TellsInOrder =
+abbrev pub TellsFindingsInOrder : Type 0
+TellsFindingsInOrder =
     (transfer : TransferKey) (clean : List Draft) (asides : List Identity)
     → IsStrictlySortedBy identity_order asides
     → IsStrictlySortedBy finding_order (findings_of transfer clean asides)
@@ -81,7 +81,7 @@ ContradictionsStay =
 
 -- in a set the messages on a transfer have no identity twice
 abbrev pub MessagesAreApart : Type 0
-MessagesAreApart = (held : MessageSet) (transfer : TransferKey) → AreApart (messages_on held transfer)
+MessagesAreApart = (held : MessageSet) (transfer : TransferKey) → HaveDistinctIdentities (messages_on held transfer)
 
 -- ---- transfers without findings
 
@@ -95,5 +95,5 @@ pub record SaysOneThing (transfer : TransferKey) (clean : List Draft) : Type 0 w
       → IsSaid (refusals_by transfer) clean other → one.cxl ≡ other.cxl → one ≡ other
 
 abbrev pub ConsistentSayOneThing : Type 0
-ConsistentSayOneThing = (transfer : TransferKey) (clean : List Draft) (asides : List Identity) → AreApart clean
+ConsistentSayOneThing = (transfer : TransferKey) (clean : List Draft) (asides : List Identity) → HaveDistinctIdentities clean
     → findings_of transfer clean asides ≡ [] → SaysOneThing transfer clean

@@ -8,3 +8,4 @@ pub mod Said
 pub mod Sentences
 pub mod Statuses
 pub mod Told
+pub mod Words

@@ -13,7 +13,7 @@ use Rattle.sct_case.specs.Said.{IsSaid, recalls_made_by, returns_by, refusals_by
 use Rattle.sct_case.specs.Told.{findings_of}
 use Rattle.sct_case.specs.Statuses.{recall_status_of}
 use Rattle.sct_case.specs.Sentences.{IsConsistent, Not}
-use Rattle.sct_case.specs.Laws.{AreApart}
+use Rattle.sct_case.specs.Laws.{HaveDistinctIdentities}
 
 -- a message names the recall, in whatever way
 abbrev pub IsNamed : TransferKey → List Draft → List ℕ → Type 0
@@ -66,6 +66,6 @@ IsRecallStatus transfer clean asides cxl recall.Open =
 -- each status of a recall is returned exactly if its sentence holds
 abbrev pub TellsEachRecallStatus : Type 0
 TellsEachRecallStatus =
-    (transfer : TransferKey) (clean : List Draft) (asides : List Identity) (cxl : List ℕ) → AreApart clean
+    (transfer : TransferKey) (clean : List Draft) (asides : List Identity) (cxl : List ℕ) → HaveDistinctIdentities clean
     → (stands : RecallStatus) → (recall_status_of transfer clean asides cxl ≡ stands)
     ↔ IsRecallStatus transfer clean asides cxl stands

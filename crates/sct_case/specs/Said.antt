@@ -69,11 +69,11 @@ recalls_made_by transfer (CancellationRequest d) = flat_map (made_in transfer) d
 recalls_made_by transfer other = []
 
 -- the original amounts that its recalls and returns name
-abbrev pub amount_in : TransferKey → RecallTx → List OriginalAmount
-amount_in transfer tx = where_of transfer (transfer_in tx) (record { amount = tx.original_amount } ∷ [])
+abbrev pub original_amount_in : TransferKey → RecallTx → List OriginalAmount
+original_amount_in transfer tx = where_of transfer (transfer_in tx) (record { amount = tx.original_amount } ∷ [])
 
 abbrev pub amounts_by : TransferKey → Draft → List OriginalAmount
-amounts_by transfer (CancellationRequest d) = flat_map (amount_in transfer) d.txs
+amounts_by transfer (CancellationRequest d) = flat_map (original_amount_in transfer) d.txs
 amounts_by transfer (PaymentReturn d) =
     where_of transfer (transfer_key d.debtor_agent d.original.transaction_id)
     (record { amount = d.original_amount } ∷ [])

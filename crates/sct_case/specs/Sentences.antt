@@ -10,7 +10,7 @@ use Rattle.sct_case.specs.declared.said.ReturnMade.{ReturnMade}
 use Rattle.sct_case.specs.Said.{IsSaid, is_acceptance, is_investigation, rejections_by, returns_by}
 use Rattle.sct_case.specs.Told.{findings_of}
 use Rattle.sct_case.specs.Statuses.{Standing, Contradicted, Unknown, Missing, Rejected, Returned, Accepted, Investigated, Pending, transfer_status_of}
-use Rattle.sct_case.specs.Laws.{AreApart}
+use Rattle.sct_case.specs.Laws.{HaveDistinctIdentities}
 
 abbrev pub IsConsistent : TransferKey → List Draft → List Identity → Type 0
 IsConsistent transfer clean asides = findings_of transfer clean asides ≡ []
@@ -62,6 +62,6 @@ IsStatus transfer clean asides Pending =
 
 -- each status is returned exactly if its sentence holds
 abbrev pub TellsEachStatus : Type 0
-TellsEachStatus = (transfer : TransferKey) (clean : List Draft) (asides : List Identity) → AreApart clean
+TellsEachStatus = (transfer : TransferKey) (clean : List Draft) (asides : List Identity) → HaveDistinctIdentities clean
     → (stands : Standing) → (transfer_status_of transfer clean asides ≡ stands)
     ↔ IsStatus transfer clean asides stands

@@ -1,7 +1,7 @@
 //! Laws of findings and statuses, for all messages. Each law is the contract of a function with an empty body.
 
 ghost use Rattle.sct_case.specs.AnyOrder.{AnswersInAnyOrder};
-ghost use Rattle.sct_case.specs.Laws.{TellsExactly, TellsInOrder, ContradictionsStay, MessagesAreApart, ConsistentSayOneThing};
+ghost use Rattle.sct_case.specs.Laws.{TellsExactly, TellsFindingsInOrder, ContradictionsStay, MessagesAreApart, ConsistentSayOneThing};
 ghost use Rattle.sct_case.specs.RecallSentences.{TellsEachRecallStatus};
 ghost use Rattle.sct_case.specs.Sentences.{TellsEachStatus};
 
@@ -12,7 +12,7 @@ pub fn findings_are_exact()
 
 /// Findings are reported in the stated order, each once.
 pub fn findings_are_in_order()
-    ensures { TellsInOrder }
+    ensures { TellsFindingsInOrder }
 {}
 
 /// A transfer that is contradicted in a set of messages is contradicted in every larger one.

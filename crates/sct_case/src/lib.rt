@@ -13,6 +13,7 @@ mod recalls;
 mod said;
 mod standing;
 mod status;
+mod words;
 
 pub use cases::{findings, recall_status, transfer_status};
 pub use each_recall::recall_statuses;
@@ -20,3 +21,4 @@ pub use fault::CaseFault;
 pub use finding::{Finding, copy_findings};
 pub use recalls::recall_status_by;
 pub use status::{RecallStatus, Status};
+pub use words::StatusWord;

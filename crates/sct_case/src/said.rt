@@ -9,7 +9,7 @@ ghost use Rattle.sct_message.specs.Sets.{messages_in};
 ghost use Rattle.sct_message.specs.declared.draft.Draft.TheVariants as draft;
 ghost use Rattle.sct_message.specs.declared.keys.TransferKey.{TransferKey as TransferOf};
 ghost use Rattle.sct_case.specs.Inside.{IsOneMore, IsSaidOf};
-ghost use Rattle.sct_case.specs.Said.{amount_in, made_in};
+ghost use Rattle.sct_case.specs.Said.{made_in, original_amount_in};
 
 use sct_element::{Amount, Bic, Id35};
 use sct_message::{
@@ -241,7 +241,7 @@ fn push_recalls(
 ) -> Result<(), AllocError>
     ensures made { OnOk result (made.new.items ≡ made.old.items ++ flat_map (made_in transfer.now) txs.now) }
     ensures amounts { OnOk result (amounts.new.items
-        ≡ amounts.old.items ++ flat_map (amount_in transfer.now) txs.now) }
+        ≡ amounts.old.items ++ flat_map (original_amount_in transfer.now) txs.now) }
 {
     for tx in txs {
         push_recall(made, amounts, transfer, tx)?;
@@ -257,7 +257,7 @@ fn push_recall(
     tx: &RecallTx,
 ) -> Result<(), AllocError>
     ensures made { OnOk result (made.new.items ≡ made.old.items ++ made_in transfer.now tx.now) }
-    ensures amounts { OnOk result (amounts.new.items ≡ amounts.old.items ++ amount_in transfer.now tx.now) }
+    ensures amounts { OnOk result (amounts.new.items ≡ amounts.old.items ++ original_amount_in transfer.now tx.now) }
 {
     if !recalls(transfer, tx) {
         return Ok(());

@@ -18,7 +18,7 @@ use Rattle.sct_delta.specs.Entries.{Placed, entries_from, numbered, place_order,
 use Rattle.std.specs.List.{list_all}
 use Rattle.sct_delta.specs.Sites.{is_site, is_group}
 use Rattle.sct_delta.specs.Refusals.{has_site}
-use Rattle.sct_delta.specs.Shelves.{above_on, above_in, log_on, messages_on}
+use Rattle.sct_delta.specs.Shelves.{above_on, above_in, log_on, messages_in_log}
 use Rattle.sct_delta.specs.declared.shelf.Shelf.{Shelf}
 use Rattle.sct_delta.proofs.EntryLemmas.{from-append, from-numbered, from-numbered_other, rises-append, all-append, rises-numbered, numbered_later, run_is, same_number}
 
@@ -62,13 +62,13 @@ module _ (count : ℕ → ℕ) where
 
   -- of an origin what its log has above the count
   from_above : (o : ℕ) (es : List Kept) → IsStrictlySortedBy nat_cmp (keys_of es)
-      → entries_from o (flat_map (above_on count) es) ≡ numbered o (count o + 1) (drop (count o) (messages_on (lookup (is_at (nat_cmp o)) es)))
+      → entries_from o (flat_map (above_on count) es) ≡ numbered o (count o + 1) (drop (count o) (messages_in_log (lookup (is_at (nat_cmp o)) es)))
   unfolding IsStrictlySortedBy
   from_above o [] rises = ap (numbered o (count o + 1)) (sym (drop-nil (count o)))
   from_above o (e ∷ es) rises =
       from-append o (above_on count e) (flat_map (above_on count) es)
       ∙ elim (is_eq (nat_cmp o e.0)) as (λ b. is_eq (nat_cmp o e.0) ≡ b → entries_from o (above_on count e) ++ entries_from o (flat_map (above_on count) es)
-      ≡ numbered o (count o + 1) (drop (count o) (messages_on (cond b (Some e.1) (lookup (is_at (nat_cmp o)) es))))) [
+      ≡ numbered o (count o + 1) (drop (count o) (messages_in_log (cond b (Some e.1) (lookup (is_at (nat_cmp o)) es))))) [
         | true ↦ λ is. here o e es (tied o e.0 is) rises.0
         | false ↦ λ is. (λ i. from-numbered_other o e.0 (count e.0 + 1) (drop (count e.0) (map arc_value e.1.items)) (untied o e.0 is) i ++ from_above o es rises.1 i)
       ] refl

@@ -14,7 +14,7 @@ use Rattle.std.proofs.lemmas.List.Elements.{filter_passes, All-weaker}
 use Rattle.std.proofs.lemmas.Map.Entries.{lookup-filter-values, option_filter}
 use Rattle.std.proofs.lemmas.Map.Keys.{IsDistinct-from_sorted}
 use Rattle.sct_message.specs.declared.draft.Draft.{Draft}
-use Rattle.sct_delta.specs.Shelves.{messages_on}
+use Rattle.sct_delta.specs.Shelves.{messages_in_log}
 use Rattle.sct_delta.specs.Vectors.{count_or_0}
 
 -- a look-up among the entries whose values pass a test
@@ -59,19 +59,19 @@ none_left (item ∷ items) none = absurd (omega (arith, none))
 no_length : (log : Log) → is_filled log ≡ false → length log.items ≡ 0
 no_length log empty = let len : vec_len log ≡ length log.items = log.ok.0 in grind (arith, nat_tests, len, empty)
 
-messages_kept : (found : Option Log) → messages_on (option_filter is_filled found) ≡ messages_on found
+messages_kept : (found : Option Log) → messages_in_log (option_filter is_filled found) ≡ messages_in_log found
 messages_kept None = refl
 messages_kept (Some log) =
-    elim (is_filled log) as (λ filled. is_filled log ≡ filled → messages_on (cond filled (Some log) None) ≡ messages_on (Some log)) [
+    elim (is_filled log) as (λ filled. is_filled log ≡ filled → messages_in_log (cond filled (Some log) None) ≡ messages_in_log (Some log)) [
       | true ↦ λ some. refl
       | false ↦ λ empty. none_left log.items (no_length log empty)
     ] refl
 
 pub logs_kept : (k : ℕ) (old kept : List (ℕ × Log)) → IsStrictlySortedBy nat_cmp (keys_of old) → kept ≡ filter (λ e. is_filled e.1) old
-    → messages_on (lookup (is_at (nat_cmp k)) kept) ≡ messages_on (lookup (is_at (nat_cmp k)) old)
+    → messages_in_log (lookup (is_at (nat_cmp k)) kept) ≡ messages_in_log (lookup (is_at (nat_cmp k)) old)
 logs_kept k old kept ordered is =
-    ap (λ (es : List (ℕ × Log)). messages_on (lookup (is_at (nat_cmp k)) es)) is
-    ∙ ap messages_on (kept_at is_filled k old ordered) ∙ messages_kept (lookup (is_at (nat_cmp k)) old)
+    ap (λ (es : List (ℕ × Log)). messages_in_log (lookup (is_at (nat_cmp k)) es)) is
+    ∙ ap messages_in_log (kept_at is_filled k old ordered) ∙ messages_kept (lookup (is_at (nat_cmp k)) old)
 
 some_message : (log : Log) → is_filled log ≡ true → 1 ≤ length log.items
 some_message log some = let len : vec_len log ≡ length log.items = log.ok.0 in grind (arith, nat_tests, len, some)

@@ -15,7 +15,7 @@ use Rattle.std.specs.declared.sync.Arc.{Arc}
 use Rattle.std.specs.Global.{Global}
 use Rattle.std.proofs.lemmas.Bool.{eq-eqb}
 use Rattle.sct_message.specs.declared.draft.Draft.{Draft}
-use Rattle.sct_delta.specs.Entries.{Placed, is_from, entries_from, log_of, numbered, place_order, IsRun}
+use Rattle.sct_delta.specs.Entries.{Placed, is_from, entries_from, log_of, numbered, place_order, HasNoHole}
 
 -- ---- tests of numbers
 
@@ -68,7 +68,7 @@ log-append o xs ys = ap (map (λ entry. entry.message)) (from-append o xs ys) �
 pub log_is : (o n : ℕ) (ms : List Draft) (es : List Placed) → entries_from o es ≡ numbered o n ms → log_of o es ≡ ms
 log_is o n ms es is = ap (map (λ entry. entry.message)) is ∙ messages-numbered o n ms
 
-pub run_is : (o n : ℕ) (ms : List Draft) (es : List Placed) → 1 ≤ n → entries_from o es ≡ numbered o n ms → IsRun o es
+pub run_is : (o n : ℕ) (ms : List Draft) (es : List Placed) → 1 ≤ n → entries_from o es ≡ numbered o n ms → HasNoHole o es
 run_is o n ms es above is = record {
   first = n;
   above_0 = above;

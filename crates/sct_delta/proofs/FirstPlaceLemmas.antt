@@ -9,7 +9,7 @@ use Rattle.std.proofs.lemmas.Bool.{and_parts}
 use Rattle.std.proofs.lemmas.Bool.Decides.{nat_tests}
 use Rattle.sct_delta.specs.Entries.{Placed, IsDelta}
 use Rattle.sct_delta.specs.Laws.{EndsAt, MakeVector, PairsMakeAVector, ReportsTheFirstEntry, ReportsTheFirstPair}
-use Rattle.sct_delta.specs.Shapes.{are_of_sites, are_sites, delta_refusal, first_break, first_fall, may_be_next, vector_refusal}
+use Rattle.sct_delta.specs.Shapes.{are_of_sites, are_origins_sites, delta_refusal, first_break, first_fall, may_be_next, vector_refusal}
 use Rattle.sct_delta.specs.Sites.{is_site}
 use Rattle.sct_delta.specs.declared.fault.DeltaFault.TheVariants as fault
 use Rattle.sct_delta.proofs.ShapeLemmas.{delta_from_unbroken, delta_unbroken, refused_nowhere}
@@ -180,13 +180,13 @@ unfallen_ascending place before (p ∷ ps) higher sorted =
 site_above_0 : (o : ℕ) → is_site o ≡ true → nat_cmp 0 o ≡ Less
 site_above_0 o site = grind (arith, nat_tests, site)
 
-sites_above_0 : (ps : List (ℕ × ℕ)) → are_sites ps ≡ true → AllByRecursion (λ o. nat_cmp 0 o ≡ Less) (origins_of ps)
+sites_above_0 : (ps : List (ℕ × ℕ)) → are_origins_sites ps ≡ true → AllByRecursion (λ o. nat_cmp 0 o ≡ Less) (origins_of ps)
 sites_above_0 [] all = tt
 sites_above_0 (p ∷ ps) all =
-    let parts : (is_site p.0 ≡ true) × (are_sites ps ≡ true) = and_parts (is_site p.0) (are_sites ps) all in
+    let parts : (is_site p.0 ≡ true) × (are_origins_sites ps ≡ true) = and_parts (is_site p.0) (are_origins_sites ps) all in
     (site_above_0 p.0 parts.0, sites_above_0 ps parts.1)
 
-vector_from : (ps : List (ℕ × ℕ)) → are_sites ps ≡ true → first_fall 1 0 ps ≡ None → MakeVector ps
+vector_from : (ps : List (ℕ × ℕ)) → are_origins_sites ps ≡ true → first_fall 1 0 ps ≡ None → MakeVector ps
 vector_from ps sites none = record { sites = sites; ascend = ascend_unfallen 1 0 ps none }
 
 vector_unfallen : (ps : List (ℕ × ℕ)) → MakeVector ps → first_fall 1 0 ps ≡ None
@@ -195,11 +195,11 @@ vector_unfallen ps vector = unfallen_ascending 1 0 ps (sites_above_0 ps vector.s
 pub make_vector : PairsMakeAVector
 unfolding vector_refusal
 make_vector pairs = (
-  λ none. let parts = refused_nowhere (are_sites pairs) (first_fall 1 0 pairs) none in vector_from pairs parts.0 parts.1,
+  λ none. let parts = refused_nowhere (are_origins_sites pairs) (first_fall 1 0 pairs) none in vector_from pairs parts.0 parts.1,
   λ vector. λ i. cond (vector.sites i) (option_map (λ p. fault.BadDelta p) (vector_unfallen pairs vector i)) (Some fault.BadSite),
 )
 
-pair_ends : (pairs : List (ℕ × ℕ)) → are_sites pairs ≡ true → (place : ℕ) → (first_fall 1 0 pairs ≡ Some place) ↔ EndsAt MakeVector pairs place
+pair_ends : (pairs : List (ℕ × ℕ)) → are_origins_sites pairs ≡ true → (place : ℕ) → (first_fall 1 0 pairs ≡ Some place) ↔ EndsAt MakeVector pairs place
 pair_ends pairs sites place = (
   ends_where_reported MakeVector (first_fall 1 0) pairs (λ k. vector_unfallen (take k pairs))
       (λ k. vector_from (take k pairs) (all_taken (λ p. is_site p.0) k pairs sites)) (λ k. fall_taken 1 0 k pairs) place,
@@ -210,7 +210,7 @@ pair_ends pairs sites place = (
 pub first_pair : ReportsTheFirstPair
 unfolding vector_refusal
 first_pair pairs place = (
-  λ refused. let parts = refused_at (are_sites pairs) (first_fall 1 0 pairs) place refused in
+  λ refused. let parts = refused_at (are_origins_sites pairs) (first_fall 1 0 pairs) place refused in
       (parts.0, (pair_ends pairs parts.0 place).0 parts.1),
-  λ ends. at_place (are_sites pairs) (first_fall 1 0 pairs) place ends.0 ((pair_ends pairs ends.0 place).1 ends.1),
+  λ ends. at_place (are_origins_sites pairs) (first_fall 1 0 pairs) place ends.0 ((pair_ends pairs ends.0 place).1 ends.1),
 )

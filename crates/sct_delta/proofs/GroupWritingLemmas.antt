@@ -15,7 +15,7 @@ use Rattle.sct_delta.specs.Sites.{is_site}
 use Rattle.sct_delta.specs.Entries.{Placed, IsDelta, numbered}
 use Rattle.sct_delta.specs.Shapes.{may_be_next, first_break, are_of_sites}
 use Rattle.sct_delta.specs.TextLines.{lines_by_end, lines_as, ended, end_line}
-use Rattle.sct_delta.specs.GroupText.{Group, origin_line, group_lines, group_entries, TellMessages, may_begin, AreGroups, groups_head, IsGroupText, run_length, lines_after, IsWritten}
+use Rattle.sct_delta.specs.GroupText.{Group, origin_line, group_lines, group_entries, TellMessages, may_begin, AreGroups, groups_head, IsGroupText, run_length, lines_after, IsWritable}
 use Rattle.sct_delta.specs.DeltaText.{written_delta}
 use Rattle.sct_delta.proofs.ShapeLemmas.{Behind, behind_from, delta_unbroken, unbroken}
 use Rattle.sct_delta.proofs.TextLemmas.{site_below}
@@ -37,7 +37,7 @@ pub record Continued (previous n : ℕ) (entries : List Placed) : Type 0 where
   pub all : entries ≡ numbered previous (n + 1) messages ++ flat_map group_entries groups
 
 -- one entry more of the same origin
-same_origin : (previous n : ℕ) (message : Draft) (entries : List Placed) → IsWritten (record { origin = previous; n = n + 1; message = message }) → Continued previous (n + 1) entries
+same_origin : (previous n : ℕ) (message : Draft) (entries : List Placed) → IsWritable (record { origin = previous; n = n + 1; message = message }) → Continued previous (n + 1) entries
     → Continued previous n (record { origin = previous; n = n + 1; message = message } ∷ entries)
 same_origin previous n message entries written rest =
     let same : nat_eq previous previous ≡ true = grind (arith, nat_tests) in
@@ -62,7 +62,7 @@ begins previous origin first count later site above some last =
     and_from _ _ a (and_from _ _ site (and_from _ _ b (and_from _ _ c d)))
 
 -- an entry that begins an origin
-new_origin : (previous n : ℕ) (entry : Placed) (entries : List Placed) → n < 2 ^ 64 → nat_eq entry.origin previous ≡ false → previous < entry.origin → 1 ≤ entry.n → is_site entry.origin ≡ true → IsWritten entry
+new_origin : (previous n : ℕ) (entry : Placed) (entries : List Placed) → n < 2 ^ 64 → nat_eq entry.origin previous ≡ false → previous < entry.origin → 1 ≤ entry.n → is_site entry.origin ≡ true → IsWritable entry
     → Continued entry.origin entry.n entries → Continued previous n (entry ∷ entries)
 new_origin previous n entry entries small other later above site written rest =
     let count : 1 + run_length entry.origin entries ≡ length (entry.message ∷ rest.messages) = omega (arith, rest.many) in
@@ -83,7 +83,7 @@ new_origin previous n entry entries small other later above site written rest =
     }
 
 -- an entry whose place is told by equations
-goes_on : (previous n : ℕ) (entry : Placed) (entries : List Placed) → entry.origin ≡ previous → entry.n ≡ n + 1 → IsWritten entry → Continued entry.origin entry.n entries → Continued previous n (entry ∷ entries)
+goes_on : (previous n : ℕ) (entry : Placed) (entries : List Placed) → entry.origin ≡ previous → entry.n ≡ n + 1 → IsWritable entry → Continued entry.origin entry.n entries → Continued previous n (entry ∷ entries)
 goes_on previous n entry entries it number written rest =
     let there : Continued previous (n + 1) entries =
     subst (λ (o : ℕ). Continued o (n + 1) entries) it (subst (λ (m : ℕ). Continued entry.origin m entries) number rest) in
@@ -95,7 +95,7 @@ goes_on previous n entry entries it number written rest =
 later_of : (previous origin : ℕ) → previous ≤ origin → nat_eq origin previous ≡ false → previous < origin
 later_of previous origin le other = grind (arith, nat_tests, le, other)
 
-pub continued : (k previous n : ℕ) (entries : List Placed) → first_break k previous n entries ≡ None → are_of_sites entries ≡ true → n < 2 ^ 64 → All IsWritten entries → Continued previous n entries
+pub continued : (k previous n : ℕ) (entries : List Placed) → first_break k previous n entries ≡ None → are_of_sites entries ≡ true → n < 2 ^ 64 → All IsWritable entries → Continued previous n entries
 continued k previous n [] order sites small all = record {
   texts = [];
   messages = [];
@@ -111,8 +111,8 @@ continued k previous n (entry ∷ entries) order sites small all =
     let next : (may_be_next previous n entry ≡ true) × (first_break (k + 1) entry.origin entry.n entries ≡ None) = unbroken _ _ _ order in
     let site : (is_site entry.origin ≡ true) × (are_of_sites entries ≡ true) = and_parts (is_site entry.origin) (are_of_sites entries) sites in
     let behind : Behind previous n entry = behind_from previous n entry next.0 in
-    let written : IsWritten entry = all 0 entry (omega arith) in
-    let rest : Continued entry.origin entry.n entries = continued (k + 1) entry.origin entry.n entries next.1 site.1 written.small (All-tail IsWritten entry entries all) in
+    let written : IsWritable entry = all 0 entry (omega arith) in
+    let rest : Continued entry.origin entry.n entries = continued (k + 1) entry.origin entry.n entries next.1 site.1 written.small (All-tail IsWritable entry entries all) in
     elim (nat_eq entry.origin previous) as (λ same. nat_eq entry.origin previous ≡ same → Continued previous n (entry ∷ entries)) [
       | true ↦ λ same.
           let it : entry.origin ≡ previous = eqb-true entry.origin previous same in
@@ -135,19 +135,19 @@ origin_one_line origin first count small_origin small_first small_count =
     one_line_appended (decimal origin) (32 ∷ (decimal first ++ 32 ∷ decimal count)) (decimal_one_line origin small_origin)
     (one_line_appended (decimal first) (32 ∷ decimal count) (decimal_one_line first small_first) (decimal_one_line count small_count))
 
-lines_one : (previous : ℕ) (entries : List Placed) → length entries < 2 ^ 64 → are_of_sites entries ≡ true → All IsWritten entries → list_all has_no_line_feed (lines_after previous entries) ≡ true
+lines_one : (previous : ℕ) (entries : List Placed) → length entries < 2 ^ 64 → are_of_sites entries ≡ true → All IsWritable entries → list_all has_no_line_feed (lines_after previous entries) ≡ true
 lines_one previous [] few sites all = refl
 lines_one previous (entry ∷ entries) few sites all =
     let site : (is_site entry.origin ≡ true) × (are_of_sites entries ≡ true) = and_parts (is_site entry.origin) (are_of_sites entries) sites in
-    let written : IsWritten entry = all 0 entry (omega arith) in
-    let rest : list_all has_no_line_feed (lines_after entry.origin entries) ≡ true = lines_one entry.origin entries (omega (arith, few)) site.1 (All-tail IsWritten entry entries all) in
+    let written : IsWritable entry = all 0 entry (omega arith) in
+    let rest : list_all has_no_line_feed (lines_after entry.origin entries) ≡ true = lines_one entry.origin entries (omega (arith, few)) site.1 (All-tail IsWritable entry entries all) in
     let behind : list_all has_no_line_feed (written_text entry.message ∷ lines_after entry.origin entries) ≡ true = and_from _ _ (text_is_one_line entry.message) rest in
     elim (nat_eq entry.origin previous) as (λ same. list_all has_no_line_feed (cond same [] (origin_line entry.origin entry.n (1 + run_length entry.origin entries) ∷ []) ++ written_text entry.message ∷ lines_after entry.origin entries) ≡ true) [
       | true ↦ behind
       | false ↦ and_from _ _ (origin_one_line entry.origin entry.n (1 + run_length entry.origin entries) (site_below entry.origin site.0) written.small (omega (arith, few, run_short entry.origin entries))) behind
     ]
 
-written_lines : (entries : List Placed) → length entries < 2 ^ 64 → are_of_sites entries ≡ true → All IsWritten entries
+written_lines : (entries : List Placed) → length entries < 2 ^ 64 → are_of_sites entries ≡ true → All IsWritable entries
     → lines_by_end (written_delta entries) ≡ lines_as (groups_head ∷ lines_after 0 entries ++ end_line (length entries) ∷ [])
 unfolding written_delta
 written_lines entries few sites all =
@@ -162,7 +162,7 @@ none_of_0 : (entries : List Placed) → are_of_sites entries ≡ true → run_le
 none_of_0 [] sites = refl
 none_of_0 (entry ∷ entries) sites = rw (no_site_0 entry.origin (and_parts (is_site entry.origin) (are_of_sites entries) sites).0) refl
 
-pub written_is_form : (entries : List Placed) → length entries < 2 ^ 64 → IsDelta entries → All IsWritten entries → IsGroupText (written_delta entries) entries
+pub written_is_form : (entries : List Placed) → length entries < 2 ^ 64 → IsDelta entries → All IsWritable entries → IsGroupText (written_delta entries) entries
 written_is_form entries few delta all =
     let on : Continued 0 0 entries = continued 1 0 0 entries (delta_unbroken entries delta) delta.sites (omega arith) all in
     let none : (on.texts ≡ []) × (on.messages ≡ []) = none_due on.texts on.messages on.tell (sym on.many ∙ none_of_0 entries delta.sites) in

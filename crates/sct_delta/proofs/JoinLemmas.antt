@@ -8,7 +8,7 @@ use Rattle.std.proofs.lemmas.Bool.Decides.{nat_tests}
 use Rattle.std.proofs.lemmas.List.Folds.{list_any-append}
 use Rattle.std.proofs.lemmas.List.Kept.{IsStrictlySortedBy-filter}
 use Rattle.sct_message.specs.declared.draft.Draft.{Draft}
-use Rattle.sct_delta.specs.Entries.{Placed, is_from, entries_from, log_of, numbered, same_entry, holds, place_order, IsRun, IsDelta}
+use Rattle.sct_delta.specs.Entries.{Placed, is_from, entries_from, log_of, numbered, same_entry, holds, place_order, HasNoHole, IsDelta}
 use Rattle.sct_delta.specs.Refusals.{message_at, is_same_as, is_other_than, is_held, is_new, is_outside, is_ahead, is_past, is_fork, fault_of_entry, firsts_after, first_refusal, outside_refusal, ahead_refusal, gap_refusal, fork_refusal, vector_of, fresh_in, joined}
 use Rattle.sct_delta.specs.Sites.{is_site}
 use Rattle.sct_delta.specs.declared.fault.DeltaFault.{DeltaFault}
@@ -197,12 +197,12 @@ none_from_0 : (group : ℕ) (es : List Placed) → list_any (is_outside group) e
 none_from_0 group es none o zero_is = filter_none (is_from o) es (none_also (is_outside group) (is_from o) (λ e. inside_site group o e zero_is) es none)
 
 -- what is fresh of each origin follows what is held of it
-pub fresh_continues : (own group : ℕ) (log : ℕ → List Draft) (delta : List Placed) → ((o : ℕ) → IsRun o delta) → IsPassed own group log delta
+pub fresh_continues : (own group : ℕ) (log : ℕ → List Draft) (delta : List Placed) → ((o : ℕ) → HasNoHole o delta) → IsPassed own group log delta
     → (o : ℕ) → entries_from o (fresh_in log delta) ≡ numbered o (vector_of log o + 1) (log_of o (fresh_in log delta))
 fresh_continues own group log delta runs p o =
     elim (nat_eq o 0) as (λ b. nat_eq o 0 ≡ b → entries_from o (fresh_in log delta) ≡ numbered o (vector_of log o + 1) (log_of o (fresh_in log delta))) [
       | true ↦ λ t. self_numbered o (vector_of log o + 1) [] (fresh_in log delta) (nothing_fresh log delta o (none_from_0 group delta p.inside o t))
-      | false ↦ λ t. let run : IsRun o delta = runs o in fresh_run log delta o run.first (log_of o delta) run.above_0 t p.no_gap p.no_fork run.follow
+      | false ↦ λ t. let run : HasNoHole o delta = runs o in fresh_run log delta o run.first (log_of o delta) run.above_0 t p.no_gap p.no_fork run.follow
     ] refl
 
 -- what is fresh of a delta that fits is a delta

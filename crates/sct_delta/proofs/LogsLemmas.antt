@@ -13,13 +13,13 @@ use Rattle.sct_message.specs.declared.draft.Draft.{Draft}
 use Rattle.sct_delta.proofs.EntryLemmas.{same_number}
 use Rattle.sct_delta.specs.Inside.{held_logs, log_of_list, logs_on}
 use Rattle.sct_delta.specs.Logs.{HeldLogs, Log, messages_of_log, room_of_log, log_in, room_at, KeepsEmptyIfDue, KeepsNoEmpty}
-use Rattle.sct_delta.specs.Shelves.{log_on, messages_on, places_at, places_on, HasEmptyIfDue, HasNoEmptyLog}
+use Rattle.sct_delta.specs.Shelves.{log_on, messages_in_log, places_at, places_on, HasEmptyIfDue, HasNoEmptyLog}
 use Rattle.sct_delta.specs.Vectors.{HasNoZero, HasZeroIfDue}
 use Rattle.sct_delta.specs.declared.shelf.Shelf.{Shelf}
 use Rattle.sct_delta.specs.declared.vector.Vector.{Vector}
 use Rattle.std.specs.Option.{option_map}
 
-messages_found : (found : Option (Vec (Arc Draft Global))) → messages_of_log (option_map log_of_list found) ≡ messages_on found
+messages_found : (found : Option (Vec (Arc Draft Global))) → messages_of_log (option_map log_of_list found) ≡ messages_in_log found
 messages_found None = refl
 messages_found (Some list) = refl
 

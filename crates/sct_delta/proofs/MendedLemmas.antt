@@ -8,7 +8,7 @@ use Rattle.std.proofs.lemmas.List.{append-nil}
 use Rattle.sct_json.specs.Writing.{has_no_line_feed}
 use Rattle.sct_delta.specs.Entries.{Placed}
 use Rattle.sct_delta.specs.Shapes.{may_be_next}
-use Rattle.sct_delta.specs.TextLines.{Line, lines_by_end, lines_as, onto_first, is_end_line, end_line, entries_ended}
+use Rattle.sct_delta.specs.TextLines.{Line, lines_by_end, lines_as, lines_from_byte, is_end_line, end_line, entries_ended}
 use Rattle.sct_delta.specs.EntryText.{entry_in, entries_on, entries_in}
 use Rattle.sct_delta.proofs.TextLemmas.{same_texts}
 use Rattle.sct_delta.proofs.FormLemmas.{end_is_end, no_entry_at_end}
@@ -23,7 +23,7 @@ is_one (Some line) = has_no_line_feed line
 abbrev pub AreOne : List Line → Type 0
 AreOne lines = list_all is_one lines ≡ true
 
-onto_one : (byte : ℕ) (lines : List Line) → (byte == 10) ≡ false → AreOne lines → AreOne (onto_first byte lines)
+onto_one : (byte : ℕ) (lines : List Line) → (byte == 10) ≡ false → AreOne lines → AreOne (lines_from_byte byte lines)
 onto_one byte [] other one = refl
 onto_one byte (None ∷ lines) other one = one
 onto_one byte (Some line ∷ lines) other one = rw other one
@@ -32,12 +32,12 @@ pub lines_are_one : (bytes : List ℕ) → AreOne (lines_by_end bytes)
 unfolding lines_by_end
 lines_are_one [] = refl
 lines_are_one (byte ∷ bytes) =
-    (elim (byte == 10) as (λ feed. (byte == 10) ≡ feed → AreOne (cond feed (Some [] ∷ lines_by_end bytes) (onto_first byte (lines_by_end bytes)))) [
+    (elim (byte == 10) as (λ feed. (byte == 10) ≡ feed → AreOne (cond feed (Some [] ∷ lines_by_end bytes) (lines_from_byte byte (lines_by_end bytes)))) [
       | true ↦ λ e. lines_are_one bytes
       | false ↦ λ e. onto_one byte (lines_by_end bytes) e (lines_are_one bytes)
     ]) refl
 
-onto_few : (byte k : ℕ) (lines : List Line) → length lines ≤ k → length (onto_first byte lines) ≤ k + 1
+onto_few : (byte k : ℕ) (lines : List Line) → length lines ≤ k → length (lines_from_byte byte lines) ≤ k + 1
 onto_few byte k [] few = omega arith
 onto_few byte k (None ∷ lines) few = omega (arith, few)
 onto_few byte k (Some line ∷ lines) few = omega (arith, few)
@@ -46,7 +46,7 @@ pub few_lines : (bytes : List ℕ) → length (lines_by_end bytes) ≤ length by
 unfolding lines_by_end
 few_lines [] = omega arith
 few_lines (byte ∷ bytes) =
-    elim (byte == 10) as (λ feed. length (cond feed (Some [] ∷ lines_by_end bytes) (onto_first byte (lines_by_end bytes))) ≤ length (byte ∷ bytes)) [
+    elim (byte == 10) as (λ feed. length (cond feed (Some [] ∷ lines_by_end bytes) (lines_from_byte byte (lines_by_end bytes))) ≤ length (byte ∷ bytes)) [
       | true ↦ omega (arith, few_lines bytes)
       | false ↦ omega (arith, onto_few byte (length bytes) (lines_by_end bytes) (few_lines bytes))
     ]

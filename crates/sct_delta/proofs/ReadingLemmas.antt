@@ -4,7 +4,7 @@ use Rattle.std.specs.Prelude.{nat_eq, decimal, option_and_then, codes}
 use Rattle.std.proofs.lemmas.Bool.Decides.{nat_tests}
 use Rattle.sct_delta.specs.Entries.{Placed}
 use Rattle.sct_delta.specs.Shapes.{may_be_next}
-use Rattle.sct_delta.specs.TextLines.{Line, lines_by_end, ended_first, onto_first, number_in, after_prefix, is_end_line, end_line, entries_ended}
+use Rattle.sct_delta.specs.TextLines.{Line, lines_by_end, ended_first, lines_from_byte, number_in, after_prefix, is_end_line, end_line, entries_ended}
 use Rattle.sct_delta.specs.EntryText.{entry_in, entries_in}
 use Rattle.sct_delta.specs.DeltaText.{entries_behind, delta_of_lines, delta_in}
 use Rattle.sct_delta.proofs.TextLemmas.{number_written, number_read, prefix_written, texts_same, same_texts, then_from, lines_of_none}
@@ -47,7 +47,7 @@ no_count_no_end count line small none = sym (no_end count line small (λ h. cc))
 
 -- ---- behind the end line
 
-onto_some : (byte : ℕ) (lines : List Line) → (first : Line) × (rest : List Line) × (onto_first byte lines ≡ first ∷ rest)
+onto_some : (byte : ℕ) (lines : List Line) → (first : Line) × (rest : List Line) × (lines_from_byte byte lines ≡ first ∷ rest)
 onto_some byte [] = (None, [], refl)
 onto_some byte (None ∷ lines) = (None, lines, refl)
 onto_some byte (Some line ∷ lines) = (Some (byte ∷ line), lines, refl)
@@ -55,7 +55,7 @@ onto_some byte (Some line ∷ lines) = (Some (byte ∷ line), lines, refl)
 some_line : (byte : ℕ) (bytes : List ℕ) → (first : Line) × (rest : List Line) × (lines_by_end (byte ∷ bytes) ≡ first ∷ rest)
 unfolding lines_by_end
 some_line byte bytes =
-    elim (byte == 10) as (λ feed. (first : Line) × (rest : List Line) × (cond feed (Some [] ∷ lines_by_end bytes) (onto_first byte (lines_by_end bytes)) ≡ first ∷ rest)) [
+    elim (byte == 10) as (λ feed. (first : Line) × (rest : List Line) × (cond feed (Some [] ∷ lines_by_end bytes) (lines_from_byte byte (lines_by_end bytes)) ≡ first ∷ rest)) [
       | true ↦ (Some [], lines_by_end bytes, refl)
       | false ↦ onto_some byte (lines_by_end bytes)
     ]

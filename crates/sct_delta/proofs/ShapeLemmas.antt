@@ -7,7 +7,7 @@ use Rattle.std.specs.Ordering.{nat_cmp, ordering_then}
 use Rattle.std.specs.declared.cmp.Ordering.TheVariants.{Less, Equal, Greater}
 use Rattle.std.proofs.lemmas.Bool.{and_parts}
 use Rattle.std.proofs.lemmas.Bool.Decides.{nat_tests}
-use Rattle.sct_delta.specs.Entries.{Placed, entries_from, log_of, numbered, IsRun, IsDelta, place_order}
+use Rattle.sct_delta.specs.Entries.{Placed, entries_from, log_of, numbered, HasNoHole, IsDelta, place_order}
 use Rattle.sct_delta.specs.declared.fault.DeltaFault.TheVariants as fault
 use Rattle.sct_delta.specs.Sites.{is_site}
 use Rattle.sct_delta.proofs.EntryLemmas.{same_number}
@@ -66,7 +66,7 @@ others_of place origin n entry entries none = (unbroken _ _ _ none).1
 
 -- The entries of an origin, where an entry of some origin and number stands before the list.
 pub record RunAfter (origin n of : ℕ) (entries : List Placed) : Type 0 where
-  pub run : IsRun of entries
+  pub run : HasNoHole of entries
   pub here : origin ≡ of → run.first ≡ n + 1
   pub before : of < origin → entries_from of entries ≡ []
 
@@ -190,7 +190,7 @@ none_earlier origin n of (entry ∷ entries) all below =
     from_other of entry entries other ∙ none_earlier origin n of entries all.1 below
 
 -- the first entry has the number that the run of its origin begins with
-run_at_head : (of : ℕ) (entry : Placed) (entries : List Placed) → nat_eq entry.origin of ≡ true → (run : IsRun of (entry ∷ entries))
+run_at_head : (of : ℕ) (entry : Placed) (entries : List Placed) → nat_eq entry.origin of ≡ true → (run : HasNoHole of (entry ∷ entries))
     → (entry.n ≡ run.first) × (entries_from of entries ≡ numbered of (run.first + 1) (log_of of entries))
 run_at_head of entry entries same run =
     let head : entry ∷ entries_from of entries ≡ record { origin = of; n = run.first; message = entry.message } ∷ numbered of (run.first + 1) (log_of of entries) =

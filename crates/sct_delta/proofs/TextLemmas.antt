@@ -20,8 +20,8 @@ use Rattle.std.specs.Cmp.Lexicographic.{pointwise, same_text, nat_list_eq_equiv}
 use Rattle.std.specs.List.{position_or_len}
 use Rattle.std.proofs.Common.{drop-cons}
 use Rattle.sct_delta.specs.Sites.{is_site, is_site_of_form_1}
-use Rattle.sct_delta.specs.TextLines.{is_numeral, number_in, begins_right, lines_by_end, onto_first, ended_first, is_space, Field, number_to, number_before_space, after_prefix}
-use Rattle.sct_delta.specs.EntryText.{site_in, EntryFields, fields_behind, fields_after, fields_in}
+use Rattle.sct_delta.specs.TextLines.{is_numeral, number_in, begins_right, lines_by_end, lines_from_byte, ended_first, is_space, Field, number_to, number_before_space, after_prefix}
+use Rattle.sct_delta.specs.EntryText.{site_in_form_1, EntryFields, fields_behind, fields_after, fields_in}
 
 abbrev AreDigits : List ℕ → Type 0
 AreDigits text = list_all is_ascii_digit text ≡ true
@@ -105,7 +105,7 @@ pub lines_of_none : lines_by_end [] ≡ []
 unfolding lines_by_end
 lines_of_none = refl
 
-onto_open : (byte : ℕ) (lines : List (Option (List ℕ))) → ended_first lines ≡ None → ended_first (onto_first byte lines) ≡ None
+onto_open : (byte : ℕ) (lines : List (Option (List ℕ))) → ended_first lines ≡ None → ended_first (lines_from_byte byte lines) ≡ None
 onto_open byte [] h = refl
 onto_open byte (None ∷ lines) h = refl
 onto_open byte (Some line ∷ lines) h = cc
@@ -282,8 +282,8 @@ fields_written line json origin n read =
     then_from {A = Field} {B = EntryFields} fields_after _ (origin, n, json) read in
     let front : (rest : List ℕ) × (after_prefix (codes "entry ") line ≡ Some rest) × (number_before_space rest ≡ Some whole.0) =
     then_from {B = Field} number_before_space (after_prefix (codes "entry ") line) whole.0 whole.1 in
-    let origins : (site : ℕ) × (site_in whole.0.0 ≡ Some site) × (fields_behind site whole.0.1 ≡ Some (origin, n, json)) =
-    then_from {B = EntryFields} (λ site. fields_behind site whole.0.1) (site_in whole.0.0) (origin, n, json) whole.2 in
+    let origins : (site : ℕ) × (site_in_form_1 whole.0.0 ≡ Some site) × (fields_behind site whole.0.1 ≡ Some (origin, n, json)) =
+    then_from {B = EntryFields} (λ site. fields_behind site whole.0.1) (site_in_form_1 whole.0.0) (origin, n, json) whole.2 in
     let is : (is_site_of_form_1 whole.0.0 ≡ true) × (Some whole.0.0 ≡ Some origins.0) = passed _ _ _ origins.1 in
     let site : whole.0.0 ≡ origins.0 = cc in
     let next : (field : Field) × (number_before_space whole.0.1 ≡ Some field) × ((origins.0, field.0, field.1) ≡ (origin, n, json)) =

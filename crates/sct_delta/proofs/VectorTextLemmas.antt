@@ -13,7 +13,7 @@ use Rattle.std.proofs.lemmas.List.{append-nil}
 use Rattle.std.proofs.lemmas.List.Elements.{All-cons}
 use Rattle.std.proofs.lemmas.List.Splits.{slice_split_at, slice_split_first, slice_split_none}
 use Rattle.std.proofs.Math.Seq.{take-append_seam, drop-append-add}
-use Rattle.sct_delta.specs.Shapes.{are_sites, count_among, first_fall, vector_refusal}
+use Rattle.sct_delta.specs.Shapes.{are_origins_sites, count_among, first_fall, vector_refusal}
 use Rattle.sct_delta.specs.Sites.{is_site, most_sites}
 use Rattle.sct_delta.specs.VectorText.{CountsTheSame, IsReadBack, Pair, is_colon, is_comma, joined_pairs, pair_in, pair_text, pairs_among, pairs_in, pairs_of, pairs_text, pairs_to, vector_in, vector_of_pairs, vector_text, with_pair}
 use Rattle.sct_delta.proofs.TextLemmas.{number_read, numerals, passed}
@@ -243,7 +243,7 @@ pairs_are_counted count small (suc last) at =
       | false ↦ before
     ]
 
-sites_of : (pairs : List Pair) → AreCounted pairs → are_sites pairs ≡ true
+sites_of : (pairs : List Pair) → AreCounted pairs → are_origins_sites pairs ≡ true
 sites_of [] are = refl
 sites_of (pair ∷ pairs) are = and_from _ _ are.0.site (sites_of pairs are.1)
 

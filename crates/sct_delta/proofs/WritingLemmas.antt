@@ -9,7 +9,7 @@ use Rattle.std.proofs.lemmas.Bool.Decides.{nat_tests}
 use Rattle.std.proofs.lemmas.Fmt.{decimal_is_IsNumeral, decimal_is_IsNumeral_wide}
 use Rattle.std.proofs.lemmas.List.Folds.{list_all-append}
 use Rattle.sct_json.specs.Writing.{has_no_line_feed}
-use Rattle.sct_delta.specs.TextLines.{Line, lines_by_end, lines_as, onto_first, ended, end_line}
+use Rattle.sct_delta.specs.TextLines.{Line, lines_by_end, lines_as, lines_from_byte, ended, end_line}
 use Rattle.sct_delta.proofs.TextLemmas.{lines_of_none, feed_first, line_behind}
 
 -- ---- lines make the text
@@ -55,7 +55,7 @@ first_as : (line : Line) (rest : List Line) (lines : List (List ℕ)) → line �
 first_as line rest [] h = cc
 first_as line rest (first ∷ others) h = (first, others, refl, cc, cc)
 
-onto_as : (byte : ℕ) (bytes : List ℕ) (found : List Line) (lines : List (List ℕ)) → ((ls : List (List ℕ)) → found ≡ lines_as ls → IsMadeOf bytes ls) → (byte == 10) ≡ false → onto_first byte found ≡ lines_as lines → IsMadeOf (byte ∷ bytes) lines
+onto_as : (byte : ℕ) (bytes : List ℕ) (found : List Line) (lines : List (List ℕ)) → ((ls : List (List ℕ)) → found ≡ lines_as ls → IsMadeOf bytes ls) → (byte == 10) ≡ false → lines_from_byte byte found ≡ lines_as lines → IsMadeOf (byte ∷ bytes) lines
 onto_as byte bytes [] lines made other h = let parts = first_as None [] lines h in cc
 onto_as byte bytes (None ∷ found) lines made other h = let parts = first_as None found lines h in cc
 onto_as byte bytes (Some line ∷ found) lines made other h =
@@ -68,7 +68,7 @@ unfolding lines_by_end
 text_from_lines [] [] h = record { text = refl; parted = refl }
 text_from_lines [] (line ∷ lines) h = cc
 text_from_lines (byte ∷ bytes) lines h =
-    (elim (byte == 10) as (λ feed. (byte == 10) ≡ feed → cond feed (Some [] ∷ lines_by_end bytes) (onto_first byte (lines_by_end bytes)) ≡ lines_as lines → IsMadeOf (byte ∷ bytes) lines) [
+    (elim (byte == 10) as (λ feed. (byte == 10) ≡ feed → cond feed (Some [] ∷ lines_by_end bytes) (lines_from_byte byte (lines_by_end bytes)) ≡ lines_as lines → IsMadeOf (byte ∷ bytes) lines) [
       | true ↦ λ feed is.
           let parts = first_as (Some []) (lines_by_end bytes) lines is in
           let first : [] ≡ parts.0 = cc in

@@ -59,7 +59,7 @@ abbrev pub IsArrivals : List Placed → Type 0
 IsArrivals entries = (origin : ℕ) → entries_from origin entries ≡ numbered origin 1 (log_of origin entries)
 
 -- The entries of an origin are in the list with numbers that follow each other without a hole. No number is 0.
-pub record IsRun (origin : ℕ) (entries : List Placed) : Type 0 where
+pub record HasNoHole (origin : ℕ) (entries : List Placed) : Type 0 where
   pub first : ℕ
   pub above_0 : 1 ≤ first
   pub follow : entries_from origin entries ≡ numbered origin first (log_of origin entries)
@@ -70,6 +70,6 @@ place_order a b = ordering_then (nat_cmp a.origin b.origin) (nat_cmp a.n b.n)
 
 -- A delta: its entries are of sites and ascend by origin and number, and the numbers of each origin have no hole.
 pub record IsDelta (entries : List Placed) : Type 0 where
-  pub runs : (origin : ℕ) → IsRun origin entries
+  pub runs : (origin : ℕ) → HasNoHole origin entries
   pub rises : IsStrictlySortedBy place_order entries
   pub sites : IsTrue (list_all (λ entry. is_site entry.origin) entries)

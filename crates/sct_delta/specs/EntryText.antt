@@ -40,8 +40,8 @@ pub record IsEntryText (bytes : List ℕ) (entries : List Placed) : Type 0 where
 -- ---- the fields of an entry line
 
 -- the site of that number; none if form 1 does not have it
-abbrev pub site_in : ℕ → Option ℕ
-site_in number = if is_site_of_form_1 number then Some number else None
+abbrev pub site_in_form_1 : ℕ → Option ℕ
+site_in_form_1 number = if is_site_of_form_1 number then Some number else None
 
 -- an origin, a number and a JSON text
 abbrev pub EntryFields : Type 0
@@ -51,7 +51,7 @@ abbrev pub fields_behind : ℕ → List ℕ → Option EntryFields
 fields_behind origin rest = option_map (λ field. (origin, field.0, field.1)) (number_before_space rest)
 
 abbrev pub fields_after : Field → Option EntryFields
-fields_after first = option_and_then (λ origin. fields_behind origin first.1) (site_in first.0)
+fields_after first = option_and_then (λ origin. fields_behind origin first.1) (site_in_form_1 first.0)
 
 -- the origin, the number and the JSON text of an entry line
 unfoldable pub fields_in : List ℕ → Option EntryFields

@@ -79,7 +79,7 @@ lines_after previous (entry ∷ entries) =
     line_before previous entry entries ++ written_text entry.message ∷ lines_after entry.origin entries
 
 -- An entry that can be written: the written form of its message is read as the message, and its number is below 2^64.
-pub record IsWritten (entry : Placed) : Type 0 where
+pub record IsWritable (entry : Placed) : Type 0 where
   pub reads_back : message_in (written_text entry.message) ≡ Ok entry.message
   pub small : entry.n < 2 ^ 64
 

@@ -5,7 +5,7 @@ use Rattle.std.specs.Ordering.{nat_cmp}
 use Rattle.sct_message.specs.declared.draft.Draft.{Draft}
 use Rattle.sct_delta.specs.Entries.{Placed, holds, IsDelta}
 use Rattle.sct_delta.specs.Refusals.{is_held, has_site, vector_of, first_refusal, gap_refusal, joined, IsCut}
-use Rattle.sct_delta.specs.Shapes.{are_of_sites, are_sites, delta_refusal, vector_refusal}
+use Rattle.sct_delta.specs.Shapes.{are_of_sites, are_origins_sites, delta_refusal, vector_refusal}
 use Rattle.sct_delta.specs.declared.fault.DeltaFault.TheVariants as fault
 
 -- the logs of one site
@@ -88,7 +88,7 @@ ReportsTheFirstEntry =
 
 -- pairs that make a version vector: their origins are sites and ascend strictly
 pub record MakeVector (pairs : List (ℕ × ℕ)) : Type 0 where
-  pub sites : are_sites pairs ≡ true
+  pub sites : are_origins_sites pairs ≡ true
   pub ascend : IsStrictlySortedBy nat_cmp (map (λ pair. pair.0) pairs)
 
 -- pairs without a refusal are those that make a version vector
@@ -99,7 +99,7 @@ PairsMakeAVector = (pairs : List (ℕ × ℕ)) → (vector_refusal pairs ≡ Non
 abbrev pub ReportsTheFirstPair : Type 0
 ReportsTheFirstPair =
     (pairs : List (ℕ × ℕ)) (place : ℕ)
-    → (vector_refusal pairs ≡ Some (fault.BadDelta place)) ↔ ((are_sites pairs ≡ true) × EndsAt MakeVector pairs place)
+    → (vector_refusal pairs ≡ Some (fault.BadDelta place)) ↔ ((are_origins_sites pairs ≡ true) × EndsAt MakeVector pairs place)
 
 -- ---- cutting and joining
 

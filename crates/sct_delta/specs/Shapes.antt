@@ -37,8 +37,8 @@ delta_refusal entries =
 -- ---- Pairs of an origin and its count, which make a version vector.
 
 -- each origin is a site
-abbrev pub are_sites : List (ℕ × ℕ) → Bool
-are_sites pairs = list_all (λ pair. is_site pair.0) pairs
+abbrev pub are_origins_sites : List (ℕ × ℕ) → Bool
+are_origins_sites pairs = list_all (λ pair. is_site pair.0) pairs
 
 -- the place of the first pair whose origin is not above the one before it; the first pair has the given place
 abbrev pub first_fall : ℕ → ℕ → List (ℕ × ℕ) → Option ℕ
@@ -49,7 +49,7 @@ first_fall place before (pair ∷ pairs) = if nat_lt before pair.0 then first_fa
 -- 1, of the first pair that does not ascend (laws `pairs_make_a_vector` and `the_pair_reported_is_the_first`)
 unfoldable pub vector_refusal : List (ℕ × ℕ) → Option DeltaFault
 vector_refusal pairs =
-    if are_sites pairs then option_map (λ place. fault.BadDelta place) (first_fall 1 0 pairs) else Some fault.BadSite
+    if are_origins_sites pairs then option_map (λ place. fault.BadDelta place) (first_fall 1 0 pairs) else Some fault.BadSite
 
 -- the count that pairs give to an origin: that of the last pair that names it, or else the count before
 abbrev pub count_among : List (ℕ × ℕ) → ℕ → ℕ → ℕ

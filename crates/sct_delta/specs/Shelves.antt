@@ -11,9 +11,9 @@ use Rattle.sct_delta.specs.Entries.{Placed, numbered}
 use Rattle.sct_delta.specs.declared.shelf.Shelf.{Shelf}
 
 -- the messages of a log that may be absent
-abbrev pub messages_on : Option (Vec (Arc Draft Global)) → List Draft
-messages_on None = []
-messages_on (Some log) = map arc_value log.items
+abbrev pub messages_in_log : Option (Vec (Arc Draft Global)) → List Draft
+messages_in_log None = []
+messages_in_log (Some log) = map arc_value log.items
 
 -- how many more messages a log can hold before it allocates
 abbrev pub places_on : Option (Vec (Arc Draft Global)) → ℕ
@@ -22,7 +22,7 @@ places_on (Some log) = vec_capacity log - vec_len log
 
 -- the log of an origin, in the order of its numbers
 abbrev pub log_on : Shelf → ℕ → List Draft
-log_on shelf origin = messages_on (get nat_cmp shelf.logs origin)
+log_on shelf origin = messages_in_log (get nat_cmp shelf.logs origin)
 
 -- each log that is stored has a message
 abbrev pub HasNoEmptyLog : Shelf → Type 0

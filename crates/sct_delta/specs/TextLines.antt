@@ -14,16 +14,16 @@ abbrev pub Line : Type 0
 Line = Option (List ℕ)
 
 -- the lines after a byte that is not a line feed: it begins the first line
-abbrev pub onto_first : ℕ → List Line → List Line
-onto_first byte [] = None ∷ []
-onto_first byte (None ∷ lines) = None ∷ lines
-onto_first byte (Some line ∷ lines) = Some (byte ∷ line) ∷ lines
+abbrev pub lines_from_byte : ℕ → List Line → List Line
+lines_from_byte byte [] = None ∷ []
+lines_from_byte byte (None ∷ lines) = None ∷ lines
+lines_from_byte byte (Some line ∷ lines) = Some (byte ∷ line) ∷ lines
 
 -- the lines of a text: the bytes before each line feed, and, if bytes come after the last line feed, a last
 -- line without one (law `lines_make_the_text`)
 unfoldable pub lines_by_end : List ℕ → List Line
 lines_by_end [] = []
-lines_by_end (byte ∷ bytes) = if byte == 10 then Some [] ∷ lines_by_end bytes else onto_first byte (lines_by_end bytes)
+lines_by_end (byte ∷ bytes) = if byte == 10 then Some [] ∷ lines_by_end bytes else lines_from_byte byte (lines_by_end bytes)
 
 -- the first line, if a line feed ends it
 abbrev pub ended_first : List Line → Option (List ℕ)

@@ -9,6 +9,7 @@ mod fits;
 mod join;
 pub mod laws;
 mod logs;
+mod refusal;
 mod shelf;
 mod sites;
 mod text;
@@ -18,6 +19,7 @@ pub use delta::{Delta, entries_make_a_delta};
 pub use entry::{Entry, messages_in};
 pub use fault::DeltaFault;
 pub use logs::Logs;
+pub use refusal::push_fault;
 pub use sites::MOST_SITES;
 pub use text::fields::{after_prefix, number_before_space};
 pub use text::laws::{

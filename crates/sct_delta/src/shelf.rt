@@ -85,7 +85,7 @@ impl Shelf {
         log.get((n - 1) as usize)
     }
 
-    /// Makes room for `places` more messages of the origin.
+    /// Makes room for `places` more messages of the origin. The error is that it is out of memory, and no message is lost.
     pub fn room(&mut self, origin: u16, places: usize) -> Result<(), AllocError>
         ensures same { (k : ℕ) → log_on self.new k ≡ log_on self.old k }
         ensures keeps { (k : ℕ) → places_at self.old k ≤ places_at self.new k }
@@ -132,7 +132,8 @@ impl Shelf {
         self.logs.retain(|_, log| !log.is_empty());
     }
 
-    /// The entries of each origin that are numbered above the vector's count, ordered by origin and number.
+    /// The entries of each origin that are numbered above the vector's count, ordered by origin and number. The error is that it is
+    /// out of memory.
     pub fn above(&self, vector: &Vector) -> Result<Vec<Entry>, AllocError>
         ensures ok { IfOk result (λ entries. entries.items ≡ above_in (count_in vector.now) self.now) }
         ensures ascend { IsOrdered nat_cmp self.now.logs }

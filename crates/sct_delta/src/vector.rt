@@ -5,7 +5,7 @@ ghost use Rattle.std.specs.Cmp.{partial_equiv_from_equiv};
 ghost use Rattle.std.specs.List.{list_all};
 ghost use Rattle.std.specs.Prelude.{◌≡◌, ◌≢◌, ◌≤◌, ◌↔◌, ℕ, Some, None, true, false, nat_eq, if◌then◌else◌, IfOk, IfErr, IsOk, IsTrue, OnOk, OnErr};
 ghost use Rattle.sct_delta.specs.declared.fault.DeltaFault.TheVariants as fault;
-ghost use Rattle.sct_delta.specs.Shapes.{are_sites, first_fall, count_among, vector_refusal};
+ghost use Rattle.sct_delta.specs.Shapes.{are_origins_sites, first_fall, count_among, vector_refusal};
 ghost use Rattle.sct_delta.specs.Vectors.{CountAlike, HasNoZero, HasZeroIfDue, Names, count_in, counted_alike, same_counts};
 ghost use Rattle.sct_delta.specs.VectorLaws.{same_counts_equiv};
 
@@ -22,7 +22,7 @@ pub struct Vector {
 
 // Whether each origin is the number of a site.
 fn are_sites(pairs: &[(u16, u64)]) -> bool
-    ensures { result ≡ are_sites pairs.now }
+    ensures { result ≡ are_origins_sites pairs.now }
 {
     pairs.iter().all(|pair| is_site(pair.0))
 }

@@ -16,13 +16,13 @@ use Rattle.sct_delta.specs.declared.fault.DeltaFault.{DeltaFault}
 use Rattle.sct_delta.specs.declared.fault.DeltaFault.TheVariants as delta_fault
 use Rattle.sct_history.specs.Sights.{Sight}
 use Rattle.sct_history.proofs.Prefixes.{prefix_self, prefix_trans, prefix_length, prefix_whole}
-use Rattle.sct_site.specs.Cores.{Core, is_repeat, took_by, arrivals_taken, own_entry, logs_of, refusal_by, fresh_of, arrivals_joined}
+use Rattle.sct_site.specs.Cores.{Core, is_repeat, took_by, arrivals_taken, own_entry, logs_of, refusal_by, fresh_entries, arrivals_joined}
 use Rattle.sct_site.specs.declared.answers.Accepted.{Accepted}
 use Rattle.sct_desk.specs.declared.shown.Shown.{Shown}
 use Rattle.sct_desk.specs.declared.shown.Batch.{Batch}
 use Rattle.sct_desk.specs.declared.fault.DeskFault.{DeskFault}
 use Rattle.sct_desk.specs.HeldOk.{IsHeld}
-use Rattle.sct_desk.specs.Locked.{Locked, Fails, IsDeltaRefusal, Publishes, answer_for, answer_to, arrivals_for, arrivals_handed, came_by_delta, came_by_take, unpublished}
+use Rattle.sct_desk.specs.Locked.{Locked, Fails, IsDeltaRefusal, Publishes, answer_for, answer_to_delta, arrivals_for, arrivals_handed, came_by_delta, came_by_take, unpublished}
 use Rattle.sct_desk.specs.Passes.{IsReceipt, ReportsRange, Told, before}
 use Rattle.sct_desk.specs.Rules.{view_of}
 
@@ -70,13 +70,13 @@ taken_most core m = taken_one core m (is_repeat core m) refl
 
 -- ---- a delta is handed over
 
-fresh_most : (es delta : List Placed) → length (fresh_of es delta) ≤ length delta
+fresh_most : (es delta : List Placed) → length (fresh_entries es delta) ≤ length delta
 fresh_most es delta =
     omega (arith, length-filter_both (λ entry. not (is_held (logs_of es) entry)) (λ entry. not (not (is_held (logs_of es) entry))) (λ entry. refl) delta)
 
 handed_all : (core : Core) (delta : List Placed) (o : Option DeltaFault)
     → length (arrivals_for o (arrivals_joined core.arrivals delta) core.arrivals) ≤ length core.arrivals + length delta
-handed_all core delta None = omega (arith, length-append core.arrivals (fresh_of core.arrivals delta), fresh_most core.arrivals delta)
+handed_all core delta None = omega (arith, length-append core.arrivals (fresh_entries core.arrivals delta), fresh_most core.arrivals delta)
 handed_all core delta (Some refusal) = omega arith
 
 pub handed_most : (core : Core) (delta : List Placed) → length (arrivals_handed core delta) ≤ length core.arrivals + length delta
@@ -85,31 +85,31 @@ handed_most core delta = handed_all core delta (refusal_by core delta)
 handed_cases : (core : Core) (delta : List Placed) (o : Option DeltaFault)
     → IsPrefix core.arrivals (arrivals_for o (arrivals_joined core.arrivals delta) core.arrivals)
     × (length (arrivals_for o (arrivals_joined core.arrivals delta) core.arrivals)
-    ≡ length core.arrivals + came_by_delta (answer_for o (length (fresh_of core.arrivals delta))))
-handed_cases core delta None = ((fresh_of core.arrivals delta, refl), length-append core.arrivals (fresh_of core.arrivals delta))
+    ≡ length core.arrivals + came_by_delta (answer_for o (length (fresh_entries core.arrivals delta))))
+handed_cases core delta None = ((fresh_entries core.arrivals delta, refl), length-append core.arrivals (fresh_entries core.arrivals delta))
 handed_cases core delta (Some refusal) = (prefix_self core.arrivals, omega arith)
 
 pub handed_longer : (core : Core) (delta : List Placed) → IsPrefix core.arrivals (arrivals_handed core delta)
 handed_longer core delta = (handed_cases core delta (refusal_by core delta)).0
 
-pub handed_length : (core : Core) (delta : List Placed) → length (arrivals_handed core delta) ≡ length core.arrivals + came_by_delta (answer_to core delta)
+pub handed_length : (core : Core) (delta : List Placed) → length (arrivals_handed core delta) ≡ length core.arrivals + came_by_delta (answer_to_delta core delta)
 handed_length core delta = (handed_cases core delta (refusal_by core delta)).1
 
 -- what is answered where nothing refuses the delta, and where something does
 answered_err : (core : Core) (delta : List Placed) (o : Option DeltaFault) (f : DeltaFault)
     → MatchOption o (f ≡ delta_fault.Memory) (λ first. f ≡ first) → ◌≢◌ {A = Result Accepted DeltaFault} (Err f) (Err delta_fault.Memory)
-    → (Err f ≡ answer_for o (length (fresh_of core.arrivals delta)))
+    → (Err f ≡ answer_for o (length (fresh_entries core.arrivals delta)))
     × (core.arrivals ≡ arrivals_for o (arrivals_joined core.arrivals delta) core.arrivals)
 answered_err core delta None f want other = absurd (other (λ i. Err (want i)))
 answered_err core delta (Some first) f same other = (λ i. Err (same i), refl)
 
 pub answered : (core new : Core) (delta : List Placed) (r : Result Accepted DeltaFault)
-    → IfOk r (λ accepted. accepted.fresh ≡ length (fresh_of core.arrivals delta)) → OnOk r (refusal_by core delta ≡ None)
+    → IfOk r (λ accepted. accepted.fresh ≡ length (fresh_entries core.arrivals delta)) → OnOk r (refusal_by core delta ≡ None)
     → IfErr r (λ refusal. MatchOption (refusal_by core delta) (refusal ≡ delta_fault.Memory) (λ first. refusal ≡ first))
     → OnOk r (new.arrivals ≡ arrivals_joined core.arrivals delta) → OnErr r (new ≡ core) → r ≢ Err delta_fault.Memory
-    → (r ≡ answer_to core delta) × (new.arrivals ≡ arrivals_handed core delta)
+    → (r ≡ answer_to_delta core delta) × (new.arrivals ≡ arrivals_handed core delta)
 answered core new delta (Ok accepted) fresh none why joined unchanged other = (
-  (λ i. Ok (record { fresh = fresh i })) ∙ sym (ap (λ (o : Option DeltaFault). answer_for o (length (fresh_of core.arrivals delta))) none),
+  (λ i. Ok (record { fresh = fresh i })) ∙ sym (ap (λ (o : Option DeltaFault). answer_for o (length (fresh_entries core.arrivals delta))) none),
   joined ∙ sym (ap (λ (o : Option DeltaFault). arrivals_for o (arrivals_joined core.arrivals delta) core.arrivals) none),
 )
 answered core new delta (Err f) fresh none why joined unchanged other =
@@ -117,14 +117,14 @@ answered core new delta (Err f) fresh none why joined unchanged other =
     (is.0, ap (λ (c : Core). c.arrivals) unchanged ∙ is.1)
 
 pub answered_so : (core new : Core) (delta : List Placed) (r : Result Accepted DeltaFault)
-    → IfOk r (λ accepted. accepted.fresh ≡ length (fresh_of core.arrivals delta)) → OnOk r (refusal_by core delta ≡ None)
+    → IfOk r (λ accepted. accepted.fresh ≡ length (fresh_entries core.arrivals delta)) → OnOk r (refusal_by core delta ≡ None)
     → IfErr r (λ refusal. MatchOption (refusal_by core delta) (refusal ≡ delta_fault.Memory) (λ first. refusal ≡ first))
     → OnOk r (new.arrivals ≡ arrivals_joined core.arrivals delta) → OnErr r (new ≡ core) → r ≢ Err delta_fault.Memory
-    → r ≡ answer_to core delta
+    → r ≡ answer_to_delta core delta
 answered_so core new delta r fresh none why joined unchanged other = (answered core new delta r fresh none why joined unchanged other).0
 
 pub arrived_so : (core new : Core) (delta : List Placed) (r : Result Accepted DeltaFault)
-    → IfOk r (λ accepted. accepted.fresh ≡ length (fresh_of core.arrivals delta)) → OnOk r (refusal_by core delta ≡ None)
+    → IfOk r (λ accepted. accepted.fresh ≡ length (fresh_entries core.arrivals delta)) → OnOk r (refusal_by core delta ≡ None)
     → IfErr r (λ refusal. MatchOption (refusal_by core delta) (refusal ≡ delta_fault.Memory) (λ first. refusal ≡ first))
     → OnOk r (new.arrivals ≡ arrivals_joined core.arrivals delta) → OnErr r (new ≡ core) → r ≢ Err delta_fault.Memory
     → new.arrivals ≡ arrivals_handed core delta

@@ -11,7 +11,7 @@ use Rattle.sct_delta.specs.Entries.{messages_of}
 use Rattle.sct_history.specs.Sights.{Sight}
 use Rattle.sct_history.proofs.Prefixes.{prefix_self, prefix_trans}
 use Rattle.sct_desk.specs.declared.shown.Shown.{Shown}
-use Rattle.sct_desk.specs.Rules.{AllKnow, Keeps, Known, Knows, Shows, known_of, longer_known, nothing_known}
+use Rattle.sct_desk.specs.Rules.{AllKnow, KeepsRule, Known, Knows, Shows, known_of, longer_known, nothing_known}
 
 -- a history that is known is that of the same history
 book_on : (s t : Sight) (o : Option Book) → s.book ≡ t.book → MatchOption o (Unit {0}) (λ book. book ≡ s.book)
@@ -30,7 +30,7 @@ know_set s views seat v h known j u e =
     (at_set views seat j v u e)
 
 -- a place is taken: its seat knows the empty list
-pub admits : Admits Keeps nothing_known
+pub admits : Admits KeepsRule nothing_known
 admits x views h = (
   h.0,
   λ seat v at.
@@ -40,7 +40,7 @@ admits x views h = (
 
 -- a publication
 pub publishes : (seat : ℕ) (v : Known) (x y : Shown) → x.track.book ≡ y.track.book → IsPrefix x.track.log y.track.log
-    → y.view ≡ messages_of y.track.log → TurnsAt Keeps seat v x y Shows
+    → y.view ≡ messages_of y.track.log → TurnsAt KeepsRule seat v x y Shows
 publishes seat v x y book pre view views h at =
     let on : AllKnow y.track views = λ j u e. knows_on x.track y.track u book pre (h.1 j u e) in (
       known_of y.track,
@@ -49,11 +49,11 @@ publishes seat v x y book pre view views h at =
     )
 
 -- an entry
-pub enters : (seat : ℕ) (v : Known) (x : Shown) → TurnsAt Keeps seat v x x Shows
+pub enters : (seat : ℕ) (v : Known) (x : Shown) → TurnsAt KeepsRule seat v x x Shows
 enters seat v x views h at = publishes seat v x x refl (prefix_self x.track.log) h.0 views h at
 
 -- the writer reports what it knows
-pub tells : (seat : ℕ) (v : Known) → Forks Keeps seat v v v
+pub tells : (seat : ℕ) (v : Known) → Forks KeepsRule seat v v v
 tells seat v x views h at = (
   h.0,
   λ j u e.
@@ -68,7 +68,7 @@ either_known s v w true one other = one
 either_known s v w false one other = other
 
 -- a reader learns it
-pub learns : (seat : ℕ) (v : Known) (other : ℕ) (w : Known) → Merges Keeps seat v other w (longer_known v w) nothing_known
+pub learns : (seat : ℕ) (v : Known) (other : ℕ) (w : Known) → Merges KeepsRule seat v other w (longer_known v w) nothing_known
 learns seat v other w x views h at apart there =
     let both : Known = longer_known v w in
     let reported : Knows x.track w =

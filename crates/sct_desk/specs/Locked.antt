@@ -3,7 +3,7 @@ use Rattle.std.specs.Prelude.{◌≡◌, ◌+◌, ◌≤◌, ℕ, List, length, 
 use Rattle.sct_delta.specs.Entries.{Placed}
 use Rattle.sct_delta.specs.declared.fault.DeltaFault.{DeltaFault}
 use Rattle.sct_delta.specs.declared.fault.DeltaFault.TheVariants as delta_fault
-use Rattle.sct_site.specs.Cores.{Core, refusal_by, fresh_of, arrivals_joined}
+use Rattle.sct_site.specs.Cores.{Core, refusal_by, fresh_entries, arrivals_joined}
 use Rattle.sct_site.specs.declared.answers.Accepted.{Accepted}
 use Rattle.sct_site.specs.declared.answers.Took.{Took}
 use Rattle.sct_site.specs.declared.answers.Took.TheVariants as took
@@ -48,8 +48,8 @@ answer_for None fresh = Ok (record { fresh = fresh })
 answer_for (Some refusal) fresh = Err refusal
 
 -- the answer to the delta: the first reason why it is refused, or how many of its entries were not held
-abbrev pub answer_to : Core → List Placed → Result Accepted DeltaFault
-answer_to core delta = answer_for (refusal_by core delta) (length (fresh_of core.arrivals delta))
+abbrev pub answer_to_delta : Core → List Placed → Result Accepted DeltaFault
+answer_to_delta core delta = answer_for (refusal_by core delta) (length (fresh_entries core.arrivals delta))
 
 abbrev pub arrivals_for : Option DeltaFault → List Placed → List Placed → List Placed
 arrivals_for None joined arrivals = joined
@@ -71,7 +71,8 @@ came_by_delta (Err refusal) = 0
 
 -- ---- refused calls
 
--- The call was out of memory: before anything changed, or for the publication, after the call's arrivals were held.
+-- The call was out of memory: before anything changed, or for the publication. Then the site holds `arrivals`: what it held,
+-- and what came by the call.
 abbrev pub Fails : Locked → List Placed → Locked → DeskFault → Type 0
 Fails old arrivals new fault.Memory = new ≡ old
 Fails old arrivals new (fault.Unpublished from) =

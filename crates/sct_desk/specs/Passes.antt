@@ -45,6 +45,7 @@ pub record IsReceipt (book : Book) (number news : ℕ) (receipt : Told) : Type 0
   pub order : IsArrivals receipt.shown
   pub range : ReportsRange receipt
   pub count : receipt.count ≡ receipt.carried + news
+  -- those that it carries end where those of the call begin, as follows from `range` and `count`
   pub carried : receipt.from + receipt.carried ≡ length (before receipt) + 1
 
 -- the site of this number and group with these arrivals

@@ -42,8 +42,8 @@ abbrev pub AllKnow : Sight → List Known → Type 0
 AllKnow s views = (seat : ℕ) (v : Known) → get_elem? views seat ≡ some v → Knows s v
 
 -- the published view is the view of the published arrivals, and what each seat knows is a beginning of these
-abbrev pub Keeps : Shown → List Known → Type 0
-Keeps x views = (x.view ≡ messages_of x.track.log) × AllKnow x.track views
+abbrev pub KeepsRule : Shown → List Known → Type 0
+KeepsRule x views = (x.view ≡ messages_of x.track.log) × AllKnow x.track views
 
 -- ---- the steps of the rule
 

@@ -34,8 +34,9 @@ pub record IsLeastUntold (number : ℕ) (receipts : List Told) (position : ℕ) 
   pub first : 1 ≤ position
   pub told : (before : ℕ) → 1 ≤ before → before < position → tellings number before receipts ≡ 1
 
--- why a desk is not closed: arrivals are pending from some position on, or a position is
--- not covered by exactly one receipt
+-- Why a desk is not closed: arrivals are pending from some position on, or a position is not covered by exactly one receipt.
+-- Of a pending position this says only that positions count from 1. Under the lock it is the first that is not published
+-- (`IsPendingFrom`).
 abbrev pub FailsToClose : ℕ → List Told → DeskFault → Type 0
 FailsToClose number receipts (fault.Pending from) = 1 ≤ from
 FailsToClose number receipts (fault.Untold position) = IsLeastUntold number receipts position

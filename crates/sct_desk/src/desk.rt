@@ -4,7 +4,7 @@ ghost use Rattle.std.specs.Arc.{arc_value};
 ghost use Rattle.std.specs.Prelude.{◌≡◌, IfOk, IfErr};
 ghost use Rattle.sct_delta.specs.Vectors.{count_in};
 ghost use Rattle.sct_site.specs.Cores.{took_by, arrivals_taken, entries_above};
-ghost use Rattle.sct_desk.specs.Locked.{IsDeltaRefusal, IsWant, answer_to, arrivals_handed, came_by_delta, came_by_take};
+ghost use Rattle.sct_desk.specs.Locked.{IsDeltaRefusal, IsWant, answer_to_delta, arrivals_handed, came_by_delta, came_by_take};
 ghost use Rattle.sct_desk.specs.Passes.{IsReceipt, before, site_with};
 ghost use Rattle.sct_desk.specs.Tilings.{AreOurs, FailsToClose, Tiles};
 
@@ -80,7 +80,7 @@ impl<J: Site, R: Wait + Drop> Desk<J, R> {
     ) -> Result<(Result<Accepted, DeltaFault>, Receipt), DeskFault>
         ensures receipt { IfOk result (λ t. IsReceipt J.book J.number (came_by_delta t.0) t.1) }
         ensures answer { IfOk result (λ t. t.0
-            ≡ answer_to (site_with J.number J.group (before t.1)) delta.now) }
+            ≡ answer_to_delta (site_with J.number J.group (before t.1)) delta.now) }
         ensures refusals { IfOk result (λ t. IfErr t.0 IsDeltaRefusal) }
         ensures shown { IfOk result (λ t.
             t.1.shown ≡ arrivals_handed (site_with J.number J.group (before t.1)) delta.now) }

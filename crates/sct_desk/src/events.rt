@@ -6,7 +6,7 @@ ghost use Rattle.std.specs.Prelude.{◌≡◌, ◌≢◌, ◌≤◌, Err, IfNone
 ghost use Rattle.sct_delta.specs.Vectors.{count_in};
 ghost use Rattle.sct_delta.specs.declared.fault.DeltaFault.TheVariants as delta_fault;
 ghost use Rattle.sct_site.specs.Cores.{took_by, arrivals_taken, entries_above};
-ghost use Rattle.sct_desk.specs.Locked.{Fails, IsDeltaRefusal, IsWant, Publishes, answer_to, arrivals_handed, came_by_delta, came_by_take, unpublished};
+ghost use Rattle.sct_desk.specs.Locked.{Fails, IsDeltaRefusal, IsWant, Publishes, answer_to_delta, arrivals_handed, came_by_delta, came_by_take, unpublished};
 ghost use Rattle.sct_desk.specs.Passes.{before, site_with};
 
 use crate::fault::DeskFault;
@@ -58,7 +58,7 @@ fn came_with(answer: &Result<Accepted, DeltaFault>) -> Option<u64>
 fn handed(core: &mut SiteCore, delta: &Delta) -> Option<(Result<Accepted, DeltaFault>, u64)>
     ensures number { core.new.number ≡ core.old.number }
     ensures group { core.new.group ≡ core.old.group }
-    ensures answer { IfSome result (λ t. t.0 ≡ answer_to core.old delta.now) }
+    ensures answer { IfSome result (λ t. t.0 ≡ answer_to_delta core.old delta.now) }
     ensures refusals { IfSome result (λ t. IfErr t.0 IsDeltaRefusal) }
     ensures news { IfSome result (λ t. t.1 ≡ came_by_delta t.0) }
     ensures arrivals { IfSome result (λ t. core.new.arrivals ≡ arrivals_handed core.old delta.now) }
@@ -120,7 +120,7 @@ impl<J: Site, R: Wait + Drop> Held<J, R> {
         requires { history.now ≡ J.book }
         ensures site { self.old.core ≡ site_with J.number J.group self.old.core.arrivals }
         ensures same { self.new.core ≡ site_with J.number J.group self.new.core.arrivals }
-        ensures answer { IfOk result (λ t. t.0 ≡ answer_to self.old.core delta.now) }
+        ensures answer { IfOk result (λ t. t.0 ≡ answer_to_delta self.old.core delta.now) }
         ensures refusals { IfOk result (λ t. IfErr t.0 IsDeltaRefusal) }
         ensures arrivals { OnOk result (self.new.core.arrivals ≡ arrivals_handed self.old.core delta.now) }
         ensures published { IfOk result (λ t.

@@ -28,9 +28,9 @@ impl Model for Glimpse {
 pub struct PublishedViewRule;
 
 impl Protocol<Shown, Glimpse> for PublishedViewRule {
-    ghost use Rattle.sct_desk.specs.Rules.{Keeps, nothing_known};
+    ghost use Rattle.sct_desk.specs.Rules.{KeepsRule, nothing_known};
 
-    ghost holds = { Keeps };
+    ghost holds = { KeepsRule };
 
     ghost first = { nothing_known };
 }

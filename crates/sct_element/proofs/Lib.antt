@@ -3,3 +3,4 @@ mod AmountTexts
 mod Amounts
 mod Decimals
 mod Remainders
+mod Shortcuts

@@ -8,7 +8,7 @@ ghost use Rattle.sct_element.specs.Account.{digits_of_char, account_number, capi
 ghost use Rattle.sct_element.specs.Settles.{iban_settles};
 ghost use Rattle.sct_element.specs.declared.faults.ElementFault.TheVariants.{BadIban};
 
-use crate::characters::are_digits;
+use crate::characters::{are_capitals_or_digits, are_digits};
 use crate::checked::{Checked, Rule, push_byte};
 use crate::faults::ElementFault;
 use arrayvec::ArrayString;
@@ -32,7 +32,7 @@ impl Rule<34> for IbanRule {
         if !is_shaped(text.as_bytes()) {
             return None;
         }
-        let number = in_capitals(text.as_bytes());
+        let number = in_capitals(text);
         if remainder_of(number.as_bytes()) == 1 {
             Some(number)
         } else {
@@ -83,8 +83,23 @@ fn is_shaped(bytes: &[u8]) -> bool
         && are_letters_or_digits(&bytes[4..])
 }
 
-/// The text of these bytes with each small letter as a capital.
-fn in_capitals(bytes: &[u8]) -> ArrayString<34>
+/// The text with each small letter as a capital. Most texts have no small letter, and are copied at once.
+#[tactic(auto, using(crate::proofs::Shortcuts::capitals_stay))]
+fn in_capitals(text: &str) -> ArrayString<34>
+    requires ascii { IsAscii text.now }
+    requires sized { length text.now ≤ 34 }
+    ensures { result.bytes ≡ capitals text.now }
+{
+    if !are_capitals_or_digits(text.as_bytes()) {
+        return raised(text.as_bytes());
+    }
+    let mut same = ArrayString::new();
+    same.push_str(text);
+    same
+}
+
+/// The text of these bytes with each small letter as a capital, byte by byte.
+fn raised(bytes: &[u8]) -> ArrayString<34>
     requires ascii { IsAscii bytes.now }
     requires sized { length bytes.now ≤ 34 }
     ensures { result.bytes ≡ capitals bytes.now }

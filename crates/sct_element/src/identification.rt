@@ -1,5 +1,5 @@
 //! Identifications, time stamps and codes: texts of a few characters, kept as they are read.
-ghost use Rattle.std.specs.Prelude.{◌≡◌, ◌&&◌, ◌||◌, ◌==◌, ◌-◌, drop, zip, length, nat_le, codes, ok_or};
+ghost use Rattle.std.specs.Prelude.{◌≡◌, ◌&&◌, ◌||◌, ◌==◌, ◌-◌, drop, zip, length, nat_le, not, codes, ok_or};
 ghost use Rattle.std.specs.List.{list_all, list_any};
 ghost use Rattle.sct_element.specs.Text.{is_capital_or_digit};
 ghost use Rattle.sct_element.specs.Identification.{is_sepa_character, is_short_text, is_identification, is_code, has_double_slash, written_identification, written_stamp, written_code};
@@ -105,10 +105,38 @@ pub fn read_code(text: &str) -> Result<Code4, ElementFault>
     Code4::read(text)
 }
 
+/// 1 at each character that SEPA messages may carry but the slash, 2 at the slash, and 0 at any other byte.
+#[rattlefmt::skip]
+static SEPA_CHARACTERS: [u8; 256] = [
+    0, 0, 0, 0, 0, 0, 0, 0, 0, 0, 0, 0, 0, 0, 0, 0,
+    0, 0, 0, 0, 0, 0, 0, 0, 0, 0, 0, 0, 0, 0, 0, 0,
+    1, 0, 0, 0, 0, 0, 0, 1, 1, 1, 0, 1, 1, 1, 1, 2,
+    1, 1, 1, 1, 1, 1, 1, 1, 1, 1, 1, 0, 0, 0, 0, 1,
+    0, 1, 1, 1, 1, 1, 1, 1, 1, 1, 1, 1, 1, 1, 1, 1,
+    1, 1, 1, 1, 1, 1, 1, 1, 1, 1, 1, 0, 0, 0, 0, 0,
+    0, 1, 1, 1, 1, 1, 1, 1, 1, 1, 1, 1, 1, 1, 1, 1,
+    1, 1, 1, 1, 1, 1, 1, 1, 1, 1, 1, 0, 0, 0, 0, 0,
+    0, 0, 0, 0, 0, 0, 0, 0, 0, 0, 0, 0, 0, 0, 0, 0,
+    0, 0, 0, 0, 0, 0, 0, 0, 0, 0, 0, 0, 0, 0, 0, 0,
+    0, 0, 0, 0, 0, 0, 0, 0, 0, 0, 0, 0, 0, 0, 0, 0,
+    0, 0, 0, 0, 0, 0, 0, 0, 0, 0, 0, 0, 0, 0, 0, 0,
+    0, 0, 0, 0, 0, 0, 0, 0, 0, 0, 0, 0, 0, 0, 0, 0,
+    0, 0, 0, 0, 0, 0, 0, 0, 0, 0, 0, 0, 0, 0, 0, 0,
+    0, 0, 0, 0, 0, 0, 0, 0, 0, 0, 0, 0, 0, 0, 0, 0,
+    0, 0, 0, 0, 0, 0, 0, 0, 0, 0, 0, 0, 0, 0, 0, 0,
+];
+
 fn is_sepa_character(byte: u8) -> bool
     ensures { result ≡ is_sepa_character byte }
 {
-    byte.is_ascii_alphanumeric() || b"/-?:().,'+ ".contains(&byte)
+    SEPA_CHARACTERS[usize::from(byte)] != 0
+}
+
+/// Whether a byte is a character that SEPA messages may carry, and no slash.
+fn is_plain(byte: u8) -> bool
+    ensures { result ≡ (is_sepa_character byte && not (byte == 47)) }
+{
+    SEPA_CHARACTERS[usize::from(byte)] == 1
 }
 
 fn are_sepa_characters(bytes: &[u8]) -> bool
@@ -132,9 +160,20 @@ fn has_double_slash(bytes: &[u8]) -> bool
         .any(|(left, right)| *left == b'/' && *right == b'/')
 }
 
+fn are_plain(bytes: &[u8]) -> bool
+    ensures { result ≡ list_all (λ c. is_sepa_character c && not (c == 47)) bytes.now }
+{
+    bytes.iter().all(|byte| is_plain(*byte))
+}
+
+/// Whether bytes are an identification. Most have no slash, and need no look at where it is.
+#[tactic(auto, using(crate::proofs::Shortcuts::plain_identifies))]
 fn is_identification(bytes: &[u8]) -> bool
     ensures { result ≡ is_identification bytes.now }
 {
+    if is_within(bytes.len(), 35) && are_plain(bytes) {
+        return true;
+    }
     is_short_text(bytes)
         && bytes[0] != b'/'
         && bytes[bytes.len() - 1] != b'/'

@@ -41,7 +41,7 @@ impl<const MOST: usize> FreeText<MOST> {
     pub fn read(alloc: Global, text: &str) -> Result<Self, ElementFault>
         ensures { ReadsFree MOST text.now result }
     {
-        if !is_within(count(text), MOST) {
+        if !has_characters(text, MOST) {
             return Err(ElementFault::BadText);
         }
         match String::from_str(alloc, text) {
@@ -79,6 +79,13 @@ fn count(text: &str) -> usize
     ensures { result ≡ length (chars text.now) }
 {
     text.chars().count()
+}
+
+/// Whether a text has 1 to `most` characters. A character has at least one byte, so a text of no more bytes is not counted.
+fn has_characters(text: &str, most: usize) -> bool
+    ensures { result ≡ has_characters most text.now }
+{
+    is_within(text.len(), most) || is_within(count(text), most)
 }
 
 impl<const MOST: usize> PartialEq for FreeText<MOST> {

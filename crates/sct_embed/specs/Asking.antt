@@ -8,7 +8,7 @@ use Rattle.sct_site.specs.Cores.{Core}
 use Rattle.sct_exchange.specs.Sites.{held_text}
 use Rattle.sct_embed.specs.Calls.{cut_above_answer, cut_answer}
 use Rattle.sct_embed.specs.Embeddings.{Embedding}
-use Rattle.sct_embed.specs.Questions.{bank_answer, changes_since, contradictions_text_of, messages_answer, report_answer, transfer_answer}
+use Rattle.sct_embed.specs.Questions.{bank_answer, changes_since, closed_answer, contradictions_text_of, kept_answer, messages_answer, report_answer, transfer_answer}
 use Rattle.sct_embed.specs.Reading.{reading_text_of}
 use Rattle.sct_embed.specs.declared.faults.EmbedFault.{EmbedFault}
 use Rattle.sct_embed.specs.declared.question.Question.{Question}
@@ -38,24 +38,26 @@ newest_text count arrivals = lines_of_entries (newest count arrivals)
 -- ---- questions
 
 -- the answer to a question
-abbrev pub answer_to : Question → Embedding → Result (List ℕ) EmbedFault
-answer_to question.Archive site = Ok (archive_text_of (messages_of site.core.arrivals))
-answer_to question.Status site = Ok (status_text_of (messages_of site.core.arrivals))
-answer_to question.Totals site = Ok (totals_text_of (messages_of site.core.arrivals))
-answer_to question.Contradictions site = Ok (contradictions_text_of (messages_of site.core.arrivals))
-answer_to question.Vector site = Ok (held_text site.core.arrivals)
-answer_to (question.Cut vector) site = cut_answer vector.now site.core.arrivals
-answer_to (question.CutAbove counts) site = cut_above_answer counts.now site.core.arrivals
-answer_to (question.Journal above) site = Ok (journal_text above site.core)
-answer_to (question.Newest count) site = Ok (newest_text count site.core.arrivals)
-answer_to (question.Reading text) site = Ok (reading_text_of text.now)
-answer_to (question.Transfer bank tx) site = transfer_answer bank.now tx.now (messages_of site.core.arrivals)
-answer_to (question.Messages bank tx) site = messages_answer bank.now tx.now (messages_of site.core.arrivals)
-answer_to (question.Bank bank) site = bank_answer bank.now (messages_of site.core.arrivals)
-answer_to (question.Report bank day list) site = report_answer bank.now day.now list.now (messages_of site.core.arrivals)
-answer_to question.Changes site = Ok (changes_since site.watched site.core.arrivals)
+abbrev pub answer_to_question : Question → Embedding → Result (List ℕ) EmbedFault
+answer_to_question question.Archive site = Ok (archive_text_of (messages_of site.core.arrivals))
+answer_to_question question.Status site = Ok (status_text_of (messages_of site.core.arrivals))
+answer_to_question question.Totals site = Ok (totals_text_of (messages_of site.core.arrivals))
+answer_to_question question.Contradictions site = Ok (contradictions_text_of (messages_of site.core.arrivals))
+answer_to_question question.Vector site = Ok (held_text site.core.arrivals)
+answer_to_question (question.Cut vector) site = cut_answer vector.now site.core.arrivals
+answer_to_question (question.CutAbove counts) site = cut_above_answer counts.now site.core.arrivals
+answer_to_question (question.Journal above) site = Ok (journal_text above site.core)
+answer_to_question (question.Newest count) site = Ok (newest_text count site.core.arrivals)
+answer_to_question (question.Reading text) site = Ok (reading_text_of text.now)
+answer_to_question (question.Transfer bank tx) site = transfer_answer bank.now tx.now (messages_of site.core.arrivals)
+answer_to_question (question.Messages bank tx) site = messages_answer bank.now tx.now (messages_of site.core.arrivals)
+answer_to_question (question.Bank bank) site = bank_answer bank.now (messages_of site.core.arrivals)
+answer_to_question (question.Report bank day list) site = report_answer bank.now day.now list.now (messages_of site.core.arrivals)
+answer_to_question (question.Kept day) site = kept_answer day.now (messages_of site.core.arrivals)
+answer_to_question (question.Closed day) site = closed_answer day.now (messages_of site.core.arrivals)
+answer_to_question question.Changes site = Ok (changes_since site.watched site.core.arrivals)
 
 -- how many arrivals the site had when its changes were asked for last, after a question that is answered
-abbrev pub watched_after : Question → Embedding → Option ℕ
-watched_after question.Changes site = Some (length site.core.arrivals)
-watched_after other site = site.watched
+abbrev pub watched_after_answer : Question → Embedding → Option ℕ
+watched_after_answer question.Changes site = Some (length site.core.arrivals)
+watched_after_answer other site = site.watched

@@ -7,12 +7,12 @@ use Rattle.sct_delta.specs.Entries.{Placed}
 use Rattle.sct_delta.specs.Sites.{most_sites}
 use Rattle.sct_delta.specs.declared.fault.DeltaFault.TheVariants as delta
 use Rattle.sct_delta.specs.VectorText.{Pair, counts_of, vector_in}
-use Rattle.sct_site.specs.Cores.{Core, took_by, core_taken, core_joined, fresh_of, refusal_by}
+use Rattle.sct_site.specs.Cores.{Core, took_by, core_taken, core_joined, fresh_entries, refusal_by}
 use Rattle.sct_site.specs.declared.answers.Took.{Took}
 use Rattle.sct_site.specs.declared.answers.Accepted.{Accepted}
 use Rattle.sct_exchange.specs.Rounds.{refusal_of}
 use Rattle.sct_exchange.specs.Sites.{cut_text}
-use Rattle.sct_embed.specs.Counts.{counted}
+use Rattle.sct_embed.specs.Counts.{count_of_origin}
 use Rattle.sct_embed.specs.declared.faults.EmbedFault.{EmbedFault}
 use Rattle.sct_embed.specs.declared.faults.EmbedFault.TheVariants as fault
 
@@ -34,11 +34,11 @@ RefusesMessage json other = ⊥
 -- ---- a delta
 
 -- the text is a form of a delta, which the site accepted
-pub record IsAccepted (before : Core) (text : List ℕ) (accepted : Accepted) (after : Core) : Type 0 where
+pub record IsDeltaAccepted (before : Core) (text : List ℕ) (accepted : Accepted) (after : Core) : Type 0 where
   pub delta : List Placed
   pub read : delta_in text ≡ Ok delta
   pub fits : refusal_by before delta ≡ None
-  pub fresh : accepted.fresh ≡ length (fresh_of before.arrivals delta)
+  pub fresh : accepted.fresh ≡ length (fresh_entries before.arrivals delta)
   pub left : after ≡ core_joined before delta
 
 -- The text is refused for the first reason: 45 and its first wrong line, or why the site does not accept the delta. Or
@@ -73,4 +73,4 @@ cut_answer vector arrivals = cut_for (vector_in vector) arrivals
 -- the delta above counts, if there are at most as many as a group has sites
 abbrev pub cut_above_answer : List ℕ → List Placed → Result (List ℕ) EmbedFault
 cut_above_answer counts arrivals =
-    if nat_lt most_sites (length counts) then Err (fault.Delta delta.BadSite) else Ok (cut_text (counted counts) arrivals)
+    if nat_lt most_sites (length counts) then Err (fault.Delta delta.BadSite) else Ok (cut_text (count_of_origin counts) arrivals)

@@ -12,8 +12,8 @@ pairs_from origin [] = []
 pairs_from origin (count ∷ counts) = (origin, count) ∷ pairs_from (origin + 1) counts
 
 -- the count of an origin; 0 past the end of the list
-abbrev pub counted : List ℕ → ℕ → ℕ
-counted counts = counts_of (pairs_from 1 counts)
+abbrev pub count_of_origin : List ℕ → ℕ → ℕ
+count_of_origin counts = counts_of (pairs_from 1 counts)
 
 -- The counts are how many entries of each origin there are, of origin 1 first.
 abbrev pub AreCounts : List Placed → List ℕ → Type 0

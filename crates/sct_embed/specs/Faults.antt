@@ -34,16 +34,16 @@ embed_fault_place (BadArgument place) = place
 embed_fault_place other = 0
 
 -- the fault, if a message is not read
-abbrev pub fault_of_json : JsonFault → EmbedFault
-fault_of_json json.Memory = Memory
-fault_of_json reason = Message reason
+abbrev pub embed_fault_of_json : JsonFault → EmbedFault
+embed_fault_of_json json.Memory = Memory
+embed_fault_of_json reason = Message reason
 
 -- the fault, if a delta is not read or not accepted
-abbrev pub fault_of_delta : DeltaFault → EmbedFault
-fault_of_delta delta.Memory = Memory
-fault_of_delta reason = Delta reason
+abbrev pub embed_fault_of_delta : DeltaFault → EmbedFault
+embed_fault_of_delta delta.Memory = Memory
+embed_fault_of_delta reason = Delta reason
 
 -- the fault, if a list is not read or a report is not made
-abbrev pub fault_of_list : ReconcileFault → EmbedFault
-fault_of_list list.Memory = Memory
-fault_of_list (list.BadList row) = BadList row
+abbrev pub embed_fault_of_list : ReconcileFault → EmbedFault
+embed_fault_of_list list.Memory = Memory
+embed_fault_of_list (list.BadList row) = BadList row

@@ -51,8 +51,8 @@ take_as (Ok (took.Taken n)) = record { ok = true; code = 0; is_repeat = false; p
 take_as (Err reason) = refused_take reason
 
 -- a take of many lines, with an answer of this length
-abbrev pub lines_as : Result TakenLines EmbedFault → ℕ → LinesOutcome
-lines_as (Ok taken) length =
+abbrev pub take_lines_as : Result TakenLines EmbedFault → ℕ → LinesOutcome
+take_lines_as (Ok taken) length =
     record {
       ok = true;
       code = 0;
@@ -63,7 +63,7 @@ lines_as (Ok taken) length =
       length = length;
       reserved = 0;
     }
-lines_as (Err reason) length = refused_lines reason
+take_lines_as (Err reason) length = refused_lines reason
 
 -- an accept
 abbrev pub accept_as : Result Accepted EmbedFault → AcceptOutcome

@@ -7,11 +7,11 @@ use Rattle.sct_lines.specs.Lines.{messages_read, refusals_told, told_text_of}
 use Rattle.sct_site.specs.Cores.{is_open}
 use Rattle.sct_site.specs.declared.answers.Took.{Took}
 use Rattle.sct_site.specs.declared.answers.Accepted.{Accepted}
-use Rattle.sct_embed.specs.Asking.{answer_to, watched_after}
-use Rattle.sct_embed.specs.Calls.{IsTaken, IsAccepted, RefusesMessage, RefusesDelta}
+use Rattle.sct_embed.specs.Asking.{answer_to_question, watched_after_answer}
+use Rattle.sct_embed.specs.Calls.{IsTaken, IsDeltaAccepted, RefusesMessage, RefusesDelta}
 use Rattle.sct_embed.specs.Counts.{AreCounts}
 use Rattle.sct_embed.specs.Embeddings.{Embedding}
-use Rattle.sct_embed.specs.Outcomes.{accept_as, done_as, lines_as, refused_as, take_as}
+use Rattle.sct_embed.specs.Outcomes.{accept_as, done_as, refused_as, take_as, take_lines_as}
 use Rattle.sct_embed.specs.Questions.{Answers}
 use Rattle.sct_embed.specs.Reasons.{why_text}
 use Rattle.sct_embed.specs.Restoring.{core_restored, restored_text}
@@ -29,25 +29,25 @@ use Rattle.sct_embed.specs.declared.taking.TakenLines.{TakenLines}
 -- ---- calls of a place
 
 -- A place holds a site afterwards, with this property. With the site it keeps why its last call was refused.
-abbrev pub IsHeld : (KeptSite → Type 0) → Option KeptSite → Type 0
-IsHeld Property None = ⊥
-IsHeld Property (Some kept) = Property kept
+abbrev pub HasSite : (KeptSite → Type 0) → Option KeptSite → Type 0
+HasSite Property None = ⊥
+HasSite Property (Some kept) = Property kept
 
 -- A call of an empty place is refused with 70, and leaves it empty. A call of a place with a site does this to what it keeps.
 abbrev pub IsCalled : {Told : Type 0} → (EmbedFault → Told) → (KeptSite → Told → KeptSite → Type 0)
     → Option KeptSite → Told → Option KeptSite → Type 0
 IsCalled refused Does None outcome after = (outcome ≡ refused fault.Empty) × (after ≡ None)
-IsCalled refused Does (Some kept) outcome after = IsHeld (Does kept outcome) after
+IsCalled refused Does (Some kept) outcome after = HasSite (Does kept outcome) after
 
 -- ---- a site begins
 
 -- A place that has a site is refused with 71, and keeps it. An empty place has a site with this property afterwards, whose
 -- answer has the length that is returned, and nothing was refused yet. Or it is refused for this reason, and stays empty.
-abbrev pub IsFilled : (Embedding → Type 0) → (EmbedFault → Type 0) → Option KeptSite → Outcome → Option KeptSite → Type 0
-IsFilled Opened Refused (Some kept) outcome after = (outcome ≡ refused_as fault.Full) × (after ≡ Some kept)
-IsFilled Opened Refused None outcome (Some kept) =
+abbrev pub IsPlaceFilled : (Embedding → Type 0) → (EmbedFault → Type 0) → Option KeptSite → Outcome → Option KeptSite → Type 0
+IsPlaceFilled Opened Refused (Some kept) outcome after = (outcome ≡ refused_as fault.Full) × (after ≡ Some kept)
+IsPlaceFilled Opened Refused None outcome (Some kept) =
     (outcome ≡ done_as (Ok tt) (length kept.site.answer)) × (Opened kept.site × (kept.why ≡ None))
-IsFilled Opened Refused None outcome None = (reason : EmbedFault) × ((outcome ≡ refused_as reason) × Refused reason)
+IsPlaceFilled Opened Refused None outcome None = (reason : EmbedFault) × ((outcome ≡ refused_as reason) × Refused reason)
 
 -- There is no such site, or the call is out of memory.
 abbrev pub NoSite : ℕ → ℕ → EmbedFault → Type 0
@@ -72,10 +72,10 @@ IsRestored number group journal text site =
     })
 
 abbrev pub Opens : ℕ → ℕ → Option KeptSite → Outcome → Option KeptSite → Type 0
-Opens number group = IsFilled (IsOpened number group) (NoSite number group)
+Opens number group = IsPlaceFilled (IsOpened number group) (NoSite number group)
 
 abbrev pub Restores : ℕ → ℕ → List ℕ → List ℕ → Option KeptSite → Outcome → Option KeptSite → Type 0
-Restores number group journal text = IsFilled (IsRestored number group journal text) (NoSite number group)
+Restores number group journal text = IsPlaceFilled (IsRestored number group journal text) (NoSite number group)
 
 -- A place gets a site that was opened; or it is out of memory for the site, and is as it was.
 abbrev pub IsFilledWith : Result Embedding EmbedFault → Option KeptSite → Outcome → Option KeptSite → Type 0
@@ -102,7 +102,7 @@ pub record Accepts (text : List ℕ) (before : KeptSite) (outcome : AcceptOutcom
   pub done : Result Accepted EmbedFault
   pub told : outcome ≡ accept_as done
   pub why : later.why ≡ result_err done
-  pub accepted : IfOk done (λ accepted. IsAccepted before.site.core text accepted later.site.core)
+  pub accepted : IfOk done (λ accepted. IsDeltaAccepted before.site.core text accepted later.site.core)
   pub err : IfErr done (RefusesDelta before.site.core text)
   pub answer : later.site.answer ≡ before.site.answer
   pub watched : later.site.watched ≡ before.site.watched
@@ -111,7 +111,7 @@ pub record Accepts (text : List ℕ) (before : KeptSite) (outcome : AcceptOutcom
 -- The site took the messages of the lines, and names those that it refused. Or it is out of memory, and took the first ones.
 pub record TakesLines (text : List ℕ) (before : KeptSite) (outcome : LinesOutcome) (later : KeptSite) : Type 0 where
   pub done : Result TakenLines EmbedFault
-  pub told : outcome ≡ lines_as done (length later.site.answer)
+  pub told : outcome ≡ take_lines_as done (length later.site.answer)
   pub why : later.why ≡ result_err done
   pub taken : IfOk done (λ taken. AreTaken before.site.core text taken later.site.core)
   pub answer : OnOk done (later.site.answer ≡ told_text_of (refusals_told text))
@@ -127,9 +127,9 @@ pub record Asks (question : Question) (before : KeptSite) (outcome : Outcome) (l
   pub done : Result Unit EmbedFault
   pub told : outcome ≡ done_as done (length later.site.answer)
   pub why : later.why ≡ result_err done
-  pub answer : Answers (answer_to question before.site) done later.site.answer
+  pub answer : Answers (answer_to_question question before.site) done later.site.answer
   pub core : later.site.core ≡ before.site.core
-  pub watched : OnOk done (later.site.watched ≡ watched_after question before.site)
+  pub watched : OnOk done (later.site.watched ≡ watched_after_answer question before.site)
   pub unchanged : OnErr done (later.site ≡ before.site)
 
 -- The site is as it was, whether what is new was evaluated or the call is out of memory.
@@ -175,7 +175,7 @@ pub record CopiesPart (from : ℕ) (before after : List ℕ) (kept : KeptSite) (
 
 -- The text of the reason that the place keeps is copied if it fits. Its length is returned. Or the call is out of memory, and
 -- nothing is written.
-pub record Says (before after : List ℕ) (kept : KeptSite) (outcome : Outcome) (later : KeptSite) : Type 0 where
+pub record CopiesReason (before after : List ℕ) (kept : KeptSite) (outcome : Outcome) (later : KeptSite) : Type 0 where
   pub done : Result Unit EmbedFault
   pub told : outcome ≡ done_as done (length (why_text kept.why))
   pub copied : OnOk done (IsCopied (why_text kept.why) before after)

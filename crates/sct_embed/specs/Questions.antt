@@ -14,11 +14,12 @@ use Rattle.sct_view.specs.Totals.{totals_of}
 use Rattle.sct_view.specs.TotalsText.{totals_line}
 use Rattle.sct_view.specs.Touched.{touched_in}
 use Rattle.sct_delta.specs.Entries.{Placed, messages_of}
+use Rattle.sct_keep.specs.Keep.{closed_of, kept_of}
 use Rattle.sct_reconcile.specs.Lists.{list_of, read_by}
 use Rattle.sct_reconcile.specs.Reports.{report_of, report_text_of}
 use Rattle.sct_reconcile.specs.declared.fault.ReconcileFault.{ReconcileFault}
 use Rattle.sct_reconcile.specs.declared.rows.ListedRow.{ListedRow}
-use Rattle.sct_embed.specs.Faults.{fault_of_list}
+use Rattle.sct_embed.specs.Faults.{embed_fault_of_list}
 use Rattle.sct_embed.specs.declared.faults.EmbedFault.{EmbedFault}
 use Rattle.sct_embed.specs.declared.faults.EmbedFault.TheVariants as fault
 
@@ -77,16 +78,29 @@ bank_answer bank held = line_of_bank held (bank_in bank)
 -- the report on a list, if it is valid
 abbrev pub report_on : MessageSet → List ℕ → List ℕ → Result (List ListedRow) ReconcileFault → Result (List ℕ) EmbedFault
 report_on held bank day (Ok rows) = Ok (report_text_of (report_of held bank day rows))
-report_on held bank day (Err reason) = Err (fault_of_list reason)
+report_on held bank day (Err reason) = Err (embed_fault_of_list reason)
 
 -- the report of a bank for a day, if these are valid; if one is not, the first such argument, from 1
-abbrev pub report_from : MessageSet → Option (List ℕ) → Option (List ℕ) → Result (List ListedRow) ReconcileFault → Result (List ℕ) EmbedFault
-report_from held None day rows = Err (fault.BadArgument 1)
-report_from held (Some bank) None rows = Err (fault.BadArgument 2)
-report_from held (Some bank) (Some day) rows = report_on held bank day rows
+abbrev pub report_by_arguments : MessageSet → Option (List ℕ) → Option (List ℕ) → Result (List ListedRow) ReconcileFault → Result (List ℕ) EmbedFault
+report_by_arguments held None day rows = Err (fault.BadArgument 1)
+report_by_arguments held (Some bank) None rows = Err (fault.BadArgument 2)
+report_by_arguments held (Some bank) (Some day) rows = report_on held bank day rows
 
 abbrev pub report_answer : List ℕ → List ℕ → List ℕ → MessageSet → Result (List ℕ) EmbedFault
-report_answer bank day list held = report_from held (bank_in bank) (day_in day) (list_of list)
+report_answer bank day list held = report_by_arguments held (bank_in bank) (day_in day) (list_of list)
+
+-- ---- what is kept and what is closed on a day
+
+-- the archive text of a part of what is held, if the day is valid
+abbrev pub part_on : (List ℕ → MessageSet) → Option (List ℕ) → Result (List ℕ) EmbedFault
+part_on part None = Err (fault.BadArgument 1)
+part_on part (Some day) = Ok (archive_text_of (part day))
+
+abbrev pub kept_answer : List ℕ → MessageSet → Result (List ℕ) EmbedFault
+kept_answer day held = part_on (λ day. kept_of day held) (day_in day)
+
+abbrev pub closed_answer : List ℕ → MessageSet → Result (List ℕ) EmbedFault
+closed_answer day held = part_on (λ day. closed_of held (kept_of day held)) (day_in day)
 
 -- ---- what changed
 

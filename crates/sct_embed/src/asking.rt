@@ -2,7 +2,7 @@
 
 ghost use Rattle.std.specs.Prelude.{◌≡◌, false};
 ghost use Rattle.sct_embed.specs.Outcomes.{refused_as};
-ghost use Rattle.sct_embed.specs.Places.{Asks, Copies, CopiesPart, EndsAnswer, Evaluates, IsCalled, Says};
+ghost use Rattle.sct_embed.specs.Places.{Asks, Copies, CopiesPart, CopiesReason, EndsAnswer, Evaluates, IsCalled};
 
 use crate::copying::{copy_part, copy_text};
 use crate::faults::EmbedFault;
@@ -14,7 +14,7 @@ use std::alloc::Global;
 
 // Copies the text of the reason that is kept.
 fn say(alloc: Global, kept: &KeptSite, out: &mut [u8]) -> Outcome
-    ensures said { Says out.old out.new kept.now result kept.now }
+    ensures said { CopiesReason out.old out.new kept.now result kept.now }
     ensures unwritten { result.ok ≡ false → out.new ≡ out.old }
 {
     match kept.why_text(alloc) {
@@ -91,7 +91,7 @@ impl Place {
     /// Copies why the last call was refused, if it fits, and says the length of that text. It is empty if that call was not
     /// refused. Refusals: `Memory` (65), `Empty` (70).
     pub fn why(&mut self, alloc: Global, out: &mut [u8]) -> Outcome
-        ensures called { IsCalled refused_as (Says out.old out.new) self.old.handle.held result self.new.handle.held }
+        ensures called { IsCalled refused_as (CopiesReason out.old out.new) self.old.handle.held result self.new.handle.held }
         ensures unwritten { result.ok ≡ false → out.new ≡ out.old }
     {
         let Some(kept) = self.kept_mut() else {

@@ -2,7 +2,7 @@
 
 ghost use Rattle.std.specs.Prelude.{◌≡◌, ◌<◌, ◌≤◌, ◌+◌, ℕ, length, slice_index, IfErr, IfOk, OnOk};
 ghost use Rattle.sct_delta.specs.Vectors.{count_in};
-ghost use Rattle.sct_embed.specs.Counts.{counted, pairs_from, RefusesCounts};
+ghost use Rattle.sct_embed.specs.Counts.{count_of_origin, pairs_from, RefusesCounts};
 
 use sct_delta::{DeltaFault, MOST_SITES, Vector};
 use std::alloc::{AllocError, Global};
@@ -22,7 +22,7 @@ fn pairs_of(alloc: Global, counts: &[u64]) -> Result<Vec<(u16, u64)>, AllocError
 /// The vector of counts, one for each origin from 1 on. An origin past them counts 0.
 /// Errors: `BadSite` (44) if there are more than 1024 counts; `Memory` (40).
 pub(crate) fn vector_of(alloc: Global, counts: &[u64]) -> Result<Vector, DeltaFault>
-    ensures counts { IfOk result (λ vector. (origin : ℕ) → count_in vector origin ≡ counted counts.now origin) }
+    ensures counts { IfOk result (λ vector. (origin : ℕ) → count_in vector origin ≡ count_of_origin counts.now origin) }
     ensures fits { OnOk result (length counts.now ≤ 1024) }
     ensures err { IfErr result (RefusesCounts counts.now) }
 {

@@ -1,7 +1,7 @@
 //! Why a call of an embedded site is refused.
 
 ghost use Rattle.std.specs.Prelude.{◌≡◌};
-ghost use Rattle.sct_embed.specs.Faults.{embed_fault_number, embed_fault_place, fault_of_delta, fault_of_json, fault_of_list};
+ghost use Rattle.sct_embed.specs.Faults.{embed_fault_number, embed_fault_of_delta, embed_fault_of_json, embed_fault_of_list, embed_fault_place};
 ghost use Rattle.sct_embed.specs.declared.faults.EmbedFault.TheVariants as fault;
 
 use sct_case::CaseFault;
@@ -107,7 +107,7 @@ impl From<SetFault> for EmbedFault {
 }
 
 impl From<JsonFault> for EmbedFault {
-    ghost from_gives = { λ reason e. e ≡ fault_of_json reason };
+    ghost from_gives = { λ reason e. e ≡ embed_fault_of_json reason };
 
     fn from(reason: JsonFault) -> EmbedFault {
         match reason {
@@ -118,7 +118,7 @@ impl From<JsonFault> for EmbedFault {
 }
 
 impl From<DeltaFault> for EmbedFault {
-    ghost from_gives = { λ reason e. e ≡ fault_of_delta reason };
+    ghost from_gives = { λ reason e. e ≡ embed_fault_of_delta reason };
 
     fn from(reason: DeltaFault) -> EmbedFault {
         match reason {
@@ -129,7 +129,7 @@ impl From<DeltaFault> for EmbedFault {
 }
 
 impl From<ReconcileFault> for EmbedFault {
-    ghost from_gives = { λ reason e. e ≡ fault_of_list reason };
+    ghost from_gives = { λ reason e. e ≡ embed_fault_of_list reason };
 
     fn from(reason: ReconcileFault) -> EmbedFault {
         match reason {

@@ -11,6 +11,7 @@ mod arguments;
 mod asking;
 mod calling;
 mod changes;
+mod closing;
 mod codes;
 mod copying;
 mod counts;

@@ -1,7 +1,7 @@
 //! What calls return to a program in another language.
 
 ghost use Rattle.std.specs.Prelude.{◌≡◌, true};
-ghost use Rattle.sct_embed.specs.Outcomes.{accept_as, done_as, lines_as, refused_accept, refused_as, refused_lines, refused_take, take_as};
+ghost use Rattle.sct_embed.specs.Outcomes.{accept_as, done_as, refused_accept, refused_as, refused_lines, refused_take, take_as, take_lines_as};
 
 use crate::faults::EmbedFault;
 use crate::taking::TakenLines;
@@ -172,7 +172,7 @@ impl LinesOutcome {
     }
 
     pub(crate) fn of(done: &Result<TakenLines, EmbedFault>, length: usize) -> LinesOutcome
-        ensures { result ≡ lines_as done.now length }
+        ensures { result ≡ take_lines_as done.now length }
     {
         match done {
             Ok(taken) => LinesOutcome {

@@ -59,6 +59,12 @@ pub enum Question<'a> {
         /// The list.
         list: &'a [u8],
     },
+    /// What is kept on a day, `YYYY-MM-DD`: each message with a tie to a transfer that is not done before the day, written as the
+    /// archive text is. What is new is evaluated; then near linear in the messages held, and O(n log n) in those that are written.
+    /// Refusal: `BadArgument` (73) with 1 for the day.
+    Kept(&'a [u8]),
+    /// What is closed on a day: the rest. Cost and refusal are those of `Kept`.
+    Closed(&'a [u8]),
     /// What changed: a line such as `BANKDEFFXXX|TX1` for each transfer that the arrivals since the call before touch, ascending.
     /// Every other transfer has the lines that it had then. The first call begins the watch, and its answer is empty. O(n log n)
     /// in what is new and in the transfers that changed. From the first call on, each question also keeps the names of the

@@ -6,13 +6,14 @@ ghost use Rattle.sct_exchange.specs.Sites.{held_text};
 ghost use Rattle.sct_set.specs.Archive.{archive_text_of};
 ghost use Rattle.sct_view.specs.StatusText.{status_text_of};
 ghost use Rattle.sct_view.specs.TotalsText.{totals_text_of};
-ghost use Rattle.sct_embed.specs.Asking.{answer_to, journal_text, newest_text, watched_after};
+ghost use Rattle.sct_embed.specs.Asking.{answer_to_question, journal_text, newest_text, watched_after_answer};
 ghost use Rattle.sct_embed.specs.Calls.{cut_above_answer, cut_answer};
-ghost use Rattle.sct_embed.specs.Questions.{Answers, bank_answer, changes_since, contradictions_text_of, messages_answer, report_answer, transfer_answer};
+ghost use Rattle.sct_embed.specs.Questions.{Answers, bank_answer, changes_since, closed_answer, contradictions_text_of, kept_answer, messages_answer, report_answer, transfer_answer};
 ghost use Rattle.sct_embed.specs.Reading.{reading_text_of};
 
 use crate::arguments::transfer_of;
 use crate::changes::{Watch, text_of_changes};
+use crate::closing::text_of_messages;
 use crate::counts::vector_of;
 use crate::entries::{text_of_entries, text_of_own_entries};
 use crate::faults::EmbedFault;
@@ -22,14 +23,15 @@ use crate::reading::read_text;
 use crate::site::EmbeddedSite;
 use sct_delta::read_vector;
 use sct_exchange::{write_cut, write_held};
+use sct_keep::split;
 use sct_reconcile::{List, bank_of, day_of, reconcile_alone};
 
 impl EmbeddedSite {
     /// Asks a question. The text becomes the answer. Errors: the refusals of the question, and `Memory` (65).
     pub fn ask(&mut self, question: Question<'_>) -> Result<(), EmbedFault>
-        ensures answer { Answers (answer_to question.entry self.old) result self.new.answer }
+        ensures answer { Answers (answer_to_question question.entry self.old) result self.new.answer }
         ensures core { self.new.core ≡ self.old.core }
-        ensures watched { OnOk result (self.new.watched ≡ watched_after question.entry self.old) }
+        ensures watched { OnOk result (self.new.watched ≡ watched_after_answer question.entry self.old) }
         ensures unchanged { OnErr result (self.new ≡ self.old) }
     {
         match question {
@@ -47,6 +49,8 @@ impl EmbeddedSite {
             Question::Messages { bank, tx } => self.messages_text(bank, tx),
             Question::Bank(bank) => self.bank_totals(bank),
             Question::Report { bank, day, list } => self.report(bank, day, list),
+            Question::Kept(day) => self.kept_text(day),
+            Question::Closed(day) => self.closed_text(day),
             Question::Changes => self.changes_text(),
         }
     }
@@ -218,6 +222,38 @@ impl EmbeddedSite {
         self.showing.show_all(self.alloc, self.core.arrivals())?;
         let report = reconcile_alone(self.alloc, &self.showing.view, &bank, &day, &list)?;
         self.answer = report.write()?;
+        Ok(())
+    }
+
+    fn kept_text(&mut self, day: &[u8]) -> Result<(), EmbedFault>
+        ensures answer { Answers (kept_answer day.now (messages_of self.old.core.arrivals)) result self.new.answer }
+        ensures core { self.new.core ≡ self.old.core }
+        ensures watched { self.new.watched ≡ self.old.watched }
+        ensures unchanged { OnErr result (self.new ≡ self.old) }
+    {
+        let Some(day) = day_of(day) else {
+            return Err(EmbedFault::BadArgument(1));
+        };
+        self.showing.show_all(self.alloc, self.core.arrivals())?;
+        let messages = self.core.archive().messages();
+        let parts = split(self.alloc, &self.showing.view, &day, messages)?;
+        self.answer = text_of_messages(self.alloc, &parts.kept)?;
+        Ok(())
+    }
+
+    fn closed_text(&mut self, day: &[u8]) -> Result<(), EmbedFault>
+        ensures answer { Answers (closed_answer day.now (messages_of self.old.core.arrivals)) result self.new.answer }
+        ensures core { self.new.core ≡ self.old.core }
+        ensures watched { self.new.watched ≡ self.old.watched }
+        ensures unchanged { OnErr result (self.new ≡ self.old) }
+    {
+        let Some(day) = day_of(day) else {
+            return Err(EmbedFault::BadArgument(1));
+        };
+        self.showing.show_all(self.alloc, self.core.arrivals())?;
+        let messages = self.core.archive().messages();
+        let parts = split(self.alloc, &self.showing.view, &day, messages)?;
+        self.answer = text_of_messages(self.alloc, &parts.closed)?;
         Ok(())
     }
 

@@ -4,7 +4,7 @@ ghost use Rattle.std.specs.Prelude.{◌≡◌, ◌≢◌, ◌<◌, [], None, len
 ghost use Rattle.sct_delta.specs.declared.fault.DeltaFault.TheVariants as delta;
 ghost use Rattle.sct_lines.specs.Lines.{messages_read, refusals_told, told_text_of};
 ghost use Rattle.sct_site.specs.Cores.{is_open};
-ghost use Rattle.sct_embed.specs.Calls.{IsAccepted, IsTaken, RefusesDelta, RefusesMessage};
+ghost use Rattle.sct_embed.specs.Calls.{IsDeltaAccepted, IsTaken, RefusesDelta, RefusesMessage};
 ghost use Rattle.sct_embed.specs.Counts.{AreCounts};
 ghost use Rattle.sct_embed.specs.Restoring.{core_restored, restored_text};
 ghost use Rattle.sct_embed.specs.Taking.{ArePartlyTaken, AreTaken};
@@ -146,7 +146,7 @@ impl EmbeddedSite {
     /// Errors: `BadDelta` (45) with the first wrong line of the text; `BadSite` (44), `OwnAhead` (43), `Gap` (41) or `Fork`
     /// (42), the first of these; `Memory` (65).
     pub fn accept(&mut self, text: &[u8]) -> Result<Accepted, EmbedFault>
-        ensures accepted { IfOk result (λ accepted. IsAccepted self.old.core text.now accepted self.new.core) }
+        ensures accepted { IfOk result (λ accepted. IsDeltaAccepted self.old.core text.now accepted self.new.core) }
         ensures answer { self.new.answer ≡ self.old.answer }
         ensures watched { self.new.watched ≡ self.old.watched }
         ensures err { IfErr result (RefusesDelta self.old.core text.now) }

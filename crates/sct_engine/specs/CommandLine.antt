@@ -1,5 +1,5 @@
 -- The orders that the words of a command line give, by clap's own definitions. Read by an auditor.
-use Rattle.std.specs.Prelude.{◌≡◌, ◌≢◌, ◌↔◌, true, List, [], ◌∷◌, ◌++◌, Option, Some, None, option_and_then, IsTrue, Result, Ok, Err, codes, string_bytes}
+use Rattle.std.specs.Prelude.{◌≡◌, ◌≢◌, ◌⊎◌, ◌↔◌, true, List, [], ◌∷◌, ◌++◌, Option, Some, None, option_and_then, option_map, IsTrue, Result, Ok, Err, codes, string_bytes}
 use Rattle.clap.specs.Words.{App, Rule, Text, new_app, new_rule, subcommand_of, with_rule, with_subcommand, fault_of, IsAmong}
 use Rattle.clap.specs.declared.builder.action.ArgAction.TheVariants.{Append}
 use Rattle.clap.specs.declared.error.kind.ErrorKind.{ErrorKind}
@@ -7,11 +7,13 @@ use Rattle.clap.specs.declared.error.kind.ErrorKind.TheVariants as kind
 use Rattle.sct_version.specs.declared.TheConstants.{VERSION}
 use Rattle.sct_element.specs.Bank.{written_bic}
 use Rattle.sct_element.specs.Date.{written_day}
-use Rattle.sct_engine.specs.declared.jobs.Job.TheVariants.{Status, Archive, Totals, Replay}
+use Rattle.sct_engine.specs.declared.jobs.Job.TheVariants.{Status, Archive, Totals, Keep, Closed, Replay}
 use Rattle.sct_engine.specs.declared.fault.ProgramFault.{ProgramFault}
 use Rattle.sct_engine.specs.declared.fault.ProgramFault.TheVariants as fault
 use Rattle.sct_engine.specs.declared.request.Request.{Request}
 use Rattle.sct_engine.specs.declared.request.Request.TheVariants.{Help, Mistake}
+use Rattle.sct_engine.specs.Mistakes.{Wrong, mistake_line, wrong_word}
+use Rattle.sct_engine.specs.declared.mistakes.Argument.TheVariants as argument
 use Rattle.sct_engine.specs.Places.{counts_in, delta, messages, place_named, vector, Wanted}
 use Rattle.sct_engine.specs.Request.{exchange, is_mistake, job, order_named, order_of, report, serve, sites, Order}
 
@@ -33,6 +35,14 @@ wanted_word name = record (new_rule name) { required = true }
 abbrev pub wanted_words : Text → Rule
 wanted_words name = record (new_rule name) { required = true; action = Some Append }
 
+-- a day
+abbrev pub day_command : Text → App
+day_command name = with_rule (new_app name) (wanted_word (codes "DAY"))
+
+-- the program with the commands `keep` and `closed` added
+abbrev pub closing_commands : App
+closing_commands = with_subcommand (with_subcommand listing_commands (day_command (codes "keep")).top) (day_command (codes "closed")).top
+
 -- a bank, a day and a file
 abbrev pub report_command : App
 report_command = with_rule (with_rule (with_rule (new_app (codes "report")) (wanted_word (codes "BANK"))) (wanted_word (codes "DAY"))) (wanted_word (codes "LIST"))
@@ -43,7 +53,7 @@ run_command = with_rule (new_app (codes "run")) (wanted_words (codes "FILE"))
 
 -- the program with the commands `totals` and `report` added
 abbrev pub comparing_commands : App
-comparing_commands = with_subcommand (with_subcommand listing_commands (new_app (codes "totals")).top) report_command.top
+comparing_commands = with_subcommand (with_subcommand closing_commands (new_app (codes "totals")).top) report_command.top
 
 -- the program with the commands `replay` and `run` added
 abbrev pub running_commands : App
@@ -87,6 +97,10 @@ command_line = with_subcommand exchanging_commands serve_command.top
 abbrev pub order_asked : List Text → Option Order
 order_asked words = option_and_then (λ found. order_named found.0 found.1) (subcommand_of command_line words)
 
+-- the wrong word among the arguments of the command that clap finds in the words
+abbrev pub wrong_asked : List Text → Option Wrong
+wrong_asked words = option_and_then (λ found. wrong_word found.1) (subcommand_of command_line words)
+
 -- the line that `--version` prints: the name of the program, a space and its version
 abbrev pub version_line : Text
 version_line = codes "sct_sites " ++ VERSION.now ++ 10 ∷ []
@@ -103,19 +117,26 @@ AnswersKind (Help text) k =
 AnswersKind (Mistake text) k = IsTrue (is_mistake (Mistake text)) ↔ IsMistakeKind k
 AnswersKind _ k = ⊥
 
+-- clap has no error for the words, but there is no order: a word is wrong, and the text is the line about it
+pub record NamesTheWrongWord (words : List Text) (text : Text) : Type 0 where
+  pub no_error : fault_of command_line words ≡ []
+  pub no_order : order_asked words ≡ None
+  pub named : option_map mistake_line (wrong_asked words) ≡ Some text
+
 -- the words ask for the request: an order is that of the command found in them, and clap has no error for the words;
--- help or a mistake needs an error of such a kind that clap has for the words
+-- help or a mistake needs an error of such a kind that clap has for the words, but a mistake may also be a wrong word
 abbrev pub AsksFor : List Text → Request → Type 0
 AsksFor words (Help text) = (k : ErrorKind) × (IsAmong k (fault_of command_line words) × AnswersKind (Help text) k)
-AsksFor words (Mistake text) = (k : ErrorKind) × (IsAmong k (fault_of command_line words) × AnswersKind (Mistake text) k)
+AsksFor words (Mistake text) =
+    ((k : ErrorKind) × (IsAmong k (fault_of command_line words) × AnswersKind (Mistake text) k)) ⊎ NamesTheWrongWord words (string_bytes text)
 AsksFor words request = (fault_of command_line words ≡ []) × (order_asked words ≡ order_of request)
 
--- the words ask for the request; or there is no request: the call is out of memory, or clap has no error for the words
--- and there is no order
+-- the words ask for the request; or there is no request: the call is out of memory, or clap has no error for the words,
+-- there is no order, and no word is wrong
 abbrev pub AreAsking : List Text → Result Request ProgramFault → Type 0
 AreAsking words (Ok request) = AsksFor words request
 AreAsking words (Err fault.Memory) = Unit {0}
-AreAsking words (Err fault.Usage) = (fault_of command_line words ≡ []) × (order_asked words ≡ None)
+AreAsking words (Err fault.Usage) = (fault_of command_line words ≡ []) × (order_asked words ≡ None) × (wrong_asked words ≡ None)
 AreAsking words (Err _) = ⊥
 
 -- clap has no error for the words, and they give this order, if any
@@ -144,6 +165,12 @@ pub record CommandsAskForTheirOrders : Type 0 where
   pub archive : (program : Text) → AskFor (program ∷ codes "archive" ∷ []) (Some (job Archive))
   pub totals : (program : Text) → AskFor (program ∷ codes "totals" ∷ []) (Some (job Totals))
   pub replay : (program : Text) → AskFor (program ∷ codes "replay" ∷ []) (Some (job Replay))
+  pub keep : (program day : Text)
+      → AskFor (program ∷ codes "keep" ∷ codes "--" ∷ day ∷ []) (option_map (λ d. job (Keep d)) (written_day day))
+  pub keep_written : (program : Text)
+      → AskFor (program ∷ codes "keep" ∷ codes "2026-11-01" ∷ []) (option_map (λ d. job (Keep d)) (written_day (codes "2026-11-01")))
+  pub closed : (program day : Text)
+      → AskFor (program ∷ codes "closed" ∷ codes "--" ∷ day ∷ []) (option_map (λ d. job (Closed d)) (written_day day))
   pub list : (program bank day path : Text)
       → AskFor (program ∷ codes "report" ∷ codes "--" ∷ bank ∷ day ∷ path ∷ []) (report_from bank day path)
   pub one_file : (program file : Text) → AskFor (program ∷ codes "run" ∷ codes "--" ∷ file ∷ []) (Some (sites (file ∷ [])))
@@ -186,3 +213,16 @@ pub record OptionsAskForTheirTexts : Type 0 where
   pub help_by_letter : (program : Text) → AskForText (program ∷ codes "-h" ∷ []) kind.DisplayHelp
   pub version : (program : Text) → AskForText (program ∷ codes "--version" ∷ []) kind.DisplayVersion
   pub version_by_letter : (program : Text) → AskForText (program ∷ codes "-V" ∷ []) kind.DisplayVersion
+
+-- clap has no error for the words, they give no order, and this word is wrong
+pub record NameTheWord (words : List Text) (wrong : Wrong) : Type 0 where
+  pub no_error : fault_of command_line words ≡ []
+  pub no_order : order_asked words ≡ None
+  pub word : wrong_asked words ≡ Some wrong
+
+-- a day that is not valid is named, after `--`, whatever the program is called
+pub record MistakesNameTheirWords : Type 0 where
+  pub keep : (program day : Text) → written_day day ≡ None
+      → NameTheWord (program ∷ codes "keep" ∷ codes "--" ∷ day ∷ []) (argument.Day, day)
+  pub closed : (program day : Text) → written_day day ≡ None
+      → NameTheWord (program ∷ codes "closed" ∷ codes "--" ∷ day ∷ []) (argument.Day, day)

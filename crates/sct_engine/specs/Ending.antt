@@ -41,7 +41,7 @@ abbrev pub fault_line_of : ProgramFault → List ℕ
 fault_line_of fault = codes "fault " ++ decimal (program_fault_number fault) ++ fault_arguments_of fault ++ 10 ∷ []
 
 -- what standard error gets at the end of a run, besides the refused lines: nothing for a finished job, for a site that was served and for help,
--- fault 64 and clap's text for a mistake in the command line, and the number of any other fault
+-- fault 64 and the text that says why for a mistake in the command line, and the number of any other fault
 abbrev pub ending_text_of : Result Ending ProgramFault → List ℕ
 ending_text_of (Ok (ending.Done done)) = []
 ending_text_of (Ok ending.Served) = []

@@ -16,6 +16,7 @@ use Rattle.sct_lines.specs.Lines.{refusals_told, set_read, told_text_of}
 use Rattle.sct_view.specs.StatusText.{status_text_of}
 use Rattle.sct_view.specs.TotalsText.{totals_text_of}
 use Rattle.sct_set.specs.Archive.{archive_text_of}
+use Rattle.sct_keep.specs.Keep.{closed_of, kept_of}
 use Rattle.sct_set.specs.Contents.{Contents}
 use Rattle.sct_script.specs.Replays.{replay_of}
 use Rattle.sct_script.specs.Scripts as script
@@ -26,12 +27,14 @@ use Rattle.sct_engine.specs.Stream.{Streams}
 -- ---- the text of a job
 
 -- the text that answers a question about a set of messages: the status text, the archive text,
--- the totals text, or the report on a list
+-- the totals text, the report on a list, or the archive text of what is kept or of what is closed on a day
 abbrev pub asked_text_of : Question → Contents → List ℕ
 asked_text_of question.Status contents = status_text_of contents
 asked_text_of question.Archive contents = archive_text_of contents
 asked_text_of question.Totals contents = totals_text_of contents
 asked_text_of (question.Report bank day list) contents = report_text_of (report_of contents bank.now day.now list)
+asked_text_of (question.Keep day) contents = archive_text_of (kept_of day.now contents)
+asked_text_of (question.Closed day) contents = archive_text_of (closed_of contents (kept_of day.now contents))
 
 -- the report on a list, if its text is a valid list
 abbrev pub reported : Contents → List ℕ → List ℕ → Result (List ListedRow) ReconcileFault → List ℕ
@@ -44,6 +47,8 @@ job_text_of job.Status input = asked_text_of question.Status (set_read input)
 job_text_of job.Archive input = asked_text_of question.Archive (set_read input)
 job_text_of job.Totals input = asked_text_of question.Totals (set_read input)
 job_text_of (job.Report bank day list) input = reported (set_read input) bank day (list_of list.items)
+job_text_of (job.Keep day) input = archive_text_of (kept_of day (set_read input))
+job_text_of (job.Closed day) input = archive_text_of (closed_of (set_read input) (kept_of day (set_read input)))
 job_text_of job.Replay input = replay_of input
 
 -- the text of a job, if the input is known
@@ -52,7 +57,7 @@ job_text_if_told job input = option_map (job_text_of job) input
 
 -- the lines that report the refused lines of a job's input, which are lines of messages or of a script
 abbrev pub told_of : Job → List ℕ → List ℕ
-told_of job.Replay input = script.told_text_of (script.refusals_told input)
+told_of job.Replay input = script.event_refusals_text (script.event_refusals_told input)
 told_of _ input = told_text_of (refusals_told input)
 
 -- the lines that report the refused lines, if the input is known
@@ -61,7 +66,7 @@ told_text_if_told job input = option_map (told_of job) input
 
 -- how many lines of a job's input are refused
 abbrev pub refused_of : Job → List ℕ → ℕ
-refused_of job.Replay input = length (script.refusals_told input)
+refused_of job.Replay input = length (script.event_refusals_told input)
 refused_of _ input = length (refusals_told input)
 
 -- ---- lists

@@ -5,6 +5,7 @@ pub mod Ending
 pub mod Engine
 pub mod Exchanging
 pub mod Fault
+pub mod Mistakes
 pub mod Places
 pub mod Request
 pub mod Run

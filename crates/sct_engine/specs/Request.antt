@@ -1,13 +1,14 @@
 -- The requests of the command line. Read by an auditor.
-use Rattle.std.specs.Prelude.{ℕ, ◌≡◌, List, map, length, Option, Some, None, Bool, true, false, if◌then◌else◌, codes, option_and_then, option_map, Result, Ok, Err}
+use Rattle.std.specs.Prelude.{ℕ, ◌≡◌, List, map, length, Option, Some, None, Bool, true, false, if◌then◌else◌, codes, option_and_then, option_map, string_bytes, Result, Ok, Err}
 use Rattle.sct_element.specs.Bank.{written_bic}
 use Rattle.sct_element.specs.Date.{written_day}
 use Rattle.sct_element.specs.Text.{is_text}
 use Rattle.clap.specs.Words.{Row, Text, all_of, first_of}
 use Rattle.sct_engine.specs.declared.jobs.Job.{Job}
-use Rattle.sct_engine.specs.declared.jobs.Job.TheVariants.{Status, Archive, Totals, Replay}
+use Rattle.sct_engine.specs.declared.jobs.Job.TheVariants.{Status, Archive, Totals, Keep, Closed, Replay}
 use Rattle.sct_engine.specs.declared.fault.ProgramFault.{ProgramFault}
 use Rattle.sct_engine.specs.declared.fault.ProgramFault.TheVariants as fault
+use Rattle.sct_engine.specs.Mistakes.{Wrong, mistake_line}
 use Rattle.sct_engine.specs.Places.{Wanted, messages, vector, delta, deltas_ordered, have_ordered, place_ordered, wanted_of}
 use Rattle.sct_engine.specs.Runs.{are_sites}
 use Rattle.sct_engine.specs.declared.places.ServeCommand.{ServeCommand}
@@ -67,6 +68,10 @@ report_ordered given =
     (option_and_then written_day (first_of (codes "DAY") given)))
     (option_and_then written_bic (first_of (codes "BANK") given))
 
+-- the day among the values of the arguments of a command, if it is valid
+abbrev pub day_ordered : List Row → Option (List ℕ)
+day_ordered given = option_and_then written_day (first_of (codes "DAY") given)
+
 -- the order of `run` with these files, if they can be run
 abbrev pub sites_from : List Text → Option Order
 sites_from files = if are_sites (length files) then Some (sites files) else None
@@ -95,6 +100,8 @@ abbrev pub order_named : Text → List Row → Option Order
 order_named name given =
     if is_text name (codes "report") then report_ordered given
     else if is_text name (codes "run") then sites_ordered given
+    else if is_text name (codes "keep") then option_map (λ day. job (Keep day)) (day_ordered given)
+    else if is_text name (codes "closed") then option_map (λ day. job (Closed day)) (day_ordered given)
     else if is_text name (codes "site") then exchange_from messages given
     else if is_text name (codes "vector") then exchange_from vector given
     else if is_text name (codes "cut") then cut_ordered given
@@ -108,6 +115,23 @@ IsOrdered None (Ok request) = ⊥
 IsOrdered order (Err fault.Memory) = Unit {0}
 IsOrdered order (Err fault.Usage) = order ≡ None
 IsOrdered order (Err _) = ⊥
+
+-- the request is the mistake of this word: its text is the line about it
+abbrev pub IsMistakeOf : Option Wrong → Request → Type 0
+IsMistakeOf (Some wrong) (Mistake text) = string_bytes text ≡ mistake_line wrong
+IsMistakeOf _ _ = ⊥
+
+-- the request is the mistake of the wrong word; if no word is wrong, or the call is out of memory, there is no request
+abbrev pub IsMistaken : Option Wrong → Result Request ProgramFault → Type 0
+IsMistaken wrong (Ok request) = IsMistakeOf wrong request
+IsMistaken wrong (Err fault.Memory) = Unit {0}
+IsMistaken wrong (Err fault.Usage) = wrong ≡ None
+IsMistaken wrong (Err _) = ⊥
+
+-- the request is the order; if there is no order, it is the mistake of the wrong word
+abbrev pub IsOrderedOrMistaken : Option Order → Option Wrong → Result Request ProgramFault → Type 0
+IsOrderedOrMistaken (Some order) wrong result = IsOrdered (Some order) result
+IsOrderedOrMistaken None wrong result = IsMistaken wrong result
 
 -- the request is a mistake
 abbrev pub is_mistake : Request → Bool

@@ -69,10 +69,10 @@ pub record IsAnswered (task : Task) (before after : Streams) (ended : Result End
   pub ends : IfErr ended (EndsTask task)
 
 -- the task of a request with the bytes of its files; a command line that could not be read, or
--- that asks for nothing, ends the run at once
-abbrev pub IsPreparedIfAsked : (List ℕ → Option (List ℕ)) → Result Request ProgramFault → Result Task ProgramFault → Type 0
-IsPreparedIfAsked gives (Ok request) prepared = IsPrepared gives request prepared
-IsPreparedIfAsked gives (Err fault) prepared = prepared ≡ Err fault
+-- that asks for nothing, ends the run at once, and no file is read
+abbrev pub IsPreparedIfAsked : (List ℕ → Option (List ℕ)) → ℕ → ℕ → Result Request ProgramFault → Result Task ProgramFault → Type 0
+IsPreparedIfAsked gives failed failed_now (Ok request) prepared = IsPrepared gives failed failed_now request prepared
+IsPreparedIfAsked gives failed failed_now (Err fault) prepared = (prepared ≡ Err fault) × (failed_now ≡ failed)
 
 -- a task is performed: a site is served, and each other task is answered. The first six words are of disks: what a file holds,
 -- what a crash may leave of it, whether no read of it was wrong, how many of its calls failed, what the file at a path holds, and how
@@ -91,24 +91,25 @@ abbrev pub IsAskedBy : Result (List (List ℕ)) ProgramFault → Result Request 
 IsAskedBy (Err fault) asked = asked ≡ Err fault
 IsAskedBy (Ok words) asked = AreAsking words asked
 
--- the answer to the words of a command line: that to the task of their request
-pub record IsAnsweredTo {D : Type 0} (seen : D → List ℕ) (may_leave : D → List ℕ → Type 0) (is_clean : D → Bool) (faults : D → ℕ) (holds : List ℕ → List ℕ) (fails : List ℕ → JournalError → Type 0) (gives : List ℕ → Option (List ℕ)) (words : Result (List (List ℕ)) ProgramFault) (before after : Streams) (ended : Result Ending ProgramFault) : Type 0 where
+-- The answer to the words of a command line: that to the task of their request. The two numbers are of the opens and
+-- reads of files that failed, before and after.
+pub record IsAnsweredTo {D : Type 0} (seen : D → List ℕ) (may_leave : D → List ℕ → Type 0) (is_clean : D → Bool) (faults : D → ℕ) (holds : List ℕ → List ℕ) (fails : List ℕ → JournalError → Type 0) (gives : List ℕ → Option (List ℕ)) (failed failed_now : ℕ) (words : Result (List (List ℕ)) ProgramFault) (before after : Streams) (ended : Result Ending ProgramFault) : Type 0 where
   pub asked : Result Request ProgramFault
   pub prepared : Result Task ProgramFault
   pub is_asked : IsAskedBy words asked
-  pub is_prepared : IsPreparedIfAsked gives asked prepared
+  pub is_prepared : IsPreparedIfAsked gives failed failed_now asked prepared
   pub is_answered : IsAnsweredIfPrepared seen may_leave is_clean faults holds fails prepared before after ended
 
 -- One run. It reads the request of the words and the files that the request names, which have these bytes. It answers
 -- the request, reports its end on standard error, and returns the exit status of its end. A site that is served has its journal
--- on a disk, of which the first six words speak.
-pub record IsRun {D : Type 0} (seen : D → List ℕ) (may_leave : D → List ℕ → Type 0) (is_clean : D → Bool) (faults : D → ℕ) (holds : List ℕ → List ℕ) (fails : List ℕ → JournalError → Type 0) (gives : List ℕ → Option (List ℕ)) (words : Result (List (List ℕ)) ProgramFault) (before after : Streams) (status : ℕ) : Type 0 where
+-- on a disk, of which the first six words speak. The two numbers are of the opens and reads of files that failed, before and after.
+pub record IsRun {D : Type 0} (seen : D → List ℕ) (may_leave : D → List ℕ → Type 0) (is_clean : D → Bool) (faults : D → ℕ) (holds : List ℕ → List ℕ) (fails : List ℕ → JournalError → Type 0) (gives : List ℕ → Option (List ℕ)) (failed failed_now : ℕ) (words : Result (List (List ℕ)) ProgramFault) (before after : Streams) (status : ℕ) : Type 0 where
   pub asked : Result Request ProgramFault
   pub prepared : Result Task ProgramFault
   pub answered : Streams
   pub ended : Result Ending ProgramFault
   pub is_asked : IsAskedBy words asked
-  pub is_prepared : IsPreparedIfAsked gives asked prepared
+  pub is_prepared : IsPreparedIfAsked gives failed failed_now asked prepared
   pub is_answered : IsAnsweredIfPrepared seen may_leave is_clean faults holds fails prepared before answered ended
   pub is_told : IsWrittenOrCutOff answered.err after.err (Some (ending_text_of ended))
   pub others : (after.input ≡ answered.input) × (after.out ≡ answered.out)

@@ -10,7 +10,7 @@ use Rattle.sct_journal.specs.declared.error.JournalError.TheVariants as journal
 use Rattle.sct_journal.specs.declared.front.Front.TheVariants as front
 use Rattle.sct_keeper.specs.Keepers.{header, IsUntouched}
 use Rattle.sct_keeper.specs.declared.fault.KeeperError.TheVariants as keeper
-use Rattle.sct_serve.specs.Lives.{output_of, standing_kept, LifeLeaves}
+use Rattle.sct_serve.specs.Lives.{output_of, watched_site_kept, LifeLeaves}
 use Rattle.sct_serve.specs.Serving.{failed_reads, failed_writes, EndsLife, HasReadTooLong, IsForeignFault}
 use Rattle.sct_serve.specs.declared.fault.ServeFault.{ServeFault}
 use Rattle.sct_serve.specs.declared.fault.ServeFault.TheVariants as serve
@@ -85,10 +85,10 @@ pub record Lived {D : Type 0} (seen : D → List ℕ) (may_leave : D → List �
   pub ending : ended ≡ ending_of reason
   pub ends : IfSome reason EndsLife
   pub replies : IfNone reason (IsTrue (is_clean left) → IfSome input.left (λ bytes.
-      AppendsIfTold out.held out_now.held (output_of (standing_kept command.site command.sites (recorded file)) bytes)))
+      AppendsIfTold out.held out_now.held (output_of (watched_site_kept command.site command.sites (recorded file)) bytes)))
   pub read : IfNone reason (IfSome input.left (λ bytes. input_now.left ≡ Some []))
   pub lasts : IsTrue (is_clean left) → (outcome : List ℕ) → may_leave left outcome
-      → LifeLeaves (standing_kept command.site command.sites (recorded file)) (recorded file) input.left input_now.left out.held out_now.held outcome
+      → LifeLeaves (watched_site_kept command.site command.sites (recorded file)) (recorded file) input.left input_now.left out.held out_now.held outcome
   pub foreign : IfSome reason (λ e. IsForeignFault e → IsUntouched seen may_leave opened left × (input_now ≡ input) × (out_now ≡ out))
   pub no_journal : reason ≡ Some (serve.Keeper (keeper.Journal journal.NoJournal)) → IsTrue (is_clean left)
       → front_in (header command.site command.sites) file ≡ front.NoJournal

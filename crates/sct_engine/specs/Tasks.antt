@@ -1,6 +1,6 @@
 -- The task of a run after the files that the command line names are read, and the texts that
 -- the run then writes. Read by an auditor.
-use Rattle.std.specs.Prelude.{ℕ, ◌≡◌, ◌≤◌, length, List, [], ◌∷◌, map, Option, Some, None, IfSome, Result, Ok, Err, string_bytes}
+use Rattle.std.specs.Prelude.{ℕ, ◌≡◌, ◌+◌, ◌≤◌, length, List, [], ◌∷◌, map, Option, Some, None, IfSome, Result, Ok, Err, string_bytes}
 use Rattle.sct_workers.specs.Faults.{IsRefusalNumber}
 use Rattle.sct_engine.specs.Runs.{set_of_all}
 use Rattle.sct_view.specs.StatusText.{status_text_of}
@@ -18,6 +18,7 @@ use Rattle.sct_engine.specs.Exchanging.{count_by_exchange, text_by_exchange, tol
 use Rattle.sct_engine.specs.declared.task.Task.{Task}
 use Rattle.sct_engine.specs.declared.task.Task.TheVariants.{Work, Settle, Exchange, Serve, Help, Mistake}
 use Rattle.sct_engine.specs.Engine.{bad_row_of, job_text_if_told, refused_of, told_text_if_told, IsInputOf, IsReadWhole}
+use Rattle.sct_engine.specs.Fault.{failed_reads}
 use Rattle.sct_engine.specs.Stream.{AreWithin, EndsFile, EndsFiles}
 use Rattle.sct_streams.specs.Files.{AreGiven, IsGiven}
 use Rattle.sct_streams.specs.Stream.{Input}
@@ -52,10 +53,11 @@ EndsFilesOf gives (request.Settle files) fault = EndsFiles gives (map (λ path. 
 EndsFilesOf gives (request.Exchange command) fault = EndsFiles gives (command.journal.now ∷ map (λ path. path.now) command.deltas.items) fault
 EndsFilesOf gives _ fault = ⊥
 
--- the task of a request with the bytes of its files, or the fault by which these could not be read
-abbrev pub IsPrepared : (List ℕ → Option (List ℕ)) → Request → Result Task ProgramFault → Type 0
-IsPrepared gives request (Ok task) = IsTaskOf gives request task
-IsPrepared gives request (Err fault) = EndsFilesOf gives request fault
+-- The task of a request with the bytes of its files, or the fault by which these could not be read. The two numbers are of the
+-- opens and reads of files that failed, before and after: it is one more for 62, and else none.
+abbrev pub IsPrepared : (List ℕ → Option (List ℕ)) → ℕ → ℕ → Request → Result Task ProgramFault → Type 0
+IsPrepared gives failed failed_now request (Ok task) = IsTaskOf gives request task × (failed_now ≡ failed)
+IsPrepared gives failed failed_now request (Err fault) = EndsFilesOf gives request fault × (failed_now ≡ failed + failed_reads fault)
 
 -- ---- the texts that are written
 

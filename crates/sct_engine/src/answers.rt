@@ -1,8 +1,10 @@
 //! The answer of a job about the messages of an input: the status text, the archive text,
-//! the totals text, or the report on a list.
+//! the totals text, the report on a list, or the archive text of what is kept or of what is closed.
 ghost use Rattle.std.specs.Prelude.{◌≡◌, IfErr, IfOk};
 ghost use Rattle.sct_message.specs.Sets.{messages_in};
 ghost use Rattle.sct_reconcile.specs.Reports.{report_of, report_text_of};
+ghost use Rattle.sct_keep.specs.Keep.{closed_of, kept_of};
+ghost use Rattle.sct_set.specs.Archive.{archive_text_of};
 ghost use Rattle.sct_set.specs.Contents.{contents_of};
 ghost use Rattle.sct_set.specs.Pieces.{joined};
 ghost use Rattle.sct_engine.specs.Engine.{asked_text_of};
@@ -14,10 +16,11 @@ use crate::fault::ProgramFault;
 use crate::holding::archive_pieces;
 use crate::release::Release;
 use sct_element::{Bic, Day};
+use sct_keep::{KeptAndClosed, split};
 use sct_lines::{Intake, Refusals};
 use sct_message::Message;
 use sct_reconcile::{List, reconcile};
-use sct_view::View;
+use sct_view::{FiledArchive, View};
 use std::alloc::Global;
 use std::sync::Arc;
 use std::thread::Threads;
@@ -49,9 +52,10 @@ fn status_pieces<T: Threads + Sync>(
         ≡ status_text_of (contents_of (messages_in messages.items))) }
     ensures memory { IfErr result (λ e. e ≡ fault.Memory) }
 {
-    let view = view_of(rt, alloc, release, messages)?;
-    let pieces = view.status_text_in_pieces(rt);
-    release.let_go(view);
+    let filed = FiledArchive::of(rt, alloc, &messages)?;
+    release.let_go(messages);
+    let pieces = filed.status_text_in_pieces(rt);
+    release.let_go(filed);
     Ok(pieces?)
 }
 
@@ -66,9 +70,10 @@ fn totals_text<T: Threads + Sync>(
         ≡ totals_text_of (contents_of (messages_in messages.items))) }
     ensures memory { IfErr result (λ e. e ≡ fault.Memory) }
 {
-    let view = view_of(rt, alloc, release, messages)?;
-    let text = view.totals_text();
-    release.let_go(view);
+    let filed = FiledArchive::of(rt, alloc, &messages)?;
+    release.let_go(messages);
+    let text = filed.totals_text(rt);
+    release.let_go(filed);
     Ok(text?)
 }
 
@@ -92,6 +97,61 @@ fn report_text<T: Threads + Sync>(
     Ok(report?.write()?)
 }
 
+// The messages split by a day. The view that this needs is let go.
+fn split_messages<T: Threads + Sync>(
+    rt: &T,
+    alloc: Global,
+    release: Release,
+    messages: Vec<Arc<Message>>,
+    day: &Day,
+) -> Result<KeptAndClosed, ProgramFault>
+    ensures kept { IfOk result (λ parts. contents_of (messages_in parts.kept.items)
+        ≡ kept_of day.now (contents_of (messages_in messages.items))) }
+    ensures closed { IfOk result (λ parts. contents_of (messages_in parts.closed.items)
+        ≡ closed_of (contents_of (messages_in messages.items)) (kept_of day.now (contents_of (messages_in messages.items)))) }
+    ensures memory { IfErr result (λ e. e ≡ fault.Memory) }
+{
+    let view = View::of_messages(rt, alloc, &messages)?;
+    let parts = split(alloc, &view, day, &messages);
+    release.let_go(view);
+    release.let_go(messages);
+    Ok(parts?)
+}
+
+// The archive text of what is kept of the messages on a day, in pieces.
+fn kept_pieces<T: Threads + Sync>(
+    rt: &T,
+    alloc: Global,
+    release: Release,
+    messages: Vec<Arc<Message>>,
+    day: &Day,
+) -> Result<Vec<Vec<u8>>, ProgramFault>
+    ensures text { IfOk result (λ pieces. joined pieces.items
+        ≡ archive_text_of (kept_of day.now (contents_of (messages_in messages.items)))) }
+    ensures memory { IfErr result (λ e. e ≡ fault.Memory) }
+{
+    let KeptAndClosed { kept, closed } = split_messages(rt, alloc, release, messages, day)?;
+    release.let_go(closed);
+    archive_pieces(rt, alloc, release, kept)
+}
+
+// The archive text of what is closed of the messages on a day, in pieces.
+fn closed_pieces<T: Threads + Sync>(
+    rt: &T,
+    alloc: Global,
+    release: Release,
+    messages: Vec<Arc<Message>>,
+    day: &Day,
+) -> Result<Vec<Vec<u8>>, ProgramFault>
+    ensures text { IfOk result (λ pieces. joined pieces.items
+        ≡ archive_text_of (closed_of (contents_of (messages_in messages.items)) (kept_of day.now (contents_of (messages_in messages.items))))) }
+    ensures memory { IfErr result (λ e. e ≡ fault.Memory) }
+{
+    let KeptAndClosed { kept, closed } = split_messages(rt, alloc, release, messages, day)?;
+    release.let_go(kept);
+    archive_pieces(rt, alloc, release, closed)
+}
+
 /// A question about messages.
 #[derive(Drop)]
 pub enum Question<'a> {
@@ -106,6 +166,14 @@ pub enum Question<'a> {
         bank: &'a Bic,
         day: &'a Day,
         list: List,
+    },
+    /// What is kept on a day: each message with a tie to a transfer that is not done, written as the archive is.
+    Keep {
+        day: &'a Day,
+    },
+    /// What is closed on a day: the rest.
+    Closed {
+        day: &'a Day,
     },
 }
 
@@ -141,6 +209,8 @@ fn asked_pieces<T: Threads + Sync>(
     let text = match question {
         Question::Archive => return archive_pieces(rt, alloc, release, messages),
         Question::Status => return status_pieces(rt, alloc, release, messages),
+        Question::Keep { day } => return kept_pieces(rt, alloc, release, messages, day),
+        Question::Closed { day } => return closed_pieces(rt, alloc, release, messages, day),
         Question::Totals => totals_text(rt, alloc, release, messages)?,
         Question::Report { bank, day, list } => {
             report_text(rt, alloc, release, messages, bank, day, list)?

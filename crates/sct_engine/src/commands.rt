@@ -2,7 +2,7 @@
 ghost use Rattle.std.specs.Prelude.{◌≡◌, IfOk, false, string_bytes};
 ghost use Rattle.clap.specs.Words.{app_of};
 ghost use Rattle.clap.specs.declared.builder.command.Command.TheViews.{out-Command};
-ghost use Rattle.sct_engine.specs.CommandLine.{command_line, comparing_commands, cut_command, exchanging_commands, files_of_a_site, listing_commands, place_command, report_command, run_command, running_commands, serve_command, site_command, vector_command, version_line};
+ghost use Rattle.sct_engine.specs.CommandLine.{closing_commands, command_line, comparing_commands, cut_command, day_command, exchanging_commands, files_of_a_site, listing_commands, place_command, report_command, run_command, running_commands, serve_command, site_command, vector_command, version_line};
 
 use clap::{Arg, ArgAction, Command};
 use sct_version::VERSION;
@@ -11,7 +11,7 @@ use std::alloc::{AllocError, Global};
 // The end of the help: the arguments of the commands, and the exit statuses.
 const END_OF_HELP: &str = "Arguments of the commands:
   BANK     The BIC of the bank, of 8 or 11 characters
-  DAY      The settlement day, as 2024-05-02
+  DAY      The settlement day of a list, or the day before which transfers are done, as 2024-05-02
   LIST     The path of the bank's list
   FILE     The path of a file of messages. There are 1 to 16 of them
   SITE     The number of the site, from 1 to SITES
@@ -54,6 +54,34 @@ fn listing_commands<'a>(alloc: Global) -> Result<Command<'a>, AllocError>
         .subcommand(archive)
 }
 
+// A command with a day.
+fn day_command<'a>(alloc: Global, name: &'a str, about: &'a str) -> Result<Command<'a>, AllocError>
+    ensures app { IfOk result (λ c. app_of c ≡ day_command name.now) }
+    ensures own { IfOk result (λ c. (out-Command c).has_globals ≡ false) }
+{
+    let day = Arg::new(alloc, "DAY").required(true);
+    Command::new(alloc, name).about(about).arg(day)
+}
+
+// The program with the commands `keep` and `closed` added.
+fn closing_commands<'a>(alloc: Global) -> Result<Command<'a>, AllocError>
+    ensures { IfOk result (λ c. app_of c ≡ closing_commands) }
+{
+    let keep = day_command(
+        alloc,
+        "keep",
+        "Writes the messages on standard input that have a tie to a transfer that is not done before a day",
+    )?;
+    let closed = day_command(
+        alloc,
+        "closed",
+        "Writes the messages on standard input that have no tie to a transfer that is not done before a day",
+    )?;
+    listing_commands(alloc)?
+        .subcommand(keep)?
+        .subcommand(closed)
+}
+
 // The command `report BANK DAY LIST`.
 fn report_command<'a>(alloc: Global) -> Result<Command<'a>, AllocError>
     ensures app { IfOk result (λ c. app_of c ≡ report_command) }
@@ -84,7 +112,7 @@ fn run_command<'a>(alloc: Global) -> Result<Command<'a>, AllocError>
         .arg(file)
 }
 
-// The program with the commands `status`, `archive`, `totals` and `report`.
+// The program with the commands `totals` and `report` added.
 fn comparing_commands<'a>(alloc: Global) -> Result<Command<'a>, AllocError>
     ensures { IfOk result (λ c. app_of c ≡ comparing_commands) }
 {
@@ -92,7 +120,7 @@ fn comparing_commands<'a>(alloc: Global) -> Result<Command<'a>, AllocError>
         "Writes what each bank sent and received by the messages on standard input",
     );
     let report = report_command(alloc)?;
-    listing_commands(alloc)?
+    closing_commands(alloc)?
         .subcommand(totals)?
         .subcommand(report)
 }

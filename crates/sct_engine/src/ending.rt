@@ -18,7 +18,7 @@ pub enum Ending {
     Served,
     /// The help was shown.
     Helped,
-    /// The command line was a mistake: clap's text says why.
+    /// The command line was a mistake: the text says why.
     Mistaken(String),
 }
 
@@ -84,7 +84,7 @@ fn exit_status(ended: &Result<Ending, ProgramFault>) -> u8
 
 /// Reports on standard error how a run ended, and returns the exit status.
 /// A fault is reported by its number, as `fault 62`. The row follows for a bad list, and the number of the refusal for
-/// a refusal at a site. A mistake in the command line is `fault 64`, followed by the text of clap.
+/// a refusal at a site. A mistake in the command line is `fault 64`, followed by the text that says why.
 /// If standard error fails here, the status stays the same.
 pub fn conclude<E: Sink>(ended: &Result<Ending, ProgramFault>, err: &mut E) -> u8
     ensures status { result ≡ exit_status_of ended.now }

@@ -7,6 +7,7 @@ ghost use Rattle.sct_exchange.specs.RefusedFiles.{refused_text};
 ghost use Rattle.sct_exchange.specs.Sites.{cut_text};
 ghost use Rattle.sct_engine.specs.Engine.{AreCutOff};
 ghost use Rattle.sct_engine.specs.Exchanging.{count_by_exchange, is_possible, text_by_exchange, told_by_exchange, vector_line, wanted_text, AreReadAs, EndsExchange, IsGathered, IsReadAs};
+ghost use Rattle.sct_engine.specs.Fault.{failed_reads};
 ghost use Rattle.sct_engine.specs.Places.{wanted_of};
 ghost use Rattle.sct_engine.specs.Stream.{EndsFile, EndsFiles};
 ghost use Rattle.sct_engine.specs.declared.fault.ProgramFault.TheVariants as fault;
@@ -29,9 +30,10 @@ use sct_lines::{Intake, Refusals, read_file_lines};
 use sct_message::Message;
 use sct_set::SortedArchive;
 use sct_site::SiteCore;
-use sct_streams::{Files, Sink, write_all};
+use sct_streams::{FileReading, Files, Sink, write_all};
 use std::alloc::Global;
 use std::sync::Arc;
+use std::sync::ledger::Ledger;
 use std::thread::Threads;
 
 /// What a command on one site needs, after its files are read.
@@ -63,26 +65,36 @@ fn delta_of(alloc: Global, text: &[u8]) -> Result<DeltaFile, ProgramFault>
 }
 
 // Reads the delta file at a path. Its bytes are dropped. Errors: those of [`read_file`].
-fn read_delta<R: Files>(alloc: Global, files: &R, path: &str) -> Result<DeltaFile, ProgramFault>
+fn read_delta<R: Files, L: Ledger>(
+    alloc: Global,
+    files: &R,
+    reading: &mut FileReading<R::File, L>,
+    path: &str,
+) -> Result<DeltaFile, ProgramFault>
     ensures read { IfOk result (IsReadAs (R.gives files.now) path.now) }
     ensures faults { IfErr result (EndsFile (R.gives files.now path.now)) }
+    ensures quiet { OnOk result (reading.new.failures ≡ reading.old.failures) }
+    ensures counted { IfErr result (λ e. reading.new.failures ≡ reading.old.failures + failed_reads e) }
 {
-    let text = read_file(alloc, files, path)?;
+    let text = read_file(alloc, files, reading, path)?;
     delta_of(alloc, &text)
 }
 
 // Reads the delta files at the paths, one after another.
-fn read_deltas<R: Files>(
+fn read_deltas<R: Files, L: Ledger>(
     alloc: Global,
     files: &R,
+    reading: &mut FileReading<R::File, L>,
     paths: &[&str],
 ) -> Result<Vec<DeltaFile>, ProgramFault>
     ensures read { IfOk result (λ deltas. AreReadAs (R.gives files.now) (map (λ path. path.now) paths.now) deltas.items) }
     ensures faults { IfErr result (EndsFiles (R.gives files.now) (map (λ path. path.now) paths.now)) }
+    ensures quiet { OnOk result (reading.new.failures ≡ reading.old.failures) }
+    ensures counted { IfErr result (λ e. reading.new.failures ≡ reading.old.failures + failed_reads e) }
 {
     let mut deltas = Vec::new(alloc);
     for path in paths {
-        deltas.push(read_delta(alloc, files, path)?)?;
+        deltas.push(read_delta(alloc, files, reading, path)?)?;
     }
     Ok(deltas)
 }
@@ -90,20 +102,23 @@ fn read_deltas<R: Files>(
 /// Reads the journal and the delta files of a command on one site, each at its own path. The first file that cannot be
 /// read ends the program: `Read` (62), `TooLong` (60) or `Memory` (65). The lines of the journal are read in as many
 /// threads as there are processors. Of each file the messages are kept, and its bytes are dropped.
-pub fn gather<T: Threads + Sync, R: Files>(
+pub fn gather<T: Threads + Sync, R: Files, L: Ledger>(
     rt: &T,
     alloc: Global,
     files: &R,
+    reading: &mut FileReading<R::File, L>,
     command: SiteCommand<'_>,
 ) -> Result<Gathered, ProgramFault>
     ensures gathered { IfOk result (IsGathered (R.gives files.now) command.entry) }
     ensures faults { IfErr result (EndsFiles (R.gives files.now)
         (command.entry.journal.now ∷ map (λ path. path.now) command.entry.deltas.items)) }
+    ensures quiet { OnOk result (reading.new.failures ≡ reading.old.failures) }
+    ensures counted { IfErr result (λ e. reading.new.failures ≡ reading.old.failures + failed_reads e) }
 {
-    let journal = read_file(alloc, files, command.journal)?;
+    let journal = read_file(alloc, files, reading, command.journal)?;
     let Intake { messages, refusals } = read_file_lines(rt, alloc, "file 1 ", &journal)?;
     drop(journal);
-    let deltas = read_deltas(alloc, files, &command.deltas)?;
+    let deltas = read_deltas(alloc, files, reading, &command.deltas)?;
     Ok(Gathered {
         wanting: command.wanting,
         site: command.site,

@@ -41,6 +41,10 @@ pub enum Job {
     Totals,
     /// The comparison of the messages with a bank's list for a settlement day. The list is the bytes of its text.
     Report { bank: Bic, day: Day, list: Vec<u8> },
+    /// What is kept on a day: each message with a tie to a transfer that is not done, written as the archive is.
+    Keep(Day),
+    /// What is closed on a day: the rest.
+    Closed(Day),
     /// The outcomes of the events of a script, and then the answers of each site.
     Replay,
 }
@@ -114,6 +118,8 @@ pub fn engine<T: Threads + Sync, R: Source, O: Sink, E: Sink>(
             let list = List::read(alloc, list)?;
             Some(Question::Report { bank, day, list })
         }
+        Job::Keep(day) => Some(Question::Keep { day }),
+        Job::Closed(day) => Some(Question::Closed { day }),
         // a replay asks nothing about messages: its input is a script
         Job::Replay => None,
     };

@@ -13,6 +13,7 @@ mod fault;
 mod files;
 mod holding;
 mod jobs;
+mod mistakes;
 mod places;
 mod program;
 mod release;

@@ -2,7 +2,7 @@
 ghost use Rattle.std.specs.Prelude.{◌≡◌, codes, map, option_map, IfErr, IfOk};
 ghost use Rattle.clap.specs.Words.{first_of, found_of, rows_of};
 ghost use Rattle.sct_delta.specs.Vectors.{count_in};
-ghost use Rattle.sct_engine.specs.Places.{deltas_ordered, have_ordered, number_ordered, place_ordered, wanted_of};
+ghost use Rattle.sct_engine.specs.Places.{deltas_ordered, group_in, have_ordered, number_in_word, number_ordered, place_from, place_ordered, wanted_of};
 ghost use Rattle.sct_engine.specs.Request.{cut_ordered, exchange_from, serve_from, IsOrdered};
 ghost use Rattle.sct_engine.specs.declared.fault.ProgramFault.TheVariants as fault;
 ghost use Rattle.sct_site.specs.Cores.{is_open};
@@ -10,8 +10,7 @@ ghost use Rattle.sct_site.specs.Cores.{is_open};
 use crate::fault::ProgramFault;
 use crate::request::Request;
 use clap::ArgMatches;
-use sct_delta::{MOST_SITES, Vector, read_vector};
-use sct_script::site_of;
+use sct_delta::{MOST_SITES, Vector, number_of, read_vector};
 use std::alloc::Global;
 
 /// What is wanted of a site.
@@ -51,13 +50,20 @@ pub struct ServeCommand<'a> {
     pub journal: &'a str,
 }
 
+// The number below 65,536 that a word writes.
+fn number_in_word(word: &str) -> Option<u16>
+    ensures { result ≡ number_in_word word.now }
+{
+    u16::try_from(number_of(word.as_bytes())?).ok()
+}
+
 // The number that an argument writes.
 #[tactic(auto, using(crate::proofs::Values::value_given))]
 fn number_given(given: &ArgMatches<'_>, name: &str) -> Option<u16>
     ensures { result ≡ number_ordered name.now (rows_of (found_of given.now)) }
 {
     let word = given.get_str(name)?;
-    site_of(word.as_bytes())
+    number_in_word(word)
 }
 
 // Whether a group can have this many sites, and the site is one of them.
@@ -67,17 +73,31 @@ fn is_place(site: u16, sites: u16) -> bool
     0 < site && site <= sites && sites <= MOST_SITES
 }
 
-// The number of the site and the number of sites, or none if there is no such site.
-fn place_given(given: &ArgMatches<'_>) -> Option<(u16, u16)>
-    ensures { result ≡ place_ordered (rows_of (found_of given.now)) }
+// The site and the number of sites, if there is such a site.
+fn place_of(site: u16, sites: u16) -> Option<(u16, u16)>
+    ensures { result ≡ place_from site sites }
 {
-    let site = number_given(given, "SITE")?;
-    let sites = number_given(given, "SITES")?;
     if is_place(site, sites) {
         Some((site, sites))
     } else {
         None
     }
+}
+
+/// The first site of a group with as many sites as a word writes, or none if a group cannot have so many.
+pub fn group_of(word: &str) -> Option<(u16, u16)>
+    ensures { result ≡ group_in word.now }
+{
+    place_of(1, number_in_word(word)?)
+}
+
+/// The number of the site and the number of sites, or none if there is no such site.
+pub fn place_given(given: &ArgMatches<'_>) -> Option<(u16, u16)>
+    ensures { result ≡ place_ordered (rows_of (found_of given.now)) }
+{
+    let site = number_given(given, "SITE")?;
+    let sites = number_given(given, "SITES")?;
+    place_of(site, sites)
 }
 
 // The paths of the deltas. There may be none.

@@ -1,5 +1,5 @@
 //! The whole program over streams of any kind: from the words of the command line to the exit status.
-ghost use Rattle.std.specs.Prelude.{◌≡◌, Err, Ok, IfErr, IfOk};
+ghost use Rattle.std.specs.Prelude.{◌≡◌, ℕ, Err, Ok, IfErr, IfOk};
 ghost use Rattle.sct_engine.specs.declared.ending.Ending.TheVariants as ending;
 ghost use Rattle.sct_engine.specs.Run.{words_told, IsAnsweredTo, IsPerformed, IsRun};
 ghost use Rattle.sct_engine.specs.Stream.{streams, Streams};
@@ -15,7 +15,7 @@ use crate::settling::settle_inputs;
 use crate::task::{Task, prepare};
 use crate::transfer::MOST_BYTES;
 use sct_journal::Disks;
-use sct_streams::{Files, Reading, Sink, Source, Writing, write_all};
+use sct_streams::{FileReading, Files, Reading, Sink, Source, Writing, write_all};
 use std::alloc::Global;
 use std::io;
 use std::sync::Wait;
@@ -75,18 +75,28 @@ fn perform<T: Threads + Wait + Sync, K: Disks + Drop, R: Source, O: Sink, E: Sin
 }
 
 // Performs what the words ask for.
-fn answer_words<T: Threads + Wait + Sync, F: Files, K: Disks + Drop, R: Source, O: Sink, E: Sink>(
+fn answer_words<
+    T: Threads + Wait + Sync,
+    F: Files,
+    K: Disks + Drop,
+    R: Source,
+    O: Sink,
+    E: Sink,
+    L: Ledger,
+>(
     rt: &T,
     alloc: Global,
     release: Release,
     storage: Storage<'_, F, K>,
+    reading: &mut FileReading<F::File, L>,
     words: Result<Vec<String>, ProgramFault>,
     reader: &mut R,
     out: &mut O,
     err: &mut E,
 ) -> Result<Ending, ProgramFault>
     ensures { IsAnsweredTo K.File.Disk.seen K.File.Disk.may_leave K.File.Disk.is_clean K.File.Disk.faults
-        (K.holds storage.entry.disks) (K.fails storage.entry.disks) (F.gives storage.entry.files.now) (words_told words)
+        (K.holds storage.entry.disks) (K.fails storage.entry.disks) (F.gives storage.entry.files.now)
+        reading.old.failures reading.new.failures (words_told words)
         (streams (R.state reader.old) (O.state out.old) (E.state err.old))
         (streams (R.state reader.new) (O.state out.new) (E.state err.new))
         result }
@@ -94,7 +104,7 @@ fn answer_words<T: Threads + Wait + Sync, F: Files, K: Disks + Drop, R: Source, 
     let words = words?;
     let Storage { files, disks } = storage;
     let request = read_request(alloc, &words)?;
-    let task = prepare(rt, alloc, files, request)?;
+    let task = prepare(rt, alloc, files, reading, request)?;
     perform(rt, alloc, release, disks, task, reader, out, err)
 }
 
@@ -102,28 +112,40 @@ fn answer_words<T: Threads + Wait + Sync, F: Files, K: Disks + Drop, R: Source, 
 /// It reports the end of the run on `err`, and returns the exit status.
 /// The status is 0 if all lines were taken, a site was served to the end of its requests or help was shown, and 1 if some line
 /// was refused. It is 3 for out of memory (65), and 2 for any other fault. `release` says when the memory of a job is given back.
-pub fn run<T: Threads + Wait + Sync, F: Files, K: Disks + Drop, R: Source, O: Sink, E: Sink>(
+pub fn run<
+    T: Threads + Wait + Sync,
+    F: Files,
+    K: Disks + Drop,
+    R: Source,
+    O: Sink,
+    E: Sink,
+    L: Ledger,
+>(
     rt: &T,
     alloc: Global,
     release: Release,
     storage: Storage<'_, F, K>,
+    reading: &mut FileReading<F::File, L>,
     words: Result<Vec<String>, ProgramFault>,
     reader: &mut R,
     out: &mut O,
     err: &mut E,
 ) -> u8
     ensures { IsRun K.File.Disk.seen K.File.Disk.may_leave K.File.Disk.is_clean K.File.Disk.faults
-        (K.holds storage.entry.disks) (K.fails storage.entry.disks) (F.gives storage.entry.files.now) (words_told words)
+        (K.holds storage.entry.disks) (K.fails storage.entry.disks) (F.gives storage.entry.files.now)
+        reading.old.failures reading.new.failures (words_told words)
         (streams (R.state reader.old) (O.state out.old) (E.state err.old))
         (streams (R.state reader.new) (O.state out.new) (E.state err.new))
         result }
 {
-    let ended = answer_words(rt, alloc, release, storage, words, reader, out, err);
+    let ended = answer_words(
+        rt, alloc, release, storage, reading, words, reader, out, err,
+    );
     conclude(&ended, err)
 }
 
 /// Runs the program over the streams of std, as [`run`] does. The failures of each stream are
-/// counted in its own ledger, `A`, `B` and `C`.
+/// counted in its own ledger, `A`, `B` and `C`, and those of files in `D`.
 pub fn run_over_std<
     T: Threads + Wait + Sync,
     F: Files,
@@ -134,6 +156,7 @@ pub fn run_over_std<
     A: Ledger,
     B: Ledger,
     C: Ledger,
+    D: Ledger,
 >(
     rt: &T,
     alloc: Global,
@@ -143,6 +166,7 @@ pub fn run_over_std<
     stdin: (R, Blank),
     stdout: (O, Blank),
     stderr: (E, Blank),
+    files: Blank,
 ) -> u8
     requires stdin_name { stdin.1.name ≡ A.name }
     requires stdin_parts { stdin.1.parts ≡ A.parts }
@@ -153,19 +177,24 @@ pub fn run_over_std<
     requires stderr_name { stderr.1.name ≡ C.name }
     requires stderr_parts { stderr.1.parts ≡ C.parts }
     requires stderr_part { stderr.1.parts ≡ 1 }
-    ensures { (after : Streams) × IsRun K.File.Disk.seen K.File.Disk.may_leave K.File.Disk.is_clean K.File.Disk.faults
-        (K.holds storage.entry.disks) (K.fails storage.entry.disks) (F.gives storage.entry.files.now) (words_told words)
+    requires files_name { files.name ≡ D.name }
+    requires files_parts { files.parts ≡ D.parts }
+    requires files_part { files.parts ≡ 1 }
+    ensures { (after : Streams) × (failed : ℕ) × IsRun K.File.Disk.seen K.File.Disk.may_leave K.File.Disk.is_clean K.File.Disk.faults
+        (K.holds storage.entry.disks) (K.fails storage.entry.disks) (F.gives storage.entry.files.now) 0 failed (words_told words)
         (streams (record { left = R.remaining stdin.0; failures = 0 }) (record { held = O.contents stdout.0; failures = 0 })
         (record { held = E.contents stderr.0; failures = 0 })) after result }
 {
     let mut reader = Reading::<R, A>::new(stdin.0, stdin.1);
     let mut out = Writing::<O, B>::new(stdout.0, stdout.1);
     let mut err = Writing::<E, C>::new(stderr.0, stderr.1);
+    let mut reading = FileReading::<F::File, D>::new(files);
     run(
         rt,
         alloc,
         release,
         storage,
+        &mut reading,
         words,
         &mut reader,
         &mut out,

@@ -5,13 +5,15 @@ ghost use Rattle.sct_engine.specs.Ending.{EndsAsking, words_fault};
 ghost use Rattle.std.specs.IoError.{error_kind};
 ghost use Rattle.clap.specs.Words.{all_of, found_of, rows_of, subcommand_rows_of};
 ghost use Rattle.clap.specs.Values.{kind_of};
-ghost use Rattle.sct_engine.specs.CommandLine.{AnswersKind, AreAsking, CommandsAskForTheirOrders, OptionsAskForTheirTexts};
+ghost use Rattle.sct_engine.specs.CommandLine.{AnswersKind, AreAsking, CommandsAskForTheirOrders, MistakesNameTheirWords, OptionsAskForTheirTexts};
 ghost use Rattle.clap.specs.declared.error.kind.ErrorKind.TheVariants as kind;
-ghost use Rattle.sct_engine.specs.Request.{job_named, is_mistake, order_named, report_ordered, report_with, sites_from, AsksForNoOrder, IsOrdered};
+ghost use Rattle.sct_engine.specs.Mistakes.{wrong_word};
+ghost use Rattle.sct_engine.specs.Request.{day_ordered, job_named, is_mistake, order_named, report_ordered, report_with, sites_from, AsksForNoOrder, IsMistaken, IsOrdered, IsOrderedOrMistaken};
 
 use crate::commands::{command, version_line};
 use crate::fault::ProgramFault;
 use crate::jobs::Job;
+use crate::mistakes::wrong_word;
 use crate::places::{
     ServeCommand, SiteCommand, Wanting, request_of_cut, request_on_site, request_to_serve,
 };
@@ -49,7 +51,7 @@ pub enum Request<'a> {
     Serve(ServeCommand<'a>),
     /// Show this help, or this line with the version.
     Help(String),
-    /// A mistake in the command line: the text of clap says why.
+    /// A mistake in the command line: the text says why.
     Mistake(String),
 }
 
@@ -111,6 +113,14 @@ fn job_named(name: &str) -> Option<Job>
     }
 }
 
+// The day in the arguments of a command, or none if it is not valid.
+#[tactic(auto, using(crate::proofs::Values::value_given))]
+fn day_of<'a>(given: &ArgMatches<'a>) -> Option<Day>
+    ensures { result ≡ day_ordered (rows_of (found_of given.now)) }
+{
+    read_day(given.get_str("DAY")?).ok()
+}
+
 // The request of `report`, or none if the bank or the day is not valid.
 #[tactic(auto, using(crate::proofs::Values::value_given))]
 fn report_of<'a>(given: &ArgMatches<'a>) -> Option<Reconciliation<'a>>
@@ -132,9 +142,9 @@ fn sites_of<'a>(alloc: Global, files: &[&'a str]) -> Result<Request<'a>, Program
     Ok(Request::Settle(files.to_vec(alloc)?))
 }
 
-// The files in the arguments of `run`.
+/// The files in the arguments of `run`.
 #[tactic(auto, using(crate::proofs::Values::values_given))]
-fn files_of<'b, 'a>(given: &'b ArgMatches<'a>) -> Option<&'b [&'a str]>
+pub fn files_of<'b, 'a>(given: &'b ArgMatches<'a>) -> Option<&'b [&'a str]>
     ensures { option_map (λ files. map (λ path. path.now) files.now) result
         ≡ all_of (codes "FILE") (rows_of (found_of given.now)) }
 {
@@ -158,6 +168,14 @@ fn request_of_command<'a>(
             Some(files) => sites_of(alloc, files),
             None => Err(ProgramFault::Usage),
         },
+        "keep" => match day_of(given) {
+            Some(day) => Ok(Request::Run(Job::Keep(day))),
+            None => Err(ProgramFault::Usage),
+        },
+        "closed" => match day_of(given) {
+            Some(day) => Ok(Request::Run(Job::Closed(day))),
+            None => Err(ProgramFault::Usage),
+        },
         "site" => request_on_site(alloc, Wanting::Messages, given),
         "vector" => request_on_site(alloc, Wanting::Vector, given),
         "cut" => request_of_cut(alloc, given),
@@ -169,16 +187,61 @@ fn request_of_command<'a>(
     }
 }
 
+// The mistake of a command that there is no order for: the line about its wrong word. Errors: `Usage` (64) if none of
+// its words is wrong; `Memory` (65).
+fn request_of_mistake<'a>(
+    alloc: Global,
+    given: &ArgMatches<'a>,
+) -> Result<Request<'a>, ProgramFault>
+    ensures { IsMistaken (wrong_word (rows_of (found_of given.now))) result }
+{
+    match wrong_word(alloc, given)? {
+        Some(wrong) => Ok(Request::Mistake(wrong.line(alloc)?)),
+        None => Err(ProgramFault::Usage),
+    }
+}
+
+// What becomes of a command that ended with a fault: the mistake if there is no order for it, and else the fault.
+fn request_of_fault<'a>(
+    alloc: Global,
+    given: &ArgMatches<'a>,
+    reason: ProgramFault,
+) -> Result<Request<'a>, ProgramFault>
+    ensures usage { reason ≡ fault.Usage → IsMistaken (wrong_word (rows_of (found_of given.now))) result }
+    ensures other { reason ≢ fault.Usage → result ≡ Err reason }
+{
+    match reason {
+        ProgramFault::Usage => request_of_mistake(alloc, given),
+        _ => Err(reason),
+    }
+}
+
+// The request of a command with its arguments, or the mistake in them.
+fn request_or_mistake<'a>(
+    alloc: Global,
+    name: &str,
+    given: &ArgMatches<'a>,
+) -> Result<Request<'a>, ProgramFault>
+    ensures { IsOrderedOrMistaken (order_named name.now (rows_of (found_of given.now)))
+        (wrong_word (rows_of (found_of given.now))) result }
+{
+    match request_of_command(alloc, name, given) {
+        Ok(request) => Ok(request),
+        Err(reason) => request_of_fault(alloc, given, reason),
+    }
+}
+
 // The request of the matches that clap found.
 fn request_of_matches<'a>(
     alloc: Global,
     matches: &ArgMatches<'a>,
 ) -> Result<Request<'a>, ProgramFault>
-    ensures { IsOrdered
-        (option_and_then (λ found. order_named found.0 found.1) (subcommand_rows_of matches.now)) result }
+    ensures { IsOrderedOrMistaken
+        (option_and_then (λ found. order_named found.0 found.1) (subcommand_rows_of matches.now))
+        (option_and_then (λ found. wrong_word found.1) (subcommand_rows_of matches.now)) result }
 {
     match matches.subcommand() {
-        Some((name, given)) => request_of_command(alloc, name, given),
+        Some((name, given)) => request_or_mistake(alloc, name, given),
         None => Err(ProgramFault::Usage),
     }
 }
@@ -193,8 +256,13 @@ fn options_ask_for_their_texts()
     ensures { OptionsAskForTheirTexts }
 {}
 
+// A law: a day that is not valid is named.
+fn mistakes_name_their_words()
+    ensures { MistakesNameTheirWords }
+{}
+
 /// Reads the words of a command line, the first of which is the program's name. Errors: `Usage` (64) if the words ask
-/// for nothing that the program does, and clap has no text about it; `Memory` (65).
+/// for nothing that the program does, clap has no text about it and none of them is wrong; `Memory` (65).
 pub fn read_request<'a>(alloc: Global, words: &'a [String]) -> Result<Request<'a>, ProgramFault>
     ensures asked { AreAsking (map string_bytes words.now) result }
     ensures faults { IfErr result EndsAsking }

@@ -32,7 +32,8 @@ pub struct RunAnswer {
     pub refused: u64,
 }
 
-const MOST_SITES: usize = 16;
+/// The greatest number of sites of a run.
+pub const MOST_SITES: usize = 16;
 
 /// Whether a run can have this number of sites: 1 to 16.
 pub fn are_sites(count: usize) -> bool

@@ -13,11 +13,11 @@ use Rattle.sct_delta.proofs.HeldLemmas.{passes_none}
 use Rattle.sct_delta.proofs.JoinLemmas.{passed, unrefused, kept_is}
 use Rattle.sct_delta.proofs.TestLemmas.{none_also}
 use Rattle.sct_set.specs.Archive.{archive_text_of}
-use Rattle.sct_site.specs.Cores.{Core, core_joined, fresh_of, logs_of, refusal_by}
+use Rattle.sct_site.specs.Cores.{Core, core_joined, fresh_entries, logs_of, refusal_by}
 use Rattle.sct_site.proofs.ArrivalLemmas.{length-log}
 use Rattle.sct_site.proofs.HeldLemmas.{any_kept, at_number, held_number, kept_first, not_0, one_of, one_place, stands_held, within}
 use Rattle.sct_site.proofs.MessageLemmas.{same_messages}
-use Rattle.sct_exchange.specs.Hubs.{Run, IsRun, IsHonest, arrivals_of, core_of}
+use Rattle.sct_exchange.specs.Hubs.{Run, IsHonestRun, IsHonest, arrivals_of, core_of}
 use Rattle.sct_exchange.specs.Journals.{core_of_journal}
 use Rattle.sct_exchange.specs.Laws.{AreAmong, EqualVectorsHoldAlike, EqualVectorsWriteAlike, OrderDoesNotMatter}
 use Rattle.sct_exchange.specs.Owned.{IsOf, IsTextOf}
@@ -114,7 +114,7 @@ module _ (owned : ℕ → List Draft) (core : Core) (of : IsOf owned core) (delt
       })
 
 -- what is not new is held
-pub none_new : (es ds : List Placed) → IsArrivals es → fresh_of es ds ≡ [] → HasAll ds es
+pub none_new : (es ds : List Placed) → IsArrivals es → fresh_entries es ds ≡ [] → HasAll ds es
 none_new es ds order none e among =
     elim (is_held (logs_of es) e) as (λ b. is_held (logs_of es) e ≡ b → holds es e ≡ true) [
       | true ↦ λ held. stands_held es order e held
@@ -130,10 +130,10 @@ all_along owned core of theirs mine complete texts among (delta ∷ deltas) befo
     let text : IsTextOf owned core.group delta = texts delta way.0 in
     let fits : refusal_by core delta ≡ None = fits_too owned core of delta text before.arrivals was.order has before.number
     (ap (λ (g : ℕ). refusal_by (record { number = before.number; group = g; arrivals = before.arrivals }) delta) (sym group) ∙ way.1) in
-    let none : fresh_of core.arrivals delta ≡ [] = complete delta (among delta way.0) fits in
+    let none : fresh_entries core.arrivals delta ≡ [] = complete delta (among delta way.0) fits in
     all_along owned core of theirs mine complete texts among deltas (core_joined before delta) after group way.2
     (of_joined owned before was delta (subst (λ (g : ℕ). IsTextOf owned g delta) (sym group) text) way.1)
-    (λ e held. elim (one_of before.arrivals (fresh_of before.arrivals delta) e held) as (λ c. holds core.arrivals e ≡ true) [
+    (λ e held. elim (one_of before.arrivals (fresh_entries before.arrivals delta) e held) as (λ c. holds core.arrivals e ≡ true) [
       | inl old ↦ has e old
       | inr new ↦ none_new core.arrivals delta of.order none e (any_kept (λ x. not (is_held (logs_of before.arrivals) x)) (λ x. same_entry x e) delta new)
     ])
@@ -142,7 +142,7 @@ all_along owned core of theirs mine complete texts among (delta ∷ deltas) befo
 pub kept_along : (files : List File) (deltas : List (List Placed)) (before after : Core) → AreAccepted files before deltas after → HasAll before.arrivals after.arrivals
 kept_along files [] before after is e held = ap (λ (c : Core). holds c.arrivals e) is ∙ held
 kept_along files (delta ∷ deltas) before after way e held =
-    kept_along files deltas (core_joined before delta) after way.2 e (kept_first before.arrivals (fresh_of before.arrivals delta) e held)
+    kept_along files deltas (core_joined before delta) after way.2 e (kept_first before.arrivals (fresh_entries before.arrivals delta) e held)
 
 -- a delta of texts that are among others is among the deltas of those
 delta_among : (texts others : List (List ℕ)) → AreAmong texts others → (delta : List Placed) → IsAmong (files_in texts) (Ok delta) → IsAmong (files_in others) (Ok delta)
@@ -151,7 +151,7 @@ delta_among texts others among delta is =
     subst (λ (f : File). IsAmong (files_in others) f) (sym from.1.1) (mapped delta_in others from.0 (among from.0 from.1.0))
 
 -- one run's entries are the other's
-all_of_other : (sites : ℕ) (runs : List Run) → IsHonest sites runs → (one other : Run) → IsRun sites runs one → IsRun sites runs other
+all_of_other : (sites : ℕ) (runs : List Run) → IsHonest sites runs → (one other : Run) → IsHonestRun sites runs one → IsHonestRun sites runs other
     → one.site ≡ other.site → one.journal ≡ other.journal → AreAmong one.given other.given → HasAll (arrivals_of sites one) (arrivals_of sites other)
 all_of_other sites runs honest one other first second site journal among =
     let owned : ℕ → List Draft = owned_in (other ∷ runs) in

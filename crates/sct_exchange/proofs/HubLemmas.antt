@@ -16,10 +16,10 @@ use Rattle.sct_delta.specs.declared.fault.DeltaFault.TheVariants as fault
 use Rattle.sct_delta.proofs.EntryLemmas.{from-numbered, from-numbered_other, log_is, same_number}
 use Rattle.sct_delta.proofs.HeldLemmas.{held_as_run, holds_from, some_there}
 use Rattle.sct_delta.proofs.JoinLemmas.{passed}
-use Rattle.sct_site.specs.Cores.{Core, arrivals_joined, core_joined, entries_above, fresh_of, is_open, logs_of, refusal_by}
+use Rattle.sct_site.specs.Cores.{Core, arrivals_joined, core_joined, entries_above, fresh_entries, is_open, logs_of, refusal_by}
 use Rattle.sct_site.proofs.ArrivalLemmas.{arrivals-joined}
 use Rattle.sct_site.proofs.HeldLemmas.{among_above, any_kept, held_number, one_of, or_else, told_all, told_never, within}
-use Rattle.sct_exchange.specs.Hubs.{Run, IsRun, IsHonest, arrivals_of, core_of, journal_at, text_of}
+use Rattle.sct_exchange.specs.Hubs.{Run, IsHonestRun, IsHonest, arrivals_of, core_of, journal_at, text_of}
 use Rattle.sct_exchange.specs.Journals.{Begins, core_of_journal, own_log}
 use Rattle.sct_exchange.specs.Laws.{IsEarly, HubsNeverFork}
 use Rattle.sct_exchange.specs.Owned.{IsOf, IsTextOf}
@@ -94,7 +94,7 @@ module _ (owned : ℕ → List Draft) (core : Core) (of : IsOf owned core) (delt
   from_either : (P : Placed → Type 0) → ((e : Placed) → holds core.arrivals e ≡ true → P e) → ((e : Placed) → holds delta e ≡ true → P e)
       → (e : Placed) → holds (arrivals_joined core.arrivals delta) e ≡ true → P e
   from_either P old new e held =
-      elim (one_of core.arrivals (fresh_of core.arrivals delta) e held) as (λ c. P e) [
+      elim (one_of core.arrivals (fresh_entries core.arrivals delta) e held) as (λ c. P e) [
         | inl was ↦ old e was
         | inr came ↦ new e (any_kept (λ x. not (is_held (logs_of core.arrivals) x)) (λ x. same_entry x e) delta came)
       ]
@@ -177,13 +177,13 @@ owned_here run runs = ap (λ (b : Bool). own_log (cond b run.journal (journal_at
 pub own_site : (number group : ℕ) → is_open number group ≡ true → has_site group number ≡ true
 own_site number group valid = grind (arith, nat_tests)
 
-pub start_of : (sites : ℕ) (run : Run) (runs : List Run) → IsRun sites runs run → IsOf (owned_in (run ∷ runs)) (core_of_journal run.site sites run.journal)
+pub start_of : (sites : ℕ) (run : Run) (runs : List Run) → IsHonestRun sites runs run → IsOf (owned_in (run ∷ runs)) (core_of_journal run.site sites run.journal)
 start_of sites run runs is =
     subst (λ (c : Core). IsOf (owned_in (run ∷ runs)) c) (sym (journal_core run.site sites run.journal))
     (of_start (owned_in (run ∷ runs)) run.site sites (own_site run.site sites is.opened) (own_log run.journal) (owned_here run runs))
 
 -- the way of a run from its journal to its end
-pub way_of : (sites : ℕ) (run : Run) (runs : List Run) → IsRun sites runs run → IsExchanged (files_in run.given) (core_of_journal run.site sites run.journal) (core_of sites run)
+pub way_of : (sites : ℕ) (run : Run) (runs : List Run) → IsHonestRun sites runs run → IsExchanged (files_in run.given) (core_of_journal run.site sites run.journal) (core_of sites run)
 way_of sites run runs is =
     exchanged_is (core_of_journal run.site sites run.journal) (journal_site run.site sites run.journal is.opened) (files_in run.given) (texts_are_deltas run.given)
 
@@ -205,7 +205,7 @@ each_delta sites runs owned all texts written delta among =
     subst (λ (d : List Placed). IsTextOf owned sites d) same read.of
 
 -- the step for one run
-pub run_of : (sites : ℕ) (run : Run) (runs : List Run) → IsRun sites runs run → TextsOf sites runs (owned_in (run ∷ runs)) → IsOf (owned_in (run ∷ runs)) (core_of sites run)
+pub run_of : (sites : ℕ) (run : Run) (runs : List Run) → IsHonestRun sites runs run → TextsOf sites runs (owned_in (run ∷ runs)) → IsOf (owned_in (run ∷ runs)) (core_of sites run)
 run_of sites run runs is texts =
     let way : IsExchanged (files_in run.given) (core_of_journal run.site sites run.journal) (core_of sites run) = way_of sites run runs is in
     of_accepted (owned_in (run ∷ runs)) (files_in run.given) sites
@@ -221,7 +221,7 @@ texts_longer sites runs owned longer begins texts text written =
     record { delta = was.delta; is = was.is; of = text_longer owned longer begins sites was.delta was.of }
 
 -- what a run cuts
-cut_of : (owned : ℕ → List Draft) (sites : ℕ) (run : Run) (runs : List Run) → IsRun sites runs run → IsOf owned (core_of sites run) → (core_of sites run).group ≡ sites
+cut_of : (owned : ℕ → List Draft) (sites : ℕ) (run : Run) (runs : List Run) → IsHonestRun sites runs run → IsOf owned (core_of sites run) → (core_of sites run).group ≡ sites
     → IsTextOf owned sites (entries_above run.have (arrivals_of sites run))
 cut_of owned sites run runs is of same = record {
   shape = delta_shape (text_of sites run) (entries_above run.have (arrivals_of sites run)) is.written;
@@ -233,7 +233,7 @@ pub group_along : (files : List File) (deltas : List (List Placed)) (before afte
 group_along files [] before after is = ap (λ (c : Core). c.group) is
 group_along files (delta ∷ deltas) before after way = group_along files deltas (core_joined before delta) after way.2
 
-pub group_of : (sites : ℕ) (run : Run) (runs : List Run) → IsRun sites runs run → (core_of sites run).group ≡ sites
+pub group_of : (sites : ℕ) (run : Run) (runs : List Run) → IsHonestRun sites runs run → (core_of sites run).group ≡ sites
 group_of sites run runs is =
     let way : IsExchanged (files_in run.given) (core_of_journal run.site sites run.journal) (core_of sites run) = way_of sites run runs is in
     group_along (files_in run.given) way.deltas (core_of_journal run.site sites run.journal) (core_of sites run) way.accepted

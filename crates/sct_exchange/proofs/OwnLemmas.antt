@@ -10,7 +10,7 @@ use Rattle.sct_delta.specs.Refusals.{is_held, vector_of}
 use Rattle.sct_delta.proofs.EntryLemmas.{from-numbered, log-append, log_is}
 use Rattle.sct_delta.proofs.FittingLemmas.{refused_where_it_does_not_fit}
 use Rattle.sct_delta.proofs.HeldLemmas.{passes_none}
-use Rattle.sct_site.specs.Cores.{Core, arrivals_joined, core_joined, fresh_of, logs_of, refusal_by}
+use Rattle.sct_site.specs.Cores.{Core, arrivals_joined, core_joined, fresh_entries, logs_of, refusal_by}
 use Rattle.sct_site.proofs.HeldLemmas.{any_kept, kept_passes}
 use Rattle.sct_exchange.specs.Journals.{core_of_journal, own_log}
 use Rattle.sct_exchange.specs.Laws.{OwnEntriesGoByTheJournal}
@@ -26,7 +26,7 @@ module _ (core : Core) (delta : List Placed) (shape : IsDelta delta) (fits : ref
   fit : IsFitting core.number core.group (logs_of core.arrivals) delta
   fit = (refused_where_it_does_not_fit core.number core.group (logs_of core.arrivals) delta shape).0 fits
 
-  not_own : (e : Placed) → holds (fresh_of core.arrivals delta) e ≡ true → is_from core.number e ≡ false
+  not_own : (e : Placed) → holds (fresh_entries core.arrivals delta) e ≡ true → is_from core.number e ≡ false
   not_own e fresh =
       elim (nat_eq e.origin core.number) as (λ b. nat_eq e.origin core.number ≡ b → b ≡ false) [
         | true ↦ λ same.
@@ -40,9 +40,9 @@ module _ (core : Core) (delta : List Placed) (shape : IsDelta delta) (fits : ref
 
   pub own_kept : log_of core.number (arrivals_joined core.arrivals delta) ≡ log_of core.number core.arrivals
   own_kept =
-      log-append core.number core.arrivals (fresh_of core.arrivals delta)
+      log-append core.number core.arrivals (fresh_entries core.arrivals delta)
       ∙ ap (λ (es : List Placed). log_of core.number core.arrivals ++ map (λ entry. entry.message) es)
-      (filter_none (is_from core.number) (fresh_of core.arrivals delta) (passes_none (is_from core.number) (fresh_of core.arrivals delta) not_own))
+      (filter_none (is_from core.number) (fresh_entries core.arrivals delta) (passes_none (is_from core.number) (fresh_entries core.arrivals delta) not_own))
       ∙ append-nil (log_of core.number core.arrivals)
 
 -- ---- along deltas

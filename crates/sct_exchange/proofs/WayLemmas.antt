@@ -16,7 +16,7 @@ use Rattle.sct_delta.specs.declared.fault.DeltaFault.{DeltaFault}
 use Rattle.sct_delta.proofs.DeltaLemmas.{shape_from_read}
 use Rattle.sct_delta.proofs.HeldLemmas.{passes_none}
 use Rattle.sct_delta.proofs.JoinLemmas.{passed, unrefused}
-use Rattle.sct_site.specs.Cores.{Core, IsSite, core_joined, fresh_of, logs_of, refusal_by}
+use Rattle.sct_site.specs.Cores.{Core, IsSite, core_joined, fresh_entries, logs_of, refusal_by}
 use Rattle.sct_site.proofs.HeldLemmas.{held_stands, joined_holds, kept_first, none_first, not_past, one_place, within}
 use Rattle.sct_site.proofs.SiteLemmas.{site_joined}
 use Rattle.sct_exchange.specs.Rounds.{File, Numbered, Offers, accepts_some, core_with, exchanged, files_in, is_accepted, leaving, numbered_files, refusal_of, refused_by, round, rounds}
@@ -134,7 +134,7 @@ still_has core file delta has = record {
   delta = has.delta;
   is = has.is;
   inside = has.inside;
-  held = λ e among. kept_first core.arrivals (fresh_of core.arrivals delta) e (has.held e among);
+  held = λ e among. kept_first core.arrivals (fresh_entries core.arrivals delta) e (has.held e among);
 }
 
 pub has_along : (files : List File) (deltas : List (List Placed)) (before after : Core) (file : File) → AreAccepted files before deltas after → HasFile before file → HasFile after file
@@ -143,10 +143,10 @@ has_along files (delta ∷ deltas) before after file way has =
     has_along files deltas (core_joined before delta) after file way.2 (still_has before file delta has)
 
 -- nothing of it is new
-pub none_fresh : (core : Core) (file : File) (delta : List Placed) → IsArrivals core.arrivals → HasFile core file → file ≡ Ok delta → fresh_of core.arrivals delta ≡ []
+pub none_fresh : (core : Core) (file : File) (delta : List Placed) → IsArrivals core.arrivals → HasFile core file → file ≡ Ok delta → fresh_entries core.arrivals delta ≡ []
 none_fresh core file delta arrive has is =
     let same : has.delta ≡ delta = let e : Ok has.delta ≡ file = sym has.is in cc in
-    ap (fresh_of core.arrivals) (sym same)
+    ap (fresh_entries core.arrivals) (sym same)
     ∙ filter_none (λ e. not (is_held (logs_of core.arrivals) e)) has.delta
     (passes_none _ has.delta (λ e among. ap not (held_stands core.arrivals arrive e (has.held e among))))
 
@@ -312,11 +312,11 @@ module _ (core : Core) (site : IsSite core) (files : List File) (shapes : AreDel
   unfolding exchanged
   ended = rounds_end (length files) start (omega (arith, length-enumerate_from 2 files))
 
-  fits_none : (delta : List Placed) → IsAmong files (Ok delta) → refusal_by (exchanged core files).core delta ≡ None → fresh_of (exchanged core files).core.arrivals delta ≡ []
+  fits_none : (delta : List Placed) → IsAmong files (Ok delta) → refusal_by (exchanged core files).core delta ≡ None → fresh_entries (exchanged core files).core.arrivals delta ≡ []
   fits_none delta among fits =
       let found : (k : ℕ) × IsAmong (numbered_files files) (k, Ok delta) = numbered_among 2 files (Ok delta) among in
       let accepted : is_accepted (exchanged core files).core (Ok delta) ≡ true = ap (λ (o : Option DeltaFault). is_none o) fits in
-      elim (left_or_has (exchanged core files).core (numbered_files files) (exchanged core files).left came.left (found.0, Ok delta) found.1) as (λ c. fresh_of (exchanged core files).core.arrivals delta ≡ []) [
+      elim (left_or_has (exchanged core files).core (numbered_files files) (exchanged core files).left came.left (found.0, Ok delta) found.1) as (λ c. fresh_entries (exchanged core files).core.arrivals delta ≡ []) [
         | inl has ↦ none_fresh (exchanged core files).core (Ok delta) delta site_exchanged.order has refl
         | inr left ↦
             let refused : is_accepted (exchanged core files).core (Ok delta) ≡ false = refused_each (exchanged core files).core (exchanged core files).left ended (found.0, Ok delta) left in

@@ -35,7 +35,7 @@ journal_at (run ∷ runs) site = if nat_eq run.site site then run.journal else j
 -- One run after earlier ones, in a group of `sites` sites. Its journal is of whole lines, and begins with the journal
 -- of its site's run before. Each text that it is given is one that `cut` wrote in an earlier run. Its own text was
 -- written whole, so it is read back.
-pub record IsRun (sites : ℕ) (earlier : List Run) (run : Run) : Type 0 where
+pub record IsHonestRun (sites : ℕ) (earlier : List Run) (run : Run) : Type 0 where
   pub opened : is_open run.site sites ≡ true
   pub whole : IsOfWholeLines run.journal
   pub longer : Begins (journal_at earlier run.site) run.journal
@@ -45,4 +45,4 @@ pub record IsRun (sites : ℕ) (earlier : List Run) (run : Run) : Type 0 where
 -- An honest hub: its runs, from the newest to the oldest.
 abbrev pub IsHonest : ℕ → List Run → Type 0
 IsHonest sites [] = Unit {0}
-IsHonest sites (run ∷ runs) = IsRun sites runs run × IsHonest sites runs
+IsHonest sites (run ∷ runs) = IsHonestRun sites runs run × IsHonest sites runs

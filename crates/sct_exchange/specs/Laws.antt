@@ -9,7 +9,7 @@ use Rattle.sct_delta.specs.Entries.{Placed, held_from, holds, log_of, messages_o
 use Rattle.sct_delta.specs.declared.fault.DeltaFault.{DeltaFault}
 use Rattle.sct_delta.specs.declared.fault.DeltaFault.TheVariants as fault
 use Rattle.sct_site.specs.Cores.{Core, IsSite, is_open, refusal_by}
-use Rattle.sct_exchange.specs.Hubs.{Run, IsHonest, IsRun, arrivals_of, core_of}
+use Rattle.sct_exchange.specs.Hubs.{Run, IsHonest, IsHonestRun, arrivals_of, core_of}
 use Rattle.sct_exchange.specs.Journals.{Begins, core_of_journal, own_log}
 use Rattle.sct_exchange.specs.Rounds.{files_in, numbered_files, refused_by}
 use Rattle.sct_exchange.specs.Sites.{arrivals_after, refused_after, site_after, site_text}
@@ -71,7 +71,7 @@ IsEarly (fault.Gap origin have first) = Unit {0}
 IsEarly refusal = ⊥
 
 -- The text is a delta text, and if the site refuses its delta, then only because it is early.
-pub record IsNoFork (core : Core) (text : List ℕ) : Type 0 where
+pub record IsAcceptedOrEarly (core : Core) (text : List ℕ) : Type 0 where
   pub delta : List Placed
   pub read : delta_in text ≡ Ok delta
   pub early : IfSome (refusal_by core delta) IsEarly
@@ -79,7 +79,7 @@ pub record IsNoFork (core : Core) (text : List ℕ) : Type 0 where
 -- In an honest hub no run refuses a text for anything but that its delta is early: never with 42, 43, 44 or 45.
 abbrev pub HubsNeverFork : Type 0
 HubsNeverFork = (sites : ℕ) (run : Run) (earlier : List Run) → IsHonest sites (run ∷ earlier)
-    → (text : List ℕ) → IsAmong run.given text → IsNoFork (core_of sites run) text
+    → (text : List ℕ) → IsAmong run.given text → IsAcceptedOrEarly (core_of sites run) text
 
 -- two lists of entries have equal vectors
 abbrev pub HaveEqualVectors : List Placed → List Placed → Type 0
@@ -109,6 +109,6 @@ AreAmong texts others = (text : List ℕ) → IsAmong texts text → IsAmong oth
 -- order and any number of times.
 abbrev pub OrderDoesNotMatter : Type 0
 OrderDoesNotMatter = (sites : ℕ) (runs : List Run) → IsHonest sites runs → (one other : Run)
-    → IsRun sites runs one → IsRun sites runs other → one.site ≡ other.site → one.journal ≡ other.journal
+    → IsHonestRun sites runs one → IsHonestRun sites runs other → one.site ≡ other.site → one.journal ≡ other.journal
     → AreAmong one.given other.given → AreAmong other.given one.given
     → HoldAlike (arrivals_of sites one) (arrivals_of sites other)

@@ -1,18 +1,13 @@
 -- How the refused files are reported. Read by an auditor.
 use Rattle.std.specs.Prelude.{ℕ, List, ◌++◌, codes, flat_map}
 use Rattle.std.specs.Fmt.{decimal}
+use Rattle.sct_delta.specs.Faults.{fields_of_fault}
 use Rattle.sct_delta.specs.declared.fault.DeltaFault.{DeltaFault}
-use Rattle.sct_delta.specs.declared.fault.DeltaFault.TheVariants as fault
 use Rattle.sct_exchange.specs.declared.refused.RefusedFile.{RefusedFile}
 
 -- the number of a refusal and its fields, with a space between each two
 unfoldable pub refusal_text : DeltaFault → List ℕ
-refusal_text fault.Memory = codes "40"
-refusal_text (fault.Gap origin have first) = codes "41 " ++ decimal origin ++ codes " " ++ decimal have ++ codes " " ++ decimal first
-refusal_text (fault.Fork origin n) = codes "42 " ++ decimal origin ++ codes " " ++ decimal n
-refusal_text (fault.OwnAhead n) = codes "43 " ++ decimal n
-refusal_text fault.BadSite = codes "44"
-refusal_text (fault.BadDelta line) = codes "45 " ++ decimal line
+refusal_text refusal = fields_of_fault (codes " ") refusal
 
 -- the line that reports a refused file, with its line feed
 unfoldable pub refused_line : RefusedFile → List ℕ

@@ -1,7 +1,7 @@
 -- What rounds come to, said without the rounds. Read by an auditor.
 use Rattle.std.specs.Prelude.{◌≡◌, ◌⊎◌, List, [], ◌∷◌, None, Ok}
 use Rattle.sct_delta.specs.Entries.{Placed}
-use Rattle.sct_site.specs.Cores.{Core, core_joined, fresh_of, refusal_by}
+use Rattle.sct_site.specs.Cores.{Core, core_joined, fresh_entries, refusal_by}
 use Rattle.sct_exchange.specs.Rounds.{File}
 
 -- the value is one of the list
@@ -18,7 +18,7 @@ AreAccepted files before (delta ∷ deltas) after =
 -- Of each delta among the files that the site does not refuse, it has every entry. So no file is left that it could accept.
 abbrev pub HasAllItFits : List File → Core → Type 0
 HasAllItFits files core =
-    (delta : List Placed) → IsAmong files (Ok delta) → refusal_by core delta ≡ None → fresh_of core.arrivals delta ≡ []
+    (delta : List Placed) → IsAmong files (Ok delta) → refusal_by core delta ≡ None → fresh_entries core.arrivals delta ≡ []
 
 -- The files were exchanged: the site accepted some of them, and it has all of each that it does not refuse as it ends.
 pub record IsExchanged (files : List File) (before after : Core) : Type 0 where

@@ -3,7 +3,7 @@
 ghost use Rattle.std.specs.Prelude.{◌≡◌, ◌++◌, IfOk, string_bytes};
 ghost use Rattle.sct_exchange.specs.RefusedFiles.{refusal_text, refused_line, refused_text};
 
-use sct_delta::DeltaFault;
+use sct_delta::{DeltaFault, push_fault};
 use std::alloc::{AllocError, Global};
 use std::fmt::Write;
 
@@ -22,18 +22,7 @@ pub struct RefusedFile {
 pub fn push_refusal(text: &mut String, fault: &DeltaFault) -> Result<(), AllocError>
     ensures { IfOk result (λ _. string_bytes text.new ≡ string_bytes text.old ++ refusal_text fault.now) }
 {
-    match fault {
-        DeltaFault::Memory => text.push_str("40"),
-        DeltaFault::Gap {
-            origin,
-            have,
-            first,
-        } => write!(text, "41 {origin} {have} {first}"),
-        DeltaFault::Fork { origin, n } => write!(text, "42 {origin} {n}"),
-        DeltaFault::OwnAhead { n } => write!(text, "43 {n}"),
-        DeltaFault::BadSite => text.push_str("44"),
-        DeltaFault::BadDelta(line) => write!(text, "45 {line}"),
-    }
+    push_fault(text, fault, " ")
 }
 
 // Appends the line of a refused file.

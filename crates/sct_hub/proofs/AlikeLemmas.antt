@@ -14,7 +14,7 @@ use Rattle.sct_delta.specs.Entries.{Placed, holds, log_of, same_entry}
 use Rattle.sct_delta.specs.Refusals.{has_site, is_held, message_at}
 use Rattle.sct_delta.proofs.HeldLemmas.{entry_itself, one_entry}
 use Rattle.sct_delta.proofs.JoinLemmas.{kept_is}
-use Rattle.sct_site.specs.Cores.{Core, IsSite, arrivals_taken, core_joined, core_taken, entries_above, entry_order, fresh_of, is_above, is_open, logs_of, own_entry, refusal_by}
+use Rattle.sct_site.specs.Cores.{Core, IsSite, arrivals_taken, core_joined, core_taken, entries_above, entry_order, fresh_entries, is_above, is_open, logs_of, own_entry, refusal_by}
 use Rattle.sct_site.proofs.AboveLemmas.{entry_same, entry_total}
 use Rattle.sct_site.proofs.HeldLemmas.{any_kept, held_number, held_stands, joined_holds, kept_first, kept_passes, one_of, one_place, stands_held}
 use Rattle.sct_site.proofs.SiteLemmas.{site_joined, site_opened, site_taken}
@@ -85,7 +85,7 @@ deltas_here (line ∷ lines) core site brought delta among = elim (brings_how co
 module _ (owned : ℕ → List Draft) (core : Core) (of : IsOf owned core) (final : Core)
     (own : (e : Placed) → e.origin ≡ final.number → holds final.arrivals e ≡ true → holds core.arrivals e ≡ true)
     (known : List Placed → Type 0) (text : (delta : List Placed) → known delta → IsTextOf owned core.group delta)
-    (complete : (delta : List Placed) → known delta → refusal_by core delta ≡ None → fresh_of core.arrivals delta ≡ []) where
+    (complete : (delta : List Placed) → known delta → refusal_by core delta ≡ None → fresh_entries core.arrivals delta ≡ []) where
   pub all_here : (lines : List (List ℕ)) (before : Core) → core_after before lines ≡ final → IsSite before → before.number ≡ final.number → before.group ≡ core.group → AreKept before lines
       → ((delta : List Placed) → IsAmong (files_in (texts_given lines)) (Ok delta) → known delta) → HasAll before.arrivals core.arrivals → HasAll final.arrivals core.arrivals
   all_here [] before is site number group brought among has = subst (λ (c : Core). HasAll c.arrivals core.arrivals) is has
@@ -106,11 +106,11 @@ module _ (owned : ℕ → List Draft) (core : Core) (of : IsOf owned core) (fina
         let its : IsTextOf owned core.group how.delta = text how.delta (among how.delta here) in
         let fits : refusal_by core how.delta ≡ None = fits_too owned core of how.delta its before.arrivals site.order has before.number
         (ap (λ (g : ℕ). refusal_by (record { number = before.number; group = g; arrivals = before.arrivals }) how.delta) (sym group) ∙ how.fits) in
-        let none : fresh_of core.arrivals how.delta ≡ [] = complete how.delta (among how.delta here) fits in
+        let none : fresh_entries core.arrivals how.delta ≡ [] = complete how.delta (among how.delta here) fits in
         all_here lines (core_given before line) is (site_joins before line site how)
         (ap (λ (c : Core). c.number) how.is ∙ number) (ap (λ (c : Core). c.group) how.is ∙ group) brought.1
         (λ delta later. among delta (subst (λ (b : Bool). IsAmong (files_in (cond b (text_in line ∷ texts_given lines) (texts_given lines))) (Ok delta)) (sym how.told) (inr later)))
-        (λ e held. elim (one_of before.arrivals (fresh_of before.arrivals how.delta) e (ap (λ (c : Core). holds c.arrivals e) (sym how.is) ∙ held)) as (λ c. holds core.arrivals e ≡ true) [
+        (λ e held. elim (one_of before.arrivals (fresh_entries before.arrivals how.delta) e (ap (λ (c : Core). holds c.arrivals e) (sym how.is) ∙ held)) as (λ c. holds core.arrivals e ≡ true) [
           | inl old ↦ has e old
           | inr new ↦ none_new core.arrivals how.delta of.order none e (any_kept (λ x. not (is_held (logs_of before.arrivals) x)) (λ x. same_entry x e) how.delta new)
         ])

@@ -14,7 +14,7 @@ use Rattle.sct_delta.specs.Entries.{Placed, holds, messages_of}
 use Rattle.sct_delta.specs.declared.fault.DeltaFault.{DeltaFault}
 use Rattle.sct_delta.proofs.EntryLemmas.{same_number}
 use Rattle.sct_delta.proofs.HeldLemmas.{entry_itself}
-use Rattle.sct_site.specs.Cores.{Core, arrivals_taken, core_joined, fresh_of, is_repeat, next_own, own_entry, refusal_by, took_by}
+use Rattle.sct_site.specs.Cores.{Core, arrivals_taken, core_joined, fresh_entries, is_repeat, next_own, own_entry, refusal_by, took_by}
 use Rattle.sct_site.specs.declared.answers.Took.{Took}
 use Rattle.sct_site.specs.declared.answers.Took.TheVariants as took
 use Rattle.sct_site.proofs.HeldLemmas.{kept_first, kept_last}
@@ -28,7 +28,7 @@ use Rattle.sct_requests.proofs.BringLemmas.{with_own}
 use Rattle.sct_requests.proofs.StepLemmas.{after_brought, after_join, number_after}
 use Rattle.sct_hub.specs.Hubs.{World, arrivals_in, happens, site_in}
 use Rattle.sct_hub.specs.Hubs.Event.{Round}
-use Rattle.sct_hub.specs.Laws.{AnsweredNumbersLast, KeepersHoldWhatTheyAnswer, acknowledged, acknowledged_by, message_read, messages_of_file, messages_on}
+use Rattle.sct_hub.specs.Laws.{AnsweredNumbersLast, KeepersHoldWhatTheyAnswer, acknowledged, acknowledged_by, message_read, messages_of_file, messages_of_line}
 use Rattle.sct_hub.proofs.LastLemmas.{arrivals_begin, nothing_lost}
 
 -- ---- one line
@@ -53,7 +53,7 @@ holds_none : (core : Core) → HoldsWith core core []
 holds_none core = sym (union-none (messages_of core.arrivals))
 
 holds_offered : (core : Core) (delta : List Placed) (refusal : Option DeltaFault)
-    → HoldsWith core (cond (is_none refusal) (core_joined core delta) core) (had_by (answer_by refusal (length (fresh_of core.arrivals delta))) (map (λ entry. entry.message) delta))
+    → HoldsWith core (cond (is_none refusal) (core_joined core delta) core) (had_by (answer_by refusal (length (fresh_entries core.arrivals delta))) (map (λ entry. entry.message) delta))
 holds_offered core delta None = joined_messages core.arrivals delta
 holds_offered core delta (Some fault) = holds_none core
 
@@ -66,7 +66,7 @@ holds_by core false false true file read = holds_none core
 holds_by core false false false file (Ok message) = taken_messages core message
 holds_by core false false false file (Err fault) = holds_none core
 
-same_had : (reply : Answer) (line : List ℕ) → had_by reply (messages_on line) ≡ acknowledged_by reply line
+same_had : (reply : Answer) (line : List ℕ) → had_by reply (messages_of_line line) ≡ acknowledged_by reply line
 same_had answer.Blank line = refl
 same_had answer.Asked line = refl
 same_had (answer.Took took) line = refl
@@ -74,7 +74,7 @@ same_had (answer.Unread fault) line = refl
 same_had (answer.Accepted fresh) line = refl
 same_had (answer.Refused fault) line = refl
 
-holds_line : (core : Core) (line : List ℕ) → HoldsWith core (core_given core line) (had_by (answer_to core line) (messages_on line))
+holds_line : (core : Core) (line : List ℕ) → HoldsWith core (core_given core line) (had_by (answer_to core line) (messages_of_line line))
 unfolding core_given answer_to
 holds_line core line = holds_by core (is_delta_line line) (is_question_line line) (is_blank line) (delta_in (text_in line)) (message_in line)
 

@@ -13,7 +13,7 @@ use Rattle.sct_embed.specs.Calls.{cut_answer, cut_for}
 use Rattle.sct_embed.specs.Questions.{bank_answer, changes_since, contradictions_text_of, messages_answer, transfer_answer}
 use Rattle.sct_embed.specs.declared.faults.EmbedFault.{EmbedFault}
 use Rattle.sct_requests.specs.Questions.{about, answer_about, answer_asked, answer_in, answer_named, one_word, report_asked, two_parts}
-use Rattle.sct_requests.specs.Standings.{Standing}
+use Rattle.sct_requests.specs.WatchedSites.{WatchedSite}
 use Rattle.sct_requests.specs.declared.questions.QuestionFault.{QuestionFault}
 use Rattle.sct_requests.specs.declared.questions.QuestionFault.TheVariants as fault
 
@@ -39,7 +39,7 @@ about_by cut held name rest =
     else if is_text name (codes "report") then report_asked held (two_parts rest)
     else Err fault.NoQuestion
 
-module _ (one other : Standing) (messages : messages_of one.core.arrivals ≡ messages_of other.core.arrivals) (vector : held_text one.core.arrivals ≡ held_text other.core.arrivals)
+module _ (one other : WatchedSite) (messages : messages_of one.core.arrivals ≡ messages_of other.core.arrivals) (vector : held_text one.core.arrivals ≡ held_text other.core.arrivals)
     (cuts : (have : ℕ → ℕ) → cut_text have one.core.arrivals ≡ cut_text have other.core.arrivals) where
   cut_read : (pairs : Option (List Pair)) → cut_for pairs one.core.arrivals ≡ cut_for pairs other.core.arrivals
   cut_read None = refl

@@ -24,7 +24,7 @@ use Rattle.sct_delta.specs.Sites.{is_site}
 use Rattle.sct_delta.proofs.EntryLemmas.{not_zero, rises-numbered}
 use Rattle.sct_delta.proofs.FittingLemmas.{refused_where_it_does_not_fit}
 use Rattle.sct_delta.proofs.HeldLemmas.{cut_holds, entry_itself, some_there}
-use Rattle.sct_site.specs.Cores.{Core, IsSite, arrivals_joined, entries_above, entry_order, fresh_of, is_above, is_open, logs_of, refusal_by}
+use Rattle.sct_site.specs.Cores.{Core, IsSite, arrivals_joined, entries_above, entry_order, fresh_entries, is_above, is_open, logs_of, refusal_by}
 use Rattle.sct_site.proofs.AboveLemmas.{entry_same, entry_total, from_above, rises_as_entries}
 use Rattle.sct_site.proofs.ArrivalLemmas.{length-log}
 use Rattle.sct_site.proofs.HeldLemmas.{among_above, at_number, held_number, held_stands, joined_holds, kept_first, not_0, one_place, run_above, within}
@@ -175,7 +175,7 @@ module _ (es : List Placed) (order : IsArrivals es) (taker : Core) (its_order : 
         | true ↦ λ above. joined_holds taker.arrivals delta its_order e (above_is have es order e (held_stands es order e held) above)
         | false ↦ λ below.
             let low : e.n ≤ have e.origin = ltb-false (have e.origin) e.n below in
-            kept_first taker.arrivals (fresh_of taker.arrivals delta) e (agree e held (omega (arith, low, most e.origin)))
+            kept_first taker.arrivals (fresh_entries taker.arrivals delta) e (agree e held (omega (arith, low, most e.origin)))
       ] refl
 
 -- ---- logs that agree so far

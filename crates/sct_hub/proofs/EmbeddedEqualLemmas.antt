@@ -17,7 +17,7 @@ use Rattle.sct_exchange.specs.Owned.{IsOf}
 use Rattle.sct_exchange.proofs.HubLemmas.{its_message}
 use Rattle.sct_hub.specs.Embedded.{own_messages}
 use Rattle.sct_hub.specs.EmbeddedLaws.{EqualSitesAnswerAlike}
-use Rattle.sct_hub.specs.Laws.{AnswerAlike}
+use Rattle.sct_hub.specs.Laws.{SitesAnswerAlike}
 use Rattle.sct_hub.proofs.AlikeLemmas.{above_alike}
 use Rattle.sct_hub.proofs.AskLemmas.{asked_alike}
 use Rattle.sct_hub.proofs.EmbeddedLemmas.{holds_of, of_site}
@@ -42,7 +42,7 @@ hold_alike owned one other mine theirs same e =
     both_ways _ _ (held_too owned one other mine theirs e (same e.origin)) (held_too owned other one theirs mine e (sym (same e.origin)))
 
 -- sites that hold alike and have equal vectors answer alike
-pub answer_alike : (one other : Core) → HoldAlike one.arrivals other.arrivals → HaveEqualVectors one.arrivals other.arrivals → AnswerAlike one other
+pub answer_alike : (one other : Core) → HoldAlike one.arrivals other.arrivals → HaveEqualVectors one.arrivals other.arrivals → SitesAnswerAlike one other
 answer_alike one other alike same =
     let messages = same_messages one.arrivals other.arrivals alike in
     record {

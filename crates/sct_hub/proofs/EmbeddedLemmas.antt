@@ -12,7 +12,7 @@ use Rattle.sct_delta.specs.DeltaText.{delta_in}
 use Rattle.sct_delta.specs.Entries.{IsArrivals, Placed, holds, log_of, same_entry}
 use Rattle.sct_delta.specs.Refusals.{has_site, is_held, is_same_as, message_at}
 use Rattle.sct_delta.proofs.EntryLemmas.{same_number}
-use Rattle.sct_site.specs.Cores.{Core, IsSite, core_joined, entries_above, fresh_of, is_open, logs_of, refusal_by}
+use Rattle.sct_site.specs.Cores.{Core, IsSite, core_joined, entries_above, fresh_entries, is_open, logs_of, refusal_by}
 use Rattle.sct_site.proofs.HeldLemmas.{among_above, any_kept, held_stands, one_of}
 use Rattle.sct_site.proofs.SiteLemmas.{site_joined}
 use Rattle.sct_exchange.specs.Journals.{Begins, core_of_journal, core_taking, own_log}
@@ -176,7 +176,7 @@ module _ (sites : ℕ) (world : World) (holds_in : Holds sites world) where
         group = one.group;
         order = now.order;
         inside = now.inside;
-        known = λ e held. elim (one_of core.arrivals (fresh_of core.arrivals delta) e held) as (λ c. (is_held world.journal e ≡ true) ⊎ (e.origin ≡ site)) [
+        known = λ e held. elim (one_of core.arrivals (fresh_entries core.arrivals delta) e held) as (λ c. (is_held world.journal e ≡ true) ⊎ (e.origin ≡ site)) [
           | inl old ↦ one.known e old
           | inr new ↦ inl (text.known e (any_kept (λ x. not (is_held (logs_of core.arrivals) x)) (λ x. same_entry x e) delta new))
         ];

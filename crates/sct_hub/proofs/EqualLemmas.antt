@@ -22,14 +22,14 @@ use Rattle.sct_site.proofs.HeldLemmas.{one_place, within}
 use Rattle.sct_site.proofs.MessageLemmas.{same_messages}
 use Rattle.sct_exchange.specs.Hubs.{IsHonest, Run, arrivals_of, core_of, journal_at, text_of}
 use Rattle.sct_exchange.specs.Journals.{own_log}
-use Rattle.sct_exchange.specs.Laws.{HaveEqualVectors, HoldAlike, IsNoFork}
+use Rattle.sct_exchange.specs.Laws.{HaveEqualVectors, HoldAlike, IsAcceptedOrEarly}
 use Rattle.sct_exchange.specs.Owned.{IsOf, IsTextOf}
 use Rattle.sct_exchange.specs.Ways.{IsAmong}
 use Rattle.sct_exchange.proofs.AlikeLemmas.{equal_vectors, length_within}
 use Rattle.sct_exchange.proofs.HubLemmas.{IsTextRead, only_early, owned_in, run_of, texts_before}
 use Rattle.sct_hub.specs.Hubs.{MayBegin, MayHappen, World, arrivals_in, happens, own_journal, run_at, site_in}
 use Rattle.sct_hub.specs.Hubs.Event.{Cut}
-use Rattle.sct_hub.specs.Laws.{AnswerAlike, EqualVectorsAnswerAlike, KeepersNeverFork}
+use Rattle.sct_hub.specs.Laws.{EqualVectorsAnswerAlike, KeepersNeverFork, SitesAnswerAlike}
 use Rattle.sct_hub.proofs.AlikeLemmas.{above_alike, alike, live_group, live_number, live_site, of_again, own_is}
 use Rattle.sct_hub.proofs.AskLemmas.{asked_alike}
 use Rattle.sct_hub.proofs.HonestLemmas.{holds_cut, hubs_go_on}
@@ -128,7 +128,7 @@ module _ (sites : ℕ) (world : World) (holds_in : MayBegin sites world) (site :
             ∙ ap owned (sym number);
       }
 
-  pub never_forks_here : (text : List ℕ) → IsAmong (map (text_of sites) world.runs) text → IsNoFork core text
+  pub never_forks_here : (text : List ℕ) → IsAmong (map (text_of sites) world.runs) text → IsAcceptedOrEarly core text
   never_forks_here text among =
       let read : IsTextRead owned sites text = texts_before sites run world.runs honest_with text among in
       let group : core.group ≡ sites = live_group site sites opened (world.lines site) (holds_in.are site) (holds_in.some site) in
@@ -170,7 +170,7 @@ module _ (sites : ℕ) (world : World) (holds_in : MayBegin sites world) (one ot
       (λ o. sym (its_counts sites world holds_in one first o) ∙ same o ∙ its_counts sites world holds_in other second o) e
       ∙ sym (its_run sites world holds_in other second e)
 
-  pub answer_alike : AnswerAlike (site_in sites world one) (site_in sites world other)
+  pub answer_alike : SitesAnswerAlike (site_in sites world one) (site_in sites world other)
   answer_alike = record {
     entries = hold_alike;
     messages = same_messages mine theirs hold_alike;

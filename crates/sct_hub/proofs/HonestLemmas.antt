@@ -5,7 +5,7 @@ use Rattle.std.proofs.lemmas.Bool.{eqb-true}
 use Rattle.sct_delta.specs.DeltaText.{delta_in}
 use Rattle.sct_delta.specs.Entries.{Placed}
 use Rattle.sct_site.specs.Cores.{Core}
-use Rattle.sct_exchange.specs.Hubs.{IsRun, Run, journal_at, text_of}
+use Rattle.sct_exchange.specs.Hubs.{IsHonestRun, Run, journal_at, text_of}
 use Rattle.sct_exchange.specs.Journals.{Begins, opened}
 use Rattle.sct_exchange.specs.Ways.{IsAmong}
 use Rattle.sct_exchange.proofs.JournalLemmas.{begins_itself}
@@ -103,7 +103,7 @@ module _ (sites : ℕ) (world : World) (holds : MayBegin sites world) where
     pub cut_is : cut_in sites world site have ≡ text_of sites run
     cut_is = cut_same site sites may.0 (world.lines site) (holds.are site) (holds.some site) have
 
-    is_run : IsRun sites world.runs run
+    is_run : IsHonestRun sites world.runs run
     is_run = record {
       opened = may.0;
       whole = own_whole (world.lines site);

@@ -22,12 +22,12 @@ use Rattle.sct_requests.proofs.StepLemmas.{after_brought, after_join, brought_jo
 use Rattle.sct_hub.specs.Hubs.{Event, World, after, arrivals_in, happens, site_in}
 use Rattle.sct_hub.specs.Hubs.Event.{Cut, Round}
 use Rattle.sct_hub.specs.Lives.{GoesBy, SitesGoByTheirRounds, given_by, given_in}
-use Rattle.sct_hub.specs.Laws.{KeepersHoldExactly, NothingIsLost, RestartsAreTheSame, message_read, messages_of_file, messages_on}
+use Rattle.sct_hub.specs.Laws.{KeepersHoldExactly, NothingIsLost, RestartsAreTheSame, message_read, messages_of_file, messages_of_line}
 use Rattle.sct_hub.proofs.HonestLemmas.{hubs_go_on}
 
 -- ---- the messages that lines brought
 
-messages_given : (core : Core) (line : List ℕ) → Takes core line → messages_of (core_given core line).arrivals ≡ set.union (messages_of core.arrivals) (contents_of (messages_on line))
+messages_given : (core : Core) (line : List ℕ) → Takes core line → messages_of (core_given core line).arrivals ≡ set.union (messages_of core.arrivals) (contents_of (messages_of_line line))
 unfolding arrivals_taken
 messages_given core line how =
     ap (λ (c : Core). messages_of c.arrivals) how.is
@@ -36,28 +36,28 @@ messages_given core line how =
     ∙ ap (λ (read : Result Draft JsonFault). set.union (messages_of core.arrivals) (contents_of (message_read read))) (sym how.read)
     ∙ ap (λ (b : Bool). set.union (messages_of core.arrivals) (contents_of (cond b (messages_of_file (delta_in (text_in line))) (message_read (message_in line))))) (sym how.plain)
 
-messages_joined : (core : Core) (line : List ℕ) → Joins core line → messages_of (core_given core line).arrivals ≡ set.union (messages_of core.arrivals) (contents_of (messages_on line))
+messages_joined : (core : Core) (line : List ℕ) → Joins core line → messages_of (core_given core line).arrivals ≡ set.union (messages_of core.arrivals) (contents_of (messages_of_line line))
 messages_joined core line how =
     ap (λ (c : Core). messages_of c.arrivals) how.is
     ∙ joined_messages core.arrivals how.delta
     ∙ ap (λ (file : File). set.union (messages_of core.arrivals) (contents_of (messages_of_file file))) (sym how.read)
     ∙ ap (λ (b : Bool). set.union (messages_of core.arrivals) (contents_of (cond b (messages_of_file (delta_in (text_in line))) (message_read (message_in line))))) (sym how.told)
 
-messages_along : (lines : List (List ℕ)) (core : Core) → AreKept core lines → messages_of (core_after core lines).arrivals ≡ set.union (messages_of core.arrivals) (contents_of (flat_map messages_on lines))
+messages_along : (lines : List (List ℕ)) (core : Core) → AreKept core lines → messages_of (core_after core lines).arrivals ≡ set.union (messages_of core.arrivals) (contents_of (flat_map messages_of_line lines))
 messages_along [] core some = sym (union-none (messages_of core.arrivals))
 messages_along (line ∷ lines) core some =
     messages_along lines (core_given core line) some.1
-    ∙ ap (λ (s : Contents). set.union s (contents_of (flat_map messages_on lines)))
-    (elim (brings_how core line some.0) as (λ c. messages_of (core_given core line).arrivals ≡ set.union (messages_of core.arrivals) (contents_of (messages_on line))) [
+    ∙ ap (λ (s : Contents). set.union s (contents_of (flat_map messages_of_line lines)))
+    (elim (brings_how core line some.0) as (λ c. messages_of (core_given core line).arrivals ≡ set.union (messages_of core.arrivals) (contents_of (messages_of_line line))) [
       | inl how ↦ messages_given core line how
       | inr how ↦ messages_joined core line how
     ])
-    ∙ union-more (messages_of core.arrivals) (messages_on line) (flat_map messages_on lines)
+    ∙ union-more (messages_of core.arrivals) (messages_of_line line) (flat_map messages_of_line lines)
 
 pub hold_exactly : KeepersHoldExactly
 hold_exactly sites world hub site =
     messages_along (world.lines site) (opened site sites) ((hubs_go_on sites world hub).some site)
-    ∙ union-of_none (contents_of (flat_map messages_on (world.lines site)))
+    ∙ union-of_none (contents_of (flat_map messages_of_line (world.lines site)))
 
 -- ---- a restart
 

@@ -17,7 +17,7 @@ use Rattle.sct_exchange.specs.Sites.{cut_text}
 use Rattle.sct_exchange.specs.Ways.{IsAmong}
 use Rattle.sct_embed.specs.Calls.{cut_answer, cut_for}
 use Rattle.sct_requests.specs.Questions.{about, answer_asked, answer_in, answered, one_word, two_parts_at}
-use Rattle.sct_requests.specs.Standings.{Standing}
+use Rattle.sct_requests.specs.WatchedSites.{WatchedSite}
 use Rattle.sct_requests.specs.Steps.{brings, brought, core_after, core_given, core_kept, is_delta_line, is_question_line}
 use Rattle.sct_requests.proofs.StepLemmas.{after_brought, after_join, brought_join}
 use Rattle.sct_hub.specs.Hubs.{AllMayHappen, IsCutReadBack, MayHappen, World, after, happens, run_at, site_in}
@@ -81,17 +81,17 @@ within_text n = grind (arith, nat_tests)
 space_found : (rest : List ℕ) → position is_space (drop 2 (codes "? cut " ++ rest)) ≡ Some 3
 space_found rest = ap (λ (b : Bool). cond b (Some 3) None) (within_text (length rest))
 
-spelled_answer : (standing : Standing) (rest : List ℕ) → answer_asked standing (drop 2 (codes "? cut " ++ rest)) ≡ about (one_word rest) (λ vector. cut_answer vector standing.core.arrivals)
+spelled_answer : (site : WatchedSite) (rest : List ℕ) → answer_asked site (drop 2 (codes "? cut " ++ rest)) ≡ about (one_word rest) (λ vector. cut_answer vector site.core.arrivals)
 unfolding answer_asked
-spelled_answer standing rest =
-    ap (λ (place : Option ℕ). answer_in standing (drop 2 (codes "? cut " ++ rest)) (two_parts_at (drop 2 (codes "? cut " ++ rest)) place)) (space_found rest)
+spelled_answer site rest =
+    ap (λ (place : Option ℕ). answer_in site (drop 2 (codes "? cut " ++ rest)) (two_parts_at (drop 2 (codes "? cut " ++ rest)) place)) (space_found rest)
 
 pub cuts_answered : CutsAreAnswered
-cuts_answered standing line have asked =
+cuts_answered site line have asked =
     let how : Asks line have = asks line have asked in
-    ap (λ (l : List ℕ). answer_asked standing (drop 2 l)) how.spelled
-    ∙ spelled_answer standing (drop 6 line)
-    ∙ by_word standing.core.arrivals (one_word (drop 6 line)) have how.vector
+    ap (λ (l : List ℕ). answer_asked site (drop 2 l)) how.spelled
+    ∙ spelled_answer site (drop 6 line)
+    ∙ by_word site.core.arrivals (one_word (drop 6 line)) have how.vector
 
 -- ---- one line, and then those after it
 

@@ -13,7 +13,7 @@ use Rattle.sct_delta.specs.Entries.{IsArrivals, IsDelta, Placed, holds, log_of}
 use Rattle.sct_delta.specs.Refusals.{has_site, message_at}
 use Rattle.sct_delta.specs.TextLines.{lines_by_end}
 use Rattle.sct_delta.specs.VectorText.{vector_text}
-use Rattle.sct_site.specs.Cores.{Core, IsSite, core_joined, entries_above, fresh_of, logs_of, refusal_by}
+use Rattle.sct_site.specs.Cores.{Core, IsSite, core_joined, entries_above, fresh_entries, logs_of, refusal_by}
 use Rattle.sct_site.proofs.ArrivalLemmas.{length-log}
 use Rattle.sct_site.proofs.HeldLemmas.{among_above, at_number, held_number, held_stands, not_0, one_place, stands_held}
 use Rattle.sct_site.proofs.MessageLemmas.{same_messages}
@@ -31,7 +31,7 @@ use Rattle.sct_exchange.proofs.JournalLemmas.{journal_core}
 use Rattle.sct_exchange.proofs.OwnLemmas.{by_the_journal}
 use Rattle.sct_exchange.proofs.WayLemmas.{delta_shape}
 use Rattle.sct_embed.specs.Restoring.{offered}
-use Rattle.sct_hub.specs.Laws.{AnswerAlike}
+use Rattle.sct_hub.specs.Laws.{SitesAnswerAlike}
 use Rattle.sct_hub.specs.Restored.{AreOneSite, IsCutOfAll, OneCutIsEnough, SitesAreRestored}
 use Rattle.sct_hub.proofs.AlikeLemmas.{above_alike}
 use Rattle.sct_hub.proofs.AskLemmas.{asked_alike}
@@ -43,7 +43,7 @@ count_alike : (es fs : List Placed) → IsArrivals es → IsArrivals fs → Hold
 count_alike es fs first second same o =
     omega (arith, length_within es fs first second (λ e held. sym (same e) ∙ held) o, length_within fs es second first (λ e held. same e ∙ held) o, length-log o es, length-log o fs)
 
-answers_alike : (one other : Core) → HoldAlike one.arrivals other.arrivals → HaveEqualVectors one.arrivals other.arrivals → AnswerAlike one other
+answers_alike : (one other : Core) → HoldAlike one.arrivals other.arrivals → HaveEqualVectors one.arrivals other.arrivals → SitesAnswerAlike one other
 answers_alike one other same counts = record {
   entries = same;
   messages = same_messages one.arrivals other.arrivals same;
@@ -140,7 +140,7 @@ module _ (core : Core) (site : IsSite core) (journal text : List ℕ) (log : own
   pub cut_accepted : refusal_by again delta ≡ None
   cut_accepted = cut_fits core.arrivals site.order again again_site.order (λ origin. 0) shape inside own_most (λ o. omega arith) agree
 
-  none_left : fresh_of again.arrivals delta ≡ []
+  none_left : fresh_entries again.arrivals delta ≡ []
   none_left = way.complete delta (inl (sym read)) cut_accepted
 
   all_there : HasAll core.arrivals again.arrivals

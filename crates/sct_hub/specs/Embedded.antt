@@ -4,6 +4,9 @@
 -- Such a program keeps a journal of its site's own messages alone. It writes them after the site took them, and before it
 -- cuts a delta. It keeps no record of the deltas that the site accepted. It may stop at any moment. Then its site is
 -- restored from the journal and one delta text that was cut before, or none.
+--
+-- This model has the shape of the one in Hubs.antt, and so the same names: `World`, `Event`, `happens`, `after`, `IsHub` and their
+-- like. A file takes these names from one of the two.
 use Rattle.std.specs.Prelude.{◌≡◌, ◌⊎◌, ℕ, true, List, [], ◌∷◌, nat_eq, if◌then◌else◌}
 use Rattle.sct_message.specs.declared.draft.Draft.{Draft}
 use Rattle.sct_delta.specs.DeltaText.{delta_in}

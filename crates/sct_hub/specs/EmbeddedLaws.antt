@@ -8,24 +8,24 @@ use Rattle.sct_delta.specs.Entries.{Placed, holds, log_of}
 use Rattle.sct_delta.specs.Refusals.{is_held}
 use Rattle.sct_site.specs.Cores.{Core, core_taken, is_repeat}
 use Rattle.sct_exchange.specs.Journals.{Begins, own_log}
-use Rattle.sct_exchange.specs.Laws.{HaveEqualVectors, IsNoFork}
+use Rattle.sct_exchange.specs.Laws.{HaveEqualVectors, IsAcceptedOrEarly}
 use Rattle.sct_exchange.specs.Ways.{IsAmong}
 use Rattle.sct_requests.specs.Steps.{core_offered}
 use Rattle.sct_hub.specs.Embedded.{AllMayHappen, Event, IsHub, NoneIsLost, World, after, own_messages}
-use Rattle.sct_hub.specs.Laws.{AnswerAlike}
+use Rattle.sct_hub.specs.Laws.{SitesAnswerAlike}
 
 -- A site refuses a text that was cut in its hub only because it is early: never with 42, 43, 44 or 45.
 abbrev pub EmbeddedSitesNeverFork : Type 0
 EmbeddedSitesNeverFork =
     (sites : ℕ) (world : World) → IsHub sites world → (site : ℕ)
-    → (text : List ℕ) → IsAmong world.cuts text → IsNoFork (world.core site) text
+    → (text : List ℕ) → IsAmong world.cuts text → IsAcceptedOrEarly (world.core site) text
 
 -- Two sites of a hub with equal vectors hold the same entries and answer alike.
 abbrev pub EqualSitesAnswerAlike : Type 0
 EqualSitesAnswerAlike =
     (sites : ℕ) (world : World) → IsHub sites world → (one other : ℕ)
     → HaveEqualVectors (world.core one).arrivals (world.core other).arrivals
-    → AnswerAlike (world.core one) (world.core other)
+    → SitesAnswerAlike (world.core one) (world.core other)
 
 -- The journal of each site only grows, whatever happens, over restores too.
 abbrev pub JournalsOnlyGrow : Type 0

@@ -3,7 +3,7 @@
 -- A keeper is a process with the number of a site. It opens its journal, is given rounds of lines, and cuts deltas. It may
 -- stop at any moment, and is opened again. By the contracts of a keeper a round leaves in the journal all that it brings,
 -- or nothing of it; opening leaves the journal as it is; and a delta is cut of the site that the journal makes. So these
--- are the events of a hub.
+-- are the events of a hub. The model in Embedded.antt has the same shape and the same names.
 use Rattle.std.specs.Prelude.{◌≡◌, ℕ, ◌++◌, Bool, true, List, [], ◌∷◌, map, nat_eq, Ok, if◌then◌else◌}
 use Rattle.sct_delta.specs.DeltaText.{delta_in}
 use Rattle.sct_delta.specs.Entries.{Placed}

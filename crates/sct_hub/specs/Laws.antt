@@ -12,7 +12,7 @@ use Rattle.sct_site.specs.Cores.{Core, is_open}
 use Rattle.sct_site.specs.declared.answers.Took.TheVariants as took
 use Rattle.sct_exchange.specs.Hubs.{IsHonest, text_of}
 use Rattle.sct_exchange.specs.Journals.{Begins, opened, own_log}
-use Rattle.sct_exchange.specs.Laws.{HaveEqualVectors, HoldAlike, IsNoFork}
+use Rattle.sct_exchange.specs.Laws.{HaveEqualVectors, HoldAlike, IsAcceptedOrEarly}
 use Rattle.sct_exchange.specs.Rounds.{File}
 use Rattle.sct_exchange.specs.Ways.{IsAmong}
 use Rattle.sct_journal.specs.Kept.{AreLines, recorded}
@@ -57,13 +57,13 @@ KeepersCutTheText =
 abbrev pub KeepersNeverFork : Type 0
 KeepersNeverFork =
     (sites : ℕ) (world : World) → IsHub sites world → (site : ℕ) → is_open site sites ≡ true
-    → (text : List ℕ) → IsAmong (map (text_of sites) world.runs) text → IsNoFork (site_in sites world site) text
+    → (text : List ℕ) → IsAmong (map (text_of sites) world.runs) text → IsAcceptedOrEarly (site_in sites world site) text
 
 -- ---- what sites answer
 
 -- Two sites answer alike: they hold the same entries and the same set of messages, and each question has the same answer.
 -- Only `changes` is another matter: its answer goes by the order in which entries came.
-pub record AnswerAlike (one other : Core) : Type 0 where
+pub record SitesAnswerAlike (one other : Core) : Type 0 where
   pub entries : HoldAlike one.arrivals other.arrivals
   pub messages : messages_of one.arrivals ≡ messages_of other.arrivals
   pub answers : (question : List ℕ) (watched also : Option ℕ) → is_text question (codes "changes") ≡ false
@@ -76,7 +76,7 @@ EqualVectorsAnswerAlike =
     (sites : ℕ) (world : World) → IsHub sites world
     → (one other : ℕ) → is_open one sites ≡ true → is_open other sites ≡ true
     → HaveEqualVectors (arrivals_in sites world one) (arrivals_in sites world other)
-    → AnswerAlike (site_in sites world one) (site_in sites world other)
+    → SitesAnswerAlike (site_in sites world one) (site_in sites world other)
 
 -- the messages that are read: those of a delta, or one message
 abbrev pub messages_of_file : File → List Draft
@@ -88,20 +88,20 @@ message_read (Ok message) = message ∷ []
 message_read (Err fault) = []
 
 -- the messages of a line of a journal: those of its delta, or its message
-abbrev pub messages_on : List ℕ → List Draft
-messages_on line = if is_delta_line line then messages_of_file (delta_in (text_in line)) else message_read (message_in line)
+abbrev pub messages_of_line : List ℕ → List Draft
+messages_of_line line = if is_delta_line line then messages_of_file (delta_in (text_in line)) else message_read (message_in line)
 
 -- A site of a hub holds exactly the messages of the lines that its journal records: its own, and those of the deltas that it
 -- accepted.
 abbrev pub KeepersHoldExactly : Type 0
 KeepersHoldExactly =
     (sites : ℕ) (world : World) → IsHub sites world → (site : ℕ)
-    → messages_of (arrivals_in sites world site) ≡ set.from_list (flat_map messages_on (world.lines site))
+    → messages_of (arrivals_in sites world site) ≡ set.from_list (flat_map messages_of_line (world.lines site))
 
 -- the messages of a line, if it is answered that the site has them: it took them, held them already, or accepted them
 abbrev pub acknowledged_by : Answer → List ℕ → List Draft
-acknowledged_by (answer.Took took) line = messages_on line
-acknowledged_by (answer.Accepted fresh) line = messages_on line
+acknowledged_by (answer.Took took) line = messages_of_line line
+acknowledged_by (answer.Accepted fresh) line = messages_of_line line
 acknowledged_by other line = []
 
 -- the messages of the lines that a site is given, as far as it answers that it has them

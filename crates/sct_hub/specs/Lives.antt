@@ -8,7 +8,7 @@ use Rattle.sct_exchange.specs.Sites.{cut_text}
 use Rattle.sct_exchange.specs.Ways.{IsAmong}
 use Rattle.sct_journal.specs.Kept.{AreLines}
 use Rattle.sct_requests.specs.Questions.{answer_asked, one_word}
-use Rattle.sct_requests.specs.Standings.{Standing}
+use Rattle.sct_requests.specs.WatchedSites.{WatchedSite}
 use Rattle.sct_requests.specs.Steps.{brought, core_after, core_kept, is_delta_line, text_in}
 use Rattle.sct_hub.specs.Hubs.{Event, IsCutReadBack, IsHub, World, after, run_at, site_in}
 use Rattle.sct_hub.specs.Hubs.Event.{Cut, Round}
@@ -97,5 +97,5 @@ LivesLeaveHubs =
 -- The answer to a question for a cut is the text of that cut.
 abbrev pub CutsAreAnswered : Type 0
 CutsAreAnswered =
-    (standing : Standing) (line : List ℕ) (have : ℕ → ℕ) → cut_asked line ≡ Some have
-    → answer_asked standing (drop 2 line) ≡ Ok (cut_text have standing.core.arrivals)
+    (site : WatchedSite) (line : List ℕ) (have : ℕ → ℕ) → cut_asked line ≡ Some have
+    → answer_asked site (drop 2 line) ≡ Ok (cut_text have site.core.arrivals)

@@ -15,7 +15,7 @@ use Rattle.sct_exchange.specs.Sites.{arrivals_after, refused_after, site_after}
 use Rattle.sct_embed.specs.Asking.{lines_of_entries, own_above}
 use Rattle.sct_embed.specs.Restoring.{core_restored, offered, restored_text}
 use Rattle.sct_hub.specs.Hubs.{IsCutReadBack, IsHub, World, arrivals_in, cut_in, site_in}
-use Rattle.sct_hub.specs.Laws.{AnswerAlike}
+use Rattle.sct_hub.specs.Laws.{SitesAnswerAlike}
 
 -- ---- a site that is made anew
 
@@ -26,14 +26,14 @@ pub record AreOneSite (one other : Core) : Type 0 where
   pub group : one.group ≡ other.group
   pub entries : HoldAlike one.arrivals other.arrivals
   pub vectors : HaveEqualVectors one.arrivals other.arrivals
-  pub answers : AnswerAlike one other
+  pub answers : SitesAnswerAlike one other
 
 -- The text is read as all of the entries: it is a cut above the vector that counts nothing.
 abbrev pub IsCutOfAll : List ℕ → List Placed → Type 0
 IsCutOfAll text arrivals = delta_in text ≡ Ok (entries_above (λ origin. 0) arrivals)
 
 -- The journal and the text make the site that there was. The text is not refused: only lines of the journal are reported.
-pub record IsRestored (core : Core) (journal text : List ℕ) : Type 0 where
+pub record MakesSiteAgain (core : Core) (journal text : List ℕ) : Type 0 where
   pub site : AreOneSite core (core_restored core.number core.group journal text)
   pub accepted : refused_after core.number core.group journal (offered text) ≡ []
   pub report : restored_text core.number core.group journal text ≡ told_after (codes "file 1 ") (refusals_told journal)
@@ -42,7 +42,7 @@ pub record IsRestored (core : Core) (journal text : List ℕ) : Type 0 where
 abbrev pub SitesAreRestored : Type 0
 SitesAreRestored =
     (core : Core) (journal text : List ℕ) → IsSite core → own_log journal ≡ log_of core.number core.arrivals
-    → IsCutOfAll text core.arrivals → IsRestored core journal text
+    → IsCutOfAll text core.arrivals → MakesSiteAgain core journal text
 
 -- One cut of everything is as good as all deltas: a site that is given that cut in their place is the same site.
 abbrev pub OneCutIsEnough : Type 0

@@ -9,7 +9,7 @@ use Rattle.std.proofs.lemmas.Bool.{cases_eq, cases_lt, false≢true, false_from_
 use Rattle.std.proofs.lemmas.Bool.Decides.{Decides-eqb, Decides-and, Decides-or, leb_tells, nat_tests, same_from_decides}
 use Rattle.std.proofs.lemmas.List.{drop_at, take-take, take_all, take_at}
 use Rattle.std.proofs.lemmas.Slice.Eq.{bytes_eq-Decides, starts_is}
-use Rattle.sct_journal.specs.Fronts.{JournalsAreOurs, front_in, is_new, is_other, is_ours, is_shut, is_staged}
+use Rattle.sct_journal.specs.Fronts.{JournalsAreOurs, front_in, is_new_file, is_other, is_ours, is_shut, is_staged}
 use Rattle.sct_journal.specs.Kept.{behind_gates, ended_lines, gated_line, kept}
 use Rattle.sct_journal.specs.declared.front.Front.TheVariants.{NoJournal, New, OtherSite, Ours}
 
@@ -118,7 +118,7 @@ staged_is header file gate is = staged_at header file (header ++ 10 ∷ 9 ∷ []
 abbrev pub IsNewBy : List ℕ → List ℕ → Type 0
 IsNewBy header file = (length file ≤ length header + 3) × ((length file ≤ 1) ⊎ ((is_shut file ≡ true) ⊎ (is_staged header file ≡ true)))
 
-pub new_is : (header file : List ℕ) → Decides (is_new header file) (IsNewBy header file)
+pub new_is : (header file : List ℕ) → Decides (is_new_file header file) (IsNewBy header file)
 new_is header file =
     Decides-and _ _ (le_is (length file) (length header + 3))
     (Decides-or _ _ (le_is (length file) 1) (Decides-or _ _ (itself (is_shut file)) (itself (is_staged header file))))
@@ -128,7 +128,7 @@ new_is header file =
 pub front_ours : (header file : List ℕ) → is_ours header file ≡ true → front_in header file ≡ Ours
 front_ours header file ours = rw ours refl
 
-pub front_new : (header file : List ℕ) → is_ours header file ≡ false → is_new header file ≡ true → front_in header file ≡ New
+pub front_new : (header file : List ℕ) → is_ours header file ≡ false → is_new_file header file ≡ true → front_in header file ≡ New
 front_new header file other new = rw (other, new) refl
 
 chosen_ours : (a b c : Bool) → (if a then Ours else (if b then New else (if c then OtherSite else NoJournal))) ≡ Ours → a ≡ true
@@ -144,18 +144,18 @@ chosen_new false false true is = cc
 chosen_new false false false is = cc
 
 pub ours_of : (header file : List ℕ) → front_in header file ≡ Ours → is_ours header file ≡ true
-ours_of header file is = chosen_ours (is_ours header file) (is_new header file) (is_other file) is
+ours_of header file is = chosen_ours (is_ours header file) (is_new_file header file) (is_other file) is
 
-pub new_of : (header file : List ℕ) → front_in header file ≡ New → (is_ours header file ≡ false) × (is_new header file ≡ true)
-new_of header file is = chosen_new (is_ours header file) (is_new header file) (is_other file) is
+pub new_of : (header file : List ℕ) → front_in header file ≡ New → (is_ours header file ≡ false) × (is_new_file header file ≡ true)
+new_of header file is = chosen_new (is_ours header file) (is_new_file header file) (is_other file) is
 
 -- ---- the first bytes tell the front
 
 starts_early : (file start : List ℕ) (n : ℕ) → length start ≤ n → starts_with nat_eq (take n file) start ≡ starts_with nat_eq file start
 starts_early file start n long = ap (λ (l : List ℕ). pointwise nat_eq start l) (take-take (length start) n file long)
 
-not_new : (header file : List ℕ) → length header + 3 < length file → is_new header file ≡ false
-not_new header file long = false_from_ne_true (is_new header file) (λ told. let short : length file ≤ length header + 3 = ((new_is header file).0 told).0 in omega (arith, short, long))
+not_new : (header file : List ℕ) → length header + 3 < length file → is_new_file header file ≡ false
+not_new header file long = false_from_ne_true (is_new_file header file) (λ told. let short : length file ≤ length header + 3 = ((new_is header file).0 told).0 in omega (arith, short, long))
 
 pub front_take : (header file : List ℕ) (n : ℕ) → length header + 6 ≤ n → front_in header (take n file) ≡ front_in header file
 front_take header file n most = elim (cases_lt n (length file)) [
@@ -163,8 +163,8 @@ front_take header file n most = elim (cases_lt n (length file)) [
   | inl longer ↦
       let ours : is_ours header (take n file) ≡ is_ours header file = starts_early file (gated_line header) n (omega (arith, length-gated_line header, most)) in
       let other : is_other (take n file) ≡ is_other file = starts_early file (codes " site ") n (omega (arith, most)) in
-      let early : is_new header (take n file) ≡ false = not_new header (take n file) (omega (arith, length-take n file, longer, most)) in
-      let late : is_new header file ≡ false = not_new header file (omega (arith, longer, most)) in
+      let early : is_new_file header (take n file) ≡ false = not_new header (take n file) (omega (arith, length-take n file, longer, most)) in
+      let late : is_new_file header file ≡ false = not_new header file (omega (arith, longer, most)) in
       rw (ours, other, early, late) refl
 ]
 

@@ -3,7 +3,7 @@ use Rattle.std.proofs.Common.{ℕ, zero, suc, slice_index, eqb-true, ◌≡◌, 
 use Rattle.std.proofs.lemmas.Bool.Decides.{nat_tests}
 use Rattle.std.proofs.lemmas.Bool.{cases_eq, eqb-false, false_from_ne_true}
 use Rattle.std.proofs.lemmas.List.{append-nil, drop_at}
-use Rattle.sct_journal.specs.Kept.{AreLines, IsLine, behind_gates, ended_lines, gated, gated_line, kept, onto_first}
+use Rattle.sct_journal.specs.Kept.{AreLines, IsLine, behind_gates, ended_lines, ended_lines_from_byte, gated, gated_line, kept}
 
 -- ---- the first line feed
 
@@ -53,7 +53,7 @@ pub kept_unended : (gate : ℕ) (text : List ℕ) → gate ≡ 32 → ended_line
 unfolding kept
 kept_unended gate text is none = rw (is, none) refl
 
-shut_lines : (gate : ℕ) (lines : List (List ℕ)) → gate ≢ 32 → behind_gates (onto_first gate lines) ≡ []
+shut_lines : (gate : ℕ) (lines : List (List ℕ)) → gate ≢ 32 → behind_gates (ended_lines_from_byte gate lines) ≡ []
 shut_lines gate [] shut = refl
 shut_lines gate (line ∷ lines) shut = grind (arith, nat_tests)
 
@@ -101,7 +101,7 @@ lines_join (line ∷ lines) more are others = (are.0, lines_join lines more are.
 
 -- ---- what is kept are lines
 
-onto_lines : (byte : ℕ) (lines : List (List ℕ)) → byte ≢ 10 → AreLines lines → AreLines (onto_first byte lines)
+onto_lines : (byte : ℕ) (lines : List (List ℕ)) → byte ≢ 10 → AreLines lines → AreLines (ended_lines_from_byte byte lines)
 onto_lines byte [] differs are = tt
 onto_lines byte (line ∷ lines) differs are = ((differs, are.0), are.1)
 

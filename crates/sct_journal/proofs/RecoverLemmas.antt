@@ -4,7 +4,7 @@ use Rattle.std.proofs.lemmas.Bool.{cases_eq, eqb-false, false≢true}
 use Rattle.std.proofs.lemmas.List.{append-nil, drop-drop, take_at}
 use Rattle.sqlite_disk.specs.Disk.{Cut, Torn}
 use Rattle.sct_journal.specs.Disks.{is_with}
-use Rattle.sct_journal.specs.Kept.{AreLines, behind_gates, ended_lines, onto_first, gated, is_ajar, kept}
+use Rattle.sct_journal.specs.Kept.{AreLines, behind_gates, ended_lines, ended_lines_from_byte, gated, is_ajar, kept}
 use Rattle.sct_journal.specs.Settled.{EndsKept, IsAtRest}
 use Rattle.sct_journal.proofs.LineLemmas.{kept_are_lines, kept_closed, kept_gated, kept_nothing, kept_shut, kept_unended}
 use Rattle.sct_journal.proofs.DiskLemmas.{cut_front, torn_byte, torn_front}
@@ -25,7 +25,7 @@ no_lines bytes none = (elim (ended_lines bytes) as (λ lines. ended_lines bytes 
   where
     some : (line : List ℕ) (lines : List (List ℕ)) → ended_lines bytes ≡ line ∷ lines → ⊥
     some line lines is =
-        let list : line ∷ behind_gates lines ≡ [] = ap (λ (l : List (List ℕ)). behind_gates (onto_first 32 l)) (sym is) ∙ none in
+        let list : line ∷ behind_gates lines ≡ [] = ap (λ (l : List (List ℕ)). behind_gates (ended_lines_from_byte 32 l)) (sym is) ∙ none in
         absurd (omega (arith, ap length list))
 
 -- so any byte in its place keeps none

@@ -24,15 +24,15 @@ is_staged header (gate ∷ bytes) = bytes_eq bytes (header ++ 10 ∷ shut_gate �
 
 -- The file is empty, or what a crash leaves of a journal that is being made. So it has no more bytes than the header, its line
 -- feed and two gates.
-abbrev pub is_new : List ℕ → List ℕ → Bool
-is_new header file = nat_le (length file) (length header + 3) && (nat_le (length file) 1 || (is_shut file || is_staged header file))
+abbrev pub is_new_file : List ℕ → List ℕ → Bool
+is_new_file header file = nat_le (length file) (length header + 3) && (nat_le (length file) 1 || (is_shut file || is_staged header file))
 
 -- the file begins as the journal of some site
 abbrev pub is_other : List ℕ → Bool
 is_other file = starts_with nat_eq file (codes " site ")
 
 abbrev pub front_in : List ℕ → List ℕ → Front
-front_in header file = if is_ours header file then Ours else (if is_new header file then New else (if is_other file then OtherSite else NoJournal))
+front_in header file = if is_ours header file then Ours else (if is_new_file header file then New else (if is_other file then OtherSite else NoJournal))
 
 -- the file is a journal of this site, or becomes one
 abbrev pub IsBegun : List ℕ → List ℕ → Type 0

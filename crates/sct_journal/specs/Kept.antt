@@ -13,14 +13,14 @@ abbrev pub shut_gate : ℕ
 shut_gate = 9
 
 -- the lines where a byte that is no line feed stands before them: it belongs to the first, if a line feed ends that
-abbrev pub onto_first : ℕ → List (List ℕ) → List (List ℕ)
-onto_first byte [] = []
-onto_first byte (line ∷ lines) = (byte ∷ line) ∷ lines
+abbrev pub ended_lines_from_byte : ℕ → List (List ℕ) → List (List ℕ)
+ended_lines_from_byte byte [] = []
+ended_lines_from_byte byte (line ∷ lines) = (byte ∷ line) ∷ lines
 
 -- the lines that a line feed (10) ends, without it
 abbrev pub ended_lines : List ℕ → List (List ℕ)
 ended_lines [] = []
-ended_lines (byte ∷ bytes) = if byte == 10 then [] ∷ ended_lines bytes else onto_first byte (ended_lines bytes)
+ended_lines (byte ∷ bytes) = if byte == 10 then [] ∷ ended_lines bytes else ended_lines_from_byte byte (ended_lines bytes)
 
 -- the lines up to the first that does not begin with an open gate, each without its gate
 abbrev pub behind_gates : List (List ℕ) → List (List ℕ)

@@ -1,7 +1,7 @@
 //! Whose journal a file is, by its first bytes.
 
 ghost use Rattle.std.specs.Prelude.{◌≡◌};
-ghost use Rattle.sct_journal.specs.Fronts.{JournalsAreOurs, front_in, is_new, is_ours, is_staged};
+ghost use Rattle.sct_journal.specs.Fronts.{JournalsAreOurs, front_in, is_new_file, is_ours, is_staged};
 
 use crate::lines::{OPEN, SHUT};
 
@@ -58,7 +58,7 @@ fn is_ours(header: &[u8], file: &[u8]) -> bool
 }
 
 fn is_new(header: &[u8], file: &[u8]) -> bool
-    ensures { result ≡ is_new header.now file.now }
+    ensures { result ≡ is_new_file header.now file.now }
 {
     if file.len() > header.len() + 3 {
         return false;

@@ -29,7 +29,7 @@ use Rattle.sct_json.specs.declared.plain_message.Listed.{Listed}
 use Rattle.sct_json.specs.declared.plain_message.PlainMessage.{PlainMessage}
 use Rattle.sct_json.specs.Keys.{key_text, is_key_among, is_key_in}
 use Rattle.sct_json.specs.Objects.{IsFound, put_texts, object_of, objects_of, put_listed, members_of, last_text, tokens_before, objects_before, listed_before}
-use Rattle.sct_json.specs.Reading.{◌>>=◌, Gives, GivesWithoutMemory, GivesItems, names_of, passes_unless, items_list, counted, first_no_object, are_objects, element_in, elements_in, list_in, transaction_in}
+use Rattle.sct_json.specs.Reading.{◌>>=◌, GivesWithMemory, GivesWithoutMemory, GivesItems, names_of, passes_unless, items_list, counted, first_no_object, are_objects, element_in, elements_in, list_in, transaction_in}
 use Rattle.sct_json.proofs.PlainTexts.{text_or, not_same, texts_found, text_at, json_members, AreMembers, texts_first, no_more, length_before, object_read, texts_put, names_of_texts}
 use Rattle.sct_json.proofs.Rows.{names_put}
 use Rattle.sct_json.proofs.TableForms.{none_fails}
@@ -147,7 +147,7 @@ element_of_texts ms all =
     ∙ same_step (transaction_in (object_of ms))
 
 -- what takes no memory gives what may take it
-gives_too : (r read : Result RecallTx JsonFault) → GivesWithoutMemory r read → Gives r read
+gives_too : (r read : Result RecallTx JsonFault) → GivesWithoutMemory r read → GivesWithMemory r read
 gives_too (Ok tx) read h = h
 gives_too (Err fault.Memory) read h = refl
 gives_too (Err fault.NotJson) read h = h
@@ -162,10 +162,10 @@ gives_too (Err (fault.BadTransactions place)) read h = h
 gives_too (Err (fault.At place e)) read h = h
 
 pub element_given : (r : Result RecallTx JsonFault) (read ms : List (Key × List ℕ)) → read ≡ ms → list_all (λ m. is_key_in Transaction (key_text m.0)) read ≡ true
-    → GivesWithoutMemory r (transaction_in (object_of read)) → Gives r (element_in (object_of ms))
+    → GivesWithoutMemory r (transaction_in (object_of read)) → GivesWithMemory r (element_in (object_of ms))
 element_given r read ms same all given =
-    subst (λ (texts : List (Key × List ℕ)). Gives r (element_in (object_of texts))) same
-    (subst (Gives r) (sym (element_of_texts read all)) (gives_too r (transaction_in (object_of read)) given))
+    subst (λ (texts : List (Key × List ℕ)). GivesWithMemory r (element_in (object_of texts))) same
+    (subst (GivesWithMemory r) (sym (element_of_texts read all)) (gives_too r (transaction_in (object_of read)) given))
 
 -- ---- no other key
 

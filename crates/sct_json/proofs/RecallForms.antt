@@ -11,7 +11,7 @@ use Rattle.sct_json.specs.declared.keys.Shape.TheVariants.{Transaction}
 use Rattle.sct_json.specs.declared.faults.JsonFault.{JsonFault}
 use Rattle.sct_json.specs.declared.faults.JsonFault.TheVariants as fault
 use Rattle.sct_json.specs.Keys.{key_text, is_key_in}
-use Rattle.sct_json.specs.Reading.{head_in, transaction_in, names_of, first_extra, passes_unless, items_list, items_in, counted, first_no_object, are_objects, element_in, at_place, elements_in, list_in, flat_recall_in, listed_recalls_in, recalls_by, cancellation_request_in}
+use Rattle.sct_json.specs.Reading.{head_in, transaction_in, names_of, first_extra, passes_unless, items_list, items_of_list, counted, first_no_object, are_objects, element_in, at_place, elements_in, list_in, flat_recall_in, listed_recalls_in, recalls_by, cancellation_request_in}
 use Rattle.sct_json.specs.Form.{IsTransaction, AreTransactions, HoldsOne, HoldsList, HoldsRecalls}
 use Rattle.sct_json.proofs.TableForms.{bind_then, bind_from, ok_or_ok, ok_same, ok_then, head_holds, holds_head, transaction_holds, holds_transaction, is_object, all_pass, none_fails, passes_none}
 
@@ -76,7 +76,7 @@ pub record IsListOf (d : Data) (ds : List Data) : Type 0 where
   pub is_array : d ≡ array items
   pub same : items_list items ≡ ds
 
-pub its_items : (d : Data) (ds : List Data) → items_in d ≡ Some ds → IsListOf d ds
+pub its_items : (d : Data) (ds : List Data) → items_of_list d ≡ Some ds → IsListOf d ds
 its_items null ds e = cc
 its_items (boolean b) ds e = cc
 its_items (number n) ds e = cc
@@ -93,7 +93,7 @@ record IsRightList (d : Data) (txs : List RecallTx) : Type 0 where
 list_holds : (d : Data) (txs : List RecallTx) → list_in d ≡ Ok txs → IsRightList d txs
 unfolding list_in
 list_holds d txs e0 =
-    bind_then (ok_or (items_in d) (fault.BadTransactions 0)) _ _ e0 (λ ds r1 e1.
+    bind_then (ok_or (items_of_list d) (fault.BadTransactions 0)) _ _ e0 (λ ds r1 e1.
     bind_then (counted ds) _ _ e1 (λ t r2 e2.
     bind_then (are_objects (first_no_object 1 ds)) _ _ e2 (λ u r3 e3.
     let its : IsListOf d ds = its_items d ds (ok_or_ok _ _ _ r1) in record {
@@ -107,7 +107,7 @@ holds_list : (d : Data) (txs : List RecallTx) → IsRightList d txs → list_in 
 unfolding list_in
 holds_list d txs h =
     let ds : List Data = items_list h.items in
-    bind_from _ _ ds _ (ap (λ (v : Data). ok_or (items_in v) (fault.BadTransactions 0)) h.is_array)
+    bind_from _ _ ds _ (ap (λ (v : Data). ok_or (items_of_list v) (fault.BadTransactions 0)) h.is_array)
     (bind_from _ _ tt _ (ap (λ (b : Bool). let read : Result ⊤ JsonFault = cond b (Ok tt) (Err (fault.BadTransactions 0)) in read) h.few)
     (bind_from _ _ tt _ (ap are_objects (all_objects 1 ds txs h.each))
     (hold_elements 1 ds txs h.each)))

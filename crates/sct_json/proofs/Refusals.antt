@@ -28,7 +28,7 @@ use Rattle.sct_json.specs.declared.faults.KeyFault.{KeyFault}
 use Rattle.sct_json.specs.declared.faults.KeyFault.TheVariants as key_fault
 use Rattle.sct_json.specs.Faults.{placed}
 use Rattle.sct_json.specs.Keys.{key_text}
-use Rattle.sct_json.specs.Reading.{◌>>=◌, required_as, optional_as, required, optional, head_in, original_in, credit_transfer_in, status_report_in, status_request_in, transaction_in, payment_return_in, resolution_in, first_extra, passes_unless, items_list, items_in, counted, first_no_object, are_objects, element_in, elements_in, list_in, flat_recall_in, listed_recalls_in, recalls_by, cancellation_request_in, draft_in, shape_in, kind_in, follows_unless, object_in, value_in, message_in}
+use Rattle.sct_json.specs.Reading.{◌>>=◌, required_as, optional_as, required, optional, head_in, original_in, credit_transfer_in, status_report_in, status_request_in, transaction_in, payment_return_in, resolution_in, first_extra, passes_unless, items_list, items_of_list, counted, first_no_object, are_objects, element_in, elements_in, list_in, flat_recall_in, listed_recalls_in, recalls_by, cancellation_request_in, draft_in, shape_in, kind_in, follows_unless, object_in, value_in, message_in}
 use Rattle.sct_json.specs.Form.{StandsFor, HoldsElements}
 use Rattle.sct_json.specs.Places.{HasList, IsFirstWithout, IsNoListOfObjects, IsNoListOfTransactions, IsObject, IsRightList, IsSomeTransaction}
 use Rattle.sct_json.specs.Names.{NamesAscend, NamesAscendInItems, NamesAscendInMembers, HasLeastExtraKey, HasLeastExtraKeyAt}
@@ -309,9 +309,9 @@ module _ (d list : Data) (at : kind_in d ≡ Some Camt056) (stands : get (key_te
       let same : items ≡ others = same_items items others (sym is_list ∙ right.is_list) in
       false≢true (sym e ∙ ap (λ (all : Items). is_right_count (length (items_list all))) same ∙ right.is_right))
 
-  array_tells : (o : Option (List Data)) → items_in list ≡ o → Tells (IsTold d) (ok_or o (fault.BadTransactions 0))
+  array_tells : (o : Option (List Data)) → items_of_list list ≡ o → Tells (IsTold d) (ok_or o (fault.BadTransactions 0))
   array_tells None none = list_told (λ (v : Data). IsNoListOfObjects v 0) (λ items right.
-      let some : items_in list ≡ Some (items_list items) = ap items_in right.is_list in
+      let some : items_of_list list ≡ Some (items_list items) = ap items_of_list right.is_list in
       none_or_some (items_list items) (sym none ∙ some))
   array_tells (Some ds) some = tt
 
@@ -319,7 +319,7 @@ module _ (d list : Data) (at : kind_in d ≡ Some Camt056) (stands : get (key_te
   unfolding list_in
   list_tells =
       let P : JsonFault → Type 0 = IsTold d in
-      then_told P (ok_or (items_in list) (fault.BadTransactions 0)) _ (array_tells (items_in list) refl) (λ ds r1.
+      then_told P (ok_or (items_of_list list) (fault.BadTransactions 0)) _ (array_tells (items_of_list list) refl) (λ ds r1.
       let its : IsListOf list ds = its_items list ds (ok_or_ok _ _ _ r1) in
       subst (λ (all : List Data). Tells P (counted all >>= λ few. are_objects (first_no_object 1 all) >>= λ objects. elements_in 1 all)) its.same
       (then_told P (counted (items_list its.items)) _ (counted_tells its.items (is_right_count (length (items_list its.items))) its.is_array refl) (λ t r2.

@@ -58,8 +58,8 @@ GivesWhere takes_memory (Ok x) read = read ≡ Ok x
 GivesWhere takes_memory (Err e) read = FailsWhere takes_memory e read
 
 -- the same of a function that may always take memory, of one that never does, and of one that answers a list in memory
-abbrev pub Gives : {X : Type 0} → Result X JsonFault → Result X JsonFault → Type 0
-Gives answered read = GivesWhere true answered read
+abbrev pub GivesWithMemory : {X : Type 0} → Result X JsonFault → Result X JsonFault → Type 0
+GivesWithMemory answered read = GivesWhere true answered read
 
 abbrev pub GivesWithoutMemory : {X : Type 0} → Result X JsonFault → Result X JsonFault → Type 0
 GivesWithoutMemory answered read = GivesWhere false answered read
@@ -309,8 +309,8 @@ items_list no_items = []
 items_list (item d ds) = d ∷ items_list ds
 
 -- the elements of a list; none where the value is no list
-abbrev pub items_in : Data → Option (List Data)
-items_in d = option_map items_list (as_array d)
+abbrev pub items_of_list : Data → Option (List Data)
+items_of_list d = option_map items_list (as_array d)
 
 abbrev pub counted : List Data → Result ⊤ JsonFault
 counted ds = if is_right_count (length ds) then Ok tt else Err (fault.BadTransactions 0)
@@ -345,7 +345,7 @@ elements_in place (d ∷ ds) = at_place place (element_in d) >>= λ tx. elements
 -- a list of 1 to 100 elements, then objects alone, and then each element
 unfoldable pub list_in : Data → Result (List RecallTx) JsonFault
 list_in d = do
-  ds ← ok_or (items_in d) (fault.BadTransactions 0)
+  ds ← ok_or (items_of_list d) (fault.BadTransactions 0)
   few ← counted ds
   objects ← are_objects (first_no_object 1 ds)
   elements_in 1 ds

@@ -4,7 +4,7 @@ ghost use Rattle.std.specs.Prelude.{◌≡◌, ◌∷◌, [], Some, Ok, OnOk};
 ghost use Rattle.serde_json.specs.Data.{Data};
 ghost use Rattle.serde_json.specs.Find.{get};
 ghost use Rattle.sct_json.specs.Keys.{key_text};
-ghost use Rattle.sct_json.specs.Reading.{Gives, GivesItems, flat_recall_in, listed_recalls_in, cancellation_request_in};
+ghost use Rattle.sct_json.specs.Reading.{GivesWithMemory, GivesItems, flat_recall_in, listed_recalls_in, cancellation_request_in};
 ghost use Rattle.sct_json.specs.Line.{with_line, one_recall_line, with_recalls, Writes};
 ghost use Rattle.sct_json.specs.Writing.{RecallsReadBack};
 
@@ -30,7 +30,7 @@ fn list_of(alloc: Global, tx: RecallTx) -> Result<Vec<RecallTx>, JsonFault>
 /// The form of one transaction, whose keys are beside those of the head.
 #[tactic(auto, unfolding(crate::specs::Reading::flat_recall_in))]
 fn read_flat<O: Object>(alloc: Global, object: &O) -> Result<CancellationRequest, JsonFault>
-    ensures { Gives result (flat_recall_in (O.value object.now)) }
+    ensures { GivesWithMemory result (flat_recall_in (O.value object.now)) }
 {
     let head = head::read(alloc, object)?;
     let tx = transaction::read(alloc, object)?;
@@ -42,7 +42,7 @@ fn read_flat<O: Object>(alloc: Global, object: &O) -> Result<CancellationRequest
 #[tactic(auto, unfolding(crate::specs::Reading::listed_recalls_in))]
 fn read_listed<O: Object>(alloc: Global, object: &O) -> Result<CancellationRequest, JsonFault>
     ensures { (list : Data) → get (key_text Key.TxInf) (O.value object.now) ≡ Some list
-        → Gives result (listed_recalls_in list (O.value object.now)) }
+        → GivesWithMemory result (listed_recalls_in list (O.value object.now)) }
 {
     let head = head::read(alloc, object)?;
     let txs = object.transactions(alloc)?;
@@ -51,7 +51,7 @@ fn read_listed<O: Object>(alloc: Global, object: &O) -> Result<CancellationReque
 
 #[tactic(auto, unfolding(crate::specs::Reading::cancellation_request_in))]
 pub(crate) fn read<O: Object>(alloc: Global, object: &O) -> Result<CancellationRequest, JsonFault>
-    ensures { Gives result (cancellation_request_in (O.value object.now)) }
+    ensures { GivesWithMemory result (cancellation_request_in (O.value object.now)) }
 {
     match object.at(Key::TxInf) {
         Found::Nothing => read_flat(alloc, object),

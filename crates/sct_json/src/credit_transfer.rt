@@ -1,6 +1,6 @@
 //! pacs.008: a credit transfer.
 ghost use Rattle.std.specs.Prelude.{◌≡◌, OnOk};
-ghost use Rattle.sct_json.specs.Reading.{Gives, credit_transfer_in};
+ghost use Rattle.sct_json.specs.Reading.{GivesWithMemory, credit_transfer_in};
 ghost use Rattle.sct_json.specs.Line.{with_line, credit_transfer_line, Writes};
 ghost use Rattle.sct_json.specs.Writing.{CreditTransferReadsBack};
 
@@ -42,7 +42,7 @@ macro_rules! credit_transfer_table {
 
 #[tactic(auto, unfolding(crate::specs::Reading::credit_transfer_in))]
 pub(crate) fn read<O: Object>(alloc: Global, object: &O) -> Result<CreditTransfer, JsonFault>
-    ensures { Gives result (credit_transfer_in (O.value object.now)) }
+    ensures { GivesWithMemory result (credit_transfer_in (O.value object.now)) }
 {
     credit_transfer_table!(read_table! { alloc, object })
 }

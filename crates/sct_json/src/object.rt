@@ -4,7 +4,7 @@ ghost use Rattle.serde_json.specs.Data.{Data};
 ghost use Rattle.serde_json.specs.Find.{get};
 ghost use Rattle.serde_json.specs.View.{view};
 ghost use Rattle.sct_json.specs.Keys.{key_text};
-ghost use Rattle.sct_json.specs.Reading.{GivesItems, items_in, list_in};
+ghost use Rattle.sct_json.specs.Reading.{GivesItems, items_of_list, list_in};
 ghost use Rattle.sct_json.specs.Objects.{IsFound};
 
 use crate::faults::JsonFault;
@@ -46,7 +46,7 @@ pub(crate) trait Object: Keyed {
 /// The elements of the list at a key; none if there is no list.
 fn items(object: &Value, key: Key) -> Option<&[Value]>
     ensures { option_map (λ items. map view items.now) result
-        ≡ option_and_then items_in (get (key_text key) (view object.now)) }
+        ≡ option_and_then items_of_list (get (key_text key) (view object.now)) }
 {
     let list = object.get(key.text())?;
     Some(list.as_array()?.as_slice())

@@ -4,7 +4,7 @@ ghost use Rattle.serde_json.specs.Read.{read};
 ghost use Rattle.serde_json.specs.View.{view, members_view};
 ghost use Rattle.sct_message.specs.Rules.{first_broken_rule};
 ghost use Rattle.sct_json.specs.Objects.{message_object, GivesOrLeaves};
-ghost use Rattle.sct_json.specs.Reading.{Gives, draft_in, kind_in, shape_in, follows_unless, message_in_whole, object_in, value_in, message_in};
+ghost use Rattle.sct_json.specs.Reading.{GivesWithMemory, draft_in, kind_in, shape_in, follows_unless, message_in_whole, object_in, value_in, message_in};
 
 use crate::extra_key::refuse_extra;
 use crate::faults::JsonFault;
@@ -42,7 +42,7 @@ fn shape_in<O: Object>(kind: Kind, object: &O) -> Shape
 
 /// The elements that were read, in memory of their own.
 fn boxed<T: Drop>(alloc: Global, elements: T) -> Result<Boxed<T>, JsonFault>
-    ensures { Gives result (Ok elements) }
+    ensures { GivesWithMemory result (Ok elements) }
 {
     match Boxed::new(alloc, elements) {
         Ok(elements) => Ok(elements),
@@ -52,7 +52,7 @@ fn boxed<T: Drop>(alloc: Global, elements: T) -> Result<Boxed<T>, JsonFault>
 
 /// The elements of a message of a kind.
 fn read_draft<O: Object>(alloc: Global, kind: Kind, object: &O) -> Result<Draft, JsonFault>
-    ensures { Gives result (draft_in kind (O.value object.now)) }
+    ensures { GivesWithMemory result (draft_in kind (O.value object.now)) }
 {
     match kind {
         Kind::Pacs008 => {
@@ -84,7 +84,7 @@ fn read_draft<O: Object>(alloc: Global, kind: Kind, object: &O) -> Result<Draft,
 
 /// The message of elements that follow the rules of their kind.
 fn keeping_rules(elements: Draft) -> Result<Message, JsonFault>
-    ensures { Gives result (follows_unless (first_broken_rule elements) elements) }
+    ensures { GivesWithMemory result (follows_unless (first_broken_rule elements) elements) }
 {
     match Message::of(elements) {
         Ok(message) => Ok(message),
@@ -99,7 +99,7 @@ fn message_of(
     object: &Map<String, Value>,
     elements: Draft,
 ) -> Result<Message, JsonFault>
-    ensures { Gives result (message_in_whole shape (members_view object.now.entries) elements) }
+    ensures { GivesWithMemory result (message_in_whole shape (members_view object.now.entries) elements) }
 {
     refuse_extra(alloc, shape, object)?;
     keeping_rules(elements)
@@ -108,7 +108,7 @@ fn message_of(
 /// The message of which an object is a form.
 #[tactic(auto, unfolding(crate::specs::Reading::object_in))]
 fn read_object(alloc: Global, object: &Value) -> Result<Message, JsonFault>
-    ensures { Gives result (object_in (view object.now)) }
+    ensures { GivesWithMemory result (object_in (view object.now)) }
 {
     let Some(members) = object.as_object() else {
         return Err(JsonFault::NotObject);
@@ -141,7 +141,7 @@ fn read_plain(alloc: Global, object: &PlainMessage<'_>) -> Result<Option<Message
 
 /// The message of a text, read by way of a JSON value.
 fn read_value(alloc: Global, text: &str) -> Result<Message, JsonFault>
-    ensures { Gives result (value_in (read text.now)) }
+    ensures { GivesWithMemory result (value_in (read text.now)) }
 {
     match Value::from_str(alloc, text) {
         Ok(value) => read_object(alloc, &value),
@@ -180,7 +180,7 @@ impl MessageReader {
 
     /// The message of a text.
     fn read_text(&mut self, text: &str) -> Result<Message, JsonFault>
-        ensures { Gives result (value_in (read text.now)) }
+        ensures { GivesWithMemory result (value_in (read text.now)) }
     {
         match self.read_texts(text) {
             Ok(Some(message)) => Ok(message),
@@ -192,7 +192,7 @@ impl MessageReader {
     /// As [`read_message`]. The reader's memory grows to the longest text that it has read. After an error it reads on as
     /// before.
     pub fn read(&mut self, bytes: &[u8]) -> Result<Message, JsonFault>
-        ensures { Gives result (message_in bytes.now) }
+        ensures { GivesWithMemory result (message_in bytes.now) }
     {
         match str::from_utf8(bytes) {
             Ok(text) => self.read_text(text),
@@ -205,7 +205,7 @@ impl MessageReader {
 /// Error: the first reason why the object is a form of no message (31 to 38, 46, 56), or `Memory` (30).
 /// O(n log n) for n bytes. A [`MessageReader`] reads many messages in less time.
 pub fn read_message(alloc: Global, bytes: &[u8]) -> Result<Message, JsonFault>
-    ensures { Gives result (message_in bytes.now) }
+    ensures { GivesWithMemory result (message_in bytes.now) }
 {
     MessageReader::new(alloc).read(bytes)
 }

@@ -3,7 +3,7 @@ ghost use Rattle.std.specs.Prelude.{◌≡◌, ◌≤◌, length, map, option_ma
 ghost use Rattle.std.specs.List.{AllByRecursion};
 ghost use Rattle.serde_json.specs.Data.{Data, array};
 ghost use Rattle.serde_json.specs.View.{view};
-ghost use Rattle.sct_json.specs.Reading.{GivesItems, items_in, first_no_object, elements_in, list_in};
+ghost use Rattle.sct_json.specs.Reading.{GivesItems, items_of_list, first_no_object, elements_in, list_in};
 ghost use Rattle.sct_json.specs.Objects.{objects_of};
 ghost use Rattle.sct_json.specs.Line.{with_objects, with_array, Writes};
 ghost use Rattle.sct_json.specs.Writing.{TransactionReadsBack};
@@ -61,7 +61,7 @@ fn read_elements<E: ListElement>(alloc: Global, elements: &[E]) -> Result<Vec<Re
 /// The transactions of a list of 1 to 100 objects.
 #[tactic(auto, unfolding(crate::specs::Reading::list_in))]
 pub(crate) fn read_list(alloc: Global, list: Option<&[Value]>) -> Result<Vec<RecallTx>, JsonFault>
-    ensures { (whole : Data) → option_map (λ elements. map view elements.now) list.entry ≡ items_in whole
+    ensures { (whole : Data) → option_map (λ elements. map view elements.now) list.entry ≡ items_of_list whole
         → GivesItems result (list_in whole) }
 {
     let Some(elements) = list else {

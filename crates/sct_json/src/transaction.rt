@@ -3,7 +3,7 @@ ghost use Rattle.std.specs.Prelude.{◌≡◌, OnOk};
 ghost use Rattle.serde_json.specs.Data.{Data};
 ghost use Rattle.serde_json.specs.View.{view};
 ghost use Rattle.sct_json.specs.Objects.{object_of};
-ghost use Rattle.sct_json.specs.Reading.{Gives, GivesWithoutMemory, transaction_in, element_in, at_place};
+ghost use Rattle.sct_json.specs.Reading.{GivesWithMemory, GivesWithoutMemory, transaction_in, element_in, at_place};
 ghost use Rattle.sct_json.specs.Line.{with_line, transaction_line, with_object, Writes};
 ghost use Rattle.sct_json.specs.Writing.{TransactionReadsBack};
 
@@ -49,7 +49,7 @@ pub(crate) trait ListElement {
 
     /// The transaction that the element is, if the element is an object with no other key.
     fn read_alone(&self, alloc: Global) -> Result<RecallTx, JsonFault>
-        ensures { Gives result (element_in (element self.now)) };
+        ensures { GivesWithMemory result (element_in (element self.now)) };
 }
 
 impl ListElement for Value {
@@ -80,7 +80,7 @@ pub(crate) fn read_at<E: ListElement>(
     place: usize,
     element: &E,
 ) -> Result<RecallTx, JsonFault>
-    ensures { Gives result (at_place place (element_in (E.element element.now))) }
+    ensures { GivesWithMemory result (at_place place (element_in (E.element element.now))) }
 {
     match element.read_alone(alloc) {
         Ok(tx) => Ok(tx),

@@ -20,14 +20,11 @@ use Rattle.sct_set.specs.Contents.{contents_of}
 use Rattle.sct_view.proofs.SetKeys.{on_is}
 use Rattle.sct_parts.proofs.Members.{among, held_from, in_items}
 use Rattle.sct_keep.specs.Done.{is_done}
-use Rattle.sct_keep.specs.Keep.{AreTied, HasAllOpen, IsChain, IsKept, IsOpen}
+use Rattle.sct_keep.specs.Keep.{AreTied, HasAllOpen, IsChain, IsKept, IsOpen, is_open_in, is_tied, is_tied_to, kept_of, others_of, with_tied}
 use Rattle.sct_keep.proofs.MarkLemmas.{held_in, in_list}
 use Rattle.sct_keep.proofs.SplitLemmas.{turned}
 
 -- ---- tests
-
-abbrev is_tied : Draft → Draft → Bool
-is_tied one other = same_identity (identity_of one) (identity_of other) || list_any (λ k. is_on k other) (transfers_of one)
 
 on-Decides : (m : Draft) (t : TransferKey) → Decides (is_on t m) (Contains (transfers_of m) t)
 on-Decides m t = (among m t, λ h. on_is t m ∙ any_tie transfer_total transfers_same (transfers_of m) t h)
@@ -53,9 +50,6 @@ tied-Decides one other = (
   ],
 )
 
-abbrev is_tied_to : List Draft → Draft → Bool
-is_tied_to front m = list_any (λ f. is_tied f m) front
-
 tied_to-Decides : (front : List Draft) (m : Draft) → Decides (is_tied_to front m) ((f : Draft) × Contains front f × AreTied f m)
 tied_to-Decides front m = any-Decides (λ f. is_tied f m) (λ f. AreTied f m) (λ f. tied-Decides f m) front
 
@@ -68,23 +62,18 @@ sides p xs x h = elim (p x) as (λ b. p x ≡ b → Contains (filter p xs) x ⊎
 
 -- ---- a front and all that is tied to it, step by step
 
-abbrev grown : List Draft → ℕ → List Draft → List Draft
-grown [] n rest = []
-grown (f ∷ fs) zero rest = f ∷ fs
-grown (f ∷ fs) (suc n) rest = (f ∷ fs) ++ grown (filter (is_tied_to (f ∷ fs)) rest) n (filter (λ m. not (is_tied_to (f ∷ fs) m)) rest)
-
-begun : (front : List Draft) (n : ℕ) (rest : List Draft) (m : Draft) → Contains front m → Contains (grown front n rest) m
+begun : (front : List Draft) (n : ℕ) (rest : List Draft) (m : Draft) → Contains front m → Contains (with_tied front n rest) m
 begun [] n rest m h = absurd (nothing m h)
 begun (f ∷ fs) zero rest m h = h
 begun (f ∷ fs) (suc n) rest m h = Contains-append_left (f ∷ fs) _ m h
 
-some_front : (front : List Draft) (n : ℕ) (rest : List Draft) (m : Draft) → Contains (grown front n rest) m → 1 ≤ length front
+some_front : (front : List Draft) (n : ℕ) (rest : List Draft) (m : Draft) → Contains (with_tied front n rest) m → 1 ≤ length front
 some_front [] n rest m h = absurd (nothing m h)
 some_front (f ∷ fs) n rest m h = omega arith
 
 -- with each message it has all that are tied to it
-has_tied : (front : List Draft) (n : ℕ) (rest : List Draft) → length rest ≤ n → (one other : Draft) → Contains (grown front n rest) one
-    → Contains front other ⊎ Contains rest other → AreTied one other → Contains (grown front n rest) other
+has_tied : (front : List Draft) (n : ℕ) (rest : List Draft) → length rest ≤ n → (one other : Draft) → Contains (with_tied front n rest) one
+    → Contains front other ⊎ Contains rest other → AreTied one other → Contains (with_tied front n rest) other
 has_tied [] n rest short one other h there tie = absurd (nothing one h)
 has_tied (f ∷ fs) zero rest short one other h there tie = elim there as (λ _. Contains (f ∷ fs) other) [
   | inl first ↦ first
@@ -94,10 +83,10 @@ has_tied (f ∷ fs) (suc n) rest short one other h there tie =
     let front = f ∷ fs in
     let next = filter (is_tied_to front) rest in
     let away = filter (λ m. not (is_tied_to front m)) rest in
-    elim there as (λ _. Contains (front ++ grown next n away) other) [
-      | inl first ↦ Contains-append_left front (grown next n away) other first
-      | inr later ↦ Contains-append_right front (grown next n away) other
-          (elim (Contains-append_cases front (grown next n away) one h) as (λ _. Contains (grown next n away) other) [
+    elim there as (λ _. Contains (front ++ with_tied next n away) other) [
+      | inl first ↦ Contains-append_left front (with_tied next n away) other first
+      | inr later ↦ Contains-append_right front (with_tied next n away) other
+          (elim (Contains-append_cases front (with_tied next n away) one h) as (λ _. Contains (with_tied next n away) other) [
             | inl now ↦ begun next n away other (filtered_in (is_tied_to front) rest other later ((tied_to-Decides front other).1 (one, now, tie)))
             | inr after ↦
                 let both = length-filter_both (is_tied_to front) (λ m. not (is_tied_to front m)) (λ m. refl) rest in
@@ -113,14 +102,14 @@ module _ (day : List ℕ) (whole : MessageSet) where
   Chained m = (links : List Draft) × IsChain day whole m links
 
   all_chained : (front : List Draft) (n : ℕ) (rest : List Draft) → ((m : Draft) → Contains front m → Chained m)
-      → ((m : Draft) → Contains rest m → set.contains whole m ≡ true) → (m : Draft) → Contains (grown front n rest) m → Chained m
+      → ((m : Draft) → Contains rest m → set.contains whole m ≡ true) → (m : Draft) → Contains (with_tied front n rest) m → Chained m
   all_chained [] n rest first held m h = absurd (nothing m h)
   all_chained (f ∷ fs) zero rest first held m h = first m h
   all_chained (f ∷ fs) (suc n) rest first held m h =
       let front = f ∷ fs in
       let next = filter (is_tied_to front) rest in
       let away = filter (λ x. not (is_tied_to front x)) rest in
-      elim (Contains-append_cases front (grown next n away) m h) as (λ _. Chained m) [
+      elim (Contains-append_cases front (with_tied next n away) m h) as (λ _. Chained m) [
         | inl now ↦ first m now
         | inr after ↦ all_chained next n away
             (λ x g.
@@ -143,42 +132,38 @@ module _ (day : List ℕ) (whole : MessageSet) where
 
   -- ---- what is kept
 
-  abbrev is_open : Draft → Bool
-  is_open m = list_any (λ t. not (is_done day whole t)) (transfers_of m)
-
-  open-Decides : (m : Draft) → Decides (is_open m) (IsOpen day whole m)
+  open-Decides : (m : Draft) → Decides (is_open_in day whole m) (IsOpen day whole m)
   open-Decides m = any-Decides (λ t. not (is_done day whole t)) (λ t. is_done day whole t ≡ false) (λ t. (not-true _, λ e. ap not e)) (transfers_of m)
 
   abbrev front : List Draft
-  front = filter is_open (set.items whole)
+  front = filter (is_open_in day whole) (set.items whole)
 
   abbrev rest : List Draft
-  rest = filter (λ m. not (is_open m)) (set.items whole)
+  rest = others_of day whole
 
   abbrev all : List Draft
-  all = grown front (length rest) rest
+  all = with_tied front (length rest) rest
 
   chained : (m : Draft) → Contains all m → Chained m
   chained =
       all_chained front (length rest) rest
-      (λ m h. let i = in_filter is_open (set.items whole) m h in ([], (held_from whole m i.0, (open-Decides m).0 i.1)))
-      (λ m h. held_from whole m (in_filter (λ y. not (is_open y)) (set.items whole) m h).0)
+      (λ m h. let i = in_filter (is_open_in day whole) (set.items whole) m h in ([], (held_from whole m i.0, (open-Decides m).0 i.1)))
+      (λ m h. held_from whole m (in_filter (λ y. not (is_open_in day whole y)) (set.items whole) m h).0)
 
-  abbrev pub the_kept : MessageSet
-  the_kept = contents_of all
-
-  pub chain_of : (m : Draft) → set.contains the_kept m ≡ true → Chained m
+  pub chain_of : (m : Draft) → set.contains (kept_of day whole) m ≡ true → Chained m
+  unfolding kept_of
   chain_of m h = chained m (in_list all m h)
 
-  pub is_kept : IsKept day whole the_kept
+  pub is_kept : IsKept day whole (kept_of day whole)
+  unfolding kept_of
   is_kept = record {
     part = λ m h. let c = chain_of m h in of_whole c.0 m c.1;
     has_open = record {
       each = λ m h o.
-          held_in all m (begun front (length rest) rest m (filtered_in is_open (set.items whole) m (in_items whole m h) ((open-Decides m).1 o)));
+          held_in all m (begun front (length rest) rest m (filtered_in (is_open_in day whole) (set.items whole) m (in_items whole m h) ((open-Decides m).1 o)));
       tied = λ one other here there tie.
           held_in all other
-          (has_tied front (length rest) rest (omega arith) one other (in_list all one here) (sides is_open (set.items whole) other (in_items whole other there)) tie);
+          (has_tied front (length rest) rest (omega arith) one other (in_list all one here) (sides (is_open_in day whole) (set.items whole) other (in_items whole other there)) tie);
     };
     least = λ some has m h. let c = chain_of m h in of_each some has c.0 m c.1;
   }

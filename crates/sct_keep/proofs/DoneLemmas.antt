@@ -1,11 +1,12 @@
 -- A transfer is done in a whole as in its part. Proof plumbing.
 use Rattle.std.specs.FinSet as set
 use Rattle.std.specs.Prelude.{◌⊎◌, Contains}
-use Rattle.std.proofs.Common.{◌≡◌, ◌∙◌, refl, sym, ap, inl, inr, ℕ, Bool, true, false, ◌&&◌, List, [], ◌∷◌, filter}
+use Rattle.std.proofs.Common.{◌≡◌, ◌∙◌, refl, sym, ap, inl, inr, ℕ, Bool, true, false, ◌&&◌, List, [], ◌∷◌, filter, map}
 use Rattle.std.specs.Cmp.{both_ways}
 use Rattle.std.specs.List.{list_all}
 use Rattle.std.proofs.lemmas.Bool.{and_parts, false_from_ne_true, false≢true, true_from_ne_false}
 use Rattle.std.proofs.lemmas.List.Elements.{All-contains}
+use Rattle.std.proofs.lemmas.List.Folds.{list_all-map}
 use Rattle.std.proofs.lemmas.List.Sums.{AllPass-from_list_all}
 use Rattle.sct_message.specs.Keys.{transfers_of}
 use Rattle.sct_message.specs.OrderLaws.{message_total, message_same, transfer_total, transfers_same}
@@ -14,14 +15,31 @@ use Rattle.sct_message.specs.Transfers.{is_on, keys_of}
 use Rattle.sct_message.specs.declared.draft.Draft.{Draft}
 use Rattle.sct_message.specs.declared.keys.TransferKey.{TransferKey}
 use Rattle.sct_case.proofs.Membership.{any_tie, ascending_in, filtered_in, here, in_ascending, in_filter, later}
+use Rattle.sct_case.specs.declared.status.RecallStatus.{RecallStatus}
 use Rattle.sct_set.proofs.LawLemmas.{commutative}
+use Rattle.sct_view.specs.Answers.{recall_of, recalls_on, status_of}
 use Rattle.sct_view.proofs.SetKeys.{on_is}
 use Rattle.sct_view.specs.Touched.{IsToldAlike}
 use Rattle.sct_parts.specs.Parts.{ShareNothing}
 use Rattle.sct_parts.proofs.ApartLemmas.{of_one, swapped}
 use Rattle.sct_parts.proofs.Members.{among, held_from, held_key, in_items, of_either, of_first}
 use Rattle.sct_parts.proofs.TransferLemmas.{of_first_part}
-use Rattle.sct_keep.specs.Done.{are_before, is_answered, is_before, is_done, is_final, is_settled}
+use Rattle.sct_keep.specs.Done.{are_before, is_answered, is_answered_in, is_before, is_done, is_final, is_settled}
+
+-- ---- the recalls of a transfer, each with its status
+
+all_answered : (held : MessageSet) (t : TransferKey) (recalls : List (List ℕ × RecallStatus))
+    → recalls ≡ map (λ cxl. (cxl, recall_of held (record { transfer = t; cxl = cxl }))) (recalls_on held t)
+    → list_all (λ recall. is_answered recall.1) recalls ≡ list_all (is_answered_in held t) (recalls_on held t)
+all_answered held t recalls is =
+    ap (list_all (λ recall. is_answered recall.1)) is
+    ∙ list_all-map (λ recall. is_answered recall.1) (λ cxl. (cxl, recall_of held (record { transfer = t; cxl = cxl }))) (recalls_on held t)
+
+pub all_settled : (held : MessageSet) (t : TransferKey) (recalls : List (List ℕ × RecallStatus)) → is_final (status_of held t) ≡ true
+    → recalls ≡ map (λ cxl. (cxl, recall_of held (record { transfer = t; cxl = cxl }))) (recalls_on held t)
+    → list_all (λ recall. is_answered recall.1) recalls ≡ is_settled held t
+all_settled held t recalls final is =
+    all_answered held t recalls is ∙ ap (λ (b : Bool). b && list_all (is_answered_in held t) (recalls_on held t)) (sym final)
 
 -- ---- the messages on a transfer, all from before the day
 

@@ -3,7 +3,7 @@
 ghost use Rattle.std.specs.Prelude.{◌≡◌, IfOk};
 ghost use Rattle.sct_message.specs.Sets.{messages_in};
 ghost use Rattle.sct_set.specs.Contents.{contents_of};
-ghost use Rattle.sct_keep.specs.Keep.{IsKept, closed_of};
+ghost use Rattle.sct_keep.specs.Keep.{closed_of, kept_of};
 
 use crate::splitting::split;
 use sct_case::CaseFault;
@@ -37,8 +37,8 @@ fn archive_of(alloc: Global, messages: &[Arc<Message>]) -> Result<Archive, Alloc
 /// Splits an archive by a day, `YYYY-MM-DD`, into what is kept and what is closed. The archive stays as it is.
 /// Error: `Memory` (39). It builds a view of the archive in one thread, and costs what that and [`split`](crate::split) cost.
 pub fn split_archive(alloc: Global, archive: &Archive, day: &Day) -> Result<Archives, CaseFault>
-    ensures kept { IfOk result (λ archives. IsKept day.now archive.now archives.kept) }
-    ensures closed { IfOk result (λ archives. archives.closed ≡ closed_of archive.now archives.kept) }
+    ensures kept { IfOk result (λ archives. archives.kept ≡ kept_of day.now archive.now) }
+    ensures closed { IfOk result (λ archives. archives.closed ≡ closed_of archive.now (kept_of day.now archive.now)) }
 {
     let messages = archive.messages();
     let view = View::of(alloc, archive_of(alloc, messages)?)?;

@@ -1,13 +1,14 @@
 //! Whether a message is from before a day, and whether a transfer is settled.
 
 ghost use Rattle.std.specs.Prelude.{◌≡◌, ◌≤◌, true, false, length, take, IfOk};
+ghost use Rattle.std.specs.List.{list_all};
 ghost use Rattle.sct_message.specs.Keys.{transfers_of};
 ghost use Rattle.sct_case.specs.Statuses.{as_standing};
 ghost use Rattle.sct_keep.specs.Done.{is_answered, is_before, is_final, is_settled};
 
 use sct_case::{CaseFault, RecallStatus, Status};
-use sct_element::Day;
-use sct_message::{Message, RecallKey, TransferKey};
+use sct_element::{Day, Id35};
+use sct_message::{Message, TransferKey};
 use sct_view::View;
 
 // Whether a transfer of this status awaits nothing more.
@@ -60,23 +61,21 @@ pub(crate) fn is_late(day: &Day, message: &Message) -> bool
     message.transfer_count() > 0 && !is_before(day, message)
 }
 
+// Whether each of the recalls was answered.
+fn are_answered(recalls: &[(Id35, RecallStatus)]) -> bool
+    ensures { result ≡ list_all (λ recall. is_answered recall.1) recalls.now }
+{
+    recalls.iter().all(|recall| is_answered(&recall.1))
+}
+
 /// Whether the status of the transfer is final, and each of its recalls was answered. Error: `Memory` (39).
-/// O(c n + n log n) for c recalls of the transfer and n transactions in the messages on it.
+/// O(n log n) in the transactions of the messages on the transfer.
 pub(crate) fn is_settled(view: &View, transfer: &TransferKey) -> Result<bool, CaseFault>
     ensures { IfOk result (λ settled. settled ≡ is_settled view.now transfer.now) }
 {
     if !is_final(view.status(transfer)) {
         return Ok(false);
     }
-    let recalls = view.recalls_of(transfer)?;
-    for cxl in &recalls {
-        let recall = RecallKey {
-            transfer: transfer.copy(),
-            cxl: cxl.copy(),
-        };
-        if !is_answered(&view.recall(&recall)) {
-            return Ok(false);
-        }
-    }
-    Ok(true)
+    let recalls = view.recalls_with_statuses(transfer)?;
+    Ok(are_answered(&recalls))
 }

@@ -3,7 +3,7 @@
 ghost use Rattle.std.specs.Prelude.{◌≡◌, length, not, IfOk};
 ghost use Rattle.sct_message.specs.Sets.{messages_in};
 ghost use Rattle.sct_set.specs.Contents.{contents_of};
-ghost use Rattle.sct_keep.specs.Keep.{IsKept, closed_of};
+ghost use Rattle.sct_keep.specs.Keep.{closed_of, kept_of};
 ghost use Rattle.sct_keep.specs.Marks.{AreLabelled, is_marked};
 
 use crate::marks::marks_of;
@@ -60,8 +60,7 @@ fn split_by(
 /// Splits messages by a day, `YYYY-MM-DD`, into what is kept and what is closed. They are the messages of the view, in any
 /// order, and may repeat. `Archive::add_all` and `SortedArchive::of` make the archive of a part, which writes its text.
 /// Error: `Memory` (39). Nothing that was passed is changed.
-/// Near linear in the messages and their transfers. A transfer with a final status also takes the number of its recalls
-/// times that of the transactions of its messages. It allocates 17 bytes for each message, a list of the transfers, and two
+/// Near linear in the messages and their transfers. It allocates 17 bytes for each message, a list of the transfers, and two
 /// maps: of identities and of transfers.
 pub fn split(
     alloc: Global,
@@ -70,9 +69,9 @@ pub fn split(
     messages: &[Arc<Message>],
 ) -> Result<KeptAndClosed, CaseFault>
     requires { contents_of (messages_in messages.now) ≡ view.now }
-    ensures kept { IfOk result (λ split. IsKept day.now view.now (contents_of (messages_in split.kept.items))) }
+    ensures kept { IfOk result (λ split. contents_of (messages_in split.kept.items) ≡ kept_of day.now view.now) }
     ensures closed { IfOk result (λ split. contents_of (messages_in split.closed.items)
-        ≡ closed_of view.now (contents_of (messages_in split.kept.items))) }
+        ≡ closed_of view.now (kept_of day.now view.now)) }
 {
     let groups = groups_of(alloc, messages)?;
     let marks = marks_of(alloc, view, day, messages, &groups)?;

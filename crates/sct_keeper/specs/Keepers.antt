@@ -4,7 +4,7 @@ use Rattle.std.specs.Fmt.{decimal}
 use Rattle.sct_site.specs.Cores.{Core}
 use Rattle.sct_journal.specs.Kept.{kept, recorded}
 use Rattle.sct_journal.specs.Settled.{IsSettled, disk_of}
-use Rattle.sct_requests.specs.Standings.{Standing}
+use Rattle.sct_requests.specs.WatchedSites.{WatchedSite}
 use Rattle.sct_requests.specs.Steps.{core_kept}
 use Rattle.sct_journal.specs.declared.error.JournalError.TheVariants as journal
 use Rattle.sct_keeper.specs.declared.fault.KeeperError.{KeeperError}
@@ -20,16 +20,16 @@ abbrev pub keeper_disk : {D : Type 0} → Keeper D → D
 keeper_disk keeper = disk_of keeper.journal
 
 -- its site
-abbrev pub site_of : {D : Type 0} → Keeper D → Core
-site_of keeper = keeper.site.core
+abbrev pub core_of_keeper : {D : Type 0} → Keeper D → Core
+core_of_keeper keeper = keeper.site.core
 
 -- its site, and how many entries that had when its changes were asked for last
-abbrev pub standing_of : {D : Type 0} → Keeper D → Standing
-standing_of keeper = record { core = keeper.site.core; watched = keeper.site.watched }
+abbrev pub watched_site_of : {D : Type 0} → Keeper D → WatchedSite
+watched_site_of keeper = record { core = keeper.site.core; watched = keeper.site.watched }
 
 -- the text that it was asked for last
-abbrev pub text_of : {D : Type 0} → Keeper D → List ℕ
-text_of keeper = keeper.site.answer
+abbrev pub answer_of_keeper : {D : Type 0} → Keeper D → List ℕ
+answer_of_keeper keeper = keeper.site.answer
 
 -- The journal is at rest. If no read of the disk was wrong, it is the journal of the site, and the site is the one that the
 -- lines of the journal make.

@@ -8,7 +8,7 @@ ghost use Rattle.sct_site.specs.Cores.{is_open};
 ghost use Rattle.sct_keeper.specs.declared.fault.KeeperError.TheVariants as error;
 ghost use Rattle.sct_journal.specs.declared.error.JournalError.TheVariants as journal;
 ghost use Rattle.sct_journal.specs.declared.front.Front.TheVariants as front;
-ghost use Rattle.sct_keeper.specs.Keepers.{EndsOpening, EndsRound, IsForeign, IsKeeper, IsRecordedBeforeOrAfter, IsUntouched, header, keeper_disk, site_of, standing_of, text_of};
+ghost use Rattle.sct_keeper.specs.Keepers.{EndsOpening, EndsRound, IsForeign, IsKeeper, IsRecordedBeforeOrAfter, IsUntouched, answer_of_keeper, core_of_keeper, header, keeper_disk, watched_site_of};
 ghost use Rattle.sct_requests.specs.Questions.{Says, answer_asked, watched_after};
 ghost use Rattle.sct_requests.specs.Steps.{answers_to, brought, core_after, core_kept};
 
@@ -49,9 +49,9 @@ impl<D: Disk> Keeper<D> {
         ensures keeper { IfOk result (λ keeper. IsKeeper D.Disk.seen D.Disk.may_leave D.Disk.is_usable D.Disk.is_clean keeper) }
 
         // The opened site is the site of the recorded lines, and the opening changes none of them.
-        ensures site { IfOk result (λ keeper. IsTrue (D.Disk.is_clean (keeper_disk keeper)) → site_of keeper ≡ core_kept number group (recorded (D.Disk.seen disk))) }
+        ensures site { IfOk result (λ keeper. IsTrue (D.Disk.is_clean (keeper_disk keeper)) → core_of_keeper keeper ≡ core_kept number group (recorded (D.Disk.seen disk))) }
         ensures same { IfOk result (λ keeper. IsTrue (D.Disk.is_clean (keeper_disk keeper)) → recorded (D.Disk.seen (keeper_disk keeper)) ≡ recorded (D.Disk.seen disk)) }
-        ensures unwatched { IfOk result (λ keeper. (standing_of keeper).watched ≡ None) }
+        ensures unwatched { IfOk result (λ keeper. (watched_site_of keeper).watched ≡ None) }
         ensures open { OnOk result (is_open number group ≡ true) }
         ensures begun { IfOk result (λ keeper. IsTrue (D.Disk.is_clean (keeper_disk keeper)) → IsBegun (header number group) (D.Disk.seen disk)) }
 
@@ -92,7 +92,7 @@ impl<D: Disk> Keeper<D> {
 
     /// The text that was asked for last.
     pub fn text(&self) -> &[u8]
-        ensures { result.now ≡ text_of self.now }
+        ensures { result.now ≡ answer_of_keeper self.now }
     {
         self.site.answer()
     }
@@ -100,8 +100,8 @@ impl<D: Disk> Keeper<D> {
     /// Has the text of the version vector. The error is that it is out of memory.
     pub fn ask_vector(&mut self) -> Result<(), AllocError>
         requires keeper { IsKeeper D.Disk.seen D.Disk.may_leave D.Disk.is_usable D.Disk.is_clean self.old }
-        ensures text { OnOk result (text_of self.new ≡ held_text (site_of self.old).arrivals) }
-        ensures standing { standing_of self.new ≡ standing_of self.old }
+        ensures text { OnOk result (answer_of_keeper self.new ≡ held_text (core_of_keeper self.old).arrivals) }
+        ensures watched_site { watched_site_of self.new ≡ watched_site_of self.old }
         ensures keeper { IsKeeper D.Disk.seen D.Disk.may_leave D.Disk.is_usable D.Disk.is_clean self.new }
         ensures disk { keeper_disk self.new ≡ keeper_disk self.old }
     {
@@ -117,9 +117,9 @@ impl<D: Disk> Keeper<D> {
     /// that name. The question may be refused. The error is that it is out of memory.
     pub fn ask(&mut self, alloc: Global, question: &[u8]) -> Result<Said, AllocError>
         requires keeper { IsKeeper D.Disk.seen D.Disk.may_leave D.Disk.is_usable D.Disk.is_clean self.old }
-        ensures says { Says (answer_asked (standing_of self.old) question.now) result (text_of self.new) }
-        ensures site { site_of self.new ≡ site_of self.old }
-        ensures watched { OnOk result ((standing_of self.new).watched ≡ watched_after (standing_of self.old) question.now) }
+        ensures says { Says (answer_asked (watched_site_of self.old) question.now) result (answer_of_keeper self.new) }
+        ensures site { core_of_keeper self.new ≡ core_of_keeper self.old }
+        ensures watched { OnOk result ((watched_site_of self.new).watched ≡ watched_after (watched_site_of self.old) question.now) }
         ensures keeper { IsKeeper D.Disk.seen D.Disk.may_leave D.Disk.is_usable D.Disk.is_clean self.new }
         ensures disk { keeper_disk self.new ≡ keeper_disk self.old }
     {
@@ -132,16 +132,16 @@ impl<D: Disk> Keeper<D> {
     pub fn round(&mut self, alloc: Global, text: &[u8]) -> Result<Vec<Answer>, KeeperError>
         requires keeper { IsKeeper D.Disk.seen D.Disk.may_leave D.Disk.is_usable D.Disk.is_clean self.old }
 
-        ensures answers { IfOk result (λ answers. answers.items ≡ answers_to (site_of self.old) (ended_lines text.now)) }
-        ensures site { OnOk result (site_of self.new ≡ core_after (site_of self.old) (ended_lines text.now)) }
-        ensures watched { (standing_of self.new).watched ≡ (standing_of self.old).watched }
+        ensures answers { IfOk result (λ answers. answers.items ≡ answers_to (core_of_keeper self.old) (ended_lines text.now)) }
+        ensures site { OnOk result (core_of_keeper self.new ≡ core_after (core_of_keeper self.old) (ended_lines text.now)) }
+        ensures watched { (watched_site_of self.new).watched ≡ (watched_site_of self.old).watched }
         ensures keeper { OnOk result (IsKeeper D.Disk.seen D.Disk.may_leave D.Disk.is_usable D.Disk.is_clean self.new) }
         ensures acknowledged { IsTrue (D.Disk.is_clean (keeper_disk self.old)) → OnOk result (recorded (D.Disk.seen (keeper_disk self.new))
-            ≡ recorded (D.Disk.seen (keeper_disk self.old)) ++ brought (site_of self.old) (ended_lines text.now)) }
+            ≡ recorded (D.Disk.seen (keeper_disk self.old)) ++ brought (core_of_keeper self.old) (ended_lines text.now)) }
 
         // A crash at any moment of the call leaves the lines from before it, with all that the round brings or with none.
         ensures crash { IsTrue (D.Disk.is_clean (keeper_disk self.old)) → (c : List ℕ) → D.Disk.may_leave (keeper_disk self.new) c
-            → IsRecordedBeforeOrAfter (recorded (D.Disk.seen (keeper_disk self.old))) (brought (site_of self.old) (ended_lines text.now)) c }
+            → IsRecordedBeforeOrAfter (recorded (D.Disk.seen (keeper_disk self.old))) (brought (core_of_keeper self.old) (ended_lines text.now)) c }
         ensures clean { D.Disk.is_clean (keeper_disk self.new) ≡ D.Disk.is_clean (keeper_disk self.old) }
         ensures failed { IfErr result (λ e. e ≡ error.Journal journal.Disk → MoreFaults (D.Disk.faults (keeper_disk self.old)) (D.Disk.faults (keeper_disk self.new))) }
         ensures faults { D.Disk.faults (keeper_disk self.old) ≤ D.Disk.faults (keeper_disk self.new) }

@@ -1,4 +1,4 @@
-//! Each type of element with ample memory, its order, and the numbers of faults. `examples/cases/elements.txt` has what is
+//! Each type of element with ample memory, its order, and the numbers of faults. `tests/data/cases/elements.txt` has what is
 //! read at the keys of messages and what is refused there.
 
 use sct_element::*;

@@ -1,4 +1,4 @@
-//! Reading and writing with ample memory. `examples/cases/forms.txt` has what is read of messages of each kind, and `faults.txt`
+//! Reading and writing with ample memory. `tests/data/cases/forms.txt` has what is read of messages of each kind, and `faults.txt`
 //! the first fault of those that are refused.
 
 use sct_json::*;

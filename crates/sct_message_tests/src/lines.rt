@@ -1,4 +1,4 @@
-//! Lines with ample memory. `examples/cases/lines.txt` has what is read of them, and `tests/golden/made_inputs.py` lines that end
+//! Lines with ample memory. `tests/data/cases/lines.txt` has what is read of them, and `tests/golden/made_inputs.py` lines that end
 //! otherwise.
 
 use sct_json::{JsonFault, write_message};

@@ -1,4 +1,4 @@
-//! Messages made of the elements of worked examples. `examples/cases/faults.txt` has the rules of each kind. Here are those that
+//! Messages made of the elements of worked examples. `tests/data/cases/faults.txt` has the rules of each kind. Here are those that
 //! no line can break, since its reading ends before.
 
 mod lists;

@@ -1,4 +1,4 @@
-//! Reasons by the reason table. `examples/cases/reasons.txt` has those that are usual for a rejection, and for the refusal of a recall.
+//! Reasons by the reason table. `tests/data/cases/reasons.txt` has those that are usual for a rejection, and for the refusal of a recall.
 
 use sct_reason::*;
 use std::process::Abort;

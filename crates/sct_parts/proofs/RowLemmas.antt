@@ -11,7 +11,7 @@ use Rattle.sct_case.proofs.Membership.{filtered_in, in_filter}
 use Rattle.sct_view.specs.Answers.{transfers_of_bank}
 use Rattle.sct_view.specs.Touched.{IsToldAlike}
 use Rattle.sct_reconcile.specs.Reports.{amount_in, is_of_day, keys_reported, listed_on, report_of, row_from, row_on, transfers_on_day}
-use Rattle.sct_reconcile.specs.Words.{word_of}
+use Rattle.sct_case.specs.Words.{word_of}
 use Rattle.sct_reconcile.specs.declared.rows.ListedRow.{ListedRow}
 use Rattle.std.specs.Prelude.{◌≢◌, None, filter}
 use Rattle.std.specs.List.{list_any}
@@ -29,8 +29,8 @@ use Rattle.sct_view.proofs.SetKeys.{on_is}
 use Rattle.sct_view.proofs.StandingLemmas.{is_known, key_known}
 use Rattle.sct_view.proofs.TouchedLemmas.{found_held}
 use Rattle.sct_reconcile.specs.Reports.{word_on}
-use Rattle.sct_reconcile.specs.declared.words.StatusWord.{StatusWord}
-use Rattle.sct_reconcile.specs.declared.words.StatusWord.TheVariants as word
+use Rattle.sct_case.specs.declared.words.StatusWord.{StatusWord}
+use Rattle.sct_case.specs.declared.words.StatusWord.TheVariants as word
 use Rattle.sct_parts.specs.Parts.{ShareNothing, has_key}
 use Rattle.sct_parts.proofs.Members.{same_members, key_held, key_there, key_away}
 use Rattle.sct_parts.proofs.ApartLemmas.{by_messages, of_one}

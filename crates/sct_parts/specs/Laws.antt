@@ -20,7 +20,7 @@ use Rattle.sct_view.specs.Touched.{IsToldAlike}
 use Rattle.sct_reconcile.specs.Reports.{listed_on, report_of, row_from, row_on, transfers_on_day, word_on}
 use Rattle.sct_reconcile.specs.declared.rows.ListedRow.{ListedRow}
 use Rattle.sct_reconcile.specs.declared.rows.ReportRow.{ReportRow}
-use Rattle.sct_reconcile.specs.declared.words.StatusWord.TheVariants as word
+use Rattle.sct_case.specs.declared.words.StatusWord.TheVariants as word
 use Rattle.sct_parts.specs.Parts.{AreAllApart, AreApart, IsReportedBy, ShareNothing, banks_of_all, banks_of_both, keys_of_all, keys_of_both, keys_reported_of_all, keys_reported_of_both, lines_in_its_part, lines_in_part, part_with, row_in_its_part, row_in_part, totals_in, union_of}
 
 -- ---- what is apart

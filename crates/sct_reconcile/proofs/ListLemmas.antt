@@ -2,7 +2,7 @@
 use Rattle.std.specs.Prelude.{◌⊎◌, ◌+◌, length, map, if◌then◌else◌}
 use Rattle.std.proofs.Common.{◌≡◌, ◌∙◌, ap, sym, refl, ℕ, Bool, true, false, List, [], ◌∷◌, ◌++◌, Option, Some, None, Result, Ok, Err, arith, inl, inr}
 use Rattle.std.proofs.lemmas.Bool.{cases_Bool}
-use Rattle.sct_reconcile.specs.Lists.{is_header, list_in, row_before, row_of, rows_below}
+use Rattle.sct_reconcile.specs.Lists.{is_header, listed_rows_in, row_before, row_of, rows_below}
 use Rattle.sct_reconcile.specs.Laws.{IsListOf, IsBadBelow, IsHeadless}
 use Rattle.sct_reconcile.specs.declared.fault.ReconcileFault.{ReconcileFault}
 use Rattle.sct_reconcile.specs.declared.fault.ReconcileFault.TheVariants.{BadList}
@@ -83,12 +83,12 @@ told_bad (r ∷ rs) (row ∷ rows) bad behind n good none =
 
 -- ---- the list
 
-headed : (r : List (List ℕ)) (rs : List (List (List ℕ))) (b : Bool) → is_header r ≡ b → list_in (r ∷ rs) ≡ (if b then rows_below 2 rs else Err (BadList 1))
-unfolding list_in
+headed : (r : List (List ℕ)) (rs : List (List (List ℕ))) (b : Bool) → is_header r ≡ b → listed_rows_in (r ∷ rs) ≡ (if b then rows_below 2 rs else Err (BadList 1))
+unfolding listed_rows_in
 headed r rs b e = rw e refl
 
-pub is_list : (records : List (List (List ℕ))) (rows : List ListedRow) → list_in records ≡ Ok rows → IsListOf records rows
-unfolding list_in
+pub is_list : (records : List (List (List ℕ))) (rows : List ListedRow) → listed_rows_in records ≡ Ok rows → IsListOf records rows
+unfolding listed_rows_in
 is_list [] rows e = cc e
 is_list (r ∷ rs) rows e = elim (cases_Bool (is_header r)) [
   | inl named ↦ record {
@@ -101,8 +101,8 @@ is_list (r ∷ rs) rows e = elim (cases_Bool (is_header r)) [
   | inr other ↦ cc (sym (headed r rs false other) ∙ e)
 ]
 
-pub list_is : (records : List (List (List ℕ))) (rows : List ListedRow) → IsListOf records rows → list_in records ≡ Ok rows
-list_is records rows l = ap list_in l.records_are ∙ headed l.header l.below true l.header_is ∙ all_rows l.below 2 rows l.rows_are
+pub list_is : (records : List (List (List ℕ))) (rows : List ListedRow) → IsListOf records rows → listed_rows_in records ≡ Ok rows
+list_is records rows l = ap listed_rows_in l.records_are ∙ headed l.header l.below true l.header_is ∙ all_rows l.below 2 rows l.rows_are
 
 bad_below : (r : List (List ℕ)) (rs : List (List (List ℕ))) (number : ℕ) → is_header r ≡ true → IsBad rs 2 number → IsBadBelow (r ∷ rs) number
 bad_below r rs number named (before, bad, behind, rows, is, good, none, counted) = record {
@@ -118,16 +118,16 @@ bad_below r rs number named (before, bad, behind, rows, is, good, none, counted)
   counted = counted;
 }
 
-one_is : (number : ℕ) → list_in [] ≡ Err (BadList number) → number ≡ 1
-unfolding list_in
+one_is : (number : ℕ) → listed_rows_in [] ≡ Err (BadList number) → number ≡ 1
+unfolding listed_rows_in
 one_is number e =
     let same : BadList 1 ≡ BadList number = cc e in
     let one : 1 ≡ number = cc same in
     sym one
 
-pub is_refused : (records : List (List (List ℕ))) (number : ℕ) → list_in records ≡ Err (BadList number)
+pub is_refused : (records : List (List (List ℕ))) (number : ℕ) → listed_rows_in records ≡ Err (BadList number)
     → ((number ≡ 1) × IsHeadless records) ⊎ IsBadBelow records number
-unfolding list_in
+unfolding listed_rows_in
 is_refused [] number e = inl (one_is number e, tt)
 is_refused (r ∷ rs) number e = elim (cases_Bool (is_header r)) [
   | inl named ↦ inr (bad_below r rs number named (first_bad rs 2 number (sym (headed r rs true named) ∙ e)))
@@ -137,16 +137,16 @@ is_refused (r ∷ rs) number e = elim (cases_Bool (is_header r)) [
       inl (sym one, other)
 ]
 
-headless_refused : (records : List (List (List ℕ))) → IsHeadless records → list_in records ≡ Err (BadList 1)
-unfolding list_in
+headless_refused : (records : List (List (List ℕ))) → IsHeadless records → listed_rows_in records ≡ Err (BadList 1)
+unfolding listed_rows_in
 headless_refused [] headless = refl
 headless_refused (r ∷ rs) other = headed r rs false other
 
 pub refused_is : (records : List (List (List ℕ))) (number : ℕ) → ((number ≡ 1) × IsHeadless records) ⊎ IsBadBelow records number
-    → list_in records ≡ Err (BadList number)
+    → listed_rows_in records ≡ Err (BadList number)
 refused_is records number (inl (one, headless)) = headless_refused records headless ∙ ap (λ (m : ℕ). Err (BadList m)) (sym one)
 refused_is records number (inr b) =
-    ap list_in b.records_are
+    ap listed_rows_in b.records_are
     ∙ headed b.header (b.before ++ b.bad ∷ b.behind) true b.header_is
     ∙ told_bad b.before b.rows b.bad b.behind 2 b.rows_are b.bad_is
     ∙ ap (λ (m : ℕ). Err (BadList m)) (sym b.counted)

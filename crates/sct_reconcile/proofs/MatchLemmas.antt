@@ -6,11 +6,11 @@ use Rattle.std.proofs.lemmas.Bool.Decides.{nat_tests}
 use Rattle.sct_reconcile.specs.Words.{agrees, list_status_text}
 use Rattle.sct_element.specs.Text.{is_text}
 use Rattle.std.specs.Cmp.Lexicographic.{bytes_decides}
-use Rattle.sct_reconcile.specs.Reports.{verdict_of, is_uninstructed, is_contradicted, is_listed_twice}
+use Rattle.sct_reconcile.specs.Reports.{verdict_of, is_uninstructed, is_contradicted_word, is_listed_twice}
 use Rattle.sct_reconcile.specs.Laws.{IsMatch}
 use Rattle.sct_reconcile.specs.declared.rows.Listed.{Listed}
-use Rattle.sct_reconcile.specs.declared.words.StatusWord.{StatusWord}
-use Rattle.sct_reconcile.specs.declared.words.StatusWord.TheVariants as word
+use Rattle.sct_case.specs.declared.words.StatusWord.{StatusWord}
+use Rattle.sct_case.specs.declared.words.StatusWord.TheVariants as word
 use Rattle.sct_reconcile.specs.declared.words.Verdict.TheVariants as verdict
 
 is_two : (l m : Listed) (rest : List Listed) → is_listed_twice (l ∷ m ∷ rest) ≡ true
@@ -18,7 +18,7 @@ is_two l m rest = grind (arith, nat_tests)
 
 -- a row agrees where its amount and its word do
 decided : (listed : Listed) (told : StatusWord) (amount : Option ℕ) → verdict_of (listed ∷ []) told amount ≡ verdict.Matched
-    → is_contradicted told ≡ false → is_uninstructed told ≡ false → (amount ≡ Some listed.amount) × (agrees listed.status told ≡ true)
+    → is_contradicted_word told ≡ false → is_uninstructed told ≡ false → (amount ≡ Some listed.amount) × (agrees listed.status told ≡ true)
 unfolding verdict_of
 decided listed told None e a b = cc (rw (a, b) at e)
 decided listed told (Some cents) e a b = elim (cases_Bool (nat_eq listed.amount cents)) [
@@ -30,7 +30,7 @@ decided listed told (Some cents) e a b = elim (cases_Bool (nat_eq listed.amount 
 ]
 
 one_row : (listed : Listed) (told : StatusWord) (amount : Option ℕ) → verdict_of (listed ∷ []) told amount ≡ verdict.Matched
-    → is_contradicted told ≡ false → is_uninstructed told ≡ false → told ≢ word.Contradicted → told ≢ word.Unknown → told ≢ word.Missing
+    → is_contradicted_word told ≡ false → is_uninstructed told ≡ false → told ≢ word.Contradicted → told ≢ word.Unknown → told ≢ word.Missing
     → IsMatch (listed ∷ []) told amount
 one_row listed told amount e a b agreed known instructed =
     let same = decided listed told amount e a b in
@@ -66,7 +66,7 @@ is_match (l ∷ []) word.Pending amount e = one_row l word.Pending amount e refl
 
 -- ---- and back
 
-not_contradicted : (told : StatusWord) → told ≢ word.Contradicted → is_contradicted told ≡ false
+not_contradicted : (told : StatusWord) → told ≢ word.Contradicted → is_contradicted_word told ≡ false
 not_contradicted word.Contradicted d = absurd (d refl)
 not_contradicted word.Unknown d = refl
 not_contradicted word.Missing d = refl
@@ -86,7 +86,7 @@ not_uninstructed word.Accepted u m = refl
 not_uninstructed word.Investigated u m = refl
 not_uninstructed word.Pending u m = refl
 
-one_matched : (listed : Listed) (told : StatusWord) → is_contradicted told ≡ false → is_uninstructed told ≡ false
+one_matched : (listed : Listed) (told : StatusWord) → is_contradicted_word told ≡ false → is_uninstructed told ≡ false
     → agrees listed.status told ≡ true → verdict_of (listed ∷ []) told (Some listed.amount) ≡ verdict.Matched
 unfolding verdict_of
 one_matched listed told a b e = rw (a, b, eq-eqb listed.amount listed.amount refl, e) refl

@@ -5,7 +5,7 @@ use Rattle.std.proofs.lemmas.Bool.{ne_eqb, false≢true}
 use Rattle.std.specs.List.{drop-map, slice_get}
 use Rattle.std.proofs.lemmas.List.{drop_all}
 use Rattle.csv.specs.Records.{field_at}
-use Rattle.sct_reconcile.specs.Lists.{are_names, is_header, list_in, row_before, row_in, row_of, rows_below}
+use Rattle.sct_reconcile.specs.Lists.{are_names, is_header, listed_rows_in, row_before, row_in, row_of, rows_below}
 use Rattle.sct_reconcile.specs.Turns.{field_or, onto}
 use Rattle.sct_reconcile.specs.declared.rows.ListedRow.{ListedRow}
 use Rattle.sct_reconcile.specs.declared.fault.ReconcileFault.{ReconcileFault}
@@ -83,22 +83,22 @@ onto_more rows row (Err fault) n = refl
 -- ---- the list under its header
 
 module _ {X : Type 0} (fields_in : X → List (List ℕ)) where
-  pub list_empty : (all : List X) → slice_get all 0 ≡ None → list_in (map fields_in all) ≡ Err (BadList 1)
-  unfolding list_in
+  pub list_empty : (all : List X) → slice_get all 0 ≡ None → listed_rows_in (map fields_in all) ≡ Err (BadList 1)
+  unfolding listed_rows_in
   list_empty [] e = refl
   list_empty (x ∷ xs) e = cc e
 
   pub list_headless : (all : List X) (first : X) → slice_get all 0 ≡ Some first → is_header (fields_in first) ≡ false
-      → list_in (map fields_in all) ≡ Err (BadList 1)
-  unfolding list_in
+      → listed_rows_in (map fields_in all) ≡ Err (BadList 1)
+  unfolding listed_rows_in
   list_headless [] first e other = refl
   list_headless (x ∷ xs) first e other =
       let same : x ≡ first = cc e in
       rw (same, other) refl
 
   pub list_headed : (all : List X) (first : X) → slice_get all 0 ≡ Some first → is_header (fields_in first) ≡ true
-      → list_in (map fields_in all) ≡ rows_below 2 (drop 1 (map fields_in all))
-  unfolding list_in
+      → listed_rows_in (map fields_in all) ≡ rows_below 2 (drop 1 (map fields_in all))
+  unfolding listed_rows_in
   list_headed [] first e named = cc e
   list_headed (x ∷ xs) first e named =
       let same : x ≡ first = cc e in

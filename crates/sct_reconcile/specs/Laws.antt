@@ -7,15 +7,16 @@ use Rattle.sct_message.specs.Transfers.{instruction_of}
 use Rattle.sct_message.specs.declared.keys.TransferKey.{TransferKey}
 use Rattle.sct_set.specs.Contents.{HaveSameMessages}
 use Rattle.sct_view.specs.Answers.{transfers_of_bank}
-use Rattle.sct_reconcile.specs.Lists.{is_header, list_in, records_of, row_of}
+use Rattle.sct_reconcile.specs.Lists.{is_header, listed_rows_in, records_of, row_of}
 use Rattle.sct_reconcile.specs.Reports.{fields_of_row, is_of_day, keys_reported, report_header, report_of, report_text_of, row_on, verdict_of}
-use Rattle.sct_reconcile.specs.Words.{list_status_text, word_text}
+use Rattle.sct_case.specs.Words.{word_text}
+use Rattle.sct_reconcile.specs.Words.{list_status_text}
 use Rattle.sct_reconcile.specs.declared.fault.ReconcileFault.TheVariants.{BadList}
 use Rattle.sct_reconcile.specs.declared.rows.Listed.{Listed}
 use Rattle.sct_reconcile.specs.declared.rows.ListedRow.{ListedRow}
 use Rattle.sct_reconcile.specs.declared.rows.ReportRow.{ReportRow}
-use Rattle.sct_reconcile.specs.declared.words.StatusWord.{StatusWord}
-use Rattle.sct_reconcile.specs.declared.words.StatusWord.TheVariants as word
+use Rattle.sct_case.specs.declared.words.StatusWord.{StatusWord}
+use Rattle.sct_case.specs.declared.words.StatusWord.TheVariants as word
 use Rattle.sct_reconcile.specs.declared.words.Verdict.TheVariants as verdict
 
 -- ---- lists, by the records of their text
@@ -49,8 +50,8 @@ IsHeadless (first ∷ behind) = is_header first ≡ false
 
 -- A list is read exactly if the records are one, and a bad record is reported exactly if it is the first one.
 pub record ListsAreExact : Type 0 where
-  pub read : (records : List (List (List ℕ))) (rows : List ListedRow) → (list_in records ≡ Ok rows) ↔ IsListOf records rows
-  pub refused : (records : List (List (List ℕ))) (number : ℕ) → (list_in records ≡ Err (BadList number))
+  pub read : (records : List (List (List ℕ))) (rows : List ListedRow) → (listed_rows_in records ≡ Ok rows) ↔ IsListOf records rows
+  pub refused : (records : List (List (List ℕ))) (number : ℕ) → (listed_rows_in records ≡ Err (BadList number))
       ↔ (((number ≡ 1) × IsHeadless records) ⊎ IsBadBelow records number)
 
 -- ---- reports

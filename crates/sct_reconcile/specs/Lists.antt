@@ -27,12 +27,12 @@ records_of bytes = records default_config (strip_bom bytes)
 -- ---- one record
 
 -- a field as text; none if it is not UTF-8
-abbrev pub text_of : List ℕ → Option (List ℕ)
-text_of field = where_read (is_utf8 field) field
+abbrev pub field_text : List ℕ → Option (List ℕ)
+field_text field = where_read (is_utf8 field) field
 
 -- the value of a field; none if it is not UTF-8, or not a text of its type
 abbrev pub read_by : {X : Type 0} → (List ℕ → Option X) → List ℕ → Option X
-read_by reads field = option_and_then reads (text_of field)
+read_by reads field = option_and_then reads (field_text field)
 
 -- the row of four values; none if one of them is missing
 abbrev pub said_by : Option (List ℕ) → Option (List ℕ) → Option ℕ → Option ListStatus → Option ListedRow
@@ -76,16 +76,16 @@ rows_below number [] = Ok []
 rows_below number (fields ∷ more) = row_before (row_of fields) number (rows_below (number + 1) more)
 
 -- the rows below a header that is the first record; without a header, the first record is bad
-unfoldable pub list_in : List (List (List ℕ)) → Result (List ListedRow) ReconcileFault
-list_in [] = Err (BadList 1)
-list_in (fields ∷ more) = if is_header fields then rows_below 2 more else Err (BadList 1)
+unfoldable pub listed_rows_in : List (List (List ℕ)) → Result (List ListedRow) ReconcileFault
+listed_rows_in [] = Err (BadList 1)
+listed_rows_in (fields ∷ more) = if is_header fields then rows_below 2 more else Err (BadList 1)
 
 -- the list that a text is, or the number of its first bad record, counted from 1 with the header
 abbrev pub list_of : List ℕ → Result (List ListedRow) ReconcileFault
-list_of bytes = list_in (records_of bytes)
+list_of bytes = listed_rows_in (records_of bytes)
 
 -- a call returns the given answer, or is out of memory
-abbrev pub Gives : {X : Type 0} → Result X ReconcileFault → Result X ReconcileFault → Type 0
-Gives (Ok x) asked = asked ≡ Ok x
-Gives (Err (BadList number)) asked = asked ≡ Err (BadList number)
-Gives (Err Memory) asked = ⊤
+abbrev pub GivesOrNoMemory : {X : Type 0} → Result X ReconcileFault → Result X ReconcileFault → Type 0
+GivesOrNoMemory (Ok x) asked = asked ≡ Ok x
+GivesOrNoMemory (Err (BadList number)) asked = asked ≡ Err (BadList number)
+GivesOrNoMemory (Err Memory) asked = ⊤

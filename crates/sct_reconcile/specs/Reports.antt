@@ -13,12 +13,13 @@ use Rattle.sct_message.specs.declared.draft.Draft.{Draft}
 use Rattle.sct_message.specs.declared.draft.Draft.TheVariants.{CreditTransfer}
 use Rattle.sct_message.specs.declared.keys.TransferKey.{TransferKey}
 use Rattle.sct_view.specs.Answers.{status_of, transfers_of_bank}
-use Rattle.sct_reconcile.specs.Words.{agrees, list_status_text, verdict_text, word_of, word_text}
+use Rattle.sct_case.specs.Words.{word_of, word_text}
+use Rattle.sct_reconcile.specs.Words.{agrees, list_status_text, verdict_text}
 use Rattle.sct_reconcile.specs.declared.rows.Listed.{Listed}
 use Rattle.sct_reconcile.specs.declared.rows.ListedRow.{ListedRow}
 use Rattle.sct_reconcile.specs.declared.rows.ReportRow.{ReportRow}
-use Rattle.sct_reconcile.specs.declared.words.StatusWord.{StatusWord}
-use Rattle.sct_reconcile.specs.declared.words.StatusWord.TheVariants as word
+use Rattle.sct_case.specs.declared.words.StatusWord.{StatusWord}
+use Rattle.sct_case.specs.declared.words.StatusWord.TheVariants as word
 use Rattle.sct_reconcile.specs.declared.words.Verdict.{Verdict}
 use Rattle.sct_reconcile.specs.declared.words.Verdict.TheVariants as verdict
 
@@ -44,13 +45,13 @@ abbrev pub is_listed_twice : List Listed → Bool
 is_listed_twice listed = nat_lt 1 (length listed)
 
 -- the list names the transfer
-abbrev pub is_listed : List Listed → Bool
-is_listed listed = nat_lt 0 (length listed)
+abbrev pub is_named_by_list : List Listed → Bool
+is_named_by_list listed = nat_lt 0 (length listed)
 
 -- its messages contradict each other
-abbrev pub is_contradicted : StatusWord → Bool
-is_contradicted word.Contradicted = true
-is_contradicted other = false
+abbrev pub is_contradicted_word : StatusWord → Bool
+is_contradicted_word word.Contradicted = true
+is_contradicted_word other = false
 
 -- no message instructs the transfer
 abbrev pub is_uninstructed : StatusWord → Bool
@@ -73,10 +74,10 @@ has_status None told = false
 unfoldable pub verdict_of : List Listed → StatusWord → Option ℕ → Verdict
 verdict_of listed told amount =
     if is_listed_twice listed then verdict.ListedTwice
-    else if is_contradicted told then verdict.Contradicted
-    else if is_uninstructed told && is_listed listed then verdict.OnlyInList
+    else if is_contradicted_word told then verdict.Contradicted
+    else if is_uninstructed told && is_named_by_list listed then verdict.OnlyInList
     else if is_uninstructed told then verdict.Missing
-    else if not (is_listed listed) then verdict.OnlyInArchive
+    else if not (is_named_by_list listed) then verdict.OnlyInArchive
     else if not (has_amount (sole listed) amount) then verdict.AmountDiffers
     else if not (has_status (sole listed) told) then verdict.StatusDiffers
     else verdict.Matched

@@ -1,11 +1,10 @@
 -- The words of lists and reports. Read by an auditor.
 use Rattle.std.specs.Prelude.{ℕ, Bool, List, Option, Some, None, codes, if◌then◌else◌}
 use Rattle.sct_element.specs.Text.{is_text}
-use Rattle.sct_case.specs.Statuses.{Standing, Contradicted, Unknown, Missing, Rejected, Returned, Accepted, Investigated, Pending}
+use Rattle.sct_case.specs.Words.{word_text}
+use Rattle.sct_case.specs.declared.words.StatusWord.{StatusWord}
 use Rattle.sct_reconcile.specs.declared.words.ListStatus.{ListStatus}
 use Rattle.sct_reconcile.specs.declared.words.ListStatus.TheVariants as listed
-use Rattle.sct_reconcile.specs.declared.words.StatusWord.{StatusWord}
-use Rattle.sct_reconcile.specs.declared.words.StatusWord.TheVariants as word
 use Rattle.sct_reconcile.specs.declared.words.Verdict.{Verdict}
 use Rattle.sct_reconcile.specs.declared.words.Verdict.TheVariants as verdict
 
@@ -29,27 +28,6 @@ list_status_of text =
     else None
 
 -- ---- the status of a transfer
-
--- the word of a status, without its argument
-abbrev pub word_of : Standing → StatusWord
-word_of (Contradicted found) = word.Contradicted
-word_of Unknown = word.Unknown
-word_of Missing = word.Missing
-word_of (Rejected reason) = word.Rejected
-word_of (Returned amount) = word.Returned
-word_of Accepted = word.Accepted
-word_of Investigated = word.Investigated
-word_of Pending = word.Pending
-
-abbrev pub word_text : StatusWord → List ℕ
-word_text word.Contradicted = codes "CONTRADICTED"
-word_text word.Unknown = codes "UNKNOWN"
-word_text word.Missing = codes "MISSING"
-word_text word.Rejected = codes "REJECTED"
-word_text word.Returned = codes "RETURNED"
-word_text word.Accepted = codes "ACCEPTED"
-word_text word.Investigated = codes "INVESTIGATED"
-word_text word.Pending = codes "PENDING"
 
 -- the list and the messages have the same word
 abbrev pub agrees : ListStatus → StatusWord → Bool

@@ -2,17 +2,18 @@
 ghost use Rattle.std.specs.Prelude.{◌≡◌, Some};
 ghost use Rattle.sct_message.specs.Transfers.{instruction_of, sole};
 ghost use Rattle.sct_reconcile.specs.Reports.{amount_in, row_beside, row_from, verdict_of};
-ghost use Rattle.sct_reconcile.specs.Reports.{has_amount, has_status, is_contradicted, is_uninstructed};
+ghost use Rattle.sct_reconcile.specs.Reports.{has_amount, has_status, is_contradicted_word, is_uninstructed};
 
 use crate::rows::{Listed, ReportRow};
-use crate::words::{StatusWord, Verdict};
+use crate::words::Verdict;
+use sct_case::StatusWord;
 use sct_element::Amount;
 use sct_message::{Draft, Message, TransferKey};
 use sct_view::View;
 
 // Whether the messages on a transfer contradict each other.
 fn is_contradicted(status: StatusWord) -> bool
-    ensures { result ≡ is_contradicted status }
+    ensures { result ≡ is_contradicted_word status }
 {
     matches!(status, StatusWord::Contradicted)
 }
@@ -126,7 +127,7 @@ fn row_from(
 pub fn row_on(view: &View, listed: &[Listed], key: &TransferKey) -> ReportRow
     ensures { result ≡ row_beside view.now listed.now key.now }
 {
-    let status = StatusWord::of(view.status(key));
+    let status = view.status(key).word();
     let amount = amount_on(view, key);
     row_from(key.copy(), listed, status, amount)
 }

@@ -20,4 +20,4 @@ pub use judged::row_on;
 pub use lists::List;
 pub use reports::{Report, reconcile, reconcile_alone};
 pub use rows::{Listed, ListedRow, ReportRow};
-pub use words::{ListStatus, StatusWord, Verdict};
+pub use words::{ListStatus, Verdict};

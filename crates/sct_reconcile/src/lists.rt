@@ -2,7 +2,7 @@
 ghost use Rattle.std.specs.Prelude.{◌≡◌, ◌+◌, ◌<◌, ◌^◌, map, drop};
 ghost use Rattle.csv.specs.Records.{fields_of};
 ghost use Rattle.sct_element.specs.Money.{cents_of};
-ghost use Rattle.sct_reconcile.specs.Lists.{Gives, are_names, is_header, list_in, list_of, read_by};
+ghost use Rattle.sct_reconcile.specs.Lists.{GivesOrNoMemory, are_names, is_header, list_of, listed_rows_in, read_by};
 ghost use Rattle.sct_reconcile.specs.Lists.{row_in, row_of, rows_below};
 ghost use Rattle.sct_reconcile.specs.Turns.{GivesRows};
 ghost use Rattle.sct_reconcile.specs.declared.fault.ReconcileFault.TheVariants as fault;
@@ -44,7 +44,7 @@ impl List {
     ///
     /// O(bytes of the text).
     pub fn read(alloc: Global, text: &[u8]) -> Result<List, ReconcileFault>
-        ensures { Gives result (list_of text.now) }
+        ensures { GivesOrNoMemory result (list_of text.now) }
     {
         let records = all_records(alloc, text)?;
         let rows = rows_in(alloc, &records)?;
@@ -139,7 +139,7 @@ fn rows_after_first(alloc: Global, records: &[ByteRecord]) -> Result<Vec<ListedR
 
 // The rows of all records. The first record must be the header.
 fn rows_in(alloc: Global, records: &[ByteRecord]) -> Result<Vec<ListedRow>, ReconcileFault>
-    ensures { GivesRows result (list_in (map fields_of records.now)) }
+    ensures { GivesRows result (listed_rows_in (map fields_of records.now)) }
 {
     let Some(first) = records.first() else {
         return Err(ReconcileFault::BadList(1));

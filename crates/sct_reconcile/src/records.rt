@@ -1,7 +1,7 @@
 //! The records of a text, as `csv` reads them.
 ghost use Rattle.std.specs.Prelude.{◌≡◌, map, IfOk, option_map};
 ghost use Rattle.csv.specs.Records.{field_at, fields_of};
-ghost use Rattle.sct_reconcile.specs.Lists.{records_of, text_of};
+ghost use Rattle.sct_reconcile.specs.Lists.{field_text, records_of};
 ghost use Rattle.sct_reconcile.specs.Turns.{field_or};
 
 use csv::{ByteRecord, Error, ReaderBuilder};
@@ -27,7 +27,7 @@ pub(crate) fn all_records(alloc: Global, text: &[u8]) -> Result<Vec<ByteRecord>,
 
 /// A field as text, or none if it is not UTF-8. O(bytes of the field).
 pub(crate) fn text_of(field: &[u8]) -> Option<&str>
-    ensures { option_map (λ s. s.now) result ≡ text_of field.now }
+    ensures { option_map (λ s. s.now) result ≡ field_text field.now }
 {
     match str::from_utf8(field) {
         Ok(text) => Some(text),

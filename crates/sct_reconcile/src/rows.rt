@@ -1,6 +1,7 @@
 //! The rows of lists and reports.
 
-use crate::words::{ListStatus, StatusWord, Verdict};
+use crate::words::{ListStatus, Verdict};
+use sct_case::StatusWord;
 use sct_element::Amount;
 use sct_message::TransferKey;
 

@@ -1,10 +1,8 @@
 //! The words of lists and reports.
 ghost use Rattle.std.specs.Prelude.{◌≡◌};
-ghost use Rattle.sct_case.specs.Statuses.{as_standing};
 ghost use Rattle.sct_reconcile.specs.Words.{agrees, list_status_of, list_status_text, verdict_text};
-ghost use Rattle.sct_reconcile.specs.Words.{word_of, word_text};
 
-use sct_case::Status;
+use sct_case::StatusWord;
 
 /// The status of a transfer in a list.
 #[derive(Clone, Copy, Debug, PartialEq, Eq)]
@@ -49,53 +47,6 @@ impl ListStatus {
         ensures { result ≡ agrees self status }
     {
         self.text() == status.text()
-    }
-}
-
-/// The status of a transfer without its argument (a reason or an amount).
-#[derive(Clone, Copy, Debug, PartialEq, Eq)]
-pub enum StatusWord {
-    Contradicted,
-    Unknown,
-    Missing,
-    Rejected,
-    Returned,
-    Accepted,
-    Investigated,
-    Pending,
-}
-
-impl StatusWord {
-    /// The word of a status.
-    pub fn of(status: &Status) -> StatusWord
-        ensures { result ≡ word_of (as_standing status.now) }
-    {
-        match status {
-            Status::Contradicted(_) => StatusWord::Contradicted,
-            Status::Unknown => StatusWord::Unknown,
-            Status::Missing => StatusWord::Missing,
-            Status::Rejected(_) => StatusWord::Rejected,
-            Status::Returned(_) => StatusWord::Returned,
-            Status::Accepted => StatusWord::Accepted,
-            Status::Investigated => StatusWord::Investigated,
-            Status::Pending => StatusWord::Pending,
-        }
-    }
-
-    /// The word as it is written, such as `MISSING`.
-    pub fn text(self) -> &'static str
-        ensures { result.now ≡ word_text self }
-    {
-        match self {
-            StatusWord::Contradicted => "CONTRADICTED",
-            StatusWord::Unknown => "UNKNOWN",
-            StatusWord::Missing => "MISSING",
-            StatusWord::Rejected => "REJECTED",
-            StatusWord::Returned => "RETURNED",
-            StatusWord::Accepted => "ACCEPTED",
-            StatusWord::Investigated => "INVESTIGATED",
-            StatusWord::Pending => "PENDING",
-        }
     }
 }
 

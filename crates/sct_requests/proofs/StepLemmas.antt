@@ -9,7 +9,7 @@ use Rattle.sct_json.specs.declared.faults.JsonFault.{JsonFault}
 use Rattle.sct_lines.specs.Lines.{is_blank}
 use Rattle.sct_delta.specs.DeltaText.{delta_in}
 use Rattle.sct_delta.specs.Entries.{Placed}
-use Rattle.sct_site.specs.Cores.{Core, arrivals_taken, core_taken, fresh_of, is_repeat, own_entry}
+use Rattle.sct_site.specs.Cores.{Core, arrivals_taken, core_taken, fresh_entries, is_repeat, own_entry}
 use Rattle.sct_exchange.specs.Journals.{opened}
 use Rattle.sct_exchange.specs.Rounds.{File, core_with, is_accepted}
 use Rattle.sct_journal.specs.Kept.{AreLines}
@@ -40,7 +40,7 @@ grows_message core (Ok message) = grows_taken core message
 grows_message core (Err fault) = grows_not core
 
 grows_with : (core : Core) (file : File) → Grows core (core_with core file)
-grows_with core (Ok delta) = record { more = fresh_of core.arrivals delta; is = refl }
+grows_with core (Ok delta) = record { more = fresh_entries core.arrivals delta; is = refl }
 grows_with core (Err line) = grows_not core
 
 grows_offered : (core : Core) (file : File) → Grows core (core_offered core file)

@@ -11,7 +11,7 @@ use Rattle.sct_exchange.specs.Sites.{held_text}
 use Rattle.sct_embed.specs.Calls.{cut_answer}
 use Rattle.sct_embed.specs.Questions.{bank_answer, changes_since, contradictions_text_of, messages_answer, report_answer, transfer_answer}
 use Rattle.sct_embed.specs.declared.faults.EmbedFault.{EmbedFault}
-use Rattle.sct_requests.specs.Standings.{Standing}
+use Rattle.sct_requests.specs.WatchedSites.{WatchedSite}
 use Rattle.sct_requests.specs.Steps.{core_given, is_question_line, with_feeds}
 use Rattle.sct_requests.specs.declared.questions.QuestionFault.{QuestionFault}
 use Rattle.sct_requests.specs.declared.questions.QuestionFault.TheVariants as fault
@@ -47,15 +47,15 @@ about None answer = Err fault.NoQuestion
 about (Some words) answer = answered (answer words)
 
 -- Questions of one word. The one that evaluates what is new has an empty answer, and the next question does not have to wait for that.
-abbrev pub answer_named : Standing → List ℕ → Result (List ℕ) QuestionFault
-answer_named standing name =
-    if is_text name (codes "vector") then Ok (held_text standing.core.arrivals)
-    else if is_text name (codes "status") then Ok (status_text_of (messages_of standing.core.arrivals))
-    else if is_text name (codes "totals") then Ok (totals_text_of (messages_of standing.core.arrivals))
-    else if is_text name (codes "archive") then Ok (archive_text_of (messages_of standing.core.arrivals))
-    else if is_text name (codes "contradictions") then Ok (contradictions_text_of (messages_of standing.core.arrivals))
+abbrev pub answer_named : WatchedSite → List ℕ → Result (List ℕ) QuestionFault
+answer_named site name =
+    if is_text name (codes "vector") then Ok (held_text site.core.arrivals)
+    else if is_text name (codes "status") then Ok (status_text_of (messages_of site.core.arrivals))
+    else if is_text name (codes "totals") then Ok (totals_text_of (messages_of site.core.arrivals))
+    else if is_text name (codes "archive") then Ok (archive_text_of (messages_of site.core.arrivals))
+    else if is_text name (codes "contradictions") then Ok (contradictions_text_of (messages_of site.core.arrivals))
     else if is_text name (codes "evaluate") then Ok []
-    else if is_text name (codes "changes") then Ok (changes_since standing.watched standing.core.arrivals)
+    else if is_text name (codes "changes") then Ok (changes_since site.watched site.core.arrivals)
     else Err fault.NoQuestion
 
 -- the report on a list, in which tabs stand for line feeds
@@ -67,37 +67,37 @@ report_asked held None = Err fault.NoQuestion
 report_asked held (Some parts) = report_about held parts.0 (two_parts parts.1)
 
 -- questions about what comes after the first word
-abbrev pub answer_about : Standing → List ℕ → List ℕ → Result (List ℕ) QuestionFault
-answer_about standing name rest =
-    if is_text name (codes "cut") then about (one_word rest) (λ have. cut_answer have standing.core.arrivals)
+abbrev pub answer_about : WatchedSite → List ℕ → List ℕ → Result (List ℕ) QuestionFault
+answer_about site name rest =
+    if is_text name (codes "cut") then about (one_word rest) (λ have. cut_answer have site.core.arrivals)
     else if is_text name (codes "transfer")
-    then about (two_parts rest) (λ parts. transfer_answer parts.0 parts.1 (messages_of standing.core.arrivals))
+    then about (two_parts rest) (λ parts. transfer_answer parts.0 parts.1 (messages_of site.core.arrivals))
     else if is_text name (codes "messages")
-    then about (two_parts rest) (λ parts. messages_answer parts.0 parts.1 (messages_of standing.core.arrivals))
-    else if is_text name (codes "bank") then about (one_word rest) (λ bank. bank_answer bank (messages_of standing.core.arrivals))
-    else if is_text name (codes "report") then report_asked (messages_of standing.core.arrivals) (two_parts rest)
+    then about (two_parts rest) (λ parts. messages_answer parts.0 parts.1 (messages_of site.core.arrivals))
+    else if is_text name (codes "bank") then about (one_word rest) (λ bank. bank_answer bank (messages_of site.core.arrivals))
+    else if is_text name (codes "report") then report_asked (messages_of site.core.arrivals) (two_parts rest)
     else Err fault.NoQuestion
 
-abbrev pub answer_in : Standing → List ℕ → Option (List ℕ × List ℕ) → Result (List ℕ) QuestionFault
-answer_in standing text None = answer_named standing text
-answer_in standing text (Some parts) = answer_about standing parts.0 parts.1
+abbrev pub answer_in : WatchedSite → List ℕ → Option (List ℕ × List ℕ) → Result (List ℕ) QuestionFault
+answer_in site text None = answer_named site text
+answer_in site text (Some parts) = answer_about site parts.0 parts.1
 
 -- the answer to a question: `vector`, `cut HAVE`, `status`, `totals`, `archive`, `contradictions`, `evaluate`, `changes`,
 -- `transfer BANK TX`, `messages BANK TX`, `bank BANK` or `report BANK DAY LIST`
-unfoldable pub answer_asked : Standing → List ℕ → Result (List ℕ) QuestionFault
-answer_asked standing question = answer_in standing question (two_parts question)
+unfoldable pub answer_asked : WatchedSite → List ℕ → Result (List ℕ) QuestionFault
+answer_asked site question = answer_in site question (two_parts question)
 
 -- ---- what follows
 
 -- how many entries the site had when its changes were asked for last, after a question
-abbrev pub watched_after : Standing → List ℕ → Option ℕ
-watched_after standing question = if is_text question (codes "changes") then Some (length standing.core.arrivals) else standing.watched
+abbrev pub watched_after : WatchedSite → List ℕ → Option ℕ
+watched_after site question = if is_text question (codes "changes") then Some (length site.core.arrivals) else site.watched
 
--- the standing after a line: a question may begin to watch, and leaves the site; every other line leaves the watch
-unfoldable pub standing_given : Standing → List ℕ → Standing
-standing_given standing line = record {
-  core = core_given standing.core line;
-  watched = if is_question_line line then watched_after standing (drop 2 line) else standing.watched;
+-- the site and its watch after a line: a question may begin to watch, and leaves the site; every other line leaves the watch
+unfoldable pub watched_site_given : WatchedSite → List ℕ → WatchedSite
+watched_site_given site line = record {
+  core = core_given site.core line;
+  watched = if is_question_line line then watched_after site (drop 2 line) else site.watched;
 }
 
 -- The site has the text that was asked for as its answer. Or the question is refused for the reason. Or it is out of memory.

@@ -7,7 +7,7 @@ use Rattle.sct_json.specs.declared.faults.JsonFault.{JsonFault}
 use Rattle.sct_lines.specs.Lines.{is_blank}
 use Rattle.sct_delta.specs.DeltaText.{delta_in}
 use Rattle.sct_delta.specs.declared.fault.DeltaFault.{DeltaFault}
-use Rattle.sct_site.specs.Cores.{Core, core_taken, fresh_of, took_by}
+use Rattle.sct_site.specs.Cores.{Core, core_taken, fresh_entries, took_by}
 use Rattle.sct_exchange.specs.Journals.{opened}
 use Rattle.sct_exchange.specs.Rounds.{File, core_with, is_accepted, refusal_of}
 use Rattle.sct_requests.specs.declared.answers.Answer.{Answer}
@@ -67,7 +67,7 @@ answer_to_message core (Err fault) = answer.Unread fault
 
 -- how many entries of a file are new
 abbrev pub fresh_in_file : Core → File → ℕ
-fresh_in_file core (Ok delta) = length (fresh_of core.arrivals delta)
+fresh_in_file core (Ok delta) = length (fresh_entries core.arrivals delta)
 fresh_in_file core (Err line) = 0
 
 abbrev pub answer_by : Option DeltaFault → ℕ → Answer

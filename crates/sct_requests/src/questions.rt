@@ -2,7 +2,7 @@
 ghost use Rattle.std.specs.Prelude.{◌≡◌, [], Ok, Some, length, OnOk};
 ghost use Rattle.sct_delta.specs.Entries.{messages_of};
 ghost use Rattle.sct_embed.specs.Asking as asked;
-ghost use Rattle.sct_embed.specs.Asking.{answer_to};
+ghost use Rattle.sct_embed.specs.Asking.{answer_to_question};
 ghost use Rattle.sct_embed.specs.Calls.{cut_answer};
 ghost use Rattle.sct_embed.specs.Questions.{bank_answer, changes_since, messages_answer, transfer_answer};
 ghost use Rattle.sct_requests.specs.Questions.{Says, about, answer_about, answer_asked, answer_named, answered, one_word, report_asked, two_parts, watched_after};
@@ -26,9 +26,9 @@ pub type Said = Result<(), QuestionFault>;
 
 // Asks the site. The error is that it is out of memory.
 fn put(site: &mut EmbeddedSite, question: Question<'_>) -> Result<Said, AllocError>
-    ensures says { Says (answered (answer_to question.entry site.old)) result site.new.answer }
+    ensures says { Says (answered (answer_to_question question.entry site.old)) result site.new.answer }
     ensures core { site.new.core ≡ site.old.core }
-    ensures watched { asked.watched_after question.entry site.old ≡ site.old.watched → site.new.watched ≡ site.old.watched }
+    ensures watched { asked.watched_after_answer question.entry site.old ≡ site.old.watched → site.new.watched ≡ site.old.watched }
 {
     match site.ask(question) {
         Ok(()) => Ok(Ok(())),

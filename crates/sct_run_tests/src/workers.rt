@@ -100,6 +100,25 @@ fn shut_gate(rt: HostRuntime) {
     assert_eq!(rt; held.err(), Some(WorkFault::Held));
 }
 
+// The message identification of the entry with a number, of those that came to a site from an origin.
+fn identification_at(core: &SiteCore, origin: u16, n: u64) -> Option<&str> {
+    for entry in core.arrivals() {
+        if entry.origin == origin && entry.n == n {
+            return Some(entry.message.draft().head().message_id.text());
+        }
+    }
+    None
+}
+
+#[test]
+fn own_numbers_are_in_the_order_of_the_lines(rt: HostRuntime) {
+    let sites = filled(&rt, rt.alloc(), &FreeGate, TWO_SITES.inputs).expect(&rt, "sites");
+    for core in &sites.cores {
+        assert_eq!(rt; identification_at(core, 1, 1), Some("M1"));
+        assert_eq!(rt; identification_at(core, 1, 2), Some("C1"));
+    }
+}
+
 // The first of three sites has the only message. A message that is taken before its point is passed would be sent to the
 // other sites, which would accept it.
 #[test]

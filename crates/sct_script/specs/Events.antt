@@ -16,8 +16,8 @@ use Rattle.sct_script.specs.declared.fault.LineFault.TheVariants as fault
 abbrev pub site_named : ℕ → Option ℕ
 site_named number = if nat_lt number (2 ^ 16) then Some number else None
 
-unfoldable pub site_in : List ℕ → Option ℕ
-site_in text = option_and_then site_named (number_in text)
+unfoldable pub site_number_in : List ℕ → Option ℕ
+site_number_in text = option_and_then site_named (number_in text)
 
 abbrev pub site_field : Field → Option Field
 site_field field = option_map (λ site. (site, field.1)) (site_named field.0)
@@ -35,8 +35,8 @@ abbrev pub ◌>>=◌ : {X Y : Type 0} → Result X LineFault → (X → Result Y
 (Err refusal) >>= f = Err refusal
 
 -- a field that an event must have
-abbrev pub field : {X : Type 0} → Option X → Result X LineFault
-field found = ok_or found fault.NoEvent
+abbrev pub required_field : {X : Type 0} → Option X → Result X LineFault
+required_field found = ok_or found fault.NoEvent
 
 -- the message of a JSON text, or why it has none
 abbrev pub message_of : Result Draft JsonFault → Result Draft LineFault
@@ -44,24 +44,24 @@ message_of (Ok message) = Ok message
 message_of (Err refusal) = Err (fault.Message refusal)
 
 -- A take: a site, and a JSON text of the message. A take with a refused message is not an event, whatever the site.
-abbrev pub take_in : List ℕ → Result Happening LineFault
-take_in rest = do
-  site ← field (site_before_space rest)
+abbrev pub take_event_in : List ℕ → Result Happening LineFault
+take_event_in rest = do
+  site ← required_field (site_before_space rest)
   message ← message_of (message_in site.1)
   Ok (Taken site.0 message)
 
 -- A cut: a site, and a version vector.
-abbrev pub cut_in : List ℕ → Result Happening LineFault
-cut_in rest = do
-  site ← field (site_before_space rest)
-  pairs ← field (vector_in site.1)
+abbrev pub cut_event_in : List ℕ → Result Happening LineFault
+cut_event_in rest = do
+  site ← required_field (site_before_space rest)
+  pairs ← required_field (vector_in site.1)
   Ok (Cut site.0 (counts_of pairs))
 
 -- A hand: the number of a delta, and the site that it is handed to.
-abbrev pub hand_in : List ℕ → Result Happening LineFault
-hand_in rest = do
-  delta ← field (number_before_space rest)
-  site ← field (site_in delta.1)
+abbrev pub hand_event_in : List ℕ → Result Happening LineFault
+hand_event_in rest = do
+  delta ← required_field (number_before_space rest)
+  site ← required_field (site_number_in delta.1)
   Ok (Handed delta.0 site)
 
 -- ---- a line
@@ -74,9 +74,9 @@ behind (Some rest) reads other = reads rest
 -- the event of a line, by the word that it begins with
 unfoldable pub happening_in : List ℕ → Result Happening LineFault
 happening_in line =
-    behind (after_prefix (codes "take ") line) take_in
-    (behind (after_prefix (codes "cut ") line) cut_in
-    (behind (after_prefix (codes "hand ") line) hand_in (Err fault.NoEvent)))
+    behind (after_prefix (codes "take ") line) take_event_in
+    (behind (after_prefix (codes "cut ") line) cut_event_in
+    (behind (after_prefix (codes "hand ") line) hand_event_in (Err fault.NoEvent)))
 
 -- an event as it was read, by its values
 abbrev pub told_by : Result Event LineFault → Result Happening LineFault

@@ -1,6 +1,6 @@
 //! One line of a script: its event, or why the line is refused.
 ghost use Rattle.std.specs.Prelude.{◌≡◌, IfOk};
-ghost use Rattle.sct_script.specs.Events.{cut_in, hand_in, happening_in, take_in, told_by};
+ghost use Rattle.sct_script.specs.Events.{cut_event_in, hand_event_in, happening_in, take_event_in, told_by};
 
 use crate::fault::LineFault;
 use crate::fields::{site_before_space, site_of};
@@ -12,7 +12,7 @@ use std::sync::Arc;
 
 // Reads the rest of a take: a site, and a JSON text of the message.
 fn read_take(alloc: Global, text: &[u8]) -> Result<Result<Event, LineFault>, AllocError>
-    ensures { IfOk result (λ read. told_by read ≡ take_in text.now) }
+    ensures { IfOk result (λ read. told_by read ≡ take_event_in text.now) }
 {
     let Some((site, json)) = site_before_space(text) else {
         return Ok(Err(LineFault::NoEvent));
@@ -27,7 +27,7 @@ fn read_take(alloc: Global, text: &[u8]) -> Result<Result<Event, LineFault>, All
 
 // Reads the rest of a cut: a site, and a version vector.
 fn read_cut(alloc: Global, text: &[u8]) -> Result<Result<Event, LineFault>, AllocError>
-    ensures { IfOk result (λ read. told_by read ≡ cut_in text.now) }
+    ensures { IfOk result (λ read. told_by read ≡ cut_event_in text.now) }
 {
     let Some((site, text)) = site_before_space(text) else {
         return Ok(Err(LineFault::NoEvent));
@@ -40,7 +40,7 @@ fn read_cut(alloc: Global, text: &[u8]) -> Result<Result<Event, LineFault>, Allo
 
 // Reads the rest of a hand: the number of a delta, and the site that it is handed to.
 fn read_hand(text: &[u8]) -> Result<Event, LineFault>
-    ensures { told_by result ≡ hand_in text.now }
+    ensures { told_by result ≡ hand_event_in text.now }
 {
     let Some((delta, text)) = number_before_space(text) else {
         return Err(LineFault::NoEvent);

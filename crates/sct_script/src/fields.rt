@@ -1,6 +1,6 @@
 //! The fields of a line: words, and the numbers of sites.
 ghost use Rattle.std.specs.Prelude.{◌≡◌, option_map};
-ghost use Rattle.sct_script.specs.Events.{site_before_space, site_in, site_named};
+ghost use Rattle.sct_script.specs.Events.{site_before_space, site_named, site_number_in};
 
 use sct_delta::{number_before_space, number_of};
 
@@ -12,9 +12,9 @@ fn site_named(number: u64) -> Option<u16>
 }
 
 /// The site that a text names, whether or not the world has it. None if the text is not a number below 65,536.
-#[tactic(auto, unfolding(crate::specs::Events::site_in))]
+#[tactic(auto, unfolding(crate::specs::Events::site_number_in))]
 pub fn site_of(text: &[u8]) -> Option<u16>
-    ensures { result ≡ site_in text.now }
+    ensures { result ≡ site_number_in text.now }
 {
     let number = number_of(text)?;
     site_named(number)

@@ -2,28 +2,18 @@
 ghost use Rattle.std.specs.Prelude.{◌≡◌, ◌++◌, IfOk, string_bytes};
 ghost use Rattle.sct_script.specs.Replays.{delta_fault_text, outcome_line, outcome_text, outcomes_text, step_text, world_fault_text};
 
-use sct_delta::DeltaFault;
+use sct_delta::{DeltaFault, push_fault};
 use sct_world::{Outcome, Step, WorldFault};
 use std::alloc::{AllocError, Global};
 use std::fmt::Write;
 
-/// Appends the number of a site's refusal and its fields, with a bar between each two, as in `41|1|0|2`.
+/// Appends the number of a site's refusal and its fields, with a bar between each two, as in `41|1|0|2`. The error is that
+/// it is out of memory.
 #[tactic(auto, unfolding(crate::specs::Replays::delta_fault_text))]
 pub fn push_delta_fault(text: &mut String, fault: &DeltaFault) -> Result<(), AllocError>
     ensures { IfOk result (λ _. string_bytes text.new ≡ string_bytes text.old ++ delta_fault_text fault.now) }
 {
-    match fault {
-        DeltaFault::Memory => text.push_str("40"),
-        DeltaFault::Gap {
-            origin,
-            have,
-            first,
-        } => write!(text, "41|{origin}|{have}|{first}"),
-        DeltaFault::Fork { origin, n } => write!(text, "42|{origin}|{n}"),
-        DeltaFault::OwnAhead { n } => write!(text, "43|{n}"),
-        DeltaFault::BadSite => text.push_str("44"),
-        DeltaFault::BadDelta(line) => write!(text, "45|{line}"),
-    }
+    push_fault(text, fault, "|")
 }
 
 // Appends the number of a world's refusal and its fields.
@@ -76,7 +66,7 @@ fn push_line(text: &mut String, number: u64, outcome: &Outcome) -> Result<(), Al
     text.push('\n')
 }
 
-/// The text of outcomes: a line for each event, with its number from 1 and its outcome.
+/// The text of outcomes: a line for each event, with its number from 1 and its outcome. The error is that it is out of memory.
 pub fn outcomes_text(alloc: Global, outcomes: &[Outcome]) -> Result<String, AllocError>
     ensures { IfOk result (λ text. string_bytes text ≡ outcomes_text outcomes.now) }
 {

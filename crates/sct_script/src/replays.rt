@@ -1,11 +1,12 @@
 //! The answer to a script: the outcomes of its events, and then the answers of each site.
-ghost use Rattle.std.specs.Prelude.{◌≡◌, ◌≢◌, ◌++◌, [], ◌∷◌, false, true, IfErr, IfOk, string_bytes, OnOk};
+ghost use Rattle.std.specs.Prelude.{◌≡◌, ◌≢◌, ◌++◌, ℕ, [], ◌∷◌, false, true, IfErr, IfOk, string_bytes, OnOk};
 ghost use Rattle.sct_delta.specs.Entries.{messages_of};
 ghost use Rattle.sct_delta.specs.declared.fault.DeltaFault.TheVariants as delta;
 ghost use Rattle.sct_world.specs.Happenings.{happenings_of};
+ghost use Rattle.sct_world.specs.Laws.{history, taken_in};
 ghost use Rattle.sct_world.specs.States.{held_at, is_no_site, is_size};
 ghost use Rattle.sct_world.specs.declared.fault.WorldFault.TheVariants as fault;
-ghost use Rattle.sct_script.specs.Replays.{outcomes_text, replay_text, site_head, site_text, sites_text};
+ghost use Rattle.sct_script.specs.Replays.{outcomes_text, replay_text, replayed_site_text, site_head, sites_text};
 
 use crate::outcomes::outcomes_text;
 use sct_world::laws::histories_go_by_values;
@@ -20,9 +21,9 @@ fn head_of(alloc: Global, site: u16) -> Result<String, AllocError>
 }
 
 // Appends the head line of a site, and its answers about the messages that it holds.
-#[tactic(auto, unfolding(crate::specs::Replays::site_text))]
+#[tactic(auto, unfolding(crate::specs::Replays::replayed_site_text))]
 fn push_site(alloc: Global, text: &mut Vec<u8>, world: &World, site: u16) -> Result<(), WorldFault>
-    ensures text { OnOk result (text.new.items ≡ text.old.items ++ site_text (site, held_at world.now site)) }
+    ensures text { OnOk result (text.new.items ≡ text.old.items ++ replayed_site_text (site, held_at world.now site)) }
     ensures err { IfErr result (λ refusal. refusal ≢ fault.Delta delta.Memory
         → is_no_site world.now site ≡ true) }
 {
@@ -60,10 +61,15 @@ fn text_of(alloc: Global, ran: &Ran) -> Result<Vec<u8>, WorldFault>
 /// Runs events in a new world of `sites` sites, and returns the text of the replay: a line for each
 /// event, with its number from 1 and its outcome. Then, for each site, a line with its number, its
 /// archive text, its status text and its totals text.
+///
+/// The clause `exactly` is the promise of convergence: the answers of a site are those of exactly the messages that it took
+/// or accepted, as events, outcomes and deltas say.
 /// Errors: `BadSite` (44) if `sites` is not 1 to 1024; out of memory (40).
 #[tactic(auto, unfolding(crate::specs::Replays::replay_text))]
 pub fn replay(alloc: Global, sites: u16, events: &[Event]) -> Result<Vec<u8>, WorldFault>
     ensures text { IfOk result (λ text. text.items ≡ replay_text sites (happenings_of events.now)) }
+    ensures exactly { OnOk result ((site : ℕ) → is_no_site (history sites events.now) site ≡ false
+        → messages_of (held_at (history sites events.now) site) ≡ taken_in sites events.now site) }
     ensures err { IfErr result (λ refusal. refusal ≢ fault.Delta delta.Memory
         → (refusal ≡ fault.BadSite) × (is_size sites ≡ false)) }
 {

@@ -5,15 +5,15 @@ ghost use Rattle.sct_world.specs.Happenings.{happenings_of};
 ghost use Rattle.sct_world.specs.States.{is_size};
 ghost use Rattle.sct_script.specs.declared.fault.ScriptFault.TheVariants as fault;
 ghost use Rattle.sct_script.specs.Scripts.{
+  event_refusals_among,
+  event_refusals_text,
+  event_refusals_told,
   happenings_among,
   happenings_told,
-  refusals_among,
-  refusals_told,
   script_lines,
   sites_told,
   size_in,
   size_named,
-  told_text_of,
 };
 
 use crate::event::read_event;
@@ -95,9 +95,9 @@ impl Script {
             ≡ happenings_of self.old.events.items ++ happenings_among (numbered_from number (line.now ∷ []))) }
         ensures told { OnOk result (self.new.refusals.text
             ≡ self.old.refusals.text
-            ++ told_text_of (refusals_among (numbered_from number (line.now ∷ [])))) }
+            ++ event_refusals_text (event_refusals_among (numbered_from number (line.now ∷ [])))) }
         ensures refused { OnOk result (self.new.refusals.count
-            ≡ self.old.refusals.count + length (refusals_among (numbered_from number (line.now ∷ [])))) }
+            ≡ self.old.refusals.count + length (event_refusals_among (numbered_from number (line.now ∷ [])))) }
     {
         if is_blank_line(line) {
             return Ok(());
@@ -117,9 +117,9 @@ fn read_lines(alloc: Global, sites: u16, before: u64, text: &[u8]) -> Result<Scr
     ensures events { IfOk result (λ script. happenings_of script.events.items
         ≡ happenings_among (numbered_from (before + 1) (lines_of text.now))) }
     ensures told { IfOk result (λ script. script.refusals.text
-        ≡ told_text_of (refusals_among (numbered_from (before + 1) (lines_of text.now)))) }
+        ≡ event_refusals_text (event_refusals_among (numbered_from (before + 1) (lines_of text.now)))) }
     ensures refused { IfOk result (λ script. script.refusals.count
-        ≡ length (refusals_among (numbered_from (before + 1) (lines_of text.now)))) }
+        ≡ length (event_refusals_among (numbered_from (before + 1) (lines_of text.now)))) }
 {
     let mut script = Script::new(alloc, sites);
     let mut number = before;
@@ -141,8 +141,8 @@ pub fn read_script(alloc: Global, input: &[u8]) -> Result<Script, ScriptFault>
     ensures sites { IfOk result (λ script. sites_told input.now ≡ Some script.sites) }
     ensures size { IfOk result (λ script. is_size script.sites ≡ true) }
     ensures events { IfOk result (λ script. happenings_of script.events.items ≡ happenings_told input.now) }
-    ensures told { IfOk result (λ script. script.refusals.text ≡ told_text_of (refusals_told input.now)) }
-    ensures refused { IfOk result (λ script. script.refusals.count ≡ length (refusals_told input.now)) }
+    ensures told { IfOk result (λ script. script.refusals.text ≡ event_refusals_text (event_refusals_told input.now)) }
+    ensures refused { IfOk result (λ script. script.refusals.count ≡ length (event_refusals_told input.now)) }
     ensures no_script { IfErr result (λ e. e ≢ fault.Memory
         → (e ≡ fault.NoScript) × (sites_told input.now ≡ None)) }
 {

@@ -6,17 +6,17 @@ use Rattle.sct_streams.specs.Stream.{AppendsIfTold, AppendsPrefixIfTold}
 use Rattle.sct_site.specs.Cores.{Core}
 use Rattle.sct_journal.specs.Kept.{ended_lines, recorded}
 use Rattle.sct_keeper.specs.Keepers.{IsRecordedBeforeOrAfter}
-use Rattle.sct_requests.specs.Standings.{Standing}
+use Rattle.sct_requests.specs.WatchedSites.{WatchedSite}
 use Rattle.sct_requests.specs.Steps.{brought}
 use Rattle.sct_requests.proofs.StepLemmas.{brought_join}
-use Rattle.sct_serve.specs.Replies.{replies_to, standing_after}
+use Rattle.sct_serve.specs.Replies.{replies_to, watched_site_after}
 use Rattle.sct_serve.specs.Serving.{Leaves, Replied}
-use Rattle.sct_serve.proofs.ReplyLemmas.{replies_join, standing_core, standing_join}
+use Rattle.sct_serve.proofs.ReplyLemmas.{replies_join, watched_site_core, watched_site_join}
 use Rattle.sct_serve.proofs.StreamLemmas.{appends_nothing, appends_on}
 
 -- ---- one round
 
-pub leaves_none : (s : Standing) (before lines : List (List ℕ)) (held : Option (List ℕ)) (c : List ℕ) → recorded c ≡ before → Leaves s before held held lines c
+pub leaves_none : (s : WatchedSite) (before lines : List (List ℕ)) (held : Option (List ℕ)) (c : List ℕ) → recorded c ≡ before → Leaves s before held held lines c
 leaves_none s before lines held c same = record {
   lasting = [];
   others = lines;
@@ -27,7 +27,7 @@ leaves_none s before lines held c same = record {
   keeps = same ∙ sym (append-nil before);
 }
 
-pub leaves_untold : (s : Standing) (before lines : List (List ℕ)) (held : Option (List ℕ)) (c : List ℕ) → IsRecordedBeforeOrAfter before (brought s.core lines) c → Leaves s before held held lines c
+pub leaves_untold : (s : WatchedSite) (before lines : List (List ℕ)) (held : Option (List ℕ)) (c : List ℕ) → IsRecordedBeforeOrAfter before (brought s.core lines) c → Leaves s before held held lines c
 leaves_untold s before lines held c (inl without) = leaves_none s before lines held c without
 leaves_untold s before lines held c (inr with_it) = record {
   lasting = lines;
@@ -39,7 +39,7 @@ leaves_untold s before lines held c (inr with_it) = record {
   keeps = with_it;
 }
 
-pub leaves_told : (s : Standing) (before lines : List (List ℕ)) (held held_now : Option (List ℕ)) (c : List ℕ) → recorded c ≡ before ++ brought s.core lines
+pub leaves_told : (s : WatchedSite) (before lines : List (List ℕ)) (held held_now : Option (List ℕ)) (c : List ℕ) → recorded c ≡ before ++ brought s.core lines
     → AppendsPrefixIfTold held held_now (replies_to s lines) → Leaves s before held held_now lines c
 leaves_told s before lines None held_now c all part = record {
   lasting = lines;
@@ -60,7 +60,7 @@ leaves_told s before lines (Some held) held_now c all part = record {
   keeps = all;
 }
 
-pub leaves_all : (s : Standing) (before lines : List (List ℕ)) (held held_now : Option (List ℕ)) (c : List ℕ) → recorded c ≡ before ++ brought s.core lines
+pub leaves_all : (s : WatchedSite) (before lines : List (List ℕ)) (held held_now : Option (List ℕ)) (c : List ℕ) → recorded c ≡ before ++ brought s.core lines
     → AppendsIfTold held held_now (replies_to s lines) → Leaves s before held held_now lines c
 leaves_all s before lines held held_now c all whole = record {
   lasting = lines;
@@ -74,29 +74,29 @@ leaves_all s before lines held held_now c all whole = record {
 
 -- ---- one after another
 
-pub replied_none : (s : Standing) (sound : Type 0) (before : List (List ℕ)) (held : Option (List ℕ)) → Replied s s sound before before held held []
+pub replied_none : (s : WatchedSite) (sound : Type 0) (before : List (List ℕ)) (held : Option (List ℕ)) → Replied s s sound before before held held []
 replied_none s sound before held = record { ends = refl; replied = appends_nothing held; keeps = λ is. sym (append-nil before) }
 
 -- the lines of a journal after two lots of lines
-two_lots : (s : Standing) (before xs ys : List (List ℕ)) → (before ++ brought s.core xs) ++ brought (standing_after s xs).core ys ≡ before ++ brought s.core (xs ++ ys)
+two_lots : (s : WatchedSite) (before xs ys : List (List ℕ)) → (before ++ brought s.core xs) ++ brought (watched_site_after s xs).core ys ≡ before ++ brought s.core (xs ++ ys)
 two_lots s before xs ys =
-    append_assoc before (brought s.core xs) (brought (standing_after s xs).core ys)
-    ∙ ap (λ (c : Core). before ++ (brought s.core xs ++ brought c ys)) (standing_core xs s)
+    append_assoc before (brought s.core xs) (brought (watched_site_after s xs).core ys)
+    ∙ ap (λ (c : Core). before ++ (brought s.core xs ++ brought c ys)) (watched_site_core xs s)
     ∙ ap (λ (l : List (List ℕ)). before ++ l) (sym (brought_join xs ys s.core))
 
-pub replied_on : (s m n : Standing) (sound : Type 0) (before mid after : List (List ℕ)) (held told_mid told : Option (List ℕ)) (xs ys : List (List ℕ))
+pub replied_on : (s m n : WatchedSite) (sound : Type 0) (before mid after : List (List ℕ)) (held told_mid told : Option (List ℕ)) (xs ys : List (List ℕ))
     → Replied s m sound before mid held told_mid xs → Replied m n sound mid after told_mid told ys → Replied s n sound before after held told (xs ++ ys)
 replied_on s m n sound before mid after held told_mid told xs ys first second = record {
-  ends = second.ends ∙ ap (λ (t : Standing). standing_after t ys) first.ends ∙ sym (standing_join xs ys s);
+  ends = second.ends ∙ ap (λ (t : WatchedSite). watched_site_after t ys) first.ends ∙ sym (watched_site_join xs ys s);
   replied =
       subst (λ (l : List ℕ). AppendsIfTold held told l)
-      (ap (λ (t : Standing). replies_to s xs ++ replies_to t ys) first.ends ∙ sym (replies_join xs ys s))
+      (ap (λ (t : WatchedSite). replies_to s xs ++ replies_to t ys) first.ends ∙ sym (replies_join xs ys s))
       (appends_on held told_mid told (replies_to s xs) (replies_to m ys) first.replied second.replied);
   keeps = λ is. second.keeps is ∙ (λ i. first.keeps is i ++ brought (first.ends i).core ys) ∙ two_lots s before xs ys;
 }
 
 -- what is left of the second lot, after the first was answered
-pub leaves_after : (s m : Standing) (sound : Type 0) (before mid : List (List ℕ)) (held told_mid told : Option (List ℕ)) (xs ys : List (List ℕ)) (c : List ℕ)
+pub leaves_after : (s m : WatchedSite) (sound : Type 0) (before mid : List (List ℕ)) (held told_mid told : Option (List ℕ)) (xs ys : List (List ℕ)) (c : List ℕ)
     → Replied s m sound before mid held told_mid xs → sound → Leaves m mid told_mid told ys c → Leaves s before held told (xs ++ ys) c
 leaves_after s m sound before mid held told_mid told xs ys c first is left = record {
   lasting = xs ++ left.lasting;
@@ -107,7 +107,7 @@ leaves_after s m sound before mid held told_mid told xs ys c first is left = rec
   replied = (
     left.replied.0,
     replies_join xs left.lasting s
-        ∙ ap (λ (t : Standing). replies_to s xs ++ replies_to t left.lasting) (sym first.ends)
+        ∙ ap (λ (t : WatchedSite). replies_to s xs ++ replies_to t left.lasting) (sym first.ends)
         ∙ ap (λ (l : List ℕ). replies_to s xs ++ l) left.replied.1
         ∙ sym (append_assoc (replies_to s xs) left.written left.replied.0),
   );
@@ -115,7 +115,7 @@ leaves_after s m sound before mid held told_mid told xs ys c first is left = rec
 }
 
 -- what is left of a first lot, before the others
-pub leaves_before : (s : Standing) (before : List (List ℕ)) (held told : Option (List ℕ)) (xs ys : List (List ℕ)) (c : List ℕ)
+pub leaves_before : (s : WatchedSite) (before : List (List ℕ)) (held told : Option (List ℕ)) (xs ys : List (List ℕ)) (c : List ℕ)
     → Leaves s before held told xs c → Leaves s before held told (xs ++ ys) c
 leaves_before s before held told xs ys c left = record {
   lasting = left.lasting;
@@ -127,30 +127,30 @@ leaves_before s before held told xs ys c left = record {
   keeps = left.keeps;
 }
 
-pub leaves_of : (s : Standing) (before : List (List ℕ)) (held told : Option (List ℕ)) (xs ys : List (List ℕ)) (c : List ℕ)
+pub leaves_of : (s : WatchedSite) (before : List (List ℕ)) (held told : Option (List ℕ)) (xs ys : List (List ℕ)) (c : List ℕ)
     → xs ≡ ys → Leaves s before held told xs c → Leaves s before held told ys c
 leaves_of s before held told xs ys c same left = subst (λ (l : List (List ℕ)). Leaves s before held told l c) same left
 
-pub replied_of : (s m : Standing) (sound : Type 0) (before after : List (List ℕ)) (held told : Option (List ℕ)) (xs ys : List (List ℕ))
+pub replied_of : (s m : WatchedSite) (sound : Type 0) (before after : List (List ℕ)) (held told : Option (List ℕ)) (xs ys : List (List ℕ))
     → xs ≡ ys → Replied s m sound before after held told xs → Replied s m sound before after held told ys
 replied_of s m sound before after held told xs ys same done = subst (λ (l : List (List ℕ)). Replied s m sound before after held told l) same done
 
-pub replied_under : (s m : Standing) (sound other : Type 0) (before after : List (List ℕ)) (held told : Option (List ℕ)) (xs : List (List ℕ))
+pub replied_under : (s m : WatchedSite) (sound other : Type 0) (before after : List (List ℕ)) (held told : Option (List ℕ)) (xs : List (List ℕ))
     → (other → sound) → Replied s m sound before after held told xs → Replied s m other before after held told xs
 replied_under s m sound other before after held told xs gives done = record { ends = done.ends; replied = done.replied; keeps = λ is. done.keeps (gives is) }
 
 -- ---- a text, round after round
 
 -- some lines of a text are answered, and the others are those of the rest
-pub record InPart (s m : Standing) (sound : Type 0) (before after : List (List ℕ)) (held told : Option (List ℕ)) (text rest : List ℕ) : Type 0 where
+pub record InPart (s m : WatchedSite) (sound : Type 0) (before after : List (List ℕ)) (held told : Option (List ℕ)) (text rest : List ℕ) : Type 0 where
   pub done : List (List ℕ)
   pub parts : ended_lines text ≡ done ++ ended_lines rest
   pub replied : Replied s m sound before after held told done
 
-pub in_part_first : (s : Standing) (sound : Type 0) (before : List (List ℕ)) (held : Option (List ℕ)) (text : List ℕ) → InPart s s sound before before held held text text
+pub in_part_first : (s : WatchedSite) (sound : Type 0) (before : List (List ℕ)) (held : Option (List ℕ)) (text : List ℕ) → InPart s s sound before before held held text text
 in_part_first s sound before held text = record { done = []; parts = refl; replied = replied_none s sound before held }
 
-pub in_part_more : (s m n o : Standing) (sound : Type 0) (before mid later after : List (List ℕ)) (held told_mid told_later told : Option (List ℕ)) (text rest next : List ℕ) (xs ys : List (List ℕ))
+pub in_part_more : (s m n o : WatchedSite) (sound : Type 0) (before mid later after : List (List ℕ)) (held told_mid told_later told : Option (List ℕ)) (text rest next : List ℕ) (xs ys : List (List ℕ))
     → InPart s m sound before mid held told_mid text rest → ended_lines rest ≡ xs ++ ys ++ ended_lines next
     → Replied m n sound mid later told_mid told_later xs → Replied n o sound later after told_later told ys → InPart s o sound before after held told text next
 in_part_more s m n o sound before mid later after held told_mid told_later told text rest next xs ys so_far is first second = record {
@@ -161,13 +161,13 @@ in_part_more s m n o sound before mid later after held told_mid told_later told 
       (replied_on m n o sound mid later after told_mid told_later told xs ys first second);
 }
 
-pub in_part_all : (s m : Standing) (sound : Type 0) (before after : List (List ℕ)) (held told : Option (List ℕ)) (text rest : List ℕ) → InPart s m sound before after held told text rest
+pub in_part_all : (s m : WatchedSite) (sound : Type 0) (before after : List (List ℕ)) (held told : Option (List ℕ)) (text rest : List ℕ) → InPart s m sound before after held told text rest
     → ended_lines rest ≡ [] → Replied s m sound before after held told (ended_lines text)
 in_part_all s m sound before after held told text rest so_far none =
     replied_of s m sound before after held told so_far.done (ended_lines text)
     (sym (so_far.parts ∙ ap (λ (l : List (List ℕ)). so_far.done ++ l) none ∙ append-nil so_far.done)) so_far.replied
 
-pub leaves_in_part : (s m : Standing) (sound : Type 0) (before mid : List (List ℕ)) (held told_mid told : Option (List ℕ)) (text rest : List ℕ) (xs ys : List (List ℕ)) (c : List ℕ)
+pub leaves_in_part : (s m : WatchedSite) (sound : Type 0) (before mid : List (List ℕ)) (held told_mid told : Option (List ℕ)) (text rest : List ℕ) (xs ys : List (List ℕ)) (c : List ℕ)
     → InPart s m sound before mid held told_mid text rest → sound → ended_lines rest ≡ xs ++ ys → Leaves m mid told_mid told xs c → Leaves s before held told (ended_lines text) c
 leaves_in_part s m sound before mid held told_mid told text rest xs ys c so_far is parts left =
     leaves_of s before held told (so_far.done ++ (xs ++ ys)) (ended_lines text) c

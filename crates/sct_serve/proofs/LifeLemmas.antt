@@ -4,15 +4,15 @@ use Rattle.std.specs.Prelude.{Option, Some, None, IfSome}
 use Rattle.std.proofs.lemmas.List.{append-nil, take-append-drop}
 use Rattle.sct_streams.specs.Stream.{AppendsIfTold, AppendsPrefixIfTold}
 use Rattle.sct_journal.specs.Kept.{ended_lines, recorded}
-use Rattle.sct_requests.specs.Standings.{Standing}
+use Rattle.sct_requests.specs.WatchedSites.{WatchedSite}
 use Rattle.sct_requests.specs.Steps.{core_kept}
-use Rattle.sct_serve.specs.Lives.{LifeLeaves, output_of, ready_line, standing_kept}
+use Rattle.sct_serve.specs.Lives.{LifeLeaves, output_of, ready_line, watched_site_kept}
 use Rattle.sct_serve.specs.Replies.{replies_to}
 use Rattle.sct_serve.specs.Serving.{LeavesOf}
 use Rattle.sct_serve.proofs.LeaveLemmas.{leaves_none}
 use Rattle.sct_serve.proofs.StreamLemmas.{appends_nothing, appends_on, read_nothing}
 
-pub life_none : (s : Standing) (before : List (List ℕ)) (unread held : Option (List ℕ)) (c : List ℕ) → recorded c ≡ before → LifeLeaves s before unread unread held held c
+pub life_none : (s : WatchedSite) (before : List (List ℕ)) (unread held : Option (List ℕ)) (c : List ℕ) → recorded c ≡ before → LifeLeaves s before unread unread held held c
 life_none s before unread held c same = record {
   read = [];
   taken = read_nothing unread;
@@ -25,7 +25,7 @@ life_none s before unread held c same = record {
   keeps = same ∙ sym (append-nil before);
 }
 
-pub life_early : (s : Standing) (before : List (List ℕ)) (unread held held_now : Option (List ℕ)) (c : List ℕ) → recorded c ≡ before → AppendsPrefixIfTold held held_now (ready_line s.core)
+pub life_early : (s : WatchedSite) (before : List (List ℕ)) (unread held held_now : Option (List ℕ)) (c : List ℕ) → recorded c ≡ before → AppendsPrefixIfTold held held_now (ready_line s.core)
     → LifeLeaves s before unread unread held held_now c
 life_early s before unread None held_now c same part = record {
   read = [];
@@ -53,7 +53,7 @@ life_early s before unread (Some held) held_now c same part = record {
   keeps = same ∙ sym (append-nil before);
 }
 
-pub life_on : (s : Standing) (before : List (List ℕ)) (unread unread_now held mid held_now : Option (List ℕ)) (c : List ℕ) → AppendsIfTold held mid (ready_line s.core)
+pub life_on : (s : WatchedSite) (before : List (List ℕ)) (unread unread_now held mid held_now : Option (List ℕ)) (c : List ℕ) → AppendsIfTold held mid (ready_line s.core)
     → LeavesOf s before unread unread_now mid held_now c → LifeLeaves s before unread unread_now held held_now c
 life_on s before unread unread_now held mid held_now c first left = record {
   read = left.read;
@@ -67,29 +67,29 @@ life_on s before unread unread_now held mid held_now c first left = record {
   keeps = left.leaves.keeps;
 }
 
-pub all_written : (s : Standing) (unread held mid held_now : Option (List ℕ)) → AppendsIfTold held mid (ready_line s.core)
+pub all_written : (s : WatchedSite) (unread held mid held_now : Option (List ℕ)) → AppendsIfTold held mid (ready_line s.core)
     → IfSome unread (λ input. AppendsIfTold mid held_now (replies_to s (ended_lines input))) → IfSome unread (λ input. AppendsIfTold held held_now (output_of s input))
 all_written s None held mid held_now first rest = tt
 all_written s (Some input) held mid held_now first rest = appends_on held mid held_now (ready_line s.core) (replies_to s (ended_lines input)) first rest
 
 -- nothing was read after the first line
-pub life_greeted : (s : Standing) (before : List (List ℕ)) (unread held mid : Option (List ℕ)) (c : List ℕ) → recorded c ≡ before → AppendsIfTold held mid (ready_line s.core)
+pub life_greeted : (s : WatchedSite) (before : List (List ℕ)) (unread held mid : Option (List ℕ)) (c : List ℕ) → recorded c ≡ before → AppendsIfTold held mid (ready_line s.core)
     → LifeLeaves s before unread unread held mid c
 life_greeted s before unread held mid c same first =
     life_on s before unread unread held mid mid c first (record { read = []; taken = read_nothing unread; leaves = leaves_none s before (ended_lines []) mid c same })
 
--- the same standing and lines by other names
-pub life_from : (s t : Standing) (before other : List (List ℕ)) (unread unread_now held mid held_now : Option (List ℕ)) (c : List ℕ) → t ≡ s → other ≡ before → AppendsIfTold held mid (ready_line s.core)
+-- the same site and lines by other names
+pub life_from : (s t : WatchedSite) (before other : List (List ℕ)) (unread unread_now held mid held_now : Option (List ℕ)) (c : List ℕ) → t ≡ s → other ≡ before → AppendsIfTold held mid (ready_line s.core)
     → LeavesOf t other unread unread_now mid held_now c → LifeLeaves s before unread unread_now held held_now c
 life_from s t before other unread unread_now held mid held_now c same alike first left =
     life_on s before unread unread_now held mid held_now c first
-    (subst (λ (l : List (List ℕ)). LeavesOf s l unread unread_now mid held_now c) alike (subst (λ (x : Standing). LeavesOf x other unread unread_now mid held_now c) same left))
+    (subst (λ (l : List (List ℕ)). LeavesOf s l unread unread_now mid held_now c) alike (subst (λ (x : WatchedSite). LeavesOf x other unread unread_now mid held_now c) same left))
 
-pub written_from : (s t : Standing) (unread held mid held_now : Option (List ℕ)) → t ≡ s → AppendsIfTold held mid (ready_line s.core)
+pub written_from : (s t : WatchedSite) (unread held mid held_now : Option (List ℕ)) → t ≡ s → AppendsIfTold held mid (ready_line s.core)
     → IfSome unread (λ input. AppendsIfTold mid held_now (replies_to t (ended_lines input))) → IfSome unread (λ input. AppendsIfTold held held_now (output_of s input))
 written_from s t unread held mid held_now same first rest =
-    all_written s unread held mid held_now first (subst (λ (x : Standing). IfSome unread (λ input. AppendsIfTold mid held_now (replies_to x (ended_lines input)))) same rest)
+    all_written s unread held mid held_now first (subst (λ (x : WatchedSite). IfSome unread (λ input. AppendsIfTold mid held_now (replies_to x (ended_lines input)))) same rest)
 
--- the standing of a journal that was opened
-pub standing_of_kept : (s : Standing) (number group : ℕ) (lines : List (List ℕ)) → s.core ≡ core_kept number group lines → s.watched ≡ None → s ≡ standing_kept number group lines
-standing_of_kept s number group lines core watched = λ i. record { core = core i; watched = watched i }
+-- the site of a journal that was opened
+pub watched_site_of_kept : (s : WatchedSite) (number group : ℕ) (lines : List (List ℕ)) → s.core ≡ core_kept number group lines → s.watched ≡ None → s ≡ watched_site_kept number group lines
+watched_site_of_kept s number group lines core watched = λ i. record { core = core i; watched = watched i }

@@ -6,9 +6,9 @@ use Rattle.std.proofs.lemmas.List.{append-nil, take_at}
 use Rattle.std.proofs.lemmas.Bool.Decides.{nat_tests}
 use Rattle.std.proofs.lemmas.Bool.{cases_eq}
 use Rattle.sct_streams.specs.Stream.{AppendsIfTold, HasReadIfTold}
-use Rattle.sct_journal.specs.Kept.{AreLines, IsLine, ended_lines, onto_first, recorded}
+use Rattle.sct_journal.specs.Kept.{AreLines, IsLine, ended_lines, ended_lines_from_byte, recorded}
 use Rattle.sct_journal.proofs.LineLemmas.{is_feed, no_feed}
-use Rattle.sct_requests.specs.Standings.{Standing}
+use Rattle.sct_requests.specs.WatchedSites.{WatchedSite}
 use Rattle.sct_requests.specs.Steps.{is_question_line}
 use Rattle.sct_serve.specs.Replies.{replies_to}
 use Rattle.sct_serve.specs.Serving.{EndsTaking, HasNoQuestion, HasReadTooLong, HasTooLong, IsBehind, Leaves, LeavesOf, Replied, Served, are_within, failed_reads, most_request}
@@ -45,7 +45,7 @@ are_join (x ∷ xs) ys first second = (first.0, are_join xs ys first.1 second)
 
 -- ---- a text of whole lines, and what comes behind it
 
-onto_front : (byte : ℕ) (first : List ℕ) (xs ys : List (List ℕ)) → onto_first byte ((first ∷ xs) ++ ys) ≡ onto_first byte (first ∷ xs) ++ ys
+onto_front : (byte : ℕ) (first : List ℕ) (xs ys : List (List ℕ)) → ended_lines_from_byte byte ((first ∷ xs) ++ ys) ≡ ended_lines_from_byte byte (first ∷ xs) ++ ys
 onto_front byte first xs ys = refl
 
 record HasLine (lines : List (List ℕ)) : Type 0 where
@@ -71,9 +71,9 @@ ended_whole (byte ∷ front) more = elim (cases_eq byte 10) [
       let no : (byte == 10) ≡ false = grind (arith, nat_tests) in
       let some = has_line front in
       rw no (
-      ap (onto_first byte) (ended_whole front more)
-      ∙ ap (λ (l : List (List ℕ)). onto_first byte (l ++ ended_lines more)) some.is
-      ∙ sym (ap (λ (l : List (List ℕ)). onto_first byte l ++ ended_lines more) some.is)
+      ap (ended_lines_from_byte byte) (ended_whole front more)
+      ∙ ap (λ (l : List (List ℕ)). ended_lines_from_byte byte (l ++ ended_lines more)) some.is
+      ∙ sym (ap (λ (l : List (List ℕ)). ended_lines_from_byte byte l ++ ended_lines more) some.is)
       )
 ]
 
@@ -102,15 +102,15 @@ pub behind_none : (text : List ℕ) → ended_lines text ≡ [] → IsBehind tex
 behind_none text none = record { parts = λ more. ap (λ (l : List (List ℕ)). l ++ ended_lines (text ++ more)) (sym none); none = none }
 
 -- bytes without a line feed, behind bytes without one
-onto_nothing : (byte : ℕ) (lines : List (List ℕ)) → onto_first byte lines ≡ [] → lines ≡ []
+onto_nothing : (byte : ℕ) (lines : List (List ℕ)) → ended_lines_from_byte byte lines ≡ [] → lines ≡ []
 onto_nothing byte [] none = refl
 onto_nothing byte (line ∷ lines) none = absurd (omega (arith, ap length none))
 
 feed_ends : (bytes : List ℕ) → ended_lines (10 ∷ bytes) ≡ [] → ⊥
 feed_ends bytes none = absurd (omega (arith, ap length none))
 
-other_ends : (byte : ℕ) (bytes : List ℕ) → (byte == 10) ≡ false → ended_lines (byte ∷ bytes) ≡ onto_first byte (ended_lines bytes)
-other_ends byte bytes other = ap (λ (b : Bool). cond b ([] ∷ ended_lines bytes) (onto_first byte (ended_lines bytes))) other
+other_ends : (byte : ℕ) (bytes : List ℕ) → (byte == 10) ≡ false → ended_lines (byte ∷ bytes) ≡ ended_lines_from_byte byte (ended_lines bytes)
+other_ends byte bytes other = ap (λ (b : Bool). cond b ([] ∷ ended_lines bytes) (ended_lines_from_byte byte (ended_lines bytes))) other
 
 pub none_on : (xs ys : List ℕ) → ended_lines xs ≡ [] → ended_lines ys ≡ [] → ended_lines (xs ++ ys) ≡ []
 none_on [] ys first second = second
@@ -119,7 +119,7 @@ none_on (x ∷ xs) ys first second = elim (cases_eq x 10) [
   | inr other ↦
       let differs : (x == 10) ≡ false = grind (arith, nat_tests) in
       let rest : ended_lines xs ≡ [] = onto_nothing x (ended_lines xs) (sym (other_ends x xs differs) ∙ first) in
-      other_ends x (xs ++ ys) differs ∙ ap (onto_first x) (none_on xs ys rest second)
+      other_ends x (xs ++ ys) differs ∙ ap (ended_lines_from_byte x) (none_on xs ys rest second)
 ]
 
 -- ---- the last line feed of a piece
@@ -214,17 +214,17 @@ behind_on read pending piece next first second = record {
   none = second.none;
 }
 
-pub served_first : (s m : Standing) (sound : Type 0) (before after : List (List ℕ)) (unread held : Option (List ℕ)) (pending : List ℕ) → m ≡ s → after ≡ before → pending ≡ []
+pub served_first : (s m : WatchedSite) (sound : Type 0) (before after : List (List ℕ)) (unread held : Option (List ℕ)) (pending : List ℕ) → m ≡ s → after ≡ before → pending ≡ []
     → Served s m sound before after unread unread held held pending
 served_first s m sound before after unread held pending same kept_same none = record {
   read = [];
   taken = read_nothing unread;
   behind = record { parts = λ more. ap (λ (l : List ℕ). ended_lines (l ++ more)) (sym none); none = ap ended_lines none };
   within = refl;
-  replied = subst (λ (t : Standing). Replied s t sound before after held held []) (sym same) (subst (λ (l : List (List ℕ)). Replied s s sound before l held held []) (sym kept_same) (replied_none s sound before held));
+  replied = subst (λ (t : WatchedSite). Replied s t sound before after held held []) (sym same) (subst (λ (l : List (List ℕ)). Replied s s sound before l held held []) (sym kept_same) (replied_none s sound before held));
 }
 
-pub served_more : (s m n : Standing) (sound : Type 0) (before mid after : List (List ℕ)) (unread unread_mid unread_now held held_mid held_now : Option (List ℕ)) (pending piece waits : List ℕ)
+pub served_more : (s m n : WatchedSite) (sound : Type 0) (before mid after : List (List ℕ)) (unread unread_mid unread_now held held_mid held_now : Option (List ℕ)) (pending piece waits : List ℕ)
     → Served s m sound before mid unread unread_mid held held_mid pending → HasReadIfTold unread_mid unread_now piece
     → Replied m n sound mid after held_mid held_now (ended_lines (pending ++ piece)) → IsBehind (pending ++ piece) waits → are_within (pending ++ piece) ≡ true
     → Served s n sound before after unread unread_now held held_now waits
@@ -240,7 +240,7 @@ served_more s m n sound before mid after unread unread_mid unread_now held held_
           (replied_on s m n sound before mid after held held_mid held_now (ended_lines so_far.read) (ended_lines (pending ++ piece)) so_far.replied done);
     }
 
-pub leaves_on : (s m : Standing) (sound : Type 0) (before mid : List (List ℕ)) (unread unread_mid unread_now held held_mid held_now : Option (List ℕ)) (pending piece c : List ℕ)
+pub leaves_on : (s m : WatchedSite) (sound : Type 0) (before mid : List (List ℕ)) (unread unread_mid unread_now held held_mid held_now : Option (List ℕ)) (pending piece c : List ℕ)
     → Served s m sound before mid unread unread_mid held held_mid pending → sound → HasReadIfTold unread_mid unread_now piece
     → Leaves m mid held_mid held_now (ended_lines (pending ++ piece)) c → LeavesOf s before unread unread_now held held_now c
 leaves_on s m sound before mid unread unread_mid unread_now held held_mid held_now pending piece c so_far is given left = record {
@@ -252,12 +252,12 @@ leaves_on s m sound before mid unread unread_mid unread_now held held_mid held_n
 }
 
 -- what is left when nothing more was done
-pub leaves_still : (s m : Standing) (sound : Type 0) (before mid : List (List ℕ)) (unread unread_mid unread_now held told : Option (List ℕ)) (pending piece c : List ℕ)
+pub leaves_still : (s m : WatchedSite) (sound : Type 0) (before mid : List (List ℕ)) (unread unread_mid unread_now held told : Option (List ℕ)) (pending piece c : List ℕ)
     → Served s m sound before mid unread unread_mid held told pending → sound → HasReadIfTold unread_mid unread_now piece → recorded c ≡ mid → LeavesOf s before unread unread_now held told c
 leaves_still s m sound before mid unread unread_mid unread_now held told pending piece c so_far is given same =
     leaves_on s m sound before mid unread unread_mid unread_now held told told pending piece c so_far is given (leaves_none m mid (ended_lines (pending ++ piece)) told c same)
 
-pub too_long_on : (s m : Standing) (sound : Type 0) (before mid : List (List ℕ)) (unread unread_mid unread_now held told : Option (List ℕ)) (pending piece rest : List ℕ)
+pub too_long_on : (s m : WatchedSite) (sound : Type 0) (before mid : List (List ℕ)) (unread unread_mid unread_now held told : Option (List ℕ)) (pending piece rest : List ℕ)
     → Served s m sound before mid unread unread_mid held told pending → HasReadIfTold unread_mid unread_now piece
     → IsBehind (pending ++ piece) rest → HasTooLong (pending ++ piece) rest → HasReadTooLong unread unread_now
 too_long_on s m sound before mid unread unread_mid unread_now held told pending piece rest so_far given behind long = record {
@@ -271,14 +271,14 @@ too_long_on s m sound before mid unread unread_mid unread_now held told pending 
   ];
 }
 
-pub served_all : (s m : Standing) (sound : Type 0) (before after : List (List ℕ)) (unread unread_now held held_now : Option (List ℕ)) (pending : List ℕ)
+pub served_all : (s m : WatchedSite) (sound : Type 0) (before after : List (List ℕ)) (unread unread_now held held_now : Option (List ℕ)) (pending : List ℕ)
     → Served s m sound before after unread unread_now held held_now pending → IfSome unread (λ _. unread_now ≡ Some [])
     → IfSome unread (λ bytes. AppendsIfTold held held_now (replies_to s (ended_lines bytes)))
 served_all s m sound before after None unread_now held held_now pending so_far end = tt
 served_all s m sound before after (Some left) unread_now held held_now pending so_far end =
     subst (λ (l : List ℕ). AppendsIfTold held held_now (replies_to s (ended_lines l))) (sym (read_all (Some left) unread_now so_far.read so_far.taken end)) so_far.replied.replied
 
-pub served_end : (s m : Standing) (sound : Type 0) (before mid : List (List ℕ)) (unread unread_mid unread_now held told : Option (List ℕ)) (pending : List ℕ)
+pub served_end : (s m : WatchedSite) (sound : Type 0) (before mid : List (List ℕ)) (unread unread_mid unread_now held told : Option (List ℕ)) (pending : List ℕ)
     → Served s m sound before mid unread unread_mid held told pending → HasReadIfTold unread_mid unread_now [] → Served s m sound before mid unread unread_now held told pending
 served_end s m sound before mid unread unread_mid unread_now held told pending so_far given = record {
   read = so_far.read;

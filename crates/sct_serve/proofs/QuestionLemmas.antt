@@ -8,12 +8,12 @@ use Rattle.sct_streams.specs.Stream.{AppendsIfTold, AppendsPrefixIfTold}
 use Rattle.sct_site.specs.Cores.{Core}
 use Rattle.sct_journal.specs.Kept.{recorded}
 use Rattle.sct_requests.specs.Questions.{answer_asked, watched_after}
-use Rattle.sct_requests.specs.Standings.{Standing}
+use Rattle.sct_requests.specs.WatchedSites.{WatchedSite}
 use Rattle.sct_requests.specs.Steps.{brings, brought, core_given, is_delta_line, is_question_line}
 use Rattle.sct_serve.specs.Replies.{question_reply, replies_to, reply_to}
 use Rattle.sct_serve.specs.Serving.{Leaves, Replied}
 use Rattle.sct_serve.proofs.LeaveLemmas.{leaves_all, leaves_told}
-use Rattle.sct_serve.proofs.ReplyLemmas.{question_reply_is, question_standing}
+use Rattle.sct_serve.proofs.ReplyLemmas.{question_reply_is, question_site}
 
 -- a question line begins with another byte than a delta line
 begins : (line : List ℕ) → is_question_line line ≡ true → is_delta_line line ≡ false
@@ -41,33 +41,33 @@ brings_nothing core line told = ap (λ (c : Core). nat_lt (length core.arrivals)
 pub question_brings : (core : Core) (line : List ℕ) → is_question_line line ≡ true → brought core (line ∷ []) ≡ []
 question_brings core line told = ap (λ (b : Bool). cond b (line ∷ []) []) (brings_nothing core line told)
 
-pub question_reply_all : (s : Standing) (line : List ℕ) → is_question_line line ≡ true → replies_to s (line ∷ []) ≡ question_reply (answer_asked s (drop 2 line))
+pub question_reply_all : (s : WatchedSite) (line : List ℕ) → is_question_line line ≡ true → replies_to s (line ∷ []) ≡ question_reply (answer_asked s (drop 2 line))
 question_reply_all s line told = append-nil (reply_to s line) ∙ question_reply_is s line told
 
-behind : (s : Standing) (before : List (List ℕ)) (line : List ℕ) → is_question_line line ≡ true → before ++ brought s.core (line ∷ []) ≡ before
+behind : (s : WatchedSite) (before : List (List ℕ)) (line : List ℕ) → is_question_line line ≡ true → before ++ brought s.core (line ∷ []) ≡ before
 behind s before line told = ap (λ (l : List (List ℕ)). before ++ l) (question_brings s.core line told) ∙ append-nil before
 
-pub question_left : (s : Standing) (before : List (List ℕ)) (line : List ℕ) (held now : Option (List ℕ)) (c : List ℕ) → is_question_line line ≡ true → recorded c ≡ before
+pub question_left : (s : WatchedSite) (before : List (List ℕ)) (line : List ℕ) (held now : Option (List ℕ)) (c : List ℕ) → is_question_line line ≡ true → recorded c ≡ before
     → AppendsPrefixIfTold held now (question_reply (answer_asked s (drop 2 line))) → Leaves s before held now (line ∷ []) c
 question_left s before line held now c told same part =
     leaves_told s before (line ∷ []) held now c (same ∙ sym (behind s before line told)) (subst (λ (l : List ℕ). AppendsPrefixIfTold held now l) (sym (question_reply_all s line told)) part)
 
-pub question_told : (s : Standing) (before : List (List ℕ)) (line : List ℕ) (held now : Option (List ℕ)) (c : List ℕ) → is_question_line line ≡ true → recorded c ≡ before
+pub question_told : (s : WatchedSite) (before : List (List ℕ)) (line : List ℕ) (held now : Option (List ℕ)) (c : List ℕ) → is_question_line line ≡ true → recorded c ≡ before
     → AppendsIfTold held now (question_reply (answer_asked s (drop 2 line))) → Leaves s before held now (line ∷ []) c
 question_told s before line held now c told same whole =
     leaves_all s before (line ∷ []) held now c (same ∙ sym (behind s before line told)) (subst (λ (l : List ℕ). AppendsIfTold held now l) (sym (question_reply_all s line told)) whole)
 
-pub question_answered : (s m : Standing) (sound : Type 0) (before after : List (List ℕ)) (held now : Option (List ℕ)) (line question : List ℕ) → is_question_line line ≡ true → question ≡ drop 2 line
+pub question_answered : (s m : WatchedSite) (sound : Type 0) (before after : List (List ℕ)) (held now : Option (List ℕ)) (line question : List ℕ) → is_question_line line ≡ true → question ≡ drop 2 line
     → m.core ≡ s.core → m.watched ≡ watched_after s question → after ≡ before → AppendsIfTold held now (question_reply (answer_asked s question)) → Replied s m sound before after held now (line ∷ [])
 question_answered s m sound before after held now line question told is core watched same written = record {
   ends =
-      (λ i. standing_by (core i) (watched i))
-      ∙ (λ i. standing_by (sym (given_question s.core line told) i) (watched_after s (is i)))
-      ∙ sym (question_standing s line told);
+      (λ i. watched_site_by (core i) (watched i))
+      ∙ (λ i. watched_site_by (sym (given_question s.core line told) i) (watched_after s (is i)))
+      ∙ sym (question_site s line told);
   replied =
       subst (λ (l : List ℕ). AppendsIfTold held now l) (ap (λ (l : List ℕ). question_reply (answer_asked s l)) is ∙ sym (question_reply_all s line told)) written;
   keeps = λ _. same ∙ sym (behind s before line told);
 }
   where
-    standing_by : Core → Option ℕ → Standing
-    standing_by c w = record { core = c; watched = w }
+    watched_site_by : Core → Option ℕ → WatchedSite
+    watched_site_by c w = record { core = c; watched = w }

@@ -5,49 +5,49 @@ use Rattle.std.specs.Fmt.{decimal}
 use Rattle.sct_streams.specs.Stream.{AppendsIfTold, AppendsPrefixIfTold}
 use Rattle.sct_serve.proofs.StreamLemmas.{appends_on, prefix_front, prefix_on}
 use Rattle.sct_site.specs.Cores.{Core}
-use Rattle.sct_requests.specs.Questions.{answer_asked, standing_given, watched_after}
-use Rattle.sct_requests.specs.Standings.{Standing}
+use Rattle.sct_requests.specs.Questions.{answer_asked, watched_after, watched_site_given}
+use Rattle.sct_requests.specs.WatchedSites.{WatchedSite}
 use Rattle.sct_requests.specs.Steps.{answer_to, answers_to, core_after, core_given, is_question_line}
-use Rattle.sct_serve.specs.Replies.{question_reply, replies_to, reply_line, reply_to, standing_after}
+use Rattle.sct_serve.specs.Replies.{question_reply, replies_to, reply_line, reply_to, watched_site_after}
 use Rattle.sct_serve.specs.Serving.{HasNoQuestion}
 
-pub standing_join : (xs ys : List (List ℕ)) (s : Standing) → standing_after s (xs ++ ys) ≡ standing_after (standing_after s xs) ys
-standing_join [] ys s = refl
-standing_join (x ∷ xs) ys s = standing_join xs ys (standing_given s x)
+pub watched_site_join : (xs ys : List (List ℕ)) (s : WatchedSite) → watched_site_after s (xs ++ ys) ≡ watched_site_after (watched_site_after s xs) ys
+watched_site_join [] ys s = refl
+watched_site_join (x ∷ xs) ys s = watched_site_join xs ys (watched_site_given s x)
 
-pub replies_join : (xs ys : List (List ℕ)) (s : Standing) → replies_to s (xs ++ ys) ≡ replies_to s xs ++ replies_to (standing_after s xs) ys
+pub replies_join : (xs ys : List (List ℕ)) (s : WatchedSite) → replies_to s (xs ++ ys) ≡ replies_to s xs ++ replies_to (watched_site_after s xs) ys
 replies_join [] ys s = refl
 replies_join (x ∷ xs) ys s =
-    ap (λ (l : List ℕ). reply_to s x ++ l) (replies_join xs ys (standing_given s x))
-    ∙ sym (append_assoc (reply_to s x) (replies_to (standing_given s x) xs) (replies_to (standing_after (standing_given s x) xs) ys))
+    ap (λ (l : List ℕ). reply_to s x ++ l) (replies_join xs ys (watched_site_given s x))
+    ∙ sym (append_assoc (reply_to s x) (replies_to (watched_site_given s x) xs) (replies_to (watched_site_after (watched_site_given s x) xs) ys))
 
-given_core : (s : Standing) (line : List ℕ) → (standing_given s line).core ≡ core_given s.core line
-unfolding standing_given
+given_core : (s : WatchedSite) (line : List ℕ) → (watched_site_given s line).core ≡ core_given s.core line
+unfolding watched_site_given
 given_core s line = refl
 
-pub standing_core : (lines : List (List ℕ)) (s : Standing) → (standing_after s lines).core ≡ core_after s.core lines
-standing_core [] s = refl
-standing_core (x ∷ xs) s = standing_core xs (standing_given s x) ∙ ap (λ (c : Core). core_after c xs) (given_core s x)
+pub watched_site_core : (lines : List (List ℕ)) (s : WatchedSite) → (watched_site_after s lines).core ≡ core_after s.core lines
+watched_site_core [] s = refl
+watched_site_core (x ∷ xs) s = watched_site_core xs (watched_site_given s x) ∙ ap (λ (c : Core). core_after c xs) (given_core s x)
 
 -- ---- lines that are no questions
 
-abbrev pub with_core : Standing → Core → Standing
+abbrev pub with_core : WatchedSite → Core → WatchedSite
 with_core s core = record { core = core; watched = s.watched }
 
-quiet_given : (s : Standing) (line : List ℕ) → is_question_line line ≡ false → standing_given s line ≡ with_core s (core_given s.core line)
-unfolding standing_given
+quiet_given : (s : WatchedSite) (line : List ℕ) → is_question_line line ≡ false → watched_site_given s line ≡ with_core s (core_given s.core line)
+unfolding watched_site_given
 quiet_given s line quiet = ap (λ (b : Bool). record { core = core_given s.core line; watched = cond b (watched_after s (drop 2 line)) s.watched }) quiet
 
-quiet_reply : (s : Standing) (line : List ℕ) → is_question_line line ≡ false → reply_to s line ≡ reply_line (answer_to s.core line)
+quiet_reply : (s : WatchedSite) (line : List ℕ) → is_question_line line ≡ false → reply_to s line ≡ reply_line (answer_to s.core line)
 unfolding reply_to
 quiet_reply s line quiet = ap (λ (b : Bool). cond b (question_reply (answer_asked s (drop 2 line))) (reply_line (answer_to s.core line))) quiet
 
-pub quiet_standing : (lines : List (List ℕ)) (s : Standing) → HasNoQuestion lines → standing_after s lines ≡ with_core s (core_after s.core lines)
-quiet_standing [] s none = refl
-quiet_standing (x ∷ xs) s none =
-    ap (λ (t : Standing). standing_after t xs) (quiet_given s x none.0) ∙ quiet_standing xs (with_core s (core_given s.core x)) none.1
+pub quiet_site : (lines : List (List ℕ)) (s : WatchedSite) → HasNoQuestion lines → watched_site_after s lines ≡ with_core s (core_after s.core lines)
+quiet_site [] s none = refl
+quiet_site (x ∷ xs) s none =
+    ap (λ (t : WatchedSite). watched_site_after t xs) (quiet_given s x none.0) ∙ quiet_site xs (with_core s (core_given s.core x)) none.1
 
-pub quiet_replies : (lines : List (List ℕ)) (s : Standing) → HasNoQuestion lines → replies_to s lines ≡ flat_map reply_line (answers_to s.core lines)
+pub quiet_replies : (lines : List (List ℕ)) (s : WatchedSite) → HasNoQuestion lines → replies_to s lines ≡ flat_map reply_line (answers_to s.core lines)
 quiet_replies [] s none = refl
 quiet_replies (x ∷ xs) s none =
     (λ i. quiet_reply s x none.0 i ++ replies_to (quiet_given s x none.0 i) xs)
@@ -55,13 +55,13 @@ quiet_replies (x ∷ xs) s none =
 
 -- ---- a question
 
-pub question_reply_is : (s : Standing) (line : List ℕ) → is_question_line line ≡ true → reply_to s line ≡ question_reply (answer_asked s (drop 2 line))
+pub question_reply_is : (s : WatchedSite) (line : List ℕ) → is_question_line line ≡ true → reply_to s line ≡ question_reply (answer_asked s (drop 2 line))
 unfolding reply_to
 question_reply_is s line told = ap (λ (b : Bool). cond b (question_reply (answer_asked s (drop 2 line))) (reply_line (answer_to s.core line))) told
 
-pub question_standing : (s : Standing) (line : List ℕ) → is_question_line line ≡ true → standing_given s line ≡ record { core = core_given s.core line; watched = watched_after s (drop 2 line) }
-unfolding standing_given
-question_standing s line told = ap (λ (b : Bool). record { core = core_given s.core line; watched = cond b (watched_after s (drop 2 line)) s.watched }) told
+pub question_site : (s : WatchedSite) (line : List ℕ) → is_question_line line ≡ true → watched_site_given s line ≡ record { core = core_given s.core line; watched = watched_after s (drop 2 line) }
+unfolding watched_site_given
+question_site s line told = ap (λ (b : Bool). record { core = core_given s.core line; watched = cond b (watched_after s (drop 2 line)) s.watched }) told
 
 -- ---- a text that is written in three parts
 

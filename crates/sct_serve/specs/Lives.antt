@@ -4,7 +4,7 @@ use Rattle.sct_streams.specs.Stream.{AppendsIfTold, HasReadIfTold}
 use Rattle.sct_site.specs.Cores.{Core}
 use Rattle.sct_exchange.specs.Sites.{held_text}
 use Rattle.sct_journal.specs.Kept.{ended_lines, recorded}
-use Rattle.sct_requests.specs.Standings.{Standing}
+use Rattle.sct_requests.specs.WatchedSites.{WatchedSite}
 use Rattle.sct_requests.specs.Steps.{brought, core_kept}
 use Rattle.sct_serve.specs.Replies.{replies_to}
 use Rattle.sct_serve.specs.Serving.{IsFrontOf}
@@ -15,16 +15,16 @@ unfoldable pub ready_line : Core → List ℕ
 ready_line core = codes "READY " ++ held_text core.arrivals ++ codes "\n"
 
 -- the site of a journal with these lines, before changes were asked for
-abbrev pub standing_kept : ℕ → ℕ → List (List ℕ) → Standing
-standing_kept number group lines = record { core = core_kept number group lines; watched = None }
+abbrev pub watched_site_kept : ℕ → ℕ → List (List ℕ) → WatchedSite
+watched_site_kept number group lines = record { core = core_kept number group lines; watched = None }
 
 -- all that is written for an input
-abbrev pub output_of : Standing → List ℕ → List ℕ
-output_of standing input = ready_line standing.core ++ replies_to standing (ended_lines input)
+abbrev pub output_of : WatchedSite → List ℕ → List ℕ
+output_of site input = ready_line site.core ++ replies_to site (ended_lines input)
 
 -- Of the lines of what was read, a front lasts: all that it brought is recorded, and no more. What was written is the first
 -- line and replies to that front, or a front of these bytes.
-pub record LifeLeaves (standing : Standing) (before : List (List ℕ)) (unread unread_now held held_now : Option (List ℕ)) (file : List ℕ) : Type 0 where
+pub record LifeLeaves (site : WatchedSite) (before : List (List ℕ)) (unread unread_now held held_now : Option (List ℕ)) (file : List ℕ) : Type 0 where
   pub read : List ℕ
   pub taken : HasReadIfTold unread unread_now read
   pub lasting : List (List ℕ)
@@ -32,5 +32,5 @@ pub record LifeLeaves (standing : Standing) (before : List (List ℕ)) (unread u
   pub parts : ended_lines read ≡ lasting ++ others
   pub written : List ℕ
   pub appended : AppendsIfTold held held_now written
-  pub replied : IsFrontOf written (ready_line standing.core ++ replies_to standing lasting)
-  pub keeps : recorded file ≡ before ++ brought standing.core lasting
+  pub replied : IsFrontOf written (ready_line site.core ++ replies_to site lasting)
+  pub keeps : recorded file ≡ before ++ brought site.core lasting

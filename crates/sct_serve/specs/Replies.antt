@@ -6,8 +6,8 @@ use Rattle.sct_exchange.specs.RefusedFiles.{refusal_text}
 use Rattle.sct_site.specs.declared.answers.Took.{Took}
 use Rattle.sct_site.specs.declared.answers.Took.TheVariants as took
 use Rattle.sct_embed.specs.Faults.{embed_fault_number, embed_fault_place}
-use Rattle.sct_requests.specs.Questions.{answer_asked, standing_given}
-use Rattle.sct_requests.specs.Standings.{Standing}
+use Rattle.sct_requests.specs.Questions.{answer_asked, watched_site_given}
+use Rattle.sct_requests.specs.WatchedSites.{WatchedSite}
 use Rattle.sct_requests.specs.Steps.{answer_to, is_question_line}
 use Rattle.sct_requests.specs.declared.answers.Answer.{Answer}
 use Rattle.sct_requests.specs.declared.answers.Answer.TheVariants as answer
@@ -51,16 +51,16 @@ question_reply (Err reason) = codes "REFUSED " ++ question_refusal reason ++ cod
 -- ---- requests
 
 -- the reply to a line, with its line feed
-unfoldable pub reply_to : Standing → List ℕ → List ℕ
-reply_to standing line =
-    if is_question_line line then question_reply (answer_asked standing (drop 2 line)) else reply_line (answer_to standing.core line)
+unfoldable pub reply_to : WatchedSite → List ℕ → List ℕ
+reply_to site line =
+    if is_question_line line then question_reply (answer_asked site (drop 2 line)) else reply_line (answer_to site.core line)
 
--- the replies to lines, each on the standing as it is then
-abbrev pub replies_to : Standing → List (List ℕ) → List ℕ
-replies_to standing [] = []
-replies_to standing (line ∷ lines) = reply_to standing line ++ replies_to (standing_given standing line) lines
+-- the replies to lines, each on the site as it is then
+abbrev pub replies_to : WatchedSite → List (List ℕ) → List ℕ
+replies_to site [] = []
+replies_to site (line ∷ lines) = reply_to site line ++ replies_to (watched_site_given site line) lines
 
--- the standing after lines
-abbrev pub standing_after : Standing → List (List ℕ) → Standing
-standing_after standing [] = standing
-standing_after standing (line ∷ lines) = standing_after (standing_given standing line) lines
+-- the site after lines
+abbrev pub watched_site_after : WatchedSite → List (List ℕ) → WatchedSite
+watched_site_after site [] = site
+watched_site_after site (line ∷ lines) = watched_site_after (watched_site_given site line) lines

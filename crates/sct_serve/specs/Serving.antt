@@ -4,9 +4,9 @@ use Rattle.std.specs.List.{list_all}
 use Rattle.sct_streams.specs.Stream.{AppendsIfTold, HasReadIfTold}
 use Rattle.sct_journal.specs.Kept.{ended_lines, recorded}
 use Rattle.sct_keeper.specs.Keepers.{EndsOpening, EndsRound, IsForeign}
-use Rattle.sct_requests.specs.Standings.{Standing}
+use Rattle.sct_requests.specs.WatchedSites.{WatchedSite}
 use Rattle.sct_requests.specs.Steps.{brought, is_question_line}
-use Rattle.sct_serve.specs.Replies.{replies_to, standing_after}
+use Rattle.sct_serve.specs.Replies.{replies_to, watched_site_after}
 use Rattle.sct_serve.specs.declared.fault.ServeFault.{ServeFault}
 use Rattle.sct_serve.specs.declared.fault.ServeFault.TheVariants as fault
 
@@ -41,35 +41,35 @@ asked (Some line) = line ∷ []
 -- ---- requests and replies
 
 -- Each of the lines has its reply, the site is the one after them, and the journal records all that they brought.
-pub record Replied (standing now : Standing) (sound : Type 0) (before after : List (List ℕ)) (held held_now : Option (List ℕ)) (lines : List (List ℕ)) : Type 0 where
-  pub ends : now ≡ standing_after standing lines
-  pub replied : AppendsIfTold held held_now (replies_to standing lines)
-  pub keeps : sound → after ≡ before ++ brought standing.core lines
+pub record Replied (site now : WatchedSite) (sound : Type 0) (before after : List (List ℕ)) (held held_now : Option (List ℕ)) (lines : List (List ℕ)) : Type 0 where
+  pub ends : now ≡ watched_site_after site lines
+  pub replied : AppendsIfTold held held_now (replies_to site lines)
+  pub keeps : sound → after ≡ before ++ brought site.core lines
 
 -- Of the lines that were requested, a front lasts: all that it brought is recorded, and no more. All replies that were
 -- written are replies to it.
-pub record Leaves (standing : Standing) (before : List (List ℕ)) (held held_now : Option (List ℕ)) (lines : List (List ℕ)) (file : List ℕ) : Type 0 where
+pub record Leaves (site : WatchedSite) (before : List (List ℕ)) (held held_now : Option (List ℕ)) (lines : List (List ℕ)) (file : List ℕ) : Type 0 where
   pub lasting : List (List ℕ)
   pub others : List (List ℕ)
   pub parts : lines ≡ lasting ++ others
   pub written : List ℕ
   pub appended : AppendsIfTold held held_now written
-  pub replied : IsFrontOf written (replies_to standing lasting)
-  pub keeps : recorded file ≡ before ++ brought standing.core lasting
+  pub replied : IsFrontOf written (replies_to site lasting)
+  pub keeps : recorded file ≡ before ++ brought site.core lasting
 
 -- the same of the lines of what was read
-pub record LeavesOf (standing : Standing) (before : List (List ℕ)) (unread unread_now held held_now : Option (List ℕ)) (file : List ℕ) : Type 0 where
+pub record LeavesOf (site : WatchedSite) (before : List (List ℕ)) (unread unread_now held held_now : Option (List ℕ)) (file : List ℕ) : Type 0 where
   pub read : List ℕ
   pub taken : HasReadIfTold unread unread_now read
-  pub leaves : Leaves standing before held held_now (ended_lines read) file
+  pub leaves : Leaves site before held held_now (ended_lines read) file
 
 -- Some bytes were read. Each line of them has its reply, and what is behind them waits.
-pub record Served (standing now : Standing) (sound : Type 0) (before after : List (List ℕ)) (unread unread_now held held_now : Option (List ℕ)) (pending : List ℕ) : Type 0 where
+pub record Served (site now : WatchedSite) (sound : Type 0) (before after : List (List ℕ)) (unread unread_now held held_now : Option (List ℕ)) (pending : List ℕ) : Type 0 where
   pub read : List ℕ
   pub taken : HasReadIfTold unread unread_now read
   pub behind : IsBehind read pending
   pub within : are_within read ≡ true
-  pub replied : Replied standing now sound before after held held_now (ended_lines read)
+  pub replied : Replied site now sound before after held held_now (ended_lines read)
 
 -- ---- faults
 
@@ -120,9 +120,9 @@ EndsTaking (fault.Keeper reason) = EndsRound reason
 EndsTaking other = ⊤
 
 -- the faults that may end the service after the journal is open
-abbrev pub EndsServing : ServeFault → Type 0
-EndsServing (fault.Keeper reason) = EndsRound reason
-EndsServing other = ⊤
+abbrev pub EndsAfterOpening : ServeFault → Type 0
+EndsAfterOpening (fault.Keeper reason) = EndsRound reason
+EndsAfterOpening other = ⊤
 
 -- the faults that may end a life
 abbrev pub EndsLife : ServeFault → Type 0

@@ -3,7 +3,7 @@ ghost use Rattle.std.specs.Prelude.{◌≡◌, ◌+◌, ◌≤◌, ◌++◌, ◌
 ghost use Rattle.sqlite_disk.specs.Disk.{MoreFaults};
 ghost use Rattle.sct_streams.specs.Stream.{AppendsIfTold, AppendsPrefixIfTold};
 ghost use Rattle.sct_journal.specs.Kept.{ended_lines, recorded};
-ghost use Rattle.sct_keeper.specs.Keepers.{IsKeeper, keeper_disk, site_of, standing_of};
+ghost use Rattle.sct_keeper.specs.Keepers.{IsKeeper, core_of_keeper, keeper_disk, watched_site_of};
 ghost use Rattle.sct_requests.specs.Questions.{answer_asked, watched_after};
 ghost use Rattle.sct_requests.specs.Steps.{is_question_line};
 ghost use Rattle.sct_serve.specs.Replies.{question_reply};
@@ -42,12 +42,12 @@ fn answer_lines<D: Disk, K: Sink>(
 ) -> Result<(), ServeFault>
     requires keeper { IsKeeper D.Disk.seen D.Disk.may_leave D.Disk.is_usable D.Disk.is_clean keeper.old }
     requires none { HasNoQuestion (ended_lines lines.now) }
-    ensures replied { OnOk result (Replied (standing_of keeper.old) (standing_of keeper.new) (IsTrue (D.Disk.is_clean (keeper_disk keeper.old)))
+    ensures replied { OnOk result (Replied (watched_site_of keeper.old) (watched_site_of keeper.new) (IsTrue (D.Disk.is_clean (keeper_disk keeper.old)))
         (recorded (D.Disk.seen (keeper_disk keeper.old))) (recorded (D.Disk.seen (keeper_disk keeper.new)))
         (K.state sink.old).held (K.state sink.new).held (ended_lines lines.now)) }
     ensures keeper { OnOk result (IsKeeper D.Disk.seen D.Disk.may_leave D.Disk.is_usable D.Disk.is_clean keeper.new) }
     ensures crash { IsTrue (D.Disk.is_clean (keeper_disk keeper.old)) → (c : List ℕ) → D.Disk.may_leave (keeper_disk keeper.new) c
-        → Leaves (standing_of keeper.old) (recorded (D.Disk.seen (keeper_disk keeper.old))) (K.state sink.old).held (K.state sink.new).held (ended_lines lines.now) c }
+        → Leaves (watched_site_of keeper.old) (recorded (D.Disk.seen (keeper_disk keeper.old))) (K.state sink.old).held (K.state sink.new).held (ended_lines lines.now) c }
     ensures clean { D.Disk.is_clean (keeper_disk keeper.new) ≡ D.Disk.is_clean (keeper_disk keeper.old) }
     ensures quiet { OnOk result ((K.state sink.new).failures ≡ (K.state sink.old).failures) }
     ensures counted { IfErr result (λ e. (K.state sink.new).failures ≡ (K.state sink.old).failures + failed_writes e) }
@@ -90,10 +90,10 @@ fn answer_question<D: Disk, K: Sink>(
     sink: &mut K,
 ) -> Result<(), ServeFault>
     requires keeper { IsKeeper D.Disk.seen D.Disk.may_leave D.Disk.is_usable D.Disk.is_clean keeper.old }
-    ensures written { OnOk result (AppendsIfTold (K.state sink.old).held (K.state sink.new).held (question_reply (answer_asked (standing_of keeper.old) question.now))) }
-    ensures cut_off { OnErr result (AppendsPrefixIfTold (K.state sink.old).held (K.state sink.new).held (question_reply (answer_asked (standing_of keeper.old) question.now))) }
-    ensures site { site_of keeper.new ≡ site_of keeper.old }
-    ensures watched { OnOk result (keeper.new.site.watched ≡ watched_after (standing_of keeper.old) question.now) }
+    ensures written { OnOk result (AppendsIfTold (K.state sink.old).held (K.state sink.new).held (question_reply (answer_asked (watched_site_of keeper.old) question.now))) }
+    ensures cut_off { OnErr result (AppendsPrefixIfTold (K.state sink.old).held (K.state sink.new).held (question_reply (answer_asked (watched_site_of keeper.old) question.now))) }
+    ensures site { core_of_keeper keeper.new ≡ core_of_keeper keeper.old }
+    ensures watched { OnOk result (keeper.new.site.watched ≡ watched_after (watched_site_of keeper.old) question.now) }
     ensures keeper { IsKeeper D.Disk.seen D.Disk.may_leave D.Disk.is_usable D.Disk.is_clean keeper.new }
     ensures disk { keeper_disk keeper.new ≡ keeper_disk keeper.old }
     ensures quiet { OnOk result ((K.state sink.new).failures ≡ (K.state sink.old).failures) }
@@ -118,12 +118,12 @@ fn answer_if_asked<D: Disk, K: Sink>(
 ) -> Result<(), ServeFault>
     requires keeper { IsKeeper D.Disk.seen D.Disk.may_leave D.Disk.is_usable D.Disk.is_clean keeper.old }
     requires question { IfSome question (λ line. is_question_line line.now ≡ true) }
-    ensures replied { OnOk result (Replied (standing_of keeper.old) (standing_of keeper.new) (IsTrue (D.Disk.is_clean (keeper_disk keeper.old)))
+    ensures replied { OnOk result (Replied (watched_site_of keeper.old) (watched_site_of keeper.new) (IsTrue (D.Disk.is_clean (keeper_disk keeper.old)))
         (recorded (D.Disk.seen (keeper_disk keeper.old))) (recorded (D.Disk.seen (keeper_disk keeper.new)))
         (K.state sink.old).held (K.state sink.new).held (asked (option_map (λ line. line.now) question.entry))) }
     ensures keeper { OnOk result (IsKeeper D.Disk.seen D.Disk.may_leave D.Disk.is_usable D.Disk.is_clean keeper.new) }
     ensures crash { IsTrue (D.Disk.is_clean (keeper_disk keeper.old)) → (c : List ℕ) → D.Disk.may_leave (keeper_disk keeper.new) c
-        → Leaves (standing_of keeper.old) (recorded (D.Disk.seen (keeper_disk keeper.old))) (K.state sink.old).held (K.state sink.new).held
+        → Leaves (watched_site_of keeper.old) (recorded (D.Disk.seen (keeper_disk keeper.old))) (K.state sink.old).held (K.state sink.new).held
         (asked (option_map (λ line. line.now) question.entry)) c }
     ensures clean { D.Disk.is_clean (keeper_disk keeper.new) ≡ D.Disk.is_clean (keeper_disk keeper.old) }
     ensures quiet { OnOk result ((K.state sink.new).failures ≡ (K.state sink.old).failures) }
@@ -149,12 +149,12 @@ pub(crate) fn answer_text<D: Disk, K: Sink>(
     sink: &mut K,
 ) -> Result<(), ServeFault>
     requires keeper { IsKeeper D.Disk.seen D.Disk.may_leave D.Disk.is_usable D.Disk.is_clean keeper.old }
-    ensures replied { OnOk result (Replied (standing_of keeper.old) (standing_of keeper.new) (IsTrue (D.Disk.is_clean (keeper_disk keeper.old)))
+    ensures replied { OnOk result (Replied (watched_site_of keeper.old) (watched_site_of keeper.new) (IsTrue (D.Disk.is_clean (keeper_disk keeper.old)))
         (recorded (D.Disk.seen (keeper_disk keeper.old))) (recorded (D.Disk.seen (keeper_disk keeper.new)))
         (K.state sink.old).held (K.state sink.new).held (ended_lines text.now)) }
     ensures keeper { OnOk result (IsKeeper D.Disk.seen D.Disk.may_leave D.Disk.is_usable D.Disk.is_clean keeper.new) }
     ensures crash { IsTrue (D.Disk.is_clean (keeper_disk keeper.old)) → (c : List ℕ) → D.Disk.may_leave (keeper_disk keeper.new) c
-        → Leaves (standing_of keeper.old) (recorded (D.Disk.seen (keeper_disk keeper.old))) (K.state sink.old).held (K.state sink.new).held (ended_lines text.now) c }
+        → Leaves (watched_site_of keeper.old) (recorded (D.Disk.seen (keeper_disk keeper.old))) (K.state sink.old).held (K.state sink.new).held (ended_lines text.now) c }
     ensures clean { D.Disk.is_clean (keeper_disk keeper.new) ≡ D.Disk.is_clean (keeper_disk keeper.old) }
     ensures quiet { OnOk result ((K.state sink.new).failures ≡ (K.state sink.old).failures) }
     ensures counted { IfErr result (λ e. (K.state sink.new).failures ≡ (K.state sink.old).failures + failed_writes e) }

@@ -5,12 +5,12 @@ ghost use Rattle.sct_journal.specs.Fronts.{front_in};
 ghost use Rattle.sct_journal.specs.Kept.{recorded};
 ghost use Rattle.sct_journal.specs.declared.error.JournalError.TheVariants as journal;
 ghost use Rattle.sct_journal.specs.declared.front.Front.TheVariants as front;
-ghost use Rattle.sct_keeper.specs.Keepers.{IsKeeper, IsUntouched, header, keeper_disk, site_of, standing_of};
+ghost use Rattle.sct_keeper.specs.Keepers.{IsKeeper, IsUntouched, core_of_keeper, header, keeper_disk, watched_site_of};
 ghost use Rattle.sct_keeper.specs.declared.fault.KeeperError.TheVariants as error;
 ghost use Rattle.sct_site.specs.Cores.{is_open};
 ghost use Rattle.sct_streams.specs.Stream.{AppendsIfTold, AppendsPrefixIfTold};
-ghost use Rattle.sct_serve.specs.Lives.{LifeLeaves, output_of, ready_line, standing_kept};
-ghost use Rattle.sct_serve.specs.Serving.{EndsLife, EndsServing, HasReadTooLong, IsForeignFault, IsGreetingFault, failed_reads, failed_writes};
+ghost use Rattle.sct_serve.specs.Lives.{LifeLeaves, output_of, ready_line, watched_site_kept};
+ghost use Rattle.sct_serve.specs.Serving.{EndsAfterOpening, EndsLife, HasReadTooLong, IsForeignFault, IsGreetingFault, failed_reads, failed_writes};
 ghost use Rattle.sct_serve.specs.declared.fault.ServeFault.TheVariants as fault;
 
 use crate::answering::write;
@@ -50,9 +50,9 @@ fn greet<D: Disk, K: Sink>(
     sink: &mut K,
 ) -> Result<(), ServeFault>
     requires keeper { IsKeeper D.Disk.seen D.Disk.may_leave D.Disk.is_usable D.Disk.is_clean keeper.old }
-    ensures written { OnOk result (AppendsIfTold (K.state sink.old).held (K.state sink.new).held (ready_line (site_of keeper.old))) }
-    ensures cut_off { OnErr result (AppendsPrefixIfTold (K.state sink.old).held (K.state sink.new).held (ready_line (site_of keeper.old))) }
-    ensures standing { standing_of keeper.new ≡ standing_of keeper.old }
+    ensures written { OnOk result (AppendsIfTold (K.state sink.old).held (K.state sink.new).held (ready_line (core_of_keeper keeper.old))) }
+    ensures cut_off { OnErr result (AppendsPrefixIfTold (K.state sink.old).held (K.state sink.new).held (ready_line (core_of_keeper keeper.old))) }
+    ensures watched_site { watched_site_of keeper.new ≡ watched_site_of keeper.old }
     ensures keeper { IsKeeper D.Disk.seen D.Disk.may_leave D.Disk.is_usable D.Disk.is_clean keeper.new }
     ensures disk { keeper_disk keeper.new ≡ keeper_disk keeper.old }
     ensures quiet { OnOk result ((K.state sink.new).failures ≡ (K.state sink.old).failures) }
@@ -73,10 +73,10 @@ fn greet_and_serve<D: Disk, R: Source, K: Sink>(
 ) -> Result<(), ServeFault>
     requires keeper { IsKeeper D.Disk.seen D.Disk.may_leave D.Disk.is_usable D.Disk.is_clean keeper.old }
     ensures replies { OnOk result (IfSome (R.state source.old).left (λ input.
-        AppendsIfTold (K.state sink.old).held (K.state sink.new).held (output_of (standing_of keeper.old) input))) }
+        AppendsIfTold (K.state sink.old).held (K.state sink.new).held (output_of (watched_site_of keeper.old) input))) }
     ensures read { OnOk result (IfSome (R.state source.old).left (λ _. (R.state source.new).left ≡ Some [])) }
     ensures crash { IsTrue (D.Disk.is_clean (keeper_disk keeper.old)) → (c : List ℕ) → D.Disk.may_leave (keeper_disk keeper.new) c
-        → LifeLeaves (standing_of keeper.old) (recorded (D.Disk.seen (keeper_disk keeper.old)))
+        → LifeLeaves (watched_site_of keeper.old) (recorded (D.Disk.seen (keeper_disk keeper.old)))
         (R.state source.old).left (R.state source.new).left (K.state sink.old).held (K.state sink.new).held c }
     ensures clean { D.Disk.is_clean (keeper_disk keeper.new) ≡ D.Disk.is_clean (keeper_disk keeper.old) }
     ensures too_long { result ≡ Err fault.TooLong → HasReadTooLong (R.state source.old).left (R.state source.new).left }
@@ -86,7 +86,7 @@ fn greet_and_serve<D: Disk, R: Source, K: Sink>(
     ensures failed_writes { IfErr result (λ e. (K.state sink.new).failures ≡ (K.state sink.old).failures + failed_writes e) }
     ensures failed { IfErr result (λ e. e ≡ fault.Keeper (error.Journal journal.Disk) → MoreFaults (D.Disk.faults (keeper_disk keeper.old)) (D.Disk.faults (keeper_disk keeper.new))) }
     ensures faults { D.Disk.faults (keeper_disk keeper.old) ≤ D.Disk.faults (keeper_disk keeper.new) }
-    ensures errors { IfErr result EndsServing }
+    ensures errors { IfErr result EndsAfterOpening }
 {
     greet(alloc, keeper, sink)?;
     let mut piece = room_for(alloc, PIECE)?;
@@ -121,16 +121,16 @@ pub fn serve<D: Disk, R: Source, K: Sink>(
 
     // All that is written is a function of the bytes of the input and of what the journal recorded.
     ensures replies { IfOk result (λ left. IsTrue (D.Disk.is_clean left) → IfSome (R.state source.old).left (λ input.
-        AppendsIfTold (K.state sink.old).held (K.state sink.new).held (output_of (standing_kept number group (recorded (D.Disk.seen disk))) input))) }
+        AppendsIfTold (K.state sink.old).held (K.state sink.new).held (output_of (watched_site_kept number group (recorded (D.Disk.seen disk))) input))) }
     ensures read { OnOk result (IfSome (R.state source.old).left (λ _. (R.state source.new).left ≡ Some [])) }
 
     // Whatever is left, a front of the requests lasts: all that it brought is recorded behind what was recorded, and no more. All
     // replies that were written are replies to it.
     ensures crash { IfOk result (λ left. IsTrue (D.Disk.is_clean left) → (c : List ℕ) → D.Disk.may_leave left c
-        → LifeLeaves (standing_kept number group (recorded (D.Disk.seen disk))) (recorded (D.Disk.seen disk))
+        → LifeLeaves (watched_site_kept number group (recorded (D.Disk.seen disk))) (recorded (D.Disk.seen disk))
         (R.state source.old).left (R.state source.new).left (K.state sink.old).held (K.state sink.new).held c) }
     ensures crash_err { IfErr result (λ left. IsTrue (D.Disk.is_clean left.1) → (c : List ℕ) → D.Disk.may_leave left.1 c
-        → LifeLeaves (standing_kept number group (recorded (D.Disk.seen disk))) (recorded (D.Disk.seen disk))
+        → LifeLeaves (watched_site_kept number group (recorded (D.Disk.seen disk))) (recorded (D.Disk.seen disk))
         (R.state source.old).left (R.state source.new).left (K.state sink.old).held (K.state sink.new).held c) }
 
     // A file that is not the journal of this site is left as it is, and nothing is read or written.

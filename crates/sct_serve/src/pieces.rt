@@ -4,7 +4,7 @@ ghost use Rattle.sqlite_disk.specs.Disk.{MoreFaults};
 ghost use Rattle.sct_journal.specs.Kept.{ended_lines, recorded};
 ghost use Rattle.sct_journal.specs.declared.error.JournalError.TheVariants as journal;
 ghost use Rattle.sct_keeper.specs.declared.fault.KeeperError.TheVariants as error;
-ghost use Rattle.sct_keeper.specs.Keepers.{IsKeeper, keeper_disk, standing_of};
+ghost use Rattle.sct_keeper.specs.Keepers.{IsKeeper, keeper_disk, watched_site_of};
 ghost use Rattle.sct_serve.specs.Serving.{EndsTaking, HasTooLong, IsBehind, Leaves, Replied, are_within, failed_writes};
 ghost use Rattle.sct_serve.specs.declared.fault.ServeFault.TheVariants as fault;
 
@@ -58,7 +58,7 @@ fn take_ended<D: Disk, K: Sink>(
     requires keeper { IsKeeper D.Disk.seen D.Disk.may_leave D.Disk.is_usable D.Disk.is_clean keeper.old }
     requires ended { (front : List ℕ) × (ended.now ≡ front ++ 10 ∷ []) }
     requires rest { ended_lines rest.now ≡ [] }
-    ensures replied { OnOk result (Replied (standing_of keeper.old) (standing_of keeper.new) (IsTrue (D.Disk.is_clean (keeper_disk keeper.old)))
+    ensures replied { OnOk result (Replied (watched_site_of keeper.old) (watched_site_of keeper.new) (IsTrue (D.Disk.is_clean (keeper_disk keeper.old)))
         (recorded (D.Disk.seen (keeper_disk keeper.old))) (recorded (D.Disk.seen (keeper_disk keeper.new)))
         (K.state sink.old).held (K.state sink.new).held (ended_lines ((pending.old.items ++ ended.now) ++ rest.now))) }
     ensures waits { OnOk result (IsBehind ((pending.old.items ++ ended.now) ++ rest.now) pending.new.items) }
@@ -66,7 +66,7 @@ fn take_ended<D: Disk, K: Sink>(
     ensures too_long { result ≡ Err fault.TooLong → (left : List ℕ) × (IsBehind ((pending.old.items ++ ended.now) ++ rest.now) left × HasTooLong ((pending.old.items ++ ended.now) ++ rest.now) left) }
     ensures keeper { OnOk result (IsKeeper D.Disk.seen D.Disk.may_leave D.Disk.is_usable D.Disk.is_clean keeper.new) }
     ensures crash { IsTrue (D.Disk.is_clean (keeper_disk keeper.old)) → (c : List ℕ) → D.Disk.may_leave (keeper_disk keeper.new) c
-        → Leaves (standing_of keeper.old) (recorded (D.Disk.seen (keeper_disk keeper.old))) (K.state sink.old).held (K.state sink.new).held
+        → Leaves (watched_site_of keeper.old) (recorded (D.Disk.seen (keeper_disk keeper.old))) (K.state sink.old).held (K.state sink.new).held
         (ended_lines ((pending.old.items ++ ended.now) ++ rest.now)) c }
     ensures clean { D.Disk.is_clean (keeper_disk keeper.new) ≡ D.Disk.is_clean (keeper_disk keeper.old) }
     ensures quiet { OnOk result ((K.state sink.new).failures ≡ (K.state sink.old).failures) }
@@ -98,7 +98,7 @@ pub(crate) fn take_piece<D: Disk, K: Sink>(
 ) -> Result<(), ServeFault>
     requires keeper { IsKeeper D.Disk.seen D.Disk.may_leave D.Disk.is_usable D.Disk.is_clean keeper.old }
     requires waits { ended_lines pending.old.items ≡ [] }
-    ensures replied { OnOk result (Replied (standing_of keeper.old) (standing_of keeper.new) (IsTrue (D.Disk.is_clean (keeper_disk keeper.old)))
+    ensures replied { OnOk result (Replied (watched_site_of keeper.old) (watched_site_of keeper.new) (IsTrue (D.Disk.is_clean (keeper_disk keeper.old)))
         (recorded (D.Disk.seen (keeper_disk keeper.old))) (recorded (D.Disk.seen (keeper_disk keeper.new)))
         (K.state sink.old).held (K.state sink.new).held (ended_lines (pending.old.items ++ piece.now))) }
     ensures waits { OnOk result (IsBehind (pending.old.items ++ piece.now) pending.new.items) }
@@ -106,7 +106,7 @@ pub(crate) fn take_piece<D: Disk, K: Sink>(
     ensures too_long { result ≡ Err fault.TooLong → (rest : List ℕ) × (IsBehind (pending.old.items ++ piece.now) rest × HasTooLong (pending.old.items ++ piece.now) rest) }
     ensures keeper { OnOk result (IsKeeper D.Disk.seen D.Disk.may_leave D.Disk.is_usable D.Disk.is_clean keeper.new) }
     ensures crash { IsTrue (D.Disk.is_clean (keeper_disk keeper.old)) → (c : List ℕ) → D.Disk.may_leave (keeper_disk keeper.new) c
-        → Leaves (standing_of keeper.old) (recorded (D.Disk.seen (keeper_disk keeper.old))) (K.state sink.old).held (K.state sink.new).held
+        → Leaves (watched_site_of keeper.old) (recorded (D.Disk.seen (keeper_disk keeper.old))) (K.state sink.old).held (K.state sink.new).held
         (ended_lines (pending.old.items ++ piece.now)) c }
     ensures clean { D.Disk.is_clean (keeper_disk keeper.new) ≡ D.Disk.is_clean (keeper_disk keeper.old) }
     ensures quiet { OnOk result ((K.state sink.new).failures ≡ (K.state sink.old).failures) }

@@ -4,10 +4,10 @@ ghost use Rattle.sqlite_disk.specs.Disk.{MoreFaults};
 ghost use Rattle.sct_journal.specs.Kept.{ended_lines, recorded};
 ghost use Rattle.sct_journal.specs.declared.error.JournalError.TheVariants as journal;
 ghost use Rattle.sct_keeper.specs.declared.fault.KeeperError.TheVariants as error;
-ghost use Rattle.sct_keeper.specs.Keepers.{IsKeeper, keeper_disk, standing_of};
+ghost use Rattle.sct_keeper.specs.Keepers.{IsKeeper, keeper_disk, watched_site_of};
 ghost use Rattle.sct_streams.specs.Stream.{AppendsIfTold, HasReadIfTold};
 ghost use Rattle.sct_serve.specs.Replies.{replies_to};
-ghost use Rattle.sct_serve.specs.Serving.{EndsServing, HasReadTooLong, LeavesOf, Served, failed_reads, failed_writes};
+ghost use Rattle.sct_serve.specs.Serving.{EndsAfterOpening, HasReadTooLong, LeavesOf, Served, failed_reads, failed_writes};
 ghost use Rattle.sct_serve.specs.declared.fault.ServeFault.TheVariants as fault;
 
 use crate::fault::ServeFault;
@@ -49,9 +49,9 @@ pub(crate) fn serve_input<D: Disk, R: Source, K: Sink>(
 
     // What is written is a function of the bytes of the input, whatever pieces they come in.
     ensures replies { OnOk result (IfSome (R.state source.old).left (λ input.
-        AppendsIfTold (K.state sink.old).held (K.state sink.new).held (replies_to (standing_of keeper.old) (ended_lines input)))) }
+        AppendsIfTold (K.state sink.old).held (K.state sink.new).held (replies_to (watched_site_of keeper.old) (ended_lines input)))) }
     ensures read { OnOk result (IfSome (R.state source.old).left (λ _. (R.state source.new).left ≡ Some [])) }
-    ensures served { OnOk result ((pending : List ℕ) × Served (standing_of keeper.old) (standing_of keeper.new) (IsTrue (D.Disk.is_clean (keeper_disk keeper.old)))
+    ensures served { OnOk result ((pending : List ℕ) × Served (watched_site_of keeper.old) (watched_site_of keeper.new) (IsTrue (D.Disk.is_clean (keeper_disk keeper.old)))
         (recorded (D.Disk.seen (keeper_disk keeper.old))) (recorded (D.Disk.seen (keeper_disk keeper.new)))
         (R.state source.old).left (R.state source.new).left (K.state sink.old).held (K.state sink.new).held pending) }
     ensures keeper { OnOk result (IsKeeper D.Disk.seen D.Disk.may_leave D.Disk.is_usable D.Disk.is_clean keeper.new) }
@@ -59,7 +59,7 @@ pub(crate) fn serve_input<D: Disk, R: Source, K: Sink>(
 
     // Whatever is left, all that replied lines brought is recorded, and of what was read no more than a front.
     ensures crash { IsTrue (D.Disk.is_clean (keeper_disk keeper.old)) → (c : List ℕ) → D.Disk.may_leave (keeper_disk keeper.new) c
-        → LeavesOf (standing_of keeper.old) (recorded (D.Disk.seen (keeper_disk keeper.old)))
+        → LeavesOf (watched_site_of keeper.old) (recorded (D.Disk.seen (keeper_disk keeper.old)))
         (R.state source.old).left (R.state source.new).left (K.state sink.old).held (K.state sink.new).held c }
     ensures clean { D.Disk.is_clean (keeper_disk keeper.new) ≡ D.Disk.is_clean (keeper_disk keeper.old) }
     ensures reads { OnOk result ((R.state source.new).failures ≡ (R.state source.old).failures) }
@@ -68,7 +68,7 @@ pub(crate) fn serve_input<D: Disk, R: Source, K: Sink>(
     ensures failed_writes { IfErr result (λ e. (K.state sink.new).failures ≡ (K.state sink.old).failures + failed_writes e) }
     ensures failed { IfErr result (λ e. e ≡ fault.Keeper (error.Journal journal.Disk) → MoreFaults (D.Disk.faults (keeper_disk keeper.old)) (D.Disk.faults (keeper_disk keeper.new))) }
     ensures faults { D.Disk.faults (keeper_disk keeper.old) ≤ D.Disk.faults (keeper_disk keeper.new) }
-    ensures errors { IfErr result EndsServing }
+    ensures errors { IfErr result EndsAfterOpening }
 {
     let mut pending = Vec::new(alloc);
     for _ in 0..u64::MAX {

@@ -2,10 +2,10 @@
 use Rattle.std.proofs.Common.{◌≡◌, ◌∙◌, refl, ap, sym, ℕ, ◌+◌, Bool, true, false, cond, List, [], ◌∷◌, ◌++◌, map, length, arith, nat_eq}
 use Rattle.std.proofs.lemmas.Bool.Decides.{nat_tests}
 use Rattle.std.proofs.lemmas.List.{length-map}
-use Rattle.sct_delta.specs.Entries.{Placed, entries_from, log_of, held_from, numbered, IsArrivals, IsRun}
+use Rattle.sct_delta.specs.Entries.{Placed, entries_from, log_of, held_from, numbered, IsArrivals, HasNoHole}
 use Rattle.sct_delta.proofs.EntryLemmas.{numbered-append, from-append, log-append}
 use Rattle.sct_delta.proofs.JoinLemmas.{IsPassed, fresh_continues}
-use Rattle.sct_site.specs.Cores.{arrivals_joined, fresh_of, logs_of}
+use Rattle.sct_site.specs.Cores.{arrivals_joined, fresh_entries, logs_of}
 
 -- ---- arrivals that follow each other
 
@@ -23,12 +23,12 @@ arrivals-append es ds arrive follow o =
     ∙ ap (numbered o 1) (sym (log-append o es ds))
 
 -- arrivals joined with a delta that nothing refuses are arrivals
-pub arrivals-joined : (own group : ℕ) (es ds : List Placed) → IsArrivals es → ((o : ℕ) → IsRun o ds) → IsPassed own group (logs_of es) ds
+pub arrivals-joined : (own group : ℕ) (es ds : List Placed) → IsArrivals es → ((o : ℕ) → HasNoHole o ds) → IsPassed own group (logs_of es) ds
     → IsArrivals (arrivals_joined es ds)
 arrivals-joined own group es ds arrive runs p =
-    arrivals-append es (fresh_of es ds) arrive (λ o.
+    arrivals-append es (fresh_entries es ds) arrive (λ o.
     fresh_continues own group (logs_of es) ds runs p o
-    ∙ ap (λ (n : ℕ). numbered o (n + 1) (log_of o (fresh_of es ds))) (length-log o es))
+    ∙ ap (λ (n : ℕ). numbered o (n + 1) (log_of o (fresh_entries es ds))) (length-log o es))
 
 -- one entry more, whose number is the next of its origin
 one_follows : (e : Placed) (n o : ℕ) → e.n ≡ n → (b : Bool) → nat_eq e.origin o ≡ b → (m : ℕ) → (b ≡ true → m ≡ n)

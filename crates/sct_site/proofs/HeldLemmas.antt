@@ -12,13 +12,13 @@ use Rattle.sct_message.specs.declared.draft.Draft.{Draft}
 use Rattle.sct_message.specs.Ascending.{ascending}
 use Rattle.sct_message.proofs.AscendingLemmas.{any_ascending, ascending-filter, ascending-sorted}
 use Rattle.sct_message.proofs.SameValues.{message_itself}
-use Rattle.sct_delta.specs.Entries.{Placed, is_from, log_of, same_entry, holds, IsArrivals, IsRun}
+use Rattle.sct_delta.specs.Entries.{Placed, is_from, log_of, same_entry, holds, IsArrivals, HasNoHole}
 use Rattle.sct_delta.specs.Refusals.{message_at, is_same_as, is_held, firsts_after, fault_of_entry}
 use Rattle.sct_delta.specs.declared.fault.DeltaFault.{DeltaFault}
 use Rattle.sct_delta.proofs.EntryLemmas.{rises-numbered, run_is}
 use Rattle.sct_delta.proofs.HeldLemmas.{entry_itself, one_entry, held_in_logs, some_there}
 use Rattle.sct_delta.proofs.JoinLemmas.{kept_is}
-use Rattle.sct_site.specs.Cores.{logs_of, is_above, entry_order, entries_above, fresh_of, arrivals_joined}
+use Rattle.sct_site.specs.Cores.{logs_of, is_above, entry_order, entries_above, fresh_entries, arrivals_joined}
 use Rattle.sct_site.proofs.AboveLemmas.{entry_total, entry_same, rises_as_entries, from_above}
 
 -- a held entry stands at its number in the log of its origin
@@ -110,7 +110,7 @@ any_kept p q (d ∷ ds) is =
 
 -- ---- what is cut runs on as the arrivals do, and is among them
 
-pub run_above : (count : ℕ → ℕ) (es : List Placed) → IsArrivals es → (o : ℕ) → IsRun o (entries_above count es)
+pub run_above : (count : ℕ → ℕ) (es : List Placed) → IsArrivals es → (o : ℕ) → HasNoHole o (entries_above count es)
 unfolding entries_above
 run_above count es arrive o =
     run_is o (count o + 1) _ (entries_above count es) (omega arith)
@@ -147,8 +147,8 @@ kept_last (e ∷ es) fs x held = ap (λ (b : Bool). same_entry e x || b) (kept_l
 pub joined_holds : (es ds : List Placed) → IsArrivals es → (x : Placed) → holds ds x ≡ true → holds (arrivals_joined es ds) x ≡ true
 joined_holds es ds arrive x in_delta =
     elim (is_held (logs_of es) x) as (λ b. is_held (logs_of es) x ≡ b → holds (arrivals_joined es ds) x ≡ true) [
-      | true ↦ λ held. kept_first es (fresh_of es ds) x (stands_held es arrive x held)
-      | false ↦ λ new. kept_last es (fresh_of es ds) x (kept_is (λ e. not (is_held (logs_of es) e)) x (ap not new) ds ∙ in_delta)
+      | true ↦ λ held. kept_first es (fresh_entries es ds) x (stands_held es arrive x held)
+      | false ↦ λ new. kept_last es (fresh_entries es ds) x (kept_is (λ e. not (is_held (logs_of es) e)) x (ap not new) ds ∙ in_delta)
     ] refl
 
 pub not_past : (length n : ℕ) → nat_lt length n ≡ false → nat_lt (length + 1) n ≡ false

@@ -19,7 +19,7 @@ use Rattle.sct_message.proofs.Members.{tie_is}
 use Rattle.sct_delta.specs.Entries.{Placed, holds, messages_of, log_of, is_from, same_entry}
 use Rattle.sct_delta.specs.Refusals.{is_held, is_same_as, message_at}
 use Rattle.sct_delta.proofs.HeldLemmas.{entry_itself, one_entry}
-use Rattle.sct_site.specs.Cores.{Core, is_repeat, own_entry, arrivals_taken, arrivals_joined, fresh_of, logs_of}
+use Rattle.sct_site.specs.Cores.{Core, is_repeat, own_entry, arrivals_taken, arrivals_joined, fresh_entries, logs_of}
 use Rattle.sct_site.proofs.AcceptLemmas.{contents-append, messages-append}
 use Rattle.sct_site.proofs.TakeLemmas.{messages-push}
 
@@ -92,10 +92,10 @@ module _ (s : Contents) (log : ℕ → List Draft) (has : (e : Placed) → is_he
 
 pub joined_messages : (es ds : List Placed) → messages_of (arrivals_joined es ds) ≡ set.union (messages_of es) (messages_of ds)
 joined_messages es ds =
-    messages-append es (fresh_of es ds)
+    messages-append es (fresh_entries es ds)
     ∙ same_set message_total message_same _ _ (λ q.
-    contains-union message_total (messages_of es) (messages_of (fresh_of es ds)) q
-    ∙ ap (λ (b : Bool). set.contains (messages_of es) q || b) (contains-from_list message_total (map (λ e. e.message) (fresh_of es ds)) q)
+    contains-union message_total (messages_of es) (messages_of (fresh_entries es ds)) q
+    ∙ ap (λ (b : Bool). set.contains (messages_of es) q || b) (contains-from_list message_total (map (λ e. e.message) (fresh_entries es ds)) q)
     ∙ any_new (messages_of es) (logs_of es) (held_has_message es) q ds
     ∙ sym (ap (λ (b : Bool). set.contains (messages_of es) q || b) (contains-from_list message_total (map (λ e. e.message) ds) q))
     ∙ sym (contains-union message_total (messages_of es) (messages_of ds) q))

@@ -11,7 +11,7 @@ use Rattle.std.proofs.lemmas.List.Kept.{IsStrictlySortedBy-filter}
 use Rattle.std.proofs.lemmas.List.Sums.{sum_by-cons}
 use Rattle.std.proofs.lemmas.Grind.{flat_map-append}
 use Rattle.sct_message.specs.declared.draft.Draft.{Draft}
-use Rattle.sct_delta.specs.Entries.{Placed, is_from, entries_from, log_of, numbered, place_order, IsDelta, IsRun}
+use Rattle.sct_delta.specs.Entries.{Placed, is_from, entries_from, log_of, numbered, place_order, IsDelta, HasNoHole}
 use Rattle.sct_delta.specs.Refusals.{message_at}
 use Rattle.sct_delta.specs.Sites.{is_site}
 use Rattle.sct_delta.proofs.EntryLemmas.{length-numbered, not_zero, numbered-step, run_is}
@@ -108,11 +108,11 @@ past h first t = grind (arith, nat_tests)
 reached : (h first : ℕ) → nat_lt h first ≡ false → first ≤ h + 1
 reached h first t = grind (arith, nat_tests)
 
-above_first : (count : ℕ → ℕ) (o first : ℕ) (ms : List Draft) (ds : List Placed) → 1 ≤ first → entries_from o ds ≡ numbered o first ms → IsRun o (filter (is_above count) ds)
+above_first : (count : ℕ → ℕ) (o first : ℕ) (ms : List Draft) (ds : List Placed) → 1 ≤ first → entries_from o ds ≡ numbered o first ms → HasNoHole o (filter (is_above count) ds)
 above_first count o first ms ds from_1 is =
     let kept : entries_from o (filter (is_above count) ds) ≡ filter (λ e. nat_lt (count o) e.n) (numbered o first ms)
     = filter_comm (is_from o) (is_above count) ds ∙ ap (filter (is_above count)) is ∙ above_run count o first ms in
-    elim (nat_lt (count o) first) as (λ b. nat_lt (count o) first ≡ b → IsRun o (filter (is_above count) ds)) [
+    elim (nat_lt (count o) first) as (λ b. nat_lt (count o) first ≡ b → HasNoHole o (filter (is_above count) ds)) [
       | true ↦ λ t. run_is o first ms (filter (is_above count) ds) from_1 (kept ∙ all_above o (count o) first ms (past (count o) first t))
       | false ↦ λ t. run_is o (count o + 1) (drop (count o + 1 - first) ms) (filter (is_above count) ds) (omega arith) (kept ∙ above_count o (count o) first ms (reached (count o) first t))
     ] refl
@@ -120,7 +120,7 @@ above_first count o first ms ds from_1 is =
 -- what is above a count of a delta is a delta
 pub above_of_delta : (count : ℕ → ℕ) (ds : List Placed) → IsDelta ds → IsDelta (filter (is_above count) ds)
 above_of_delta count ds shape = record {
-  runs = λ o. let run : IsRun o ds = shape.runs o in above_first count o run.first (log_of o ds) ds run.above_0 run.follow;
+  runs = λ o. let run : HasNoHole o ds = shape.runs o in above_first count o run.first (log_of o ds) ds run.above_0 run.follow;
   rises = IsStrictlySortedBy-filter place_order (is_above count) ds shape.rises;
   sites = all_kept (λ entry. is_site entry.origin) (is_above count) ds shape.sites;
 }

@@ -12,7 +12,7 @@ use Rattle.sct_delta.specs.Refusals.{has_site, is_held, is_outside, message_at, 
 use Rattle.sct_delta.specs.Logs.{HeldLogs, IsOfGroup}
 use Rattle.sct_delta.proofs.HeldLemmas.{held_in_logs, none_passes, one_entry}
 use Rattle.sct_delta.proofs.JoinLemmas.{IsPassed, passed}
-use Rattle.sct_site.specs.Cores.{Core, IsSite, arrivals_taken, fresh_of, is_open, is_repeat, logs_of, own_entry}
+use Rattle.sct_site.specs.Cores.{Core, IsSite, arrivals_taken, fresh_entries, is_open, is_repeat, logs_of, own_entry}
 use Rattle.sct_site.specs.Inside.{IsCore}
 use Rattle.sct_site.specs.Laws.{IsSiteAfterDeltas, IsSiteAfterTakes, IsSiteWhenOpened}
 use Rattle.sct_site.proofs.ArrivalLemmas.{arrivals-joined, arrivals-push}
@@ -71,7 +71,7 @@ site_joined core delta site shape fits =
     record {
       opened = site.opened;
       order = arrivals-joined core.number core.group core.arrivals delta site.order shape.runs passes;
-      inside = λ e held. elim (one_of core.arrivals (fresh_of core.arrivals delta) e held) as (λ c. has_site core.group e.origin ≡ true) [
+      inside = λ e held. elim (one_of core.arrivals (fresh_entries core.arrivals delta) e held) as (λ c. has_site core.group e.origin ≡ true) [
         | inl old ↦ site.inside e old
         | inr new ↦
             let among : holds delta e ≡ true = any_kept (λ x. not (is_held (logs_of core.arrivals) x)) (λ x. same_entry x e) delta new in

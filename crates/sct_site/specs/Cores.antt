@@ -68,12 +68,12 @@ abbrev pub refusal_by : Core → List Placed → Option DeltaFault
 refusal_by core delta = first_refusal core.number core.group (logs_of core.arrivals) delta
 
 -- the entries of the delta that the site does not hold, in the delta's order
-abbrev pub fresh_of : List Placed → List Placed → List Placed
-fresh_of arrivals delta = fresh_in (logs_of arrivals) delta
+abbrev pub fresh_entries : List Placed → List Placed → List Placed
+fresh_entries arrivals delta = fresh_in (logs_of arrivals) delta
 
 -- the arrivals after an accepted delta
 abbrev pub arrivals_joined : List Placed → List Placed → List Placed
-arrivals_joined arrivals delta = arrivals ++ fresh_of arrivals delta
+arrivals_joined arrivals delta = arrivals ++ fresh_entries arrivals delta
 
 -- the site after an accepted delta
 abbrev pub core_joined : Core → List Placed → Core
@@ -90,6 +90,7 @@ entry_order a b =
 abbrev pub is_above : (ℕ → ℕ) → Placed → Bool
 is_above count entry = nat_lt (count entry.origin) entry.n
 
--- the entries above a version vector, of every origin, ordered by origin and number
+-- The entries above a version vector, of every origin, ordered by origin and number. A site has one message of a number, so
+-- the order never asks for the message.
 unfoldable pub entries_above : (ℕ → ℕ) → List Placed → List Placed
 entries_above count arrivals = ascending entry_order (filter (is_above count) arrivals)

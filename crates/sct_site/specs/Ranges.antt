@@ -18,8 +18,8 @@ abbrev pub ReachEnds : (ℕ → List Draft) → List LogRange → Type 0
 ReachEnds log ranges = All (λ range. range.upto ≤ length (log range.origin)) ranges
 
 -- each range has an entry, if logs reach to its end
-abbrev pub AreFilled : List LogRange → Type 0
-AreFilled ranges = All (λ range. range.above < range.upto) ranges
+abbrev pub HaveEntries : List LogRange → Type 0
+HaveEntries ranges = All (λ range. range.above < range.upto) ranges
 
 -- how many entries ranges have, if logs reach to their ends
 abbrev pub size_of : List LogRange → ℕ

@@ -3,7 +3,7 @@
 ghost use Rattle.std.specs.Prelude.{◌≡◌, ◌+◌, ◌++◌, ◌<◌, ◌^◌, ℕ, List, drop, length, OnOk};
 ghost use Rattle.sct_message.specs.declared.draft.Draft.{Draft};
 ghost use Rattle.sct_delta.specs.Entries.{numbered};
-ghost use Rattle.sct_site.specs.Ranges.{in_ranges, size_of, AreFilled, ReachEnds};
+ghost use Rattle.sct_site.specs.Ranges.{in_ranges, size_of, HaveEntries, ReachEnds};
 
 use std::alloc::AllocError;
 
@@ -39,7 +39,7 @@ pub(crate) fn push_range(
         ≡ in_ranges log ranges.old.items ++ numbered origin (have + 1) (drop have (log origin))) }
     ensures ends { OnOk result ((log : ℕ → List Draft) → count ≡ length (log origin)
         → ReachEnds log ranges.old.items → ReachEnds log ranges.new.items) }
-    ensures filled { OnOk result (AreFilled ranges.old.items → AreFilled ranges.new.items) }
+    ensures filled { OnOk result (HaveEntries ranges.old.items → HaveEntries ranges.new.items) }
 {
     if have < count {
         ranges.push(LogRange {

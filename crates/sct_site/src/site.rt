@@ -5,8 +5,8 @@ ghost use Rattle.std.specs.Arc.{arc_value};
 ghost use Rattle.sct_delta.specs.Entries.{IsArrivals, IsDelta, held_from, messages_of};
 ghost use Rattle.sct_delta.specs.Vectors.{count_in};
 ghost use Rattle.sct_delta.specs.declared.fault.DeltaFault.TheVariants as fault;
-ghost use Rattle.sct_site.specs.Cores.{Core, IsSite, is_open, took_by, arrivals_taken, refusal_by, fresh_of, arrivals_joined, entries_above, is_above, logs_of};
-ghost use Rattle.sct_site.specs.Ranges.{in_range, in_ranges, size_of, AreFilled, ReachEnds};
+ghost use Rattle.sct_site.specs.Cores.{Core, IsSite, is_open, took_by, arrivals_taken, refusal_by, fresh_entries, arrivals_joined, entries_above, is_above, logs_of};
+ghost use Rattle.sct_site.specs.Ranges.{in_range, in_ranges, size_of, HaveEntries, ReachEnds};
 
 use crate::answers::{Accepted, Took};
 use crate::ranges::{LogRange, push_range};
@@ -148,7 +148,7 @@ impl SiteCore {
     /// The cost is that of the delta's entries. A held entry is compared once, and a new one is added to the archive.
     pub fn accept(&mut self, delta: &Delta) -> Result<Accepted, DeltaFault>
         ensures answer { IfOk result (λ accepted. accepted.fresh
-            ≡ length (fresh_of self.old.arrivals delta.now)) }
+            ≡ length (fresh_entries self.old.arrivals delta.now)) }
         ensures number { self.new.number ≡ self.old.number }
         ensures group { self.new.group ≡ self.old.group }
         ensures ok { OnOk result (self.new.arrivals ≡ arrivals_joined self.old.arrivals delta.now) }
@@ -192,7 +192,7 @@ impl SiteCore {
             ≡ entries_above (count_in vector.now) self.now.arrivals) }
         ensures shape { IfOk result (λ ranges. IsDelta (in_ranges (logs_of self.now.arrivals) ranges.items)) }
         ensures ends { IfOk result (λ ranges. ReachEnds (logs_of self.now.arrivals) ranges.items) }
-        ensures filled { IfOk result (λ ranges. AreFilled ranges.items) }
+        ensures filled { IfOk result (λ ranges. HaveEntries ranges.items) }
         ensures few { IfOk result (λ ranges. size_of ranges.items < 2 ^ 64) }
         ensures err { IfErr result (λ refusal. refusal ≡ fault.Memory) }
     {

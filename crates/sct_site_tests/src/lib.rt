@@ -1,5 +1,5 @@
 //! Tests of deltas, histories, sites, worlds and scripts. They show what no clause says:
-//! that the calls succeed if there is memory. `examples/cases/scripts.txt` has what the text of a script shows.
+//! that the calls succeed if there is memory. `tests/data/cases/scripts.txt` has what the text of a script shows.
 #![tactic(auto)]
 
 #[cfg(test)]

@@ -1,4 +1,4 @@
-//! Scripts with ample memory. `examples/cases/scripts.txt` has the lines that are refused, and how events end.
+//! Scripts with ample memory. `tests/data/cases/scripts.txt` has the lines that are refused, and how events end.
 
 use sct_script::*;
 use std::alloc::Global;

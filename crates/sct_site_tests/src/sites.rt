@@ -1,4 +1,4 @@
-//! What a site takes, accepts, refuses and cuts, with ample memory. `examples/cases/scripts.txt` has what events show of it.
+//! What a site takes, accepts, refuses and cuts, with ample memory. `tests/data/cases/scripts.txt` has what events show of it.
 
 mod scenes;
 

@@ -12,7 +12,7 @@ use std::process::ExitCode;
 use std::sync::ledger::Blank;
 
 fn main(rt: HostRuntime) -> ExitCode {
-    ExitCode::from(run_over_std::<_, _, _, _, _, _, Brand, Brand, Brand>(
+    ExitCode::from(run_over_std::<_, _, _, _, _, _, Brand, Brand, Brand, Brand>(
         &rt,
         rt.alloc(),
         Release::AtExit,
@@ -24,5 +24,6 @@ fn main(rt: HostRuntime) -> ExitCode {
         (rt.stdin(), Blank::new(1)),
         (rt.stdout(), Blank::new(1)),
         (rt.stderr(), Blank::new(1)),
+        Blank::new(1),
     ))
 }

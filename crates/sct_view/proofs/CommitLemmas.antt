@@ -35,12 +35,12 @@ nothing_either true = refl
 nothing_either false = refl
 
 -- a transfer of which nothing is kept has no share
-no_share : (bank : List ℕ) (t : TransferKey) → share_in bank t no_messages ≡ nothing
+pub no_share : (bank : List ℕ) (t : TransferKey) → share_in bank t no_messages ≡ nothing
 unfolding share
 no_share bank t = ap (λ (x : Totals). plus x (cond false nothing nothing)) (nothing_either (is_originator bank t))
 
 -- totals do not change where transfers without a share are left out
-totals_picked : (f : TransferKey → Totals) (p : TransferKey → Bool) → ((t : TransferKey) → p t ≡ false → f t ≡ nothing)
+pub totals_picked : (f : TransferKey → Totals) (p : TransferKey → Bool) → ((t : TransferKey) → p t ≡ false → f t ≡ nothing)
     → (ts : List TransferKey) → totals_over f (filter p ts) ≡ totals_over f ts
 totals_picked f p none ts =
     let number = λ (n : Totals → ℕ) (zero_of : n nothing ≡ 0). sum_kept (λ t. n (f t)) p (λ t e. ap n (none t e) ∙ zero_of) ts in

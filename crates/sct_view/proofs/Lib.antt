@@ -17,6 +17,7 @@ pub mod OnLemmas
 pub mod ReadyLemmas
 pub mod RebuildLemmas
 pub mod SetKeys
+pub mod ShareLemmas
 pub mod SlotLemmas
 pub mod StandingLemmas
 pub mod SumLemmas

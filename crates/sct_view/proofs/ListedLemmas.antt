@@ -1,8 +1,11 @@
 -- What is listed out of the tables of a view is what is listed of the set. Proof plumbing.
 use Rattle.std.specs.FinSet as set
-use Rattle.std.proofs.Common.{◌≡◌, ◌∙◌, refl, sym, ap, subst, ℕ, ◌==◌, ◌&&◌, Bool, false, not, Option, Some, None, is_some, List, length, arith}
+use Rattle.std.proofs.Common.{◌≡◌, ◌∙◌, refl, sym, ap, subst, ℕ, ◌==◌, ◌&&◌, Bool, true, false, not, Option, Some, None, is_some, List, [], ◌∷◌, filter, length, arith}
 use Rattle.std.specs.Option.{option_map_or}
 use Rattle.std.specs.List.{list_any, IsDistinct}
+use Rattle.std.proofs.lemmas.Bool.Decides.{nat_tests}
+use Rattle.std.specs.Global.{Global}
+use Rattle.std.specs.declared.sync.Arc.{Arc}
 use Rattle.std.specs.Cmp.{IsEquivalence}
 use Rattle.std.specs.Cmp.Lexicographic.{nat_list_cmp_total, nat_list_eq_equiv, texts_ties}
 use Rattle.std.specs.List.Sorted.{IsStrictlySortedBy}
@@ -16,11 +19,14 @@ use Rattle.std.specs.Arc.{arc_value}
 use Rattle.indexmap.specs.IndexMap.{IndexMap, get, IsUnique}
 use Rattle.sct_element.specs.Text.{is_text}
 use Rattle.sct_message.specs.Ascending.{ascending}
-use Rattle.sct_message.specs.Order.{transfer_order, text_order}
+use Rattle.sct_message.specs.Order.{message_order, transfer_order, text_order}
 use Rattle.sct_message.specs.OrderLaws.{message_total, message_same, transfer_total, transfers_same}
-use Rattle.sct_message.specs.Sets.{MessageSet, clean_messages, contradicted_messages, in_order, is_contradicted}
+use Rattle.sct_message.specs.Sets.{MessageSet, clean_messages, contradicted_messages, in_order, is_contradicted, messages_in}
 use Rattle.sct_message.specs.Transfers.{is_on, keys_of as keys_held}
+use Rattle.sct_message.specs.declared.draft.Draft.{Draft}
 use Rattle.sct_message.specs.declared.keys.TransferKey.{TransferKey}
+use Rattle.sct_set.specs.Buckets.{bucket, items_in}
+use Rattle.sct_view.specs.Filed.{IsFiled, has_items}
 use Rattle.sct_message.proofs.AscendingLemmas.{ascending-same, ascending-sorted, ascending_rises, any_ascending, members_ascending}
 use Rattle.sct_view.specs.Kept.{Kept, kept_or_none, same_key, case_at, case_of, totals_or_none, totals_at}
 use Rattle.sct_view.specs.Listed.{has_messages, is_something, keys_with}
@@ -31,6 +37,7 @@ use Rattle.sct_view.proofs.BankLemmas.{told_where}
 use Rattle.sct_view.proofs.KeyLemmas.{same_key_is}
 use Rattle.sct_message.specs.CellsBack.{texts_same}
 use Rattle.sct_view.proofs.SetKeys.{key-is_on}
+use Rattle.sct_view.proofs.RebuildLemmas.{filed-contents}
 use Rattle.sct_view.proofs.StandingLemmas.{some_left, split}
 
 -- ---- the entries of a map that pass a test
@@ -95,3 +102,36 @@ banks_listed s totals unique are =
     ∙ ap is_something (are q)
     ∙ sym (told_where s q)))
     ∙ ascending-sorted nat_list_cmp_total texts_same (banks_of s) (banks_rise s)
+
+-- ---- an index
+
+has_items-at : {V : Type 0} (o : Option (List V)) → option_map_or has_items o false ≡ has_items (items_in o)
+has_items-at None = refl
+has_items-at (Some items) = refl
+
+some_item : {V : Type 0} (items : List V) → has_items items ≡ list_any (λ _. true) items
+some_item [] = refl
+some_item (x ∷ xs) = grind (arith, nat_tests)
+
+has_items-filed : (s : MessageSet) (t : TransferKey) (found : List (Arc Draft Global))
+    → ascending message_order (messages_in found) ≡ filter (is_on t) (in_order s) → has_items found ≡ list_any (is_on t) (in_order s)
+has_items-filed s t found filed =
+    (λ i. not (sym (length-map found arc_value) i == 0))
+    ∙ some_item (messages_in found)
+    ∙ sym (any_ascending message_total message_same (λ _. true) (messages_in found))
+    ∙ ap (list_any (λ _. true)) filed
+    ∙ sym (some_item (filter (is_on t) (in_order s)))
+    ∙ some_left (is_on t) (in_order s)
+
+-- the transfers under which an index files messages of a set, ascending, are the set's keys
+pub keys_filed : {S : Type 0} (s : MessageSet) (index : IndexMap TransferKey (List (Arc Draft Global)) S) → IsUnique same_key index
+    → IsFiled s index → ascending transfer_order (keys_with has_items index.entries) ≡ keys_held s
+keys_filed s index unique filed =
+    ascending-same transfer_total transfers_same _ _ (λ q.
+    found_passing has_items (eq_by_cmp_equiv transfer_total) q index.entries (subst (λ E. IsUnique E index) same_key_is unique)
+    ∙ ap (λ E. option_map_or has_items (get E index q) false) (sym same_key_is)
+    ∙ has_items-at (get same_key index q)
+    ∙ has_items-filed s q (bucket same_key index q) (filed-contents s q filed.0 _ filed.1 (filed.2 q))
+    ∙ any_ascending message_total message_same (is_on q) (set.items s)
+    ∙ sym (key-is_on s q)
+    ∙ members_ascending transfer_total transfers_same _ q)

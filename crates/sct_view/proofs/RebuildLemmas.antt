@@ -83,18 +83,26 @@ each_made : {X Y : Type 0} (line : Y → List ℕ) (made : X → Y) (xs : List X
 each_made line made [] = refl
 each_made line made (x ∷ xs) = ap (λ (l : List ℕ). line (made x) ++ l) (each_made line made xs)
 
+-- the statuses of some recalls by a case are those in the set
+pub statuses_told : (s : MessageSet) (t : TransferKey) (kept : Kept) → kept ≡ case_of s t → (cxls : List (List ℕ)) (found : List (List ℕ × RecallStatus))
+    → ((asides : List Identity) → kept.stands ≡ transfer_status_of t kept.clean asides
+    → found ≡ map (λ cxl. (cxl, recall_status_of t kept.clean asides cxl)) cxls)
+    → found ≡ map (λ cxl. (cxl, recall_of s (record { transfer = t; cxl = cxl }))) cxls
+unfolding case_of status_of recall_of
+statuses_told s t kept e cxls found told_by =
+    let clean : kept.clean ≡ messages_on s t = ap (λ (k : Kept). k.clean) e in
+    let status : kept.stands ≡ transfer_status_of t kept.clean (asides_of s t) =
+    ap (λ (k : Kept). k.stands) e ∙ sym (ap (λ (ms : List Draft). transfer_status_of t ms (asides_of s t)) clean) in
+    told_by (asides_of s t) status
+    ∙ ap (λ (ms : List Draft). map (λ cxl. (cxl, recall_status_of t ms (asides_of s t) cxl)) cxls) clean
+
 pub lines_told : (s : MessageSet) (t : TransferKey) (kept : Kept) → kept ≡ case_of s t → (cxls : List (List ℕ)) (found : List (List ℕ × RecallStatus))
     → ((asides : List Identity) → kept.stands ≡ transfer_status_of t kept.clean asides
     → found ≡ map (λ cxl. (cxl, recall_status_of t kept.clean asides cxl)) cxls)
     → flat_map (λ recall. recall_line t recall.0 recall.1) found ≡ lines_of_recalls s t cxls
-unfolding case_of status_of recall_of
 lines_told s t kept e cxls found told_by =
-    let clean : kept.clean ≡ messages_on s t = ap (λ (k : Kept). k.clean) e in
-    let status : kept.stands ≡ transfer_status_of t kept.clean (asides_of s t) =
-    ap (λ (k : Kept). k.stands) e ∙ sym (ap (λ (ms : List Draft). transfer_status_of t ms (asides_of s t)) clean) in
     ap (λ (rs : List (List ℕ × RecallStatus)). flat_map (λ recall. recall_line t recall.0 recall.1) rs)
-    (told_by (asides_of s t) status
-    ∙ ap (λ (ms : List Draft). map (λ cxl. (cxl, recall_status_of t ms (asides_of s t) cxl)) cxls) clean)
+    (statuses_told s t kept e cxls found told_by)
     ∙ each_made (λ recall. recall_line t recall.0 recall.1) (λ cxl. (cxl, recall_of s (record { transfer = t; cxl = cxl }))) cxls
 
 -- of a transfer without messages nothing is recalled

@@ -27,11 +27,11 @@ use Rattle.sct_view.proofs.SumLemmas.{AreApart}
 
 -- ---- lists of keys
 
-none_passes : {K : Type 0} (p : K → Bool) (ks : List K) → AllByRecursion (λ k. p k ≡ false) ks → list_any p ks ≡ false
+pub none_passes : {K : Type 0} (p : K → Bool) (ks : List K) → AllByRecursion (λ k. p k ≡ false) ks → list_any p ks ≡ false
 none_passes p [] h = refl
 none_passes p (k ∷ ks) h = ap (λ b. b || list_any p ks) h.0 ∙ none_passes p ks h.1
 
-apart_from_distinct : {K : Type 0} (E : K → K → Bool) (ks : List K) → IsDistinct E ks → AreApart E ks
+pub apart_from_distinct : {K : Type 0} (E : K → K → Bool) (ks : List K) → IsDistinct E ks → AreApart E ks
 unfolding IsDistinct
 apart_from_distinct E [] h = tt
 apart_from_distinct E (k ∷ ks) h = (none_passes (E k) ks h.0, apart_from_distinct E ks h.1)

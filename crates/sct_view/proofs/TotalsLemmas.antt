@@ -69,7 +69,7 @@ module _ (E : TransferKey → TransferKey → Bool) (same : (x y : TransferKey) 
 -- ---- bounds
 
 -- the most that a share has of each number: it counts a transfer once, and its cents are numbers of 64 bits
-abbrev most : Totals
+abbrev pub most : Totals
 most = record {
   sent = 1;
   sent_cents = 18446744073709551615;
@@ -89,7 +89,7 @@ both_small (Returned amount) cents sends receives h k = grind arith
 both_small other cents sends receives h k = grind arith
 
 -- a share of a case whose amounts are numbers of 64 bits is small
-share_small : (bank : List ℕ) (transfer : TransferKey) (case : Kept) → IsSmall case → IsUpTo (share_in bank transfer case) most
+pub share_small : (bank : List ℕ) (transfer : TransferKey) (case : Kept) → IsSmall case → IsUpTo (share_in bank transfer case) most
 unfolding share
 share_small bank transfer case h = both_small case.stands _ _ _ h.instructed h.back
 

@@ -6,6 +6,7 @@ pub mod Kept
 pub mod Laws
 pub mod Listed
 pub mod StatusText
+pub mod Sums
 pub mod Totals
 pub mod TotalsText
 pub mod Touched

@@ -15,7 +15,8 @@ use Rattle.sct_case.specs.declared.finding.Finding.{Finding}
 use Rattle.sct_case.specs.declared.finding.Finding.TheVariants as finding
 use Rattle.sct_case.specs.declared.status.RecallStatus.{RecallStatus}
 use Rattle.sct_case.specs.declared.status.RecallStatus.TheVariants as recall
-use Rattle.sct_case.specs.Statuses.{Standing, Contradicted, Unknown, Missing, Rejected, Returned, Accepted, Investigated, Pending}
+use Rattle.sct_case.specs.Statuses.{Standing, Rejected, Returned}
+use Rattle.sct_case.specs.Words.{recall_word_text, word_of, word_text}
 use Rattle.sct_view.specs.Answers.{status_of, found_on, recall_of, recalls_on}
 
 -- ---- words
@@ -24,26 +25,25 @@ use Rattle.sct_view.specs.Answers.{status_of, found_on, recall_of, recalls_on}
 abbrev pub shown : Use → Reason → List ℕ
 shown usage reason = reason_text reason ++ (if is_usual reason usage then [] else codes "?")
 
--- the words of a transfer's status
-abbrev pub status_words : Standing → List ℕ
-status_words (Contradicted found) = codes "CONTRADICTED"
-status_words Unknown = codes "UNKNOWN"
-status_words Missing = codes "MISSING"
-status_words (Rejected reason) = codes "REJECTED|" ++ shown Reject reason
-status_words (Returned amount) = codes "RETURNED|" ++ amount_text amount
-status_words Accepted = codes "ACCEPTED"
-status_words Investigated = codes "INVESTIGATED"
-status_words Pending = codes "PENDING"
+-- what follows the word of a status: the reason of a rejection or the amount of a return, after a bar
+abbrev pub after_word : Standing → List ℕ
+after_word (Rejected reason) = codes "|" ++ shown Reject reason
+after_word (Returned amount) = codes "|" ++ amount_text amount
+after_word other = []
 
--- the words of a recall's status
+-- the words of a transfer's status, such as `REJECTED|AC04`
+abbrev pub status_words : Standing → List ℕ
+status_words stands = word_text (word_of stands) ++ after_word stands
+
+-- what follows the word of a recall's status: the amount of a return or the reason of a refusal, after a bar
+abbrev pub after_recall_word : RecallStatus → List ℕ
+after_recall_word (recall.Returned amount) = codes "|" ++ amount_text amount
+after_recall_word (recall.Refused reason) = codes "|" ++ shown Refusal reason
+after_recall_word other = []
+
+-- the words of a recall's status, such as `REFUSED|CUST`
 abbrev pub recall_words : RecallStatus → List ℕ
-recall_words recall.Contradicted = codes "CONTRADICTED"
-recall_words recall.Unknown = codes "UNKNOWN"
-recall_words recall.Unasked = codes "UNASKED"
-recall_words (recall.Returned amount) = codes "RETURNED|" ++ amount_text amount
-recall_words (recall.Refused reason) = codes "REFUSED|" ++ shown Refusal reason
-recall_words recall.Chased = codes "CHASED"
-recall_words recall.Open = codes "OPEN"
+recall_words stands = recall_word_text stands ++ after_recall_word stands
 
 -- an identity by its three parts
 abbrev pub identity_words : Identity → List ℕ

@@ -25,8 +25,8 @@ const MOST_HALVINGS: u32 = 16;
 // Fewer transfers than this are evaluated in one part.
 const WORTH_A_THREAD: usize = 256;
 
-// The case of a transfer of an archive, from the messages that are filed under it.
-fn planned_on(
+/// The case of a transfer of an archive, from the messages that are filed under it.
+pub(crate) fn planned_on(
     alloc: Global,
     archive: &Archive,
     index: &ByTransfer,
@@ -97,7 +97,7 @@ fn planned_by_halves<R: Threads + Sync>(
     Ok(planned)
 }
 
-// How often this many transfers are halved: so often that there are about two parts for each processor.
+/// How often this many transfers are halved: so often that there are about two parts for each processor.
 pub(crate) fn halvings<R: Threads>(rt: &R, transfers: usize) -> u32
     ensures { result ≤ 16 }
 {
@@ -125,15 +125,15 @@ fn archive_of(alloc: Global, messages: &[Arc<Message>]) -> Result<Archive, Alloc
     Ok(archive)
 }
 
-// An archive of messages, and the same messages by transfer.
+/// An archive of messages, and the same messages by transfer.
 #[derive(Drop)]
-struct Gathered {
-    archive: Archive,
-    index: ByTransfer,
+pub(crate) struct Gathered {
+    pub(crate) archive: Archive,
+    pub(crate) index: ByTransfer,
 }
 
-// Builds the archive of the messages and files them by transfer, each in a thread of its own.
-fn gather<R: Threads + Sync>(
+/// Builds the archive of the messages and files them by transfer, each in a thread of its own.
+pub(crate) fn gather<R: Threads + Sync>(
     rt: &R,
     alloc: Global,
     messages: &[Arc<Message>],

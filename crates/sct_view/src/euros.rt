@@ -5,7 +5,7 @@ ghost use Rattle.sct_element.specs.Money.{amount_text};
 use itoa::Buffer;
 use std::alloc::AllocError;
 
-/// Appends a count in decimal.
+/// Appends a count in decimal. The error is that it is out of memory.
 pub fn push_count(text: &mut String, count: u64) -> Result<(), AllocError>
     ensures { OnOk result (string_bytes text.new ≡ string_bytes text.old ++ decimal count) }
 {
@@ -21,7 +21,7 @@ fn push_digit(text: &mut String, digit: u8) -> Result<(), AllocError>
     text.push(char::from(b'0' + digit))
 }
 
-/// Appends an amount, counted in cents, in euro with two decimals.
+/// Appends an amount, counted in cents, in euro with two decimals. The error is that it is out of memory.
 #[tactic(auto, unfolding(sct_element::specs::Money::amount_text))]
 pub fn push_euros(text: &mut String, cents: u128) -> Result<(), AllocError>
     ensures { OnOk result (string_bytes text.new ≡ string_bytes text.old ++ amount_text cents) }

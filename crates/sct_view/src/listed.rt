@@ -1,23 +1,21 @@
 //! The lists that a view gives.
 
-ghost use Rattle.std.specs.Prelude.{◌≡◌, ◌++◌, ◌||◌, filter, IfOk, OnOk};
+ghost use Rattle.std.specs.Prelude.{◌≡◌, ◌++◌, ◌||◌, filter, map, IfOk, OnOk};
 ghost use Rattle.std.specs.List.{flat_map};
 ghost use Rattle.sct_message.specs.Sets.{messages_in};
 ghost use Rattle.sct_message.specs.Transfers.{keys_of, instruction_of};
-ghost use Rattle.sct_view.specs.Answers.{cxls_named_by, recalls_on, all_findings_of, transfers_of_bank, is_originator, is_beneficiary, found_on};
+ghost use Rattle.sct_view.specs.Answers.{cxls_named_by, recall_of, recalls_on, all_findings_of, transfers_of_bank, is_originator, is_beneficiary, found_on};
 ghost use Rattle.sct_view.specs.Kept.{kept_in, instruction_in};
 ghost use Rattle.sct_view.specs.Listed.{cxls_in, recalls_in_case};
 
 use crate::case::Case;
 use crate::findings::{findings_in, push_beside};
 use crate::view::View;
-use rayon::prelude::*;
-use sct_case::{CaseFault, Finding};
+use sct_case::{CaseFault, Finding, RecallStatus, recall_statuses};
 use sct_element::{Bic, Id35};
 use sct_message::{Message, RecallKey, TransferKey, keys_are_ordered};
 use std::alloc::{AllocError, Global};
 use std::sync::Arc;
-use std::thread::Threads;
 
 // ---- one transfer
 
@@ -142,19 +140,6 @@ impl View {
         Ok(keys)
     }
 
-    /// The same as [`View::keys`], sorted in several threads.
-    pub(crate) fn keys_in_parts<R: Threads + Sync>(
-        &self,
-        rt: &R,
-    ) -> Result<Vec<TransferKey>, AllocError>
-        ensures { IfOk result (λ keys. keys.items ≡ keys_of self.now) }
-    {
-        let mut keys = self.tables.keys(self.alloc)?;
-        par_sort(rt, self.alloc, &mut keys)?;
-        keys.dedup();
-        Ok(keys)
-    }
-
     /// The recalls of a transfer that messages held name, contradicted messages included,
     /// ascending. Error: `Memory` (39).
     pub fn recalls_of(&self, transfer: &TransferKey) -> Result<Vec<Id35>, CaseFault>
@@ -164,6 +149,24 @@ impl View {
             Some(case) => Ok(recalls_in(self.alloc, transfer, case)?),
             None => Ok(Vec::new(self.alloc)),
         }
+    }
+
+    /// The recalls of a transfer, as [`View::recalls_of`] has them, each with its status. Error: `Memory` (39).
+    /// O(n log n) in the transactions of the messages on the transfer.
+    pub fn recalls_with_statuses(
+        &self,
+        transfer: &TransferKey,
+    ) -> Result<Vec<(Id35, RecallStatus)>, CaseFault>
+        ensures { IfOk result (λ recalls. recalls.items
+            ≡ map (λ cxl. (cxl, recall_of self.now (record { transfer = transfer.now; cxl = cxl })))
+            (recalls_on self.now transfer.now)) }
+    {
+        let Some(case) = self.case_on(transfer) else {
+            return Ok(Vec::new(self.alloc));
+        };
+        let cxls = recalls_in(self.alloc, transfer, case)?;
+        let recalls = recall_statuses(self.alloc, &case.status, transfer, &case.clean, &cxls)?;
+        Ok(recalls)
     }
 
     // Those of the transfers that have a bank as the originator bank, or as the beneficiary bank of their instruction.

@@ -13,11 +13,13 @@ mod places;
 mod shares;
 
 use crate::case::Case;
+use crate::sums::{banks_in, totals_in};
 use crate::totals::Totals;
 use indexmap::IndexMap;
 pub(crate) use places::make_room;
 use sct_element::Bic;
 use sct_message::TransferKey;
+pub(crate) use shares::{add, add_shares};
 use std::alloc::{AllocError, Global};
 
 /// The case of each transfer and the totals of each bank, which are the sums of the shares of its transfers.
@@ -62,10 +64,7 @@ impl Tables {
     pub(crate) fn totals(&self, bank: &Bic) -> Totals
         ensures { result ≡ totals_at self.now.totals bank.now }
     {
-        match self.totals.get(bank) {
-            Some(totals) => *totals,
-            None => Totals::nothing(),
-        }
+        totals_in(&self.totals, bank)
     }
 
     /// The transfers whose case has a message, in the order of the table.
@@ -87,12 +86,6 @@ impl Tables {
         ensures banks { IfOk result (λ banks. banks.items ≡ keys_with is_something self.now.totals.entries) }
         ensures unique { IfOk result (λ banks. IsUnique is_text self.now.totals) }
     {
-        let mut banks = Vec::new(alloc);
-        for (bank, totals) in &self.totals {
-            if totals.is_something() {
-                banks.push(bank.copy())?;
-            }
-        }
-        Ok(banks)
+        banks_in(alloc, &self.totals)
     }
 }

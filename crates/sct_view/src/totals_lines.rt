@@ -22,7 +22,7 @@ fn push_amount_field(text: &mut String, cents: u128) -> Result<(), AllocError>
     push_euros(text, cents)
 }
 
-/// Appends the line of a bank.
+/// Appends the line of a bank. The error is that it is out of memory.
 #[tactic(auto, unfolding(crate::specs::TotalsText::totals_line))]
 pub fn push_totals_line(text: &mut String, bank: &Bic, totals: &Totals) -> Result<(), AllocError>
     ensures { OnOk result (string_bytes text.new ≡ string_bytes text.old ++ totals_line bank.now totals.now) }

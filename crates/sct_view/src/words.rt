@@ -35,44 +35,39 @@ fn push_amount(text: &mut String, amount: Amount) -> Result<(), AllocError>
     text.push_str(written.as_str())
 }
 
+// Appends the word of a status, and its reason or amount after a bar.
 fn push_status(text: &mut String, status: &Status) -> Result<(), AllocError>
     ensures { OnOk result (string_bytes text.new ≡ string_bytes text.old ++ status_words (as_standing status.now)) }
 {
+    text.push_str(status.word().text())?;
     match status {
-        Status::Contradicted(_) => text.push_str("CONTRADICTED"),
-        Status::Unknown => text.push_str("UNKNOWN"),
-        Status::Missing => text.push_str("MISSING"),
         Status::Rejected(reason) => {
-            text.push_str("REJECTED|")?;
+            text.push_str("|")?;
             push_reason(text, reason, Use::Reject)
         }
         Status::Returned(amount) => {
-            text.push_str("RETURNED|")?;
+            text.push_str("|")?;
             push_amount(text, *amount)
         }
-        Status::Accepted => text.push_str("ACCEPTED"),
-        Status::Investigated => text.push_str("INVESTIGATED"),
-        Status::Pending => text.push_str("PENDING"),
+        _ => Ok(()),
     }
 }
 
+// Appends the word of a recall's status, and its reason or amount after a bar.
 fn push_recall_status(text: &mut String, status: &RecallStatus) -> Result<(), AllocError>
     ensures { OnOk result (string_bytes text.new ≡ string_bytes text.old ++ recall_words status.now) }
 {
+    text.push_str(status.word())?;
     match status {
-        RecallStatus::Contradicted => text.push_str("CONTRADICTED"),
-        RecallStatus::Unknown => text.push_str("UNKNOWN"),
-        RecallStatus::Unasked => text.push_str("UNASKED"),
         RecallStatus::Returned(amount) => {
-            text.push_str("RETURNED|")?;
+            text.push_str("|")?;
             push_amount(text, *amount)
         }
         RecallStatus::Refused(reason) => {
-            text.push_str("REFUSED|")?;
+            text.push_str("|")?;
             push_reason(text, reason, Use::Refusal)
         }
-        RecallStatus::Chased => text.push_str("CHASED"),
-        RecallStatus::Open => text.push_str("OPEN"),
+        _ => Ok(()),
     }
 }
 
@@ -126,7 +121,7 @@ fn push_key(text: &mut String, letter: &str, transfer: &TransferKey) -> Result<(
     text.push_str("|")
 }
 
-/// Appends the T line of a transfer.
+/// Appends the T line of a transfer. The error is that it is out of memory.
 #[tactic(auto, unfolding(crate::specs::StatusText::line_on))]
 pub fn push_status_line(
     text: &mut String,
@@ -142,7 +137,7 @@ pub fn push_status_line(
     Ok(())
 }
 
-/// Appends the F line of a finding.
+/// Appends the F line of a finding. The error is that it is out of memory.
 #[tactic(auto, unfolding(crate::specs::StatusText::line_on))]
 pub fn push_finding_line(
     text: &mut String,
@@ -158,7 +153,7 @@ pub fn push_finding_line(
     Ok(())
 }
 
-/// Appends the R line of a recall.
+/// Appends the R line of a recall. The error is that it is out of memory.
 #[tactic(auto, unfolding(crate::specs::StatusText::line_on))]
 pub fn push_recall_line(
     text: &mut String,

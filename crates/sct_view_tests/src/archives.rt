@@ -1,4 +1,4 @@
-//! Archives of the messages of worked examples, with ample memory: what adding and merging answers. `examples/cases/archives.txt`
+//! Archives of the messages of worked examples, with ample memory: what adding and merging answers. `tests/data/cases/archives.txt`
 //! has their texts.
 
 mod scenes;

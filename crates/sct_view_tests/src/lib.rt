@@ -1,5 +1,5 @@
 //! Tests of archives, cases, views, reports and splits by a day. They show what no clause says: that the
-//! calls succeed if there is memory. `examples/cases/` has what the texts of the program show.
+//! calls succeed if there is memory. `tests/data/cases/` has what the texts of the program show.
 #![tactic(auto)]
 
 #[cfg(test)]

@@ -1,4 +1,4 @@
-//! A report with ample memory, and lists whose bytes no file of `examples/cases/` shows. `reports.txt` there has the rest.
+//! A report with ample memory, and lists whose bytes no file of `tests/data/cases/` shows. `reports.txt` there has the rest.
 
 use crate::texts::messages_of;
 use sct_element::{Bic, Day};

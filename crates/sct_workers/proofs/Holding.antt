@@ -11,7 +11,7 @@ use Rattle.sct_workers.specs.Faults.{IsNotClosed, fault_of_delta, fault_of_desk}
 use Rattle.sct_workers.specs.declared.gate.Point.{Point}
 use Rattle.sct_workers.specs.declared.fault.SiteFault.{SiteFault}
 use Rattle.sct_workers.specs.declared.fault.SiteFault.TheVariants as site
-use Rattle.sct_workers.specs.Holds.{EndsWhere, IsClosingFault, SiteEndsWhere, WorkerEndsWhere, reason_of}
+use Rattle.sct_workers.specs.Holds.{EndsWhere, IsClosingFault, SiteEndsWhere, WorkerEndsWhere, work_fault_of}
 
 -- a refusal that may end a run: every one but a gap (41) and a wrong place (45)
 abbrev pub EndsRuns : DeltaFault → Type 0
@@ -53,7 +53,7 @@ not_closed_ends may reason (inl pending) = subst (EndsWhere may) (sym pending) (
 not_closed_ends may reason (inr untold) = subst (EndsWhere may) (sym untold) (opening_ends may (desk.Untold 0))
 
 -- a site's fault, as a worker's
-pub site_ends : (may : Point → Type 0) (reason : SiteFault) → SiteEndsWhere may reason → EndsWhere may (reason_of reason)
+pub site_ends : (may : Point → Type 0) (reason : SiteFault) → SiteEndsWhere may reason → EndsWhere may (work_fault_of reason)
 site_ends may (site.Working reason) ends = ends
 site_ends may (site.Closing reason) ends = not_closed_ends may reason ends
 

@@ -20,11 +20,11 @@ use Rattle.sct_delta.specs.Refusals.{is_held, vector_of}
 use Rattle.sct_delta.specs.declared.fault.DeltaFault.{DeltaFault}
 use Rattle.sct_delta.proofs.FittingLemmas.{refused_where_it_does_not_fit}
 use Rattle.sct_delta.proofs.HeldLemmas.{entry_itself, one_entry}
-use Rattle.sct_site.specs.Cores.{Core, arrivals_joined, arrivals_taken, fresh_of, is_repeat, logs_of, own_entry, refusal_by, took_by}
+use Rattle.sct_site.specs.Cores.{Core, arrivals_joined, arrivals_taken, fresh_entries, is_repeat, logs_of, own_entry, refusal_by, took_by}
 use Rattle.sct_site.specs.declared.answers.Accepted.{Accepted}
 use Rattle.sct_site.specs.declared.answers.Took.{Took}
 use Rattle.sct_site.proofs.TakeLemmas.{arrivals-held, arrivals-new, messages-push, took-held, took-new}
-use Rattle.sct_desk.specs.Locked.{answer_for, answer_to, arrivals_for, arrivals_handed, came_by_delta, came_by_take}
+use Rattle.sct_desk.specs.Locked.{answer_for, answer_to_delta, arrivals_for, arrivals_handed, came_by_delta, came_by_take}
 use Rattle.std.specs.Prelude.{Result}
 use Rattle.sct_desk.specs.Passes.{IsOf, Told, site_with}
 use Rattle.sct_workers.specs.Kept.{Keeps, MayCome, shows}
@@ -146,7 +146,7 @@ not_both false f e = false≢true e
 
 -- what comes with a delta that nothing refuses is of another site of the group
 fresh_comes : (own size : ℕ) (held : MessageSet) (es ds : List Placed) → IsDelta ds → refusal_by (site_with own size es) ds ≡ None
-    → (e : Placed) → holds (fresh_of es ds) e ≡ true → MayCome own size held e
+    → (e : Placed) → holds (fresh_entries es ds) e ≡ true → MayCome own size held e
 fresh_comes own size held es ds shape none e among =
     let fits : IsFitting own size (logs_of es) ds = (refused_where_it_does_not_fit own size (logs_of es) ds shape).0 none in
     let fresh : (holds ds e ≡ true) × (not (is_held (logs_of es) e) ≡ true) = kept_of (λ x. not (is_held (logs_of es) x)) ds e among in
@@ -160,19 +160,19 @@ fresh_comes own size held es ds shape none e among =
 
 handed_cases : (book : Book) (own size : ℕ) (held : MessageSet) (r : Told) (es ds : List Placed) → IsDelta ds → IsOf book own r → 1 ≤ r.from
     → r.from + r.count ≡ length r.shown + 1 → (o : Option DeltaFault) → refusal_by (site_with own size es) ds ≡ o
-    → r.count ≡ came_by_delta (answer_for o (length (fresh_of es ds)))
+    → r.count ≡ came_by_delta (answer_for o (length (fresh_entries es ds)))
     → r.shown ≡ arrivals_for o (arrivals_joined es ds) es
     → Keeps book own size held r
 handed_cases book own size held r es ds shape of first last None none count shown =
-    some_keep book own size held r es (fresh_of es ds) of first last count shown (fresh_comes own size held es ds shape none)
+    some_keep book own size held r es (fresh_entries es ds) of first last count shown (fresh_comes own size held es ds shape none)
 handed_cases book own size held r es ds shape of first last (Some refusal) some count shown =
     none_keeps book own size held r of first last count
 
 pub handed_keeps : (book : Book) (own size : ℕ) (held : MessageSet) (r : Told) (t : Result Accepted DeltaFault) (es ds : List Placed) → IsDelta ds
     → IsOf book own r → 1 ≤ r.from → r.from + r.count ≡ length r.shown + 1 → r.count ≡ r.carried + came_by_delta t → r.carried ≡ 0
-    → t ≡ answer_to (site_with own size es) ds → r.shown ≡ arrivals_handed (site_with own size es) ds
+    → t ≡ answer_to_delta (site_with own size es) ds → r.shown ≡ arrivals_handed (site_with own size es) ds
     → Keeps book own size held r
 handed_keeps book own size held r t es ds shape of first last count carried answer shown =
-    let came : came_by_delta t ≡ came_by_delta (answer_to (site_with own size es) ds) = ap came_by_delta answer in
+    let came : came_by_delta t ≡ came_by_delta (answer_to_delta (site_with own size es) ds) = ap came_by_delta answer in
     handed_cases book own size held r es ds shape of first last (refusal_by (site_with own size es) ds) refl
     (omega (arith, count, carried, came)) shown

@@ -12,7 +12,7 @@ use Rattle.sct_delta.specs.Shapes.{are_of_sites, delta_refusal, may_be_next}
 use Rattle.sct_delta.specs.Sites.{is_site}
 use Rattle.sct_delta.specs.declared.fault.DeltaFault.{DeltaFault}
 use Rattle.sct_delta.specs.declared.fault.DeltaFault.TheVariants as delta
-use Rattle.sct_desk.specs.Locked.{answer_for, answer_to}
+use Rattle.sct_desk.specs.Locked.{answer_for, answer_to_delta}
 use Rattle.sct_site.specs.Cores.{Core, is_repeat, took_by}
 use Rattle.sct_site.specs.declared.answers.Accepted.{Accepted}
 use Rattle.sct_site.specs.declared.answers.Took.TheVariants as took
@@ -66,7 +66,7 @@ ends_by may (Some delta.BadSite) fresh is = delta_ends may delta.BadSite tt
 ends_by may (Some (delta.BadDelta line)) fresh is = absurd is
 
 -- what a site answers to a delta may end an exchange worker
-pub answer_ends : (may : Point → Type 0) (core : Core) (entries : List Placed) → IfErr (accepted_by (answer_to core entries)) (WorkerEndsWhere may)
+pub answer_ends : (may : Point → Type 0) (core : Core) (entries : List Placed) → IfErr (accepted_by (answer_to_delta core entries)) (WorkerEndsWhere may)
 answer_ends may core entries = ends_by may _ _ (first_answers core.number core.group _ entries)
 
 -- ---- an entry that was handed over
@@ -74,14 +74,14 @@ answer_ends may core entries = ends_by may _ _ (first_answers core.number core.g
 -- the fault of a worker that hands an entry over: out of memory for its receipt, or by the answer
 pub handed_ends : {U : Type 0} (may : Point → Type 0) (core : Core) (entries : List Placed) (answer : Result Accepted DeltaFault) (pushed : Result U WorkFault)
     (result : Result Bool WorkFault) → OnOk pushed (result ≡ accepted_by answer) → IfErr pushed (λ lost. result ≡ Err lost)
-    → IfErr pushed (λ e. e ≡ fault.Memory) → answer ≡ answer_to core entries → IfErr result (WorkerEndsWhere may)
+    → IfErr pushed (λ e. e ≡ fault.Memory) → answer ≡ answer_to_delta core entries → IfErr result (WorkerEndsWhere may)
 handed_ends may core entries answer (Ok u) result kept lost memory is =
     subst (λ (r : Result Bool WorkFault). IfErr r (WorkerEndsWhere may)) (sym (kept ∙ ap accepted_by is)) (answer_ends may core entries)
 handed_ends may core entries answer (Err e) result kept lost memory is =
     subst (λ (r : Result Bool WorkFault). IfErr r (WorkerEndsWhere may)) (sym lost) (subst (WorkerEndsWhere may) (sym memory) tt)
 
 over_by : (own size : ℕ) (entry : Placed) (old new : List Told) (receipt : Told) (result : Result Bool WorkFault)
-    → result ≡ accepted_by (answer_to (site_with own size (before receipt)) (entry ∷ [])) → new ≡ old ++ receipt ∷ []
+    → result ≡ accepted_by (answer_to_delta (site_with own size (before receipt)) (entry ∷ [])) → new ≡ old ++ receipt ∷ []
     → IfOk result (IsHandedOver own size entry old new)
 over_by own size entry old new receipt (Ok accepted) same pushed = record { receipt = receipt; kept = pushed; answer = sym same }
 over_by own size entry old new receipt (Err e) same pushed = tt
@@ -89,11 +89,11 @@ over_by own size entry old new receipt (Err e) same pushed = tt
 -- the receipt is kept, and the answer says whether the entry was accepted
 pub handed_over : {U : Type 0} (own size : ℕ) (entry : Placed) (entries : List Placed) (old new : List Told) (receipt : Told) (answer : Result Accepted DeltaFault)
     (pushed : Result U WorkFault) (result : Result Bool WorkFault) → OnOk pushed (result ≡ accepted_by answer) → IfErr pushed (λ lost. result ≡ Err lost)
-    → OnOk pushed (new ≡ old ++ receipt ∷ []) → answer ≡ answer_to (site_with own size (before receipt)) entries → entries ≡ entry ∷ []
+    → OnOk pushed (new ≡ old ++ receipt ∷ []) → answer ≡ answer_to_delta (site_with own size (before receipt)) entries → entries ≡ entry ∷ []
     → IfOk result (IsHandedOver own size entry old new)
 handed_over own size entry entries old new receipt answer (Ok u) result kept lost more is one =
     over_by own size entry old new receipt result
-    (kept ∙ ap accepted_by (is ∙ ap (λ (es : List Placed). answer_to (site_with own size (before receipt)) es) one)) more
+    (kept ∙ ap accepted_by (is ∙ ap (λ (es : List Placed). answer_to_delta (site_with own size (before receipt)) es) one)) more
 handed_over own size entry entries old new receipt answer (Err e) result kept lost more is one =
     subst (λ (r : Result Bool WorkFault). IfOk r (IsHandedOver own size entry old new)) (sym lost) tt
 

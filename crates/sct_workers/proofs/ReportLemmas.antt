@@ -12,7 +12,7 @@ use Rattle.sct_workers.specs.Filling.{IsFilled}
 use Rattle.sct_workers.specs.declared.fault.SiteFault.TheVariants as site
 use Rattle.sct_workers.specs.declared.fault.WorkFault.TheVariants as fault
 use Rattle.sct_workers.specs.declared.gate.Point.{Point}
-use Rattle.sct_workers.specs.Holds.{ComesFirst, EndsWhere, SiteEndsWhere, rank_of, reason_of, site_rank_of}
+use Rattle.sct_workers.specs.Holds.{ComesFirst, EndsWhere, SiteEndsWhere, rank_of, site_rank_of, work_fault_of}
 use Rattle.sct_workers.specs.Reported.{AnswersTo, IsReported, NoneFails, Reports}
 use Rattle.sct_workers.proofs.Holding.{site_ends}
 use Rattle.sct_workers.proofs.Places.{each_pushed, get_behind}
@@ -168,6 +168,6 @@ answers_to size inputs place number group input answer at same here filled other
 -- the fault that is reported of several sites, as a worker's
 pub reported_ends : (may : Point → Type 0) (answers : List (Result Filled SiteFault)) (reported : SiteFault)
     → AtEach (λ place answer. IfErr answer (SiteEndsWhere may)) answers
-    → IsReported answers reported ⊎ (NoneFails answers × (reported ≡ site.Working fault.Memory)) → EndsWhere may (reason_of reported)
+    → IsReported answers reported ⊎ (NoneFails answers × (reported ≡ site.Working fault.Memory)) → EndsWhere may (work_fault_of reported)
 reported_ends may answers reported each (inl is) = site_ends may reported (each is.site (Err reported) is.its)
-reported_ends may answers reported each (inr memory) = subst (λ (f : SiteFault). EndsWhere may (reason_of f)) (sym memory.1) tt
+reported_ends may answers reported each (inr memory) = subst (λ (f : SiteFault). EndsWhere may (work_fault_of f)) (sym memory.1) tt

@@ -8,7 +8,7 @@ use Rattle.sct_delta.specs.declared.fault.DeltaFault.TheVariants as delta
 use Rattle.sct_site.specs.declared.answers.Accepted.{Accepted}
 use Rattle.sct_site.specs.declared.answers.Took.{Took}
 use Rattle.sct_site.specs.declared.answers.Took.TheVariants as took
-use Rattle.sct_desk.specs.Locked.{answer_to}
+use Rattle.sct_desk.specs.Locked.{answer_to_delta}
 use Rattle.sct_desk.specs.Passes.{Told, before, site_with}
 use Rattle.sct_workers.specs.Faults.{fault_of_delta}
 use Rattle.sct_workers.specs.declared.fault.WorkFault.{WorkFault}
@@ -40,4 +40,4 @@ accepted_by (Err refusal) = Err (fault_of_delta refusal)
 pub record IsHandedOver (own size : ℕ) (entry : Placed) (old new : List Told) (accepted : Bool) : Type 0 where
   pub receipt : Told
   pub kept : new ≡ old ++ receipt ∷ []
-  pub answer : accepted_by (answer_to (site_with own size (before receipt)) (entry ∷ [])) ≡ Ok accepted
+  pub answer : accepted_by (answer_to_delta (site_with own size (before receipt)) (entry ∷ [])) ≡ Ok accepted

@@ -31,9 +31,9 @@ IsClosingFault (site.Working reason) = ⊥
 IsClosingFault (site.Closing reason) = IsNotClosed reason
 
 -- the fault of a site, as that of a run
-abbrev pub reason_of : SiteFault → WorkFault
-reason_of (site.Working reason) = reason
-reason_of (site.Closing reason) = reason
+abbrev pub work_fault_of : SiteFault → WorkFault
+work_fault_of (site.Working reason) = reason
+work_fault_of (site.Closing reason) = reason
 
 -- the order in which the faults of workers are reported: 67, then 65, then 61, then 66 with the least number
 abbrev pub rank_of : WorkFault → ℕ
@@ -46,7 +46,8 @@ rank_of (fault.Refused number) = 3 + number
 abbrev pub ComesFirst : {T : Type 0} → WorkFault → Result T WorkFault → Type 0
 ComesFirst reported result = IfErr result (λ reason. rank_of reported ≤ rank_of reason)
 
--- a fault of workers is reported before a refusal to close a desk; among such refusals the first site's is reported
+-- A fault of workers is reported before a refusal to close a desk. Among such refusals the first site's is reported. 300 is
+-- above each rank of a worker's fault: a refusal's number is a byte, so these ranks end at 3 + 255.
 abbrev pub site_rank_of : SiteFault → ℕ
 site_rank_of (site.Working reason) = rank_of reason
 site_rank_of (site.Closing reason) = 300

@@ -2,7 +2,7 @@
 
 ghost use Rattle.std.specs.Prelude.{◌≡◌, ◌⊎◌, ◌≤◌, ◌<◌};
 ghost use Rattle.sct_workers.specs.Faults.{fault_of_delta, fault_of_desk, work_fault_number};
-ghost use Rattle.sct_workers.specs.Holds.{rank_of, reason_of, site_rank_of};
+ghost use Rattle.sct_workers.specs.Holds.{rank_of, site_rank_of, work_fault_of};
 ghost use Rattle.sct_workers.specs.declared.fault.SiteFault.TheVariants as site;
 ghost use Rattle.sct_workers.specs.declared.fault.WorkFault.TheVariants as fault;
 
@@ -103,7 +103,7 @@ impl From<WorkFault> for SiteFault {
 }
 
 impl From<SiteFault> for WorkFault {
-    ghost from_gives = { λ refusal e. e ≡ reason_of refusal };
+    ghost from_gives = { λ refusal e. e ≡ work_fault_of refusal };
 
     fn from(refusal: SiteFault) -> WorkFault {
         match refusal {

@@ -4,7 +4,7 @@ ghost use Rattle.std.specs.Arc.{arc_value};
 ghost use Rattle.std.specs.Prelude.{◌≡◌, ◌≤◌, ◌+◌, ◌∷◌, [], true, length, IfErr, IfOk, OnOk};
 ghost use Rattle.sct_set.specs.Contents.{contents_of};
 ghost use Rattle.sct_site.specs.Cores.{took_by};
-ghost use Rattle.sct_desk.specs.Locked.{IsDeltaRefusal, answer_to};
+ghost use Rattle.sct_desk.specs.Locked.{IsDeltaRefusal, answer_to_delta};
 ghost use Rattle.sct_desk.specs.Passes.{before, site_with};
 ghost use Rattle.sct_workers.specs.Kept.{Keeps, shows};
 ghost use Rattle.sct_workers.specs.declared.fault.WorkFault.TheVariants as fault;
@@ -76,7 +76,7 @@ pub fn accept_for_receipt<J: Site, H: Wait + Drop, W: Wait>(
     delta: &Delta,
 ) -> Result<(Result<Accepted, DeltaFault>, Receipt), WorkFault>
     ensures keeps { IfOk result (λ t. Keeps J.book J.number J.group (contents_of []) t.1) }
-    ensures answer { IfOk result (λ t. t.0 ≡ answer_to (site_with J.number J.group (before t.1)) delta.now) }
+    ensures answer { IfOk result (λ t. t.0 ≡ answer_to_delta (site_with J.number J.group (before t.1)) delta.now) }
     ensures refusals { IfOk result (λ t. IfErr t.0 IsDeltaRefusal) }
     ensures memory { IfErr result (λ e. e ≡ fault.Memory) }
 {

@@ -2,7 +2,7 @@
 
 ghost use Rattle.std.specs.Prelude.{◌≡◌, IfErr, IfOk};
 ghost use Rattle.sct_workers.specs.Holds.{WorkerEndsWhere};
-ghost use Rattle.sct_workers.specs.Points.{site_of};
+ghost use Rattle.sct_workers.specs.Points.{site_of_point};
 
 use crate::fault::WorkFault;
 use crate::gate::{Gate, Held, Point};
@@ -33,7 +33,7 @@ pub(crate) struct Passed {
 impl Passed {
     /// The site of the worker.
     pub(crate) fn site(&self) -> u16
-        ensures { result ≡ site_of self.now.point }
+        ensures { result ≡ site_of_point self.now.point }
     {
         match self.point {
             Point::Take { site, .. } => site,

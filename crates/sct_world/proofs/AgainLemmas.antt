@@ -9,7 +9,7 @@ use Rattle.sct_delta.specs.Refusals.{message_at, is_held, is_outside, is_ahead, 
 use Rattle.sct_delta.specs.declared.fault.DeltaFault.{DeltaFault}
 use Rattle.sct_delta.proofs.JoinLemmas.{IsPassed, passed, unrefused}
 use Rattle.sct_message.proofs.Tests.{none_kept as filter_none}
-use Rattle.sct_site.specs.Cores.{logs_of, arrivals_joined, fresh_of, refusal_by}
+use Rattle.sct_site.specs.Cores.{logs_of, arrivals_joined, fresh_entries, refusal_by}
 use Rattle.sct_site.proofs.HeldLemmas.{held_stands, joined_holds, none_first, not_past, one_place, within}
 use Rattle.sct_world.specs.Closed.{IsClosed}
 use Rattle.sct_world.specs.Laws.{history, ChangesNothing, HandingAgainChangesNothing}
@@ -30,7 +30,7 @@ module _ (w : State) (closed : IsClosed w) (s number : ℕ) (d : List Placed) (c
   own : (x : Placed) → holds d x ≡ true → holds (held_at w x.origin) x ≡ true
   own x in_delta = closed.held s x (all x in_delta)
 
-  all_held : fresh_of (held_at w s) d ≡ []
+  all_held : fresh_entries (held_at w s) d ≡ []
   all_held = filter_none (λ e. not (is_held (logs_of (held_at w s)) e)) d (passes_none _ d (λ x in_delta. ap not (held_stands (held_at w s) (closed.arrivals s) x (all x in_delta))))
 
   nothing_refused : refusal_by (core_at w s) d ≡ None
@@ -47,7 +47,7 @@ module _ (w : State) (closed : IsClosed w) (s number : ℕ) (d : List Placed) (c
   pub answered_again : step_at w (event.Hand number s) ≡ Ok (step.Accepted 0)
   answered_again =
       ap (step_handed (core_at w s)) cut
-      ∙ ap (step_accepted (length (fresh_of (held_at w s) d))) nothing_refused
+      ∙ ap (step_accepted (length (fresh_entries (held_at w s) d))) nothing_refused
       ∙ ap (λ (l : List Placed). Ok (step.Accepted (length l))) all_held
 
   -- and stays as it is
@@ -82,7 +82,7 @@ accepted_by w number s fresh k d there cut (Some refusal) none is = cc
 
 handed_by : (w : State) (number s fresh : ℕ) → is_no_site w s ≡ false → (o : Option (List Placed)) → delta_at w.deltas number ≡ o → step_handed (core_at w s) o ≡ Ok (step.Accepted fresh) → WasAccepted w number s
 handed_by w number s fresh there None cut is = cc
-handed_by w number s fresh there (Some d) cut is = accepted_by w number s fresh (length (fresh_of (held_at w s) d)) d there cut (refusal_by (core_at w s) d) refl is
+handed_by w number s fresh there (Some d) cut is = accepted_by w number s fresh (length (fresh_entries (held_at w s) d)) d there cut (refusal_by (core_at w s) d) refl is
 
 was_accepted : (w : State) (number s fresh : ℕ) → step_of w (event.Hand number s) ≡ Ok (step.Accepted fresh) → WasAccepted w number s
 unfolding step_of

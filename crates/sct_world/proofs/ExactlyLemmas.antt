@@ -10,12 +10,12 @@ use Rattle.sct_set.specs.Contents.{Contents, contents_of}
 use Rattle.sct_set.proofs.ContentsLemmas.{union-none}
 use Rattle.sct_delta.specs.Entries.{Placed, messages_of}
 use Rattle.sct_delta.specs.declared.fault.DeltaFault.{DeltaFault}
-use Rattle.sct_site.specs.Cores.{arrivals_taken, arrivals_joined, refusal_by, fresh_of}
+use Rattle.sct_site.specs.Cores.{arrivals_taken, arrivals_joined, refusal_by, fresh_entries}
 use Rattle.sct_site.proofs.AcceptLemmas.{contents-append}
 use Rattle.sct_site.proofs.MessageLemmas.{joined_messages, taken_messages, union-more}
-use Rattle.sct_world.specs.States.{State, opened, is_no_site, held_at, core_at, with_held, delta_at}
-use Rattle.sct_world.specs.Histories.{site_of, step_accepted, step_handed, step_at, step_of, after_accepted, after_handed, after_at, world_after, world_after_all, ended, outcome_of, outcomes_of}
-use Rattle.sct_world.specs.Taken.{messages_in, got_by, all_got_by, taken_at}
+use Rattle.sct_world.specs.States.{State, empty_world, is_no_site, held_at, core_at, with_held, delta_at}
+use Rattle.sct_world.specs.Histories.{site_of, step_accepted, step_handed, step_at, step_of, after_accepted, after_handed, after_at, world_after, world_after_all, outcome_of_step, outcome_of, outcomes_of}
+use Rattle.sct_world.specs.Taken.{messages_of_delta, got_by, all_got_by, taken_at}
 use Rattle.sct_world.specs.declared.event.Event.{Event}
 use Rattle.sct_world.specs.declared.event.Event.TheVariants as event
 use Rattle.sct_world.specs.declared.event.Outcome.{Outcome}
@@ -49,20 +49,20 @@ module _ (i : ℕ) (D : List (List Placed)) where
   nothing_got w = sym (union-none (messages_of (held_at w i)))
 
   accepted_got : (w : State) → is_no_site w i ≡ false → (at : ℕ) → is_no_site w at ≡ false → (number : ℕ) (d : List Placed) → delta_at D number ≡ Some d → (fresh : ℕ) (r : Option DeltaFault)
-      → Got w (after_accepted w at d r) (got_by i D (event.Hand number at) (ended (step_accepted fresh r)))
+      → Got w (after_accepted w at d r) (got_by i D (event.Hand number at) (outcome_of_step (step_accepted fresh r)))
   accepted_got w there at here number d is fresh None =
       put_is i w there at here (arrivals_joined (held_at w at) d) (map (λ e. e.message) d) (joined_messages (held_at w at) d)
-      ∙ ap (λ (o : Option (List Placed)). set.union (messages_of (held_at w i)) (contents_of (cond (nat_eq at i) (messages_in o) []))) (sym is)
+      ∙ ap (λ (o : Option (List Placed)). set.union (messages_of (held_at w i)) (contents_of (cond (nat_eq at i) (messages_of_delta o) []))) (sym is)
   accepted_got w there at here number d is fresh (Some refusal) = nothing_got w
 
   handed_got : (w : State) → is_no_site w i ≡ false → (at : ℕ) → is_no_site w at ≡ false → (number : ℕ) → ((k : ℕ) (d : List Placed) → IsThere w k d → delta_at D k ≡ Some d) → (o : Option (List Placed)) → delta_at w.deltas number ≡ o
-      → Got w (after_handed w at o) (got_by i D (event.Hand number at) (ended (step_handed (core_at w at) o)))
+      → Got w (after_handed w at o) (got_by i D (event.Hand number at) (outcome_of_step (step_handed (core_at w at) o)))
   handed_got w there at here number finds None is = nothing_got w
   handed_got w there at here number finds (Some d) is =
-      accepted_got w there at here number d (finds number d is) (length (fresh_of (held_at w at) d)) (refusal_by (core_at w at) d)
+      accepted_got w there at here number d (finds number d is) (length (fresh_entries (held_at w at) d)) (refusal_by (core_at w at) d)
 
   got_at : (w : State) → is_no_site w i ≡ false → ((k : ℕ) (d : List Placed) → IsThere w k d → delta_at D k ≡ Some d) → (e : Event) → is_no_site w (site_of e) ≡ false
-      → Got w (after_at w e) (got_by i D e (ended (step_at w e)))
+      → Got w (after_at w e) (got_by i D e (outcome_of_step (step_at w e)))
   got_at w there finds (event.Take at m) here =
       put_is i w there at here (arrivals_taken (core_at w at) (arc_value m)) (arc_value m ∷ []) (taken_messages (core_at w at) (arc_value m))
   got_at w there finds (event.Cut at vector) here = nothing_got w
@@ -79,7 +79,7 @@ module _ (i : ℕ) (D : List (List Placed)) where
       → Got w (world_after w e) (got_by i D e (outcome_of w e))
   unfolding world_after step_of
   got_is w there finds e =
-      elim (is_no_site w (site_of e)) as (λ b. is_no_site w (site_of e) ≡ b → Got w (cond b w (after_at w e)) (got_by i D e (ended (cond b (Err fault.BadSite) (step_at w e))))) [
+      elim (is_no_site w (site_of e)) as (λ b. is_no_site w (site_of e) ≡ b → Got w (cond b w (after_at w e)) (got_by i D e (outcome_of_step (cond b (Err fault.BadSite) (step_at w e))))) [
         | true ↦ λ none. got_nowhere w there e none
         | false ↦ λ here. got_at w there finds e here
       ] refl
@@ -98,20 +98,20 @@ all_got i (e ∷ events) w there D finds =
 
 -- ---- from a world without an entry on
 
-pub held-opened : (n i : ℕ) → is_no_site (opened n) i ≡ false → held_at (opened n) i ≡ []
+pub held-opened : (n i : ℕ) → is_no_site (empty_world n) i ≡ false → held_at (empty_world n) i ≡ []
 held-opened n i there =
     let none : List Placed = [] in
     get_or-replicate n (i - 1) none none (inside n i (ap (λ (k : ℕ). nat_lt i 1 || nat_lt k i) (sym (length-replicate n none)) ∙ there))
 
 -- each site holds exactly the messages that it took or accepted
-pub exactly : (n : ℕ) (events : List Event) (i : ℕ) → is_no_site (world_after_all (opened n) events) i ≡ false
-    → messages_of (held_at (world_after_all (opened n) events) i)
-    ≡ taken_at i (world_after_all (opened n) events).deltas events (outcomes_of (opened n) events)
+pub exactly : (n : ℕ) (events : List Event) (i : ℕ) → is_no_site (world_after_all (empty_world n) events) i ≡ false
+    → messages_of (held_at (world_after_all (empty_world n) events) i)
+    ≡ taken_at i (world_after_all (empty_world n) events).deltas events (outcomes_of (empty_world n) events)
 exactly n events i there =
-    let opened_there : is_no_site (opened n) i ≡ false = sym (sites-all events (opened n) i) ∙ there in
-    all_got i events (opened n) opened_there (world_after_all (opened n) events).deltas (λ k d is. is)
-    ∙ ap (λ (es : List Placed). set.union (messages_of es) (taken_at i (world_after_all (opened n) events).deltas events (outcomes_of (opened n) events))) (held-opened n i opened_there)
-    ∙ sym (contents-append [] (all_got_by i (world_after_all (opened n) events).deltas events (outcomes_of (opened n) events)))
+    let opened_there : is_no_site (empty_world n) i ≡ false = sym (sites-all events (empty_world n) i) ∙ there in
+    all_got i events (empty_world n) opened_there (world_after_all (empty_world n) events).deltas (λ k d is. is)
+    ∙ ap (λ (es : List Placed). set.union (messages_of es) (taken_at i (world_after_all (empty_world n) events).deltas events (outcomes_of (empty_world n) events))) (held-opened n i opened_there)
+    ∙ sym (contents-append [] (all_got_by i (world_after_all (empty_world n) events).deltas events (outcomes_of (empty_world n) events)))
 
 -- ---- one event more
 
@@ -124,7 +124,7 @@ outcomes-push w [] e = refl
 outcomes-push w (d ∷ events) e = ap (λ (os : List Outcome). outcome_of w d ∷ os) (outcomes-push (world_after w d) events e)
 
 -- the same, of a world and outcomes that are those of the events
-pub exactly_of : (n : ℕ) (events : List Event) (w : State) (outcomes : List Outcome) → w ≡ world_after_all (opened n) events → outcomes ≡ outcomes_of (opened n) events
+pub exactly_of : (n : ℕ) (events : List Event) (w : State) (outcomes : List Outcome) → w ≡ world_after_all (empty_world n) events → outcomes ≡ outcomes_of (empty_world n) events
     → (site : ℕ) → is_no_site w site ≡ false → messages_of (held_at w site) ≡ taken_at site w.deltas events outcomes
 exactly_of n events w outcomes world told site there =
     ap (λ (v : State). messages_of (held_at v site)) world

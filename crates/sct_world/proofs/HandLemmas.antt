@@ -23,11 +23,11 @@ use Rattle.sct_delta.proofs.HeldLemmas.{passes_none, one_entry}
 use Rattle.sct_delta.proofs.JoinLemmas.{IsPassed, passed}
 use Rattle.sct_message.proofs.Tests.{and_implied, none_kept as filter_none}
 use Rattle.sct_delta.proofs.TestLemmas.{none_also}
-use Rattle.sct_site.specs.Cores.{Core, IsSite, logs_of, is_above, entries_above, fresh_of, arrivals_joined, refusal_by}
+use Rattle.sct_site.specs.Cores.{Core, IsSite, logs_of, is_above, entries_above, fresh_entries, arrivals_joined, refusal_by}
 use Rattle.sct_site.proofs.AboveLemmas.{entry_total, entry_same}
 use Rattle.sct_site.proofs.ArrivalLemmas.{length-log}
 use Rattle.sct_site.proofs.HeldLemmas.{among_above, any_kept, at_number, found_in, held_number, joined_holds, kept_first, kept_passes, not_0, one_of, one_place, or_else, told_never, within}
-use Rattle.sct_world.specs.Settling.{no_core, core_in, held_by_some, IsKept, AreKept, IsWhy, IsAhead, HoldApart, HasAll, HasEach, IsWhole, IsWholeOfOne, OfOneGroup}
+use Rattle.sct_world.specs.Settling.{no_core, core_in, held_by_some, IsSiteKept, AreSitesKept, IsWhy, IsAhead, HoldApart, HasAll, HasEach, IsWholeSite, IsWholeOfOne, OfOneGroup}
 use Rattle.sct_world.proofs.KeptLemmas.{place_some, same_kept}
 
 -- ---- numbers and tests
@@ -179,7 +179,7 @@ module _ (cores : List Core) (from to : ℕ) (there : to < length cores) (giver 
     fitting = (refused_where_it_does_not_fit own (core_in cores to).group (logs_of held) d shape).0 none
 
     -- no own entry is new
-    not_own : (e : Placed) → holds (fresh_of held d) e ≡ true → is_from own e ≡ false
+    not_own : (e : Placed) → holds (fresh_entries held d) e ≡ true → is_from own e ≡ false
     not_own e fresh =
         let in_delta : holds d e ≡ true = any_kept (λ x. not (is_held (logs_of held) x)) (λ x. same_entry x e) d fresh in
         elim (nat_eq e.origin own) as (λ b. nat_eq e.origin own ≡ b → b ≡ false) [
@@ -191,35 +191,35 @@ module _ (cores : List Core) (from to : ℕ) (there : to < length cores) (giver 
           | false ↦ λ other. refl
         ] refl
 
-    taken : IsKept cores (core_in cores to) new
+    taken : IsSiteKept cores (core_in cores to) new
     taken = record {
       number = number;
       group = group;
-      keeps = λ e was. ap (λ (l : List Placed). holds l e) came ∙ kept_first held (fresh_of held d) e was;
-      no_other = λ e is. elim (one_of held (fresh_of held d) e (ap (λ (l : List Placed). holds l e) (sym came) ∙ is)) as (λ c. held_by_some cores e ≡ true) [
+      keeps = λ e was. ap (λ (l : List Placed). holds l e) came ∙ kept_first held (fresh_entries held d) e was;
+      no_other = λ e is. elim (one_of held (fresh_entries held d) e (ap (λ (l : List Placed). holds l e) (sym came) ∙ is)) as (λ c. held_by_some cores e ≡ true) [
         | inl was ↦ place_some cores to e was
         | inr fresh ↦ place_some cores from e (among e (any_kept (λ x. not (is_held (logs_of held) x)) (λ x. same_entry x e) d fresh))
       ];
       own =
           ap (entries_from own) came
-          ∙ from-append own held (fresh_of held d)
-          ∙ ap (λ (l : List Placed). entries_from own held ++ l) (filter_none (is_from own) (fresh_of held d) (passes_none (is_from own) (fresh_of held d) not_own))
+          ∙ from-append own held (fresh_entries held d)
+          ∙ ap (λ (l : List Placed). entries_from own held ++ l) (filter_none (is_from own) (fresh_entries held d) (passes_none (is_from own) (fresh_entries held d) not_own))
           ∙ append-nil (entries_from own held);
-      grows = (fresh_of held d, sym came);
+      grows = (fresh_entries held d, sym came);
     }
 
     put : core_in (slice_set cores to new) to ≡ new
     put = get_or-set_same cores to new no_core there
 
-    pub handed_kept : AreKept cores (slice_set cores to new)
+    pub handed_kept : AreSitesKept cores (slice_set cores to new)
     handed_kept = record {
       size = length-set cores to new;
-      each = λ k. elim (nat_eq k to) as (λ b. nat_eq k to ≡ b → IsKept cores (core_in cores k) (core_in (slice_set cores to new) k)) [
+      each = λ k. elim (nat_eq k to) as (λ b. nat_eq k to ≡ b → IsSiteKept cores (core_in cores k) (core_in (slice_set cores to new) k)) [
         | true ↦ λ same.
-            subst (λ (p : ℕ). IsKept cores (core_in cores p) (core_in (slice_set cores to new) p)) (sym (eqb-true k to same))
-            (subst (λ (c : Core). IsKept cores (core_in cores to) c) (sym put) taken)
+            subst (λ (p : ℕ). IsSiteKept cores (core_in cores p) (core_in (slice_set cores to new) p)) (sym (eqb-true k to same))
+            (subst (λ (c : Core). IsSiteKept cores (core_in cores to) c) (sym put) taken)
         | false ↦ λ other.
-            subst (λ (c : Core). IsKept cores (core_in cores k) c) (sym (get_or-set_other cores to k new no_core (eqb-false k to other))) (same_kept cores k)
+            subst (λ (c : Core). IsSiteKept cores (core_in cores k) c) (sym (get_or-set_other cores to k new no_core (eqb-false k to other))) (same_kept cores k)
       ] refl;
     }
 
@@ -239,7 +239,7 @@ on_err (Ok x) P f is why = tt
 on_err (Err g) P f is why = subst P (sym is) why
 
 -- the whole of a site holds what the site holds
-whole_cut : (count : ℕ → ℕ) (empty : (o : ℕ) → count o ≡ 0) (core : Core) → IsSite core → (d : List Placed) → d ≡ entries_above count core.arrivals → IsDelta d → IsWhole d core
+whole_cut : (count : ℕ → ℕ) (empty : (o : ℕ) → count o ≡ 0) (core : Core) → IsSite core → (d : List Placed) → d ≡ entries_above count core.arrivals → IsDelta d → IsWholeSite d core
 whole_cut count empty core site d cut shape = record {
   site = site;
   shape = shape;
@@ -248,12 +248,12 @@ whole_cut count empty core site d cut shape = record {
 }
 
 pub whole_on : (count : ℕ → ℕ) → ((o : ℕ) → count o ≡ 0) → (core : Core) → IsSite core → (r : Result (List Placed) DeltaFault)
-    → IfOk r (λ d. d ≡ entries_above count core.arrivals) → IfOk r (λ d. IsDelta d) → IfOk r (λ d. IsWhole d core)
+    → IfOk r (λ d. d ≡ entries_above count core.arrivals) → IfOk r (λ d. IsDelta d) → IfOk r (λ d. IsWholeSite d core)
 whole_on count empty core site (Ok d) cut shape = whole_cut count empty core site d cut shape
 whole_on count empty core site (Err f) cut shape = tt
 
-pub whole_there : (cores : List Core) (k : ℕ) (x : Core) → k < length cores → x ≡ get_or cores k x → (d : List Placed) → IsWhole d x → IsWhole d (core_in cores k)
-whole_there cores k x there is d whole = subst (λ (c : Core). IsWhole d c) (sym (read_is cores k x there is)) whole
+pub whole_there : (cores : List Core) (k : ℕ) (x : Core) → k < length cores → x ≡ get_or cores k x → (d : List Placed) → IsWholeSite d x → IsWholeSite d (core_in cores k)
+whole_there cores k x there is d whole = subst (λ (c : Core). IsWholeSite d c) (sym (read_is cores k x there is)) whole
 
 module _ (cores : List Core) (to : ℕ) (there : to < length cores) (alike : OfOneGroup cores) (d : List Placed) (one : IsWholeOfOne d cores)
     (y : Core) (y_is : y ≡ get_or cores to y) (taker : IsSite y) where
@@ -263,7 +263,7 @@ module _ (cores : List Core) (to : ℕ) (there : to < length cores) (alike : OfO
   taker_is : IsSite (core_in cores to)
   taker_is = subst (λ (c : Core). IsSite c) (sym to_is) taker
 
-  whole : IsWhole d (core_in cores one.place)
+  whole : IsWholeSite d (core_in cores one.place)
   whole = one.whole
 
   one_group : (core_in cores one.place).group ≡ (core_in cores to).group
@@ -278,7 +278,7 @@ module _ (cores : List Core) (to : ℕ) (there : to < length cores) (alike : OfO
     not_refused : refusal_by (core_in cores to) d ≡ None
     not_refused = ap (λ (c : Core). refusal_by c d) to_is ∙ none
 
-    pub hand_kept : AreKept cores (slice_set cores to new)
+    pub hand_kept : AreSitesKept cores (slice_set cores to new)
     hand_kept =
         handed_kept cores one.place to there whole.site taker_is one_group d whole.shape whole.among whole.has not_refused new
         (number ∙ ap (λ (c : Core). c.number) (sym to_is))

@@ -6,7 +6,7 @@ use Rattle.std.proofs.lemmas.List.{get_or_default, length-map}
 use Rattle.sct_delta.specs.Entries.{Placed, held_from, holds, IsDelta}
 use Rattle.sct_delta.specs.declared.fault.DeltaFault.{DeltaFault}
 use Rattle.sct_delta.specs.declared.fault.DeltaFault.TheVariants as delta
-use Rattle.sct_site.specs.Cores.{Core, arrivals_joined, fresh_of, is_above, refusal_by}
+use Rattle.sct_site.specs.Cores.{Core, arrivals_joined, fresh_entries, is_above, refusal_by}
 use Rattle.sct_world.specs.Closed.{IsClosed}
 use Rattle.sct_world.specs.Faults.{IsNoFork}
 use Rattle.sct_world.specs.Histories.{step_handed, after_handed}
@@ -63,11 +63,11 @@ module _ (cores : List Core) (deltas : List KeptDelta) (w : State) (view : state
       ∙ refusal_alike w closed site d own shape
       ∙ ap (λ (c : Core). refusal_by c d) (sym core_is)
 
-  same_fresh : fresh_of old.arrivals new ≡ fresh_of old.arrivals d
+  same_fresh : fresh_entries old.arrivals new ≡ fresh_entries old.arrivals d
   same_fresh =
-      (λ i. fresh_of (ap (λ (c : Core). c.arrivals) core_is i) (new_is i))
+      (λ i. fresh_entries (ap (λ (c : Core). c.arrivals) core_is i) (new_is i))
       ∙ fresh_alike w closed site d own shape
-      ∙ ap (λ (c : Core). fresh_of c.arrivals d) (sym core_is)
+      ∙ ap (λ (c : Core). fresh_entries c.arrivals d) (sym core_is)
 
   told : (refusal : DeltaFault) → MatchOption (refusal_by old new) (refusal ≡ delta.Memory) (λ first. refusal ≡ first) → MatchOption (refusal_by old d) (refusal ≡ delta.Memory) (λ first. refusal ≡ first)
   told refusal is = subst (λ (r : Option DeltaFault). MatchOption r (refusal ≡ delta.Memory) (λ first. refusal ≡ first)) same_refusal is
@@ -83,7 +83,7 @@ module _ (cores : List Core) (deltas : List KeptDelta) (w : State) (view : state
     not_refused : refusal_by old d ≡ None
     not_refused = sym same_refusal ∙ none
 
-    pub is_accepted : (fresh : ℕ) → fresh ≡ length (fresh_of old.arrivals new) → step_handed (core_at w site) (delta_at w.deltas number) ≡ Ok (step.Accepted fresh)
+    pub is_accepted : (fresh : ℕ) → fresh ≡ length (fresh_entries old.arrivals new) → step_handed (core_at w site) (delta_at w.deltas number) ≡ Ok (step.Accepted fresh)
     is_accepted fresh is = hand_accepted cores all w view keeping.world site there old read after number d above inside_all cut not_refused fresh (is ∙ ap length same_fresh)
 
     module _ (came : after.arrivals ≡ arrivals_joined old.arrivals new) where
@@ -92,10 +92,10 @@ module _ (cores : List Core) (deltas : List KeptDelta) (w : State) (view : state
 
       pub state_after : state_of (slice_set cores (site - 1) after) (deltas_kept (slice_set cores (site - 1) after) deltas) ≡ after_handed w site (delta_at w.deltas number)
       state_after =
-          state_same cores deltas w view keeping site there old read after (fresh_of old.arrivals new) came
+          state_same cores deltas w view keeping site there old read after (fresh_entries old.arrivals new) came
           ∙ state_handed cores all w view keeping.world site there old read after number d above inside_all cut not_refused joined
 
       pub keeping_after : after.number ≡ old.number → after.group ≡ old.group → IsKeeping (slice_set cores (site - 1) after) deltas
       keeping_after same_number same_group =
-          keeping_on cores deltas w view keeping site there old read after (fresh_of old.arrivals new) came
+          keeping_on cores deltas w view keeping site there old read after (fresh_entries old.arrivals new) came
           (world_handed cores all w view keeping.world site there old read after number d above inside_all cut not_refused joined same_number same_group)

@@ -10,7 +10,7 @@ use Rattle.sct_delta.specs.Entries.{Placed, entries_from, held_from, holds}
 use Rattle.sct_delta.specs.declared.fault.DeltaFault.{DeltaFault}
 use Rattle.sct_delta.specs.declared.fault.DeltaFault.TheVariants as fault
 use Rattle.sct_site.specs.Cores.{Core}
-use Rattle.sct_world.specs.Settling.{core_in, held_by_some, is_beside, are_one_group, IsKept, AreKept, AreSettled, IsWhy, HasAll, OfOneGroup}
+use Rattle.sct_world.specs.Settling.{core_in, held_by_some, is_beside, are_one_group, IsSiteKept, AreSitesKept, AreSettled, IsWhy, HasAll, OfOneGroup}
 
 -- ---- an entry that some site holds
 
@@ -38,24 +38,24 @@ some_place (c ∷ cores) e held =
 
 -- ---- sites that are kept
 
-pub same_kept : (cores : List Core) (k : ℕ) → IsKept cores (core_in cores k) (core_in cores k)
+pub same_kept : (cores : List Core) (k : ℕ) → IsSiteKept cores (core_in cores k) (core_in cores k)
 same_kept cores k = record { number = refl; group = refl; keeps = λ e held. held; no_other = λ e held. place_some cores k e held; own = refl; grows = ([], append-nil (core_in cores k).arrivals) }
 
-pub kept_itself : (cores : List Core) → AreKept cores cores
+pub kept_itself : (cores : List Core) → AreSitesKept cores cores
 kept_itself cores = record { size = refl; each = same_kept cores }
 
-came_from : (a b : List Core) → AreKept a b → (e : Placed) → held_by_some b e ≡ true → held_by_some a e ≡ true
+came_from : (a b : List Core) → AreSitesKept a b → (e : Placed) → held_by_some b e ≡ true → held_by_some a e ≡ true
 came_from a b first e held =
     let h : HolderOf b e = some_place b e held in
-    let k : IsKept a (core_in a h.place) (core_in b h.place) = first.each h.place in
+    let k : IsSiteKept a (core_in a h.place) (core_in b h.place) = first.each h.place in
     k.no_other e h.held
 
-pub kept_on : (a b c : List Core) → AreKept a b → AreKept b c → AreKept a c
+pub kept_on : (a b c : List Core) → AreSitesKept a b → AreSitesKept b c → AreSitesKept a c
 kept_on a b c first next = record {
   size = next.size ∙ first.size;
   each = λ k.
-      let x : IsKept a (core_in a k) (core_in b k) = first.each k in
-      let y : IsKept b (core_in b k) (core_in c k) = next.each k in record {
+      let x : IsSiteKept a (core_in a k) (core_in b k) = first.each k in
+      let y : IsSiteKept b (core_in b k) (core_in c k) = next.each k in record {
         number = y.number ∙ x.number;
         group = y.group ∙ x.group;
         keeps = λ e held. y.keeps e (x.keeps e held);
@@ -73,18 +73,18 @@ kept_on a b c first next = record {
 }
 
 -- why sites that are kept are refused is why those that they were are
-pub why_before : (a b : List Core) → AreKept a b → (refusal : DeltaFault) → IsWhy b refusal → IsWhy a refusal
+pub why_before : (a b : List Core) → AreSitesKept a b → (refusal : DeltaFault) → IsWhy b refusal → IsWhy a refusal
 why_before a b kept fault.Memory why = tt
 why_before a b kept (fault.Gap origin have first) why = why
 why_before a b kept (fault.Fork origin n) why =
-    let x : IsKept a (core_in a why.one) (core_in b why.one) = kept.each why.one in
-    let y : IsKept a (core_in a why.other) (core_in b why.other) = kept.each why.other in
+    let x : IsSiteKept a (core_in a why.one) (core_in b why.one) = kept.each why.one in
+    let y : IsSiteKept a (core_in a why.other) (core_in b why.other) = kept.each why.other in
     let one : HolderOf a (record { origin = origin; n = n; message = why.message }) = some_place a _ (x.no_other _ why.held) in
     let other : HolderOf a (record { origin = origin; n = n; message = why.another }) = some_place a _ (y.no_other _ why.also_held) in
     record { one = one.place; other = other.place; message = why.message; another = why.another; held = one.held; also_held = other.held; different = why.different }
 why_before a b kept (fault.OwnAhead n) why =
-    let x : IsKept a (core_in a why.holder) (core_in b why.holder) = kept.each why.holder in
-    let y : IsKept a (core_in a why.owner) (core_in b why.owner) = kept.each why.owner in
+    let x : IsSiteKept a (core_in a why.holder) (core_in b why.holder) = kept.each why.holder in
+    let y : IsSiteKept a (core_in a why.owner) (core_in b why.owner) = kept.each why.owner in
     let holder : HolderOf a why.entry = some_place a why.entry (x.no_other why.entry why.held) in
     let owner : why.entry.origin ≡ (core_in a why.owner).number = why.of_owner ∙ y.number in
     let count : held_from why.entry.origin (core_in b why.owner).arrivals ≡ held_from why.entry.origin (core_in a why.owner).arrivals =
@@ -106,27 +106,27 @@ below j k other less = grind (arith, nat_tests)
 
 -- the first site has what the first so many held
 pub record AreGathered (before now : List Core) (k : ℕ) : Type 0 where
-  pub kept : AreKept before now
+  pub kept : AreSitesKept before now
   pub firsts : (j : ℕ) → j < k → HasAll (core_in before j) (core_in now 0)
 
-pub gathered_more : (before now new : List Core) (k : ℕ) → AreGathered before now k → AreKept now new → HasAll (core_in now k) (core_in new 0) → AreGathered before new (k + 1)
+pub gathered_more : (before now new : List Core) (k : ℕ) → AreGathered before now k → AreSitesKept now new → HasAll (core_in now k) (core_in new 0) → AreGathered before new (k + 1)
 gathered_more before now new k so_far kept handed = record {
   kept = kept_on before now new so_far.kept kept;
   firsts = λ j less.
       elim (nat_eq j k) as (λ b. nat_eq j k ≡ b → HasAll (core_in before j) (core_in new 0)) [
         | true ↦ λ same.
             let is : k ≡ j = sym (eqb-true j k same) in
-            let was : IsKept before (core_in before k) (core_in now k) = so_far.kept.each k in
+            let was : IsSiteKept before (core_in before k) (core_in now k) = so_far.kept.each k in
             subst (λ (p : ℕ). HasAll (core_in before p) (core_in new 0)) is (λ e held. handed e (was.keeps e held))
         | false ↦ λ other.
-            let first : IsKept now (core_in now 0) (core_in new 0) = kept.each 0 in
+            let first : IsSiteKept now (core_in now 0) (core_in new 0) = kept.each 0 in
             λ e held. first.keeps e (so_far.firsts j (below j k other less) e held)
       ] refl;
 }
 
 -- each of the first so many has what the first site held
 pub record AreReached (before now : List Core) (k : ℕ) : Type 0 where
-  pub kept : AreKept before now
+  pub kept : AreSitesKept before now
   pub firsts : (j : ℕ) → j < k → HasAll (core_in before 0) (core_in now j)
 
 pub reached_first : (cores : List Core) → AreReached cores cores 1
@@ -135,17 +135,17 @@ reached_first cores = record {
   firsts = λ j less. let is : 0 ≡ j = omega (arith, less) in subst (λ (p : ℕ). HasAll (core_in cores 0) (core_in cores p)) is (λ e held. held);
 }
 
-pub reached_more : (before now new : List Core) (k : ℕ) → AreReached before now k → AreKept now new → HasAll (core_in now 0) (core_in new k) → AreReached before new (k + 1)
+pub reached_more : (before now new : List Core) (k : ℕ) → AreReached before now k → AreSitesKept now new → HasAll (core_in now 0) (core_in new k) → AreReached before new (k + 1)
 reached_more before now new k so_far kept handed = record {
   kept = kept_on before now new so_far.kept kept;
   firsts = λ j less.
       elim (nat_eq j k) as (λ b. nat_eq j k ≡ b → HasAll (core_in before 0) (core_in new j)) [
         | true ↦ λ same.
             let is : k ≡ j = sym (eqb-true j k same) in
-            let was : IsKept before (core_in before 0) (core_in now 0) = so_far.kept.each 0 in
+            let was : IsSiteKept before (core_in before 0) (core_in now 0) = so_far.kept.each 0 in
             subst (λ (p : ℕ). HasAll (core_in before 0) (core_in new p)) is (λ e held. handed e (was.keeps e held))
         | false ↦ λ other.
-            let reached : IsKept now (core_in now j) (core_in new j) = kept.each j in
+            let reached : IsSiteKept now (core_in now j) (core_in new j) = kept.each j in
             λ e held. reached.keeps e (so_far.firsts j (below j k other less) e held)
       ] refl;
 }
@@ -171,24 +171,24 @@ one_group (c ∷ others) one (suc k) there =
     let parts : (is_beside c others ≡ true) × (are_one_group others ≡ true) = and_parts (is_beside c others) (are_one_group others) one in
     beside_group c others k parts.0 (omega (arith, there))
 
-pub group_kept : (a b : List Core) → AreKept a b → OfOneGroup a → OfOneGroup b
+pub group_kept : (a b : List Core) → AreSitesKept a b → OfOneGroup a → OfOneGroup b
 group_kept a b kept one place there =
     let size : length b ≡ length a = kept.size in
-    let x : IsKept a (core_in a place) (core_in b place) = kept.each place in
-    let first : IsKept a (core_in a 0) (core_in b 0) = kept.each 0 in
+    let x : IsSiteKept a (core_in a place) (core_in b place) = kept.each place in
+    let first : IsSiteKept a (core_in a 0) (core_in b 0) = kept.each 0 in
     x.group ∙ one place (omega (arith, there, size)) ∙ sym first.group
 
 -- ---- settled
 
-pub settled : (old mid new : List Core) → AreKept old mid → ((place : ℕ) → place < length old → HasAll (core_in old place) (core_in mid 0))
-    → AreKept mid new → ((place : ℕ) → place < length mid → HasAll (core_in mid 0) (core_in new place)) → AreSettled old new
+pub settled : (old mid new : List Core) → AreSitesKept old mid → ((place : ℕ) → place < length old → HasAll (core_in old place) (core_in mid 0))
+    → AreSitesKept mid new → ((place : ℕ) → place < length mid → HasAll (core_in mid 0) (core_in new place)) → AreSettled old new
 settled old mid new first gathered next reached =
-    let kept : AreKept old new = kept_on old mid new first next in
+    let kept : AreSitesKept old new = kept_on old mid new first next in
     let size : length mid ≡ length old = first.size in
     record {
       kept = kept;
       joined = λ k there e.
-          let k_kept : IsKept old (core_in old k) (core_in new k) = kept.each k in
+          let k_kept : IsSiteKept old (core_in old k) (core_in new k) = kept.each k in
           both_ways _ _ (k_kept.no_other e) (λ some.
           let h : HolderOf old e = some_place old e some in
           reached k (omega (arith, there, size)) e (gathered h.place h.there e h.held));

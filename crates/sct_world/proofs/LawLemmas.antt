@@ -11,15 +11,15 @@ use Rattle.sct_delta.specs.Entries.{Placed, log_of, held_from, holds, IsArrivals
 use Rattle.sct_delta.specs.Refusals.{message_at}
 use Rattle.sct_delta.specs.Vectors.{count_in}
 use Rattle.sct_delta.specs.declared.fault.DeltaFault.{DeltaFault}
-use Rattle.sct_site.specs.Cores.{Core, is_repeat, own_entry, arrivals_taken, arrivals_joined, fresh_of, refusal_by}
+use Rattle.sct_site.specs.Cores.{Core, is_repeat, own_entry, arrivals_taken, arrivals_joined, fresh_entries, refusal_by}
 use Rattle.sct_site.proofs.ArrivalLemmas.{length-log}
 use Rattle.sct_message.specs.Sets.{MessageSet}
 use Rattle.sct_reconcile.specs.Reports.{report_of, report_text_of}
 use Rattle.sct_site.proofs.HeldLemmas.{at_number, held_number, kept_first, not_0, one_place, within}
 use Rattle.sct_world.specs.Answers.{texts_of}
 use Rattle.sct_world.specs.Closed.{IsClosed}
-use Rattle.sct_world.specs.Laws.{history, EqualSetsHoldAlike, EqualSetsAnswerAlike, EqualSetsReportAlike, NeverLosesAnEntry, EqualVectorsHoldAlike}
-use Rattle.sct_world.specs.States.{State, opened, is_no_site, held_at, core_at, with_held, delta_at}
+use Rattle.sct_world.specs.Laws.{history, EqualSetsHoldAlike, EqualSetsGiveEqualTexts, EqualSetsReportAlike, NeverLosesAnEntry, EqualVectorsInAWorldHoldAlike}
+use Rattle.sct_world.specs.States.{State, empty_world, is_no_site, held_at, core_at, with_held, delta_at}
 use Rattle.sct_world.specs.Histories.{site_of, after_accepted, after_handed, after_at, world_after, world_after_all}
 use Rattle.sct_world.specs.declared.event.Event.{Event}
 use Rattle.sct_world.specs.declared.event.Event.TheVariants as event
@@ -32,7 +32,7 @@ use Rattle.sct_world.proofs.StateLemmas.{held-with_same, held-with_other, sites-
 pub equal_sets : EqualSetsHoldAlike
 equal_sets m n events others i j here there same = exactly m events i here ∙ same ∙ sym (exactly n others j there)
 
-pub equal_answers : EqualSetsAnswerAlike
+pub equal_answers : EqualSetsGiveEqualTexts
 equal_answers m n events others i j here there same = ap texts_of (equal_sets m n events others i j here there same)
 
 pub equal_reports : EqualSetsReportAlike
@@ -66,7 +66,7 @@ module _ (site : ℕ) (e : Placed) where
   keeps_accepted : (w : State) → is_no_site w site ≡ false → (at : ℕ) → is_no_site w at ≡ false → (d : List Placed) (r : Option DeltaFault)
       → holds (held_at w site) e ≡ true → holds (held_at (after_accepted w at d r) site) e ≡ true
   keeps_accepted w there at here d None held =
-      put_keeps w at site (arrivals_joined (held_at w at) d) e there here (kept_first (held_at w at) (fresh_of (held_at w at) d) e) held
+      put_keeps w at site (arrivals_joined (held_at w at) d) e there here (kept_first (held_at w at) (fresh_entries (held_at w at) d) e) held
   keeps_accepted w there at here d (Some refusal) held = held
 
   keeps_handed : (w : State) → is_no_site w site ≡ false → (at : ℕ) → is_no_site w at ≡ false → (o : Option (List Placed))
@@ -136,7 +136,7 @@ none_at zero i none = refl
 none_at (suc n) zero none = refl
 none_at (suc n) (suc i) none = none_at n i none
 
-pub closed_opened : (n : ℕ) → IsClosed (opened n)
+pub closed_opened : (n : ℕ) → IsClosed (empty_world n)
 closed_opened n = record {
   arrivals = λ site. subst (λ (l : List Placed). IsArrivals l) (sym (none_at n (site - 1) [])) (λ o. refl);
   inside = λ site e held. absurd (false≢true (ap (λ (l : List Placed). holds l e) (sym (none_at n (site - 1) [])) ∙ held));
@@ -146,7 +146,7 @@ closed_opened n = record {
 }
 
 pub closed_history : (sites : ℕ) (events : List Event) → IsClosed (history sites events)
-closed_history sites events = closed_all events (opened sites) (closed_opened sites)
+closed_history sites events = closed_all events (empty_world sites) (closed_opened sites)
 
 -- ---- equal vectors
 
@@ -167,7 +167,7 @@ module _ (w : State) (closed : IsClosed w) where
       let message : m ≡ e.message = same_Some m e.message (sym theirs ∙ mine) in
       ap (λ (x : Draft). holds (held_at w j) (record { origin = e.origin; n = e.n; message = x })) (sym message) ∙ there)
 
-pub equal_vectors : EqualVectorsHoldAlike
+pub equal_vectors : EqualVectorsInAWorldHoldAlike
 equal_vectors sites events i j same e =
     both_ways _ _
     (held_alike (history sites events) (closed_history sites events) i j e (same e.origin))

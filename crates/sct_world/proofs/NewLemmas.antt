@@ -9,7 +9,7 @@ use Rattle.std.proofs.lemmas.Bool.Decides.{nat_tests}
 use Rattle.std.proofs.lemmas.Option.{slice_get_cases, slice_get_within}
 use Rattle.sct_message.specs.declared.draft.Draft.{Draft}
 use Rattle.sct_message.proofs.SameValues.{message_itself}
-use Rattle.sct_delta.specs.Entries.{Placed, entries_from, held_from, log_of, numbered, same_entry, holds, IsDelta, IsRun}
+use Rattle.sct_delta.specs.Entries.{Placed, entries_from, held_from, log_of, numbered, same_entry, holds, IsDelta, HasNoHole}
 use Rattle.sct_delta.specs.Laws.{IsFirstGap, IsGap}
 use Rattle.sct_delta.specs.Refusals.{fault_of_entry, firsts_after, gap_refusal, fork_refusal, outside_refusal, ahead_refusal, first_refusal, is_ahead, is_fork, is_held, is_outside, is_past, is_same_as, message_at, vector_of}
 use Rattle.sct_delta.specs.declared.fault.DeltaFault.{DeltaFault}
@@ -18,7 +18,7 @@ use Rattle.sct_delta.proofs.FirstGapLemmas.{first_gap}
 use Rattle.sct_delta.proofs.HeldLemmas.{entry_itself, holds_from, holds_run, passes_none, some_there}
 use Rattle.sct_delta.proofs.JoinLemmas.{fresh_at, kept_is}
 use Rattle.sct_delta.proofs.TestLemmas.{filter_agree}
-use Rattle.sct_site.specs.Cores.{Core, fresh_of, is_above, logs_of, refusal_by}
+use Rattle.sct_site.specs.Cores.{Core, fresh_entries, is_above, logs_of, refusal_by}
 use Rattle.sct_site.proofs.ArrivalLemmas.{length-log}
 use Rattle.sct_site.proofs.HeldLemmas.{any_kept, kept_passes, not_0, one_place}
 use Rattle.sct_site.proofs.RangeLemmas.{above_of_delta}
@@ -117,7 +117,7 @@ module _ (log : ℕ → List Draft) (count : ℕ → ℕ) (counts : (o : ℕ) �
       elim (nat_lt (count e.origin) e.n) as (λ b. nat_lt (count e.origin) e.n ≡ b → least ≤ e.n) [
         | true ↦ λ t. gap.none_below e (kept_is (is_above count) e t d ∙ in_d) of
         | false ↦ λ t.
-            let run : IsRun o d = shape.runs o in
+            let run : HasNoHole o d = shape.runs o in
             let same : count e.origin ≡ vector_of log o = ap count of ∙ sym (counts o) in
             let below : e.n ≤ count e.origin = ltb-false (count e.origin) e.n t in
             let from : run.first ≤ e.n = ltb-false e.n run.first (from_first d o run.first (log_of o d) run.follow e of in_d) in
@@ -211,11 +211,11 @@ module _ (w : State) (closed : IsClosed w) (s : ℕ) where
         )
 
     -- what is above the vector is what is not held
-    above_is_fresh : above ≡ fresh_of (held_at w s) d
+    above_is_fresh : above ≡ fresh_entries (held_at w s) d
     above_is_fresh = filter_agree (is_above count) (λ e. not (is_held log e)) d (each_of (λ e. is_above count e ≡ not (is_held log e)) d agrees)
 
-    pub fresh_alike : fresh_of (held_at w s) above ≡ fresh_of (held_at w s) d
-    fresh_alike = ap (fresh_of (held_at w s)) above_is_fresh ∙ picked_again (λ e. not (is_held log e)) d
+    pub fresh_alike : fresh_entries (held_at w s) above ≡ fresh_entries (held_at w s) d
+    fresh_alike = ap (fresh_entries (held_at w s)) above_is_fresh ∙ picked_again (λ e. not (is_held log e)) d
 
     pub refusal_alike : refusal_by (core_at w s) above ≡ refusal_by (core_at w s) d
     refusal_alike =

@@ -10,12 +10,12 @@ use Rattle.std.proofs.Math.Bool.{or-false}
 use Rattle.sct_message.specs.declared.draft.Draft.{Draft}
 use Rattle.sct_message.specs.Order.{same_message}
 use Rattle.sct_set.proofs.ContentsLemmas.{same_itself}
-use Rattle.sct_delta.specs.Entries.{Placed, log_of, same_entry, holds, IsArrivals, IsRun}
+use Rattle.sct_delta.specs.Entries.{Placed, log_of, same_entry, holds, IsArrivals, HasNoHole}
 use Rattle.sct_delta.specs.Refusals.{message_at, is_other_than, is_held, is_fork, is_ahead, is_past, is_outside, has_site, firsts_after, first_refusal, outside_refusal, ahead_refusal, gap_refusal, vector_of}
 use Rattle.sct_delta.specs.declared.fault.DeltaFault.TheVariants as fault
 use Rattle.sct_delta.proofs.HeldLemmas.{one_entry}
 use Rattle.sct_delta.proofs.JoinLemmas.{passed}
-use Rattle.sct_site.specs.Cores.{logs_of, entries_above, fresh_of, arrivals_joined, arrivals_taken, is_repeat, own_entry, refusal_by}
+use Rattle.sct_site.specs.Cores.{logs_of, entries_above, fresh_entries, arrivals_joined, arrivals_taken, is_repeat, own_entry, refusal_by}
 use Rattle.sct_site.proofs.ArrivalLemmas.{arrivals-joined, arrivals-push}
 use Rattle.sct_site.proofs.HeldLemmas.{among_above, any_kept, held_number, kept_first, one_of, one_place, or_else, run_above, told_all, told_never, within}
 use Rattle.sct_world.specs.Closed.{IsClosed}
@@ -148,8 +148,8 @@ module _ (w : State) (closed : IsClosed w) (s : ℕ) (there : is_no_site w s ≡
   closed_joined k none =
       closed_with w closed s there (arrivals_joined (held_at w s) (slice_index_or w.deltas k []))
       (arrivals-joined s (length w.held) (held_at w s) (slice_index_or w.deltas k []) (closed.arrivals s) (closed.runs k) (passed s (length w.held) (logs_of (held_at w s)) (slice_index_or w.deltas k []) none))
-      (λ e held. kept_first (held_at w s) (fresh_of (held_at w s) (slice_index_or w.deltas k [])) e held)
-      (λ e held. elim (one_of (held_at w s) (fresh_of (held_at w s) (slice_index_or w.deltas k [])) e held) as (λ c. (holds (held_at w e.origin) e ≡ true) ⊎ (e.origin ≡ s)) [
+      (λ e held. kept_first (held_at w s) (fresh_entries (held_at w s) (slice_index_or w.deltas k [])) e held)
+      (λ e held. elim (one_of (held_at w s) (fresh_entries (held_at w s) (slice_index_or w.deltas k [])) e held) as (λ c. (holds (held_at w e.origin) e ≡ true) ⊎ (e.origin ≡ s)) [
         | inl was ↦ inl (closed.held s e was)
         | inr new ↦ inl (closed.cut k e (any_kept (λ x. not (is_held (logs_of (held_at w s)) x)) (λ x. same_entry x e) (slice_index_or w.deltas k []) new))
       ])
@@ -164,9 +164,9 @@ pub closed_cut : (w : State) → IsClosed w → (s : ℕ) (count : ℕ → ℕ) 
 closed_cut w closed s count = record {
   arrivals = closed.arrivals;
   inside = closed.inside;
-  runs = λ k o. elim (last_or w.deltas (entries_above count (held_at w s)) k) as (λ c. IsRun o (get_or (w.deltas ++ entries_above count (held_at w s) ∷ []) k [])) [
-    | inl old ↦ subst (λ (l : List Placed). IsRun o l) (sym old) (closed.runs k o)
-    | inr new ↦ subst (λ (l : List Placed). IsRun o l) (sym new) (run_above count (held_at w s) (closed.arrivals s) o)
+  runs = λ k o. elim (last_or w.deltas (entries_above count (held_at w s)) k) as (λ c. HasNoHole o (get_or (w.deltas ++ entries_above count (held_at w s) ∷ []) k [])) [
+    | inl old ↦ subst (λ (l : List Placed). HasNoHole o l) (sym old) (closed.runs k o)
+    | inr new ↦ subst (λ (l : List Placed). HasNoHole o l) (sym new) (run_above count (held_at w s) (closed.arrivals s) o)
   ];
   held = closed.held;
   cut = λ k e in_list. elim (last_or w.deltas (entries_above count (held_at w s)) k) as (λ c. holds (held_at w e.origin) e ≡ true) [

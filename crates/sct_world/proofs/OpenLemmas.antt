@@ -6,7 +6,7 @@ use Rattle.sct_delta.specs.Entries.{Placed}
 use Rattle.sct_site.specs.Cores.{Core}
 use Rattle.sct_world.specs.Closed.{IsClosed}
 use Rattle.sct_world.specs.Inside.{cores_from, held_by, state_of, IsWorld}
-use Rattle.sct_world.specs.States.{State, opened, is_size}
+use Rattle.sct_world.specs.States.{State, empty_world, is_size}
 use Rattle.sct_world.proofs.CoreLemmas.{cores-push}
 use Rattle.sct_world.proofs.LawLemmas.{closed_opened}
 
@@ -32,7 +32,7 @@ module _ (n : ℕ) (cores : List Core) (deltas : List (List Placed)) (is : cores
       let empty : List Placed = [] in
       sym (length-map cores (λ core. core.arrivals)) ∙ ap length held_is ∙ length-replicate n empty
 
-  pub opened_state : state_of cores deltas ≡ opened n
+  pub opened_state : state_of cores deltas ≡ empty_world n
   opened_state = λ i. record { held = held_is i; deltas = none i }
 
   pub opened_world : is_size n ≡ true → IsWorld cores deltas

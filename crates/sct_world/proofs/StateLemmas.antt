@@ -8,7 +8,7 @@ use Rattle.std.proofs.lemmas.List.{get_or-set_same, get_or-set_other, length-set
 use Rattle.sct_delta.specs.Entries.{Placed}
 use Rattle.sct_delta.specs.Vectors.{count_in}
 use Rattle.sct_delta.specs.declared.fault.DeltaFault.{DeltaFault}
-use Rattle.sct_site.specs.Cores.{refusal_by, arrivals_taken, arrivals_joined, entries_above, fresh_of}
+use Rattle.sct_site.specs.Cores.{refusal_by, arrivals_taken, arrivals_joined, entries_above, fresh_entries}
 use Rattle.sct_world.specs.States.{State, is_no_site, held_at, core_at, with_held, delta_at}
 use Rattle.sct_world.specs.Histories.{site_of, step_accepted, step_handed, step_at, step_of, after_accepted, after_handed, after_at, world_after, world_after_all}
 use Rattle.sct_world.specs.declared.event.Event.{Event}
@@ -126,7 +126,7 @@ stays-accepted w site fresh d f (Some refusal) is = refl
 
 stays-handed : (w : State) (site : ℕ) (f : WorldFault) (o : Option (List Placed)) → step_handed (core_at w site) o ≡ Err f → after_handed w site o ≡ w
 stays-handed w site f None is = refl
-stays-handed w site f (Some d) is = stays-accepted w site (length (fresh_of (held_at w site) d)) d f (refusal_by (core_at w site) d) is
+stays-handed w site f (Some d) is = stays-accepted w site (length (fresh_entries (held_at w site) d)) d f (refusal_by (core_at w site) d) is
 
 stays-at : (w : State) (e : Event) (f : WorldFault) → step_at w e ≡ Err f → after_at w e ≡ w
 stays-at w (event.Take site message) f is = cc

@@ -9,7 +9,7 @@ use Rattle.sct_delta.specs.Entries.{Placed}
 use Rattle.sct_delta.specs.declared.fault.DeltaFault.{DeltaFault}
 use Rattle.sct_delta.specs.declared.fault.DeltaFault.TheVariants as delta
 use Rattle.sct_site.specs.declared.answers.Took.{Took}
-use Rattle.sct_site.specs.Cores.{Core, took_by, arrivals_taken, refusal_by, fresh_of, arrivals_joined, entries_above}
+use Rattle.sct_site.specs.Cores.{Core, took_by, arrivals_taken, refusal_by, fresh_entries, arrivals_joined, entries_above}
 use Rattle.sct_world.specs.Closed.{IsClosed}
 use Rattle.sct_world.specs.Faults.{IsNoFork}
 use Rattle.sct_world.specs.Inside.{state_of, IsWorld}
@@ -93,7 +93,7 @@ module _ (cores : List Core) (deltas : List (List Placed)) (w : State) (view : s
           → fault.Delta refusal ≢ fault.Delta delta.Memory → step_handed (core_at w site) (delta_at w.deltas number) ≡ Err (fault.Delta refusal)
       hand_refused refusal told other =
           ap (step_handed (core_at w site)) found
-          ∙ accepted_refused (length (fresh_of (held_at w site) d)) (refusal_by (core_at w site) d) refusal
+          ∙ accepted_refused (length (fresh_entries (held_at w site) d)) (refusal_by (core_at w site) d) refusal
           (subst (λ (c : Core). MatchOption (refusal_by c d) (refusal ≡ delta.Memory) (λ first. refusal ≡ first)) old_is told) other
 
       pub hand_no_fork : (refusal : DeltaFault) → MatchOption (refusal_by old d) (refusal ≡ delta.Memory) (λ first. refusal ≡ first) → IsNoFork refusal
@@ -106,11 +106,11 @@ module _ (cores : List Core) (deltas : List (List Placed)) (w : State) (view : s
         not_refused : refusal_by (core_at w site) d ≡ None
         not_refused = ap (λ (c : Core). refusal_by c d) (sym old_is) ∙ none
 
-        pub hand_accepted : (fresh : ℕ) → fresh ≡ length (fresh_of old.arrivals d) → step_handed (core_at w site) (delta_at w.deltas number) ≡ Ok (step.Accepted fresh)
+        pub hand_accepted : (fresh : ℕ) → fresh ≡ length (fresh_entries old.arrivals d) → step_handed (core_at w site) (delta_at w.deltas number) ≡ Ok (step.Accepted fresh)
         hand_accepted fresh is =
             ap (step_handed (core_at w site)) found
-            ∙ accepted_told (length (fresh_of (held_at w site) d)) fresh (refusal_by (core_at w site) d) not_refused
-            (is ∙ ap (λ (c : Core). length (fresh_of c.arrivals d)) old_is)
+            ∙ accepted_told (length (fresh_entries (held_at w site) d)) fresh (refusal_by (core_at w site) d) not_refused
+            (is ∙ ap (λ (c : Core). length (fresh_entries c.arrivals d)) old_is)
 
         module _ (came : new.arrivals ≡ arrivals_joined old.arrivals d) where
           joined_is : new.arrivals ≡ arrivals_joined (held_at w site) d

@@ -6,7 +6,7 @@ use Rattle.sct_delta.specs.Entries.{Placed}
 use Rattle.sct_delta.specs.declared.fault.DeltaFault.{DeltaFault}
 use Rattle.sct_site.specs.declared.answers.Took.{Took}
 use Rattle.sct_site.specs.declared.answers.Took.TheVariants as took
-use Rattle.sct_site.specs.Cores.{Core, took_by, arrivals_taken, refusal_by, fresh_of, arrivals_joined, entries_above}
+use Rattle.sct_site.specs.Cores.{Core, took_by, arrivals_taken, refusal_by, fresh_entries, arrivals_joined, entries_above}
 use Rattle.sct_world.specs.Happenings.{Happening, Taken, Cut, Handed, happening_of, place_of}
 use Rattle.sct_world.specs.States.{State, is_no_site, held_at, core_at, with_held, delta_at}
 use Rattle.sct_world.specs.declared.event.Event.{Event}
@@ -39,7 +39,7 @@ step_accepted fresh (Some refusal) = Err (fault.Delta refusal)
 -- a hand, by the delta, if there is one
 abbrev pub step_handed : Core → Option (List Placed) → Result Step WorldFault
 step_handed core None = Err fault.NoSuchDelta
-step_handed core (Some delta) = step_accepted (length (fresh_of core.arrivals delta)) (refusal_by core delta)
+step_handed core (Some delta) = step_accepted (length (fresh_entries core.arrivals delta)) (refusal_by core delta)
 
 -- an event at a site that the world has, by its values
 abbrev pub step_there : State → Happening → Result Step WorldFault
@@ -88,12 +88,12 @@ abbrev pub world_after_all : State → List Event → State
 world_after_all w events = fold world_after w events
 
 -- the outcome of an event
-abbrev pub ended : Result Step WorldFault → Outcome
-ended (Ok done) = outcome.Done done
-ended (Err refusal) = outcome.Refused refusal
+abbrev pub outcome_of_step : Result Step WorldFault → Outcome
+outcome_of_step (Ok done) = outcome.Done done
+outcome_of_step (Err refusal) = outcome.Refused refusal
 
 abbrev pub outcome_of : State → Event → Outcome
-outcome_of w e = ended (step_of w e)
+outcome_of w e = outcome_of_step (step_of w e)
 
 -- the outcome of each of the events
 abbrev pub outcomes_of : State → List Event → List Outcome
@@ -115,4 +115,4 @@ world_by w happenings = fold after_by w happenings
 -- the outcome of each of them
 abbrev pub outcomes_by : State → List Happening → List Outcome
 outcomes_by w [] = []
-outcomes_by w (h ∷ happenings) = ended (step_by w h) ∷ outcomes_by (after_by w h) happenings
+outcomes_by w (h ∷ happenings) = outcome_of_step (step_by w h) ∷ outcomes_by (after_by w h) happenings

@@ -5,7 +5,7 @@ use Rattle.sct_delta.specs.Entries.{Placed, held_from, holds, messages_of}
 use Rattle.sct_reconcile.specs.Reports.{report_of, report_text_of}
 use Rattle.sct_reconcile.specs.declared.rows.ListedRow.{ListedRow}
 use Rattle.sct_world.specs.Answers.{texts_of}
-use Rattle.sct_world.specs.States.{State, opened, is_no_site, held_at, is_size}
+use Rattle.sct_world.specs.States.{State, empty_world, is_no_site, held_at, is_size}
 use Rattle.sct_world.specs.Happenings.{happenings_of}
 use Rattle.sct_world.specs.Histories.{step_of, world_after, world_after_all, outcomes_of, world_by, outcomes_by}
 use Rattle.sct_world.specs.Taken.{taken_at}
@@ -15,11 +15,11 @@ use Rattle.sct_world.specs.declared.event.Step.TheVariants as step
 
 -- the world after events, starting from `sites` sites without entries
 abbrev pub history : ℕ → List Event → State
-history sites events = world_after_all (opened sites) events
+history sites events = world_after_all (empty_world sites) events
 
 -- the messages that a site took or accepted in a history
 abbrev pub taken_in : ℕ → List Event → ℕ → MessageSet
-taken_in sites events site = taken_at site (history sites events).deltas events (outcomes_of (opened sites) events)
+taken_in sites events site = taken_at site (history sites events).deltas events (outcomes_of (empty_world sites) events)
 
 -- a world cannot have this number of sites, or the world does not have this site
 abbrev pub IsNoPlace : ℕ → List Event → ℕ → Type 0
@@ -33,8 +33,8 @@ EqualSetsHoldAlike = (m n : ℕ) (events others : List Event) (i j : ℕ)
     → messages_of (held_at (history m events) i) ≡ messages_of (held_at (history n others) j)
 
 -- Sites of one world or of two that took or accepted the same messages answer the same texts.
-abbrev pub EqualSetsAnswerAlike : Type 0
-EqualSetsAnswerAlike = (m n : ℕ) (events others : List Event) (i j : ℕ)
+abbrev pub EqualSetsGiveEqualTexts : Type 0
+EqualSetsGiveEqualTexts = (m n : ℕ) (events others : List Event) (i j : ℕ)
     → is_no_site (history m events) i ≡ false → is_no_site (history n others) j ≡ false
     → taken_in m events i ≡ taken_in n others j
     → texts_of (messages_of (held_at (history m events) i)) ≡ texts_of (messages_of (held_at (history n others) j))
@@ -54,8 +54,8 @@ NeverLosesAnEntry = (w : State) (events : List Event) (site : ℕ) (entry : Plac
     → holds (held_at w site) entry ≡ true → holds (held_at (world_after_all w events) site) entry ≡ true
 
 -- In one world, sites with equal version vectors hold the same entries.
-abbrev pub EqualVectorsHoldAlike : Type 0
-EqualVectorsHoldAlike = (sites : ℕ) (events : List Event) (i j : ℕ)
+abbrev pub EqualVectorsInAWorldHoldAlike : Type 0
+EqualVectorsInAWorldHoldAlike = (sites : ℕ) (events : List Event) (i j : ℕ)
     → ((origin : ℕ) → held_from origin (held_at (history sites events) i) ≡ held_from origin (held_at (history sites events) j))
     → (entry : Placed) → holds (held_at (history sites events) i) entry ≡ holds (held_at (history sites events) j) entry
 

@@ -37,7 +37,7 @@ are_one_group (core ∷ others) = is_beside core others && are_one_group others
 -- A site before and after. Its number and group are the same. It holds all that it held, and beyond that only entries
 -- that some site held. Of its own number it has the entries that it had. Its arrivals begin with those that it had, in
 -- their order.
-pub record IsKept (before : List Core) (old new : Core) : Type 0 where
+pub record IsSiteKept (before : List Core) (old new : Core) : Type 0 where
   pub number : new.number ≡ old.number
   pub group : new.group ≡ old.group
   pub keeps : (entry : Placed) → holds old.arrivals entry ≡ true → holds new.arrivals entry ≡ true
@@ -46,13 +46,13 @@ pub record IsKept (before : List Core) (old new : Core) : Type 0 where
   pub grows : IsPrefix old.arrivals new.arrivals
 
 -- each site is kept
-pub record AreKept (before after : List Core) : Type 0 where
+pub record AreSitesKept (before after : List Core) : Type 0 where
   pub size : length after ≡ length before
-  pub each : (place : ℕ) → IsKept before (core_in before place) (core_in after place)
+  pub each : (place : ℕ) → IsSiteKept before (core_in before place) (core_in after place)
 
 -- Settled: each site holds what any of them held, and none has gained an entry of its own number.
 pub record AreSettled (before after : List Core) : Type 0 where
-  pub kept : AreKept before after
+  pub kept : AreSitesKept before after
   pub joined : (place : ℕ) → place < length before
       → (entry : Placed) → holds (core_in after place).arrivals entry ≡ held_by_some before entry
 
@@ -92,7 +92,7 @@ IsWhy cores (fault.BadDelta line) = ⊥
 -- ---- one site after another
 
 -- all entries of a site, as a delta
-pub record IsWhole (delta : List Placed) (core : Core) : Type 0 where
+pub record IsWholeSite (delta : List Placed) (core : Core) : Type 0 where
   pub site : IsSite core
   pub shape : IsDelta delta
   pub among : (entry : Placed) → holds delta entry ≡ true → holds core.arrivals entry ≡ true
@@ -102,7 +102,7 @@ pub record IsWhole (delta : List Placed) (core : Core) : Type 0 where
 pub record IsWholeOfOne (delta : List Placed) (cores : List Core) : Type 0 where
   pub place : ℕ
   pub there : place < length cores
-  pub whole : IsWhole delta (core_in cores place)
+  pub whole : IsWholeSite delta (core_in cores place)
 
 -- the site holds every entry of the delta
 abbrev pub HasEach : List Placed → Core → Type 0

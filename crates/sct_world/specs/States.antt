@@ -12,8 +12,8 @@ pub record State : Type 0 where
   pub deltas : List (List Placed)
 
 -- a world of `sites` sites without entries, and without deltas
-abbrev pub opened : ℕ → State
-opened sites = record { held = replicate sites []; deltas = [] }
+abbrev pub empty_world : ℕ → State
+empty_world sites = record { held = replicate sites []; deltas = [] }
 
 -- a world has at least one site, and at most the greatest number that a group may have
 abbrev pub is_size : ℕ → Bool

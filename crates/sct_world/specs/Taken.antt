@@ -14,16 +14,16 @@ use Rattle.sct_world.specs.declared.event.Outcome.{Outcome}
 use Rattle.sct_world.specs.declared.event.Outcome.TheVariants as outcome
 
 -- the messages of a delta, if there is one
-abbrev pub messages_in : Option (List Placed) → List Draft
-messages_in None = []
-messages_in (Some delta) = map (λ entry. entry.message) delta
+abbrev pub messages_of_delta : Option (List Placed) → List Draft
+messages_of_delta None = []
+messages_of_delta (Some delta) = map (λ entry. entry.message) delta
 
 -- the messages that one event brought to a site: the message that it was given to take,
 -- or those of a delta that it accepted
 abbrev pub got_by : ℕ → List (List Placed) → Event → Outcome → List Draft
 got_by site deltas (event.Take at message) came = if nat_eq at site then arc_value message ∷ [] else []
 got_by site deltas (event.Hand delta at) (outcome.Done (step.Accepted fresh)) =
-    if nat_eq at site then messages_in (delta_at deltas delta) else []
+    if nat_eq at site then messages_of_delta (delta_at deltas delta) else []
 got_by site deltas e came = []
 
 -- the messages that events brought to a site

@@ -10,7 +10,7 @@ ghost use Rattle.sct_view.specs.TotalsText.{totals_text_of};
 ghost use Rattle.sct_world.specs.Faults.{IsNoForkOutcome};
 ghost use Rattle.sct_world.specs.Histories.{outcome_of, outcomes_of, world_after, world_after_all};
 ghost use Rattle.sct_world.specs.Laws.{history, taken_in, IsNoPlace};
-ghost use Rattle.sct_world.specs.States.{opened, is_size, is_no_site, held_at};
+ghost use Rattle.sct_world.specs.States.{empty_world, is_size, is_no_site, held_at};
 ghost use Rattle.sct_world.specs.Taken.{taken_at};
 ghost use Rattle.sct_world.specs.declared.fault.WorldFault.TheVariants as fault;
 
@@ -65,8 +65,8 @@ fn outcome(world: &mut World, event: &Event) -> Result<Outcome, WorldFault>
 /// The clause `exactly` is the promise of convergence: the messages that a site holds after the events are exactly
 /// those that it took or accepted, as events, outcomes and deltas say.
 pub fn run(alloc: Global, sites: u16, events: &[Event]) -> Result<Ran, WorldFault>
-    ensures world { IfOk result (λ ran. ran.world ≡ world_after_all (opened sites) events.now) }
-    ensures outcomes { IfOk result (λ ran. ran.outcomes.items ≡ outcomes_of (opened sites) events.now) }
+    ensures world { IfOk result (λ ran. ran.world ≡ world_after_all (empty_world sites) events.now) }
+    ensures outcomes { IfOk result (λ ran. ran.outcomes.items ≡ outcomes_of (empty_world sites) events.now) }
     ensures exactly { IfOk result (λ ran. (site : ℕ) → is_no_site ran.world site ≡ false
         → messages_of (held_at ran.world site) ≡ taken_at site ran.world.deltas events.now ran.outcomes.items) }
     ensures no_fork { IfOk result (λ ran. All IsNoForkOutcome ran.outcomes.items) }

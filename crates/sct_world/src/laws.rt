@@ -1,6 +1,6 @@
 //! Laws of worlds, whatever their histories. Each law is the contract of a function with an empty body.
 
-ghost use Rattle.sct_world.specs.Laws.{EqualSetsHoldAlike, EqualSetsAnswerAlike, EqualSetsReportAlike, NeverLosesAnEntry, EqualVectorsHoldAlike, HandingAgainChangesNothing, HistoriesGoByValues};
+ghost use Rattle.sct_world.specs.Laws.{EqualSetsHoldAlike, EqualSetsGiveEqualTexts, EqualSetsReportAlike, NeverLosesAnEntry, EqualVectorsInAWorldHoldAlike, HandingAgainChangesNothing, HistoriesGoByValues};
 ghost use Rattle.sct_world.specs.SettlingLaws.{SettledAnswerAlike, SettlesOnce, SettlesInAnyOrder};
 
 /// Sites of one world or of two that took or accepted the same messages hold the same messages.
@@ -10,7 +10,7 @@ pub fn equal_sets_hold_alike()
 
 /// Sites of one world or of two that took or accepted the same messages answer the same bytes.
 pub fn equal_sets_answer_alike()
-    ensures { EqualSetsAnswerAlike }
+    ensures { EqualSetsGiveEqualTexts }
 {}
 
 /// Sites of one world or of two that took or accepted the same messages give the same report on a list.
@@ -26,7 +26,7 @@ pub fn a_site_never_loses_an_entry()
 /// In one world, sites with equal version vectors hold the same entries. So vectors may
 /// be compared in place of archives.
 pub fn equal_vectors_hold_alike()
-    ensures { EqualVectorsHoldAlike }
+    ensures { EqualVectorsInAWorldHoldAlike }
 {}
 
 /// If a site accepted a delta, handing it the delta again changes nothing, at any later time.

@@ -3,7 +3,7 @@
 ghost use Rattle.std.specs.Prelude.{◌≡◌, ◌≢◌, ◌<◌, ℕ, true, false, length, OnOk, OnErr, IfOk, IfErr};
 ghost use Rattle.sct_delta.specs.Vectors.{count_in};
 ghost use Rattle.sct_delta.specs.declared.fault.DeltaFault.TheVariants as fault;
-ghost use Rattle.sct_world.specs.Settling.{core_in, is_beside, are_one_group, AreKept, AreSettled, IsWhy, IsWhole, IsWholeOfOne, HasAll, HasEach, OfOneGroup};
+ghost use Rattle.sct_world.specs.Settling.{core_in, is_beside, are_one_group, AreSitesKept, AreSettled, IsWhy, IsWholeSite, IsWholeOfOne, HasAll, HasEach, OfOneGroup};
 
 use sct_delta::{Delta, DeltaFault, Vector};
 use sct_site::SiteCore;
@@ -40,7 +40,7 @@ fn empty_vector(alloc: Global) -> Result<Vector, DeltaFault>
 // All entries of a site, as a delta.
 fn whole_of(core: &SiteCore, empty: &Vector) -> Result<Delta, DeltaFault>
     requires { (origin : ℕ) → count_in empty.now origin ≡ 0 }
-    ensures whole { IfOk result (λ delta. IsWhole delta core.now) }
+    ensures whole { IfOk result (λ delta. IsWholeSite delta core.now) }
     ensures err { IfErr result (λ refusal. refusal ≡ fault.Memory) }
 {
     core.cut(empty)
@@ -51,7 +51,7 @@ fn hand(cores: &mut [SiteCore], whole: &Delta, to: usize) -> Result<(), DeltaFau
     requires giver { IsWholeOfOne whole.now cores.old }
     requires taker { to < length cores.old }
     requires group { OfOneGroup cores.old }
-    ensures kept { OnOk result (AreKept cores.old cores.new) }
+    ensures kept { OnOk result (AreSitesKept cores.old cores.new) }
     ensures handed { OnOk result (HasEach whole.now (core_in cores.new to)) }
     ensures others { OnOk result ((place : ℕ) → place ≢ to
         → core_in cores.new place ≡ core_in cores.old place) }
@@ -66,7 +66,7 @@ fn hand(cores: &mut [SiteCore], whole: &Delta, to: usize) -> Result<(), DeltaFau
 fn gather(cores: &mut [SiteCore], empty: &Vector) -> Result<(), DeltaFault>
     requires group { OfOneGroup cores.old }
     requires empty { (origin : ℕ) → count_in empty.now origin ≡ 0 }
-    ensures kept { AreKept cores.old cores.new }
+    ensures kept { AreSitesKept cores.old cores.new }
     ensures ok { OnOk result ((place : ℕ) → place < length cores.old
         → HasAll (core_in cores.old place) (core_in cores.new 0)) }
     ensures why { IfErr result (λ refusal. IsWhy cores.old refusal) }
@@ -81,9 +81,9 @@ fn gather(cores: &mut [SiteCore], empty: &Vector) -> Result<(), DeltaFault>
 // Hands all entries of the first site, which were cut, to each of the others.
 fn hand_on(cores: &mut [SiteCore], whole: &Delta) -> Result<(), DeltaFault>
     requires some { 0 < length cores.old }
-    requires whole { IsWhole whole.now (core_in cores.old 0) }
+    requires whole { IsWholeSite whole.now (core_in cores.old 0) }
     requires group { OfOneGroup cores.old }
-    ensures kept { AreKept cores.old cores.new }
+    ensures kept { AreSitesKept cores.old cores.new }
     ensures ok { OnOk result ((place : ℕ) → place < length cores.old
         → HasAll (core_in cores.old 0) (core_in cores.new place)) }
     ensures why { IfErr result (λ refusal. IsWhy cores.old refusal) }
@@ -98,7 +98,7 @@ fn hand_on(cores: &mut [SiteCore], whole: &Delta) -> Result<(), DeltaFault>
 fn spread(cores: &mut [SiteCore], empty: &Vector) -> Result<(), DeltaFault>
     requires group { OfOneGroup cores.old }
     requires empty { (origin : ℕ) → count_in empty.now origin ≡ 0 }
-    ensures kept { AreKept cores.old cores.new }
+    ensures kept { AreSitesKept cores.old cores.new }
     ensures ok { OnOk result ((place : ℕ) → place < length cores.old
         → HasAll (core_in cores.old 0) (core_in cores.new place)) }
     ensures why { IfErr result (λ refusal. IsWhy cores.old refusal) }
@@ -125,7 +125,7 @@ fn spread(cores: &mut [SiteCore], empty: &Vector) -> Result<(), DeltaFault>
 pub fn settle(alloc: Global, cores: &mut [SiteCore]) -> Result<(), DeltaFault>
     ensures ok { OnOk result (AreSettled cores.old cores.new) }
     ensures one_group { OnOk result (are_one_group cores.old ≡ true) }
-    ensures kept { AreKept cores.old cores.new }
+    ensures kept { AreSitesKept cores.old cores.new }
     ensures apart { IfErr result (λ refusal. are_one_group cores.old ≡ false
         → (refusal ≡ fault.BadSite) × (cores.new ≡ cores.old)) }
     ensures why { IfErr result (λ refusal. are_one_group cores.old ≡ true → IsWhy cores.old refusal) }

@@ -88,12 +88,12 @@ fn site_of(event: &Event) -> u16
 impl World {
     ghost use Rattle.sct_world.specs.Faults.{IsNoForkFault};
     ghost use Rattle.sct_world.specs.Histories.{step_of, step_at, world_after, after_at};
-    ghost use Rattle.sct_world.specs.States.{opened, is_no_site, held_at};
+    ghost use Rattle.sct_world.specs.States.{empty_world, is_no_site, held_at};
 
     /// A world of 1 to 1024 sites, without entries or deltas. Errors: `BadSite` (44) for any
     /// other number of sites; out of memory (40). O(sites).
     pub fn open(alloc: Global, sites: u16) -> Result<World, WorldFault>
-        ensures ok { IfOk result (λ world. world ≡ opened sites) }
+        ensures ok { IfOk result (λ world. world ≡ empty_world sites) }
         ensures size { OnOk result (is_size sites ≡ true) }
         ensures err { IfErr result (λ refusal. refusal ≢ fault.Delta delta.Memory
             → (refusal ≡ fault.BadSite) × (is_size sites ≡ false)) }

@@ -10,7 +10,7 @@ import java.nio.charset.StandardCharsets;
 final class Library {
     static final int HANDLE_BYTES = 16;
     private static final int MAJOR = 0;
-    private static final int MINOR = 2;
+    private static final int MINOR = 3;
     private static final int NUMBERS = 256;
     private static final String[] NAMES = new String[NUMBERS];
     private static final String[] MEANINGS = new String[NUMBERS];
@@ -134,6 +134,10 @@ final class Library {
 
     static native Outcome sct_raw_report(Pointer site, byte[] bank, long bankLength, byte[] day, long dayLength, byte[] list,
                                          long listLength);
+
+    static native Outcome sct_raw_kept_text(Pointer site, byte[] day, long dayLength);
+
+    static native Outcome sct_raw_closed_text(Pointer site, byte[] day, long dayLength);
 
     static native Outcome sct_raw_transfer_text(Pointer site, byte[] bank, long bankLength, byte[] tx, long txLength);
 

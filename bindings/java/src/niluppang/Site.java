@@ -81,7 +81,7 @@ public final class Site implements AutoCloseable {
             journal.length, given(delta), delta.length));
     }
 
-    /** The version of the library, such as 0.2.0. */
+    /** The version of the library, such as 0.3.0. */
     public static String libraryVersion() {
         return version(Library.sct_version());
     }
@@ -257,6 +257,19 @@ public final class Site implements AutoCloseable {
         byte[] one = bytes(bank);
         byte[] two = bytes(day);
         return answered(() -> Library.sct_raw_report(handle, given(one), one.length, given(two), two.length, given(list), list.length));
+    }
+
+    /** The lines of the archive text that are kept on a day, YYYY-MM-DD: the messages on transfers that are not done before it, and all
+     * that have an identity or a transfer in common with one that is kept. Refusals: 65, 70, 73 (1). */
+    public byte[] keptText(String day) {
+        byte[] one = bytes(day);
+        return answered(() -> Library.sct_raw_kept_text(handle, given(one), one.length));
+    }
+
+    /** The lines of the archive text that are closed on a day: those that are not kept. Refusals: 65, 70, 73 (1). */
+    public byte[] closedText(String day) {
+        byte[] one = bytes(day);
+        return answered(() -> Library.sct_raw_closed_text(handle, given(one), one.length));
     }
 
     // ---- answers on one transfer or bank

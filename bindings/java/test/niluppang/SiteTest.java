@@ -260,6 +260,8 @@ public final class SiteTest {
         refused("a list", 48, 2, "48 2", () -> site.report("BANKDEFF", "2024-05-02", list));
         refused("a bank", 73, 1, "73 1", () -> site.report("bank", "2024-05-02", list));
         refused("a day", 73, 2, "73 2", () -> site.report("BANKDEFF", "today", list));
+        refused("a day of what is kept", 73, 1, "73 1", () -> site.keptText("2024-5-02"));
+        refused("a day of what is closed", 73, 1, "73 1", () -> site.closedText(""));
         refused("a bank", 73, 1, "73 1", () -> site.transfer("", "T1"));
         refused("an identification", 73, 2, "73 2", () -> site.transfer("BANKDEFF", ""));
         refused("a bank", 73, 1, "73 1", () -> site.messages("bank", "T1"));
@@ -279,7 +281,8 @@ public final class SiteTest {
             () -> site.journal(0), () -> site.journalStream(0), () -> site.newest(1), site::evaluate, site::archiveText,
             site::archiveStream, site::statusText, site::statusStream, site::totalsText, site::contradictionsText, site::changes,
             site::answer, site::answerEnd,
-            () -> site.report("BANKDEFF", "2024-05-02", bytes("")), () -> site.transfer("BANKDEFF", "T1"),
+            () -> site.report("BANKDEFF", "2024-05-02", bytes("")), () -> site.keptText("2024-05-02"),
+            () -> site.closedText("2024-05-02"), () -> site.transfer("BANKDEFF", "T1"),
             () -> site.messages("BANKDEFF", "T1"), () -> site.bankTotals("BANKDEFF"));
         for (Call call : calls) {
             refused("a site that is closed", 70, 0, "", call);
@@ -329,7 +332,24 @@ public final class SiteTest {
             same("the answer stays", site.answer(), report);
             site.answerEnd();
             same("until it ends", site.answer(), "");
+            split(site, lines(Files.readAllBytes(folder.resolve("bank-day.archive"))));
         }
+    }
+
+    /** What is kept of the bank's day on the day after it, and what is closed: six of its transfers are not done. */
+    private static void split(Site site, List<byte[]> archive) {
+        StringBuilder kept = new StringBuilder();
+        StringBuilder closed = new StringBuilder();
+        List<String> notDone = List.of("HH-0303", "LU,10", "LU20250310B3", "LU20250310B5", "LU20250310B6", "LU20250310B9");
+        for (byte[] bytes : archive) {
+            String line = string(bytes);
+            boolean isKept = notDone.stream().anyMatch(tx -> line.contains("TxId\":\"" + tx + "\""));
+            (isKept ? kept : closed).append(line).append('\n');
+        }
+        same("what is kept", site.keptText("2025-03-11"), kept.toString());
+        same("what is closed", site.closedText("2025-03-11"), closed.toString());
+        same("nothing is closed on the day itself", site.closedText("2025-03-10"), "");
+        is("all is kept then", lines(site.keptText("2025-03-10")).size() == archive.size());
     }
 
     /** The journal and arrivals of a site that takes messages and accepts others. */
@@ -514,7 +534,7 @@ public final class SiteTest {
 
     public static void main(String[] words) throws IOException, InterruptedException {
         Path folder = Path.of(words[0]);
-        is("version", Site.libraryVersion().startsWith("0.2."));
+        is("version", Site.libraryVersion().startsWith("0.3."));
         tabulate(folder.resolve("../include/niluppang.h"));
         for (String name : EXAMPLES) {
             example(folder, name);

@@ -1,7 +1,7 @@
 //! The fields of an entry line, separated by one space.
 ghost use Rattle.std.specs.Prelude.{◌≡◌, ◌<◌, ◌==◌, length, option_map, IfSome, position};
 ghost use Rattle.sct_delta.specs.TextLines.{is_space, number_before_space, after_prefix};
-ghost use Rattle.sct_delta.specs.EntryText.{fields_in, site_in};
+ghost use Rattle.sct_delta.specs.EntryText.{fields_in, site_in_form_1};
 
 use crate::sites::is_site_of_form_1;
 use crate::text::numbers::number_of;
@@ -28,7 +28,7 @@ pub fn number_before_space(text: &[u8]) -> Option<(u64, &[u8])>
 
 // The site of this number, or none if form 1 does not have it.
 fn site_of(number: u64) -> Option<u16>
-    ensures { result ≡ site_in number }
+    ensures { result ≡ site_in_form_1 number }
 {
     match u16::try_from(number) {
         Ok(origin) if is_site_of_form_1(origin) => Some(origin),

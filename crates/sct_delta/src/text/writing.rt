@@ -5,7 +5,7 @@ ghost use Rattle.sct_json.specs.Reading.{message_in};
 ghost use Rattle.sct_json.specs.Writing.{written_text};
 ghost use Rattle.sct_delta.specs.declared.fault.DeltaFault.TheVariants as fault;
 ghost use Rattle.sct_delta.specs.DeltaText.{IsDeltaText, delta_in, written_delta};
-ghost use Rattle.sct_delta.specs.GroupText.{IsWritten, line_before, lines_after, origin_line, run_length};
+ghost use Rattle.sct_delta.specs.GroupText.{IsWritable, line_before, lines_after, origin_line, run_length};
 ghost use Rattle.sct_delta.specs.TextLines.{end_line, ended};
 
 use crate::delta::Delta;
@@ -77,7 +77,7 @@ fn begin_origin(
 fn push_message(alloc: Global, text: &mut Vec<u8>, entry: &Entry) -> Result<(), DeltaFault>
     ensures written { OnOk result (text.new.items
         ≡ text.old.items ++ ended (written_text entry.now.message)) }
-    ensures reads_back { OnOk result (IsWritten entry.now) }
+    ensures reads_back { OnOk result (IsWritable entry.now) }
     ensures memory { IfErr result (λ refusal. refusal ≡ fault.Memory) }
 {
     // Read only so that its range is known.
@@ -92,7 +92,7 @@ fn push_message(alloc: Global, text: &mut Vec<u8>, entry: &Entry) -> Result<(), 
 fn push_entries(alloc: Global, text: &mut Vec<u8>, entries: &[Entry]) -> Result<(), DeltaFault>
     ensures written { OnOk result (text.new.items
         ≡ text.old.items ++ flat_map ended (lines_after 0 entries.now)) }
-    ensures reads_back { OnOk result (All IsWritten entries.now) }
+    ensures reads_back { OnOk result (All IsWritable entries.now) }
     ensures memory { IfErr result (λ refusal. refusal ≡ fault.Memory) }
 {
     let mut rest = entries;
@@ -116,7 +116,7 @@ fn end_of(alloc: Global, count: u64) -> Result<String, AllocError>
 // The written text of entries.
 fn text_of_entries(alloc: Global, entries: &[Entry]) -> Result<Vec<u8>, DeltaFault>
     ensures written { IfOk result (λ text. text.items ≡ written_delta entries.now) }
-    ensures reads_back { OnOk result (All IsWritten entries.now) }
+    ensures reads_back { OnOk result (All IsWritable entries.now) }
     ensures few { length entries.now < 2 ^ 64 }
     ensures memory { IfErr result (λ refusal. refusal ≡ fault.Memory) }
 {

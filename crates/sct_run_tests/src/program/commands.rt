@@ -1,4 +1,4 @@
-//! Command lines with an input each, the texts that the program then writes, and its exit status. `examples/command-lines/` has
+//! Command lines with an input each, the texts that the program then writes, and its exit status. `tests/data/command-lines/` has
 //! those of the other commands and words.
 
 pub struct Command {
@@ -58,7 +58,7 @@ pub static WORDS: [Command; 3] = [
         is_busy: false,
         input: BOTH,
         status: 0,
-        out: b"sct_sites 0.2.0\n",
+        out: b"sct_sites 0.3.0\n",
         err: b"",
     },
 ];
@@ -80,7 +80,7 @@ pub static SERVED: [Command; 3] = [
         input: b"",
         status: 2,
         out: b"",
-        err: b"fault 64\n",
+        err: b"fault 64\nerror: invalid value '3' for '<SITE>': expected a number from 1 to SITES\n",
     },
     Command {
         words: &["sct_sites", "serve", "1", "2", "journal"],

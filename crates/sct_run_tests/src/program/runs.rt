@@ -30,7 +30,7 @@ pub(super) fn run_program(
 ) -> Ran {
     let mut out = Vec::new(alloc);
     let mut err = Vec::new(alloc);
-    let status = run_over_std::<_, _, _, _, _, _, Brand, Brand, Brand>(
+    let status = run_over_std::<_, _, _, _, _, _, Brand, Brand, Brand, Brand>(
         rt,
         alloc,
         Release::AtOnce,
@@ -42,6 +42,7 @@ pub(super) fn run_program(
         (input, Blank::new(1)),
         (&mut out, Blank::new(1)),
         (&mut err, Blank::new(1)),
+        Blank::new(1),
     );
     Ran { status, out, err }
 }

@@ -1,4 +1,4 @@
-//! Inputs with their answer: the status text, the lines that report the refused lines, and their number. `examples/command-lines/`
+//! Inputs with their answer: the status text, the lines that report the refused lines, and their number. `tests/data/command-lines/`
 //! has other runs.
 
 pub struct Row {

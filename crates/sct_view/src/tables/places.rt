@@ -50,7 +50,7 @@ fn open_case(
 }
 
 /// Opens a place for the totals of a bank, if it has none.
-fn open_total(totals: &mut IndexMap<Bic, Totals>, bank: &Bic) -> Result<(), AllocError>
+pub(super) fn open_total(totals: &mut IndexMap<Bic, Totals>, bank: &Bic) -> Result<(), AllocError>
     ensures there { OnOk result (has_totals totals.new bank.now ≡ true) }
     ensures same { (p : List ℕ) → totals_at totals.new p ≡ totals_at totals.old p }
     ensures stays { (p : List ℕ) → has_totals totals.old p ≡ true → has_totals totals.new p ≡ true }
@@ -66,7 +66,10 @@ fn open_total(totals: &mut IndexMap<Bic, Totals>, bank: &Bic) -> Result<(), Allo
 }
 
 /// Opens a place for the totals of the beneficiary bank of a case, if the case has an instruction.
-fn open_beneficiary(totals: &mut IndexMap<Bic, Totals>, case: &Case) -> Result<(), AllocError>
+pub(super) fn open_beneficiary(
+    totals: &mut IndexMap<Bic, Totals>,
+    case: &Case,
+) -> Result<(), AllocError>
     ensures there { OnOk result (list_all (has_totals totals.new)
         (beneficiary_in (instruction_in (kept_in case.now))) ≡ true) }
     ensures same { (p : List ℕ) → totals_at totals.new p ≡ totals_at totals.old p }

@@ -1,6 +1,6 @@
 //! The running totals of the banks: the shares of each transfer are added and subtracted again.
 
-ghost use Rattle.std.specs.Prelude.{◌≡◌, ◌<◌, ◌^◌, ℕ, List, true, if◌then◌else◌};
+ghost use Rattle.std.specs.Prelude.{◌≡◌, ◌<◌, ◌^◌, ℕ, List, true, if◌then◌else◌, OnOk};
 ghost use Rattle.sct_case.specs.Statuses.{as_standing};
 ghost use Rattle.sct_element.specs.Text.{is_text};
 ghost use Rattle.std.specs.List.{list_all};
@@ -8,11 +8,13 @@ ghost use Rattle.sct_view.specs.Kept.{cents_back, has_totals, kept_in, instructi
 ghost use Rattle.sct_view.specs.Totals.{beneficiary_in, plus, share_of_beneficiary, share_of_originator};
 
 use crate::case::Case;
+use crate::tables::places::{open_beneficiary, open_total};
 use crate::totals::Totals;
 use indexmap::IndexMap;
 use sct_case::Status;
 use sct_element::Bic;
 use sct_message::TransferKey;
+use std::alloc::AllocError;
 
 /// The share of a transfer for its originator bank, by its status and the cents of its instruction.
 fn share_of_originator(status: &Status, cents: u64) -> Totals
@@ -87,6 +89,27 @@ fn put(totals: &mut IndexMap<Bic, Totals>, bank: &Bic, share: &Totals)
     }
 }
 
+/// Adds a share to the totals of a bank, which need not have an entry. The bank is not looked up for a share of nothing.
+pub(crate) fn add(
+    totals: &mut IndexMap<Bic, Totals>,
+    bank: &Bic,
+    share: &Totals,
+) -> Result<(), AllocError>
+    requires fits { IsInRange (plus (totals_at totals.old bank.now) share.now) }
+    ensures { OnOk result ((p : List ℕ) → totals_at totals.new p
+        ≡ (if is_text bank.now p then plus (totals_at totals.old p) share.now else totals_at totals.old p)) }
+{
+    if !share.is_something() {
+        return Ok(());
+    }
+    if let Some(total) = totals.get_mut(bank) {
+        total.put(share);
+        return Ok(());
+    }
+    totals.insert(bank.copy(), *share)?;
+    Ok(())
+}
+
 /// Subtracts a share from the totals of a bank. The bank is not looked up for a share of nothing.
 fn take(totals: &mut IndexMap<Bic, Totals>, bank: &Bic, share: &Totals)
     requires fits { IsUpTo share.now (totals_at totals.old bank.now) }
@@ -124,6 +147,24 @@ pub(super) fn put_shares(totals: &mut IndexMap<Bic, Totals>, transfer: &Transfer
         let share = share_of_beneficiary(&case.status, cents);
         put(totals, bank, &share);
     }
+}
+
+/// Adds the shares of a transfer to the totals of its banks, which need not have an entry.
+pub(crate) fn add_shares(
+    totals: &mut IndexMap<Bic, Totals>,
+    transfer: &TransferKey,
+    case: &Case,
+) -> Result<(), AllocError>
+    requires fits { IsSmall (kept_in case.now) → (p : List ℕ)
+        → IsInRange (plus (totals_at totals.old p) (share_in p transfer.now (kept_in case.now))) }
+    ensures small { OnOk result (IsSmall (kept_in case.now)) }
+    ensures totals { OnOk result ((p : List ℕ) → totals_at totals.new p
+        ≡ plus (totals_at totals.old p) (share_in p transfer.now (kept_in case.now))) }
+{
+    open_total(totals, &transfer.debtor_agent)?;
+    open_beneficiary(totals, case)?;
+    put_shares(totals, transfer, case);
+    Ok(())
 }
 
 /// Subtracts the shares of a transfer from the totals of its banks.

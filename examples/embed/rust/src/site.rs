@@ -52,8 +52,8 @@ extern "C" {
     fn sct_raw_why(site: *mut Handle, out: *mut u8, room: usize) -> Outcome;
 }
 
-/// The version of the library that this file declares, 0.2, as `sct_version` writes it without the last number.
-const VERSION: u32 = 2;
+/// The version of the library that this file declares, 0.3, as `sct_version` writes it without the last number.
+const VERSION: u32 = 3;
 
 /// Why a call was refused: the number, the place or 0, and the whole reason, such as `36 InstgAgt 1`. docs/users/codes.md has each number.
 #[derive(Clone, Debug, PartialEq, Eq)]

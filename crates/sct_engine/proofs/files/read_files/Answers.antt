@@ -1,5 +1,5 @@
 -- The file of one path more is read, or ends this.
-use Rattle.std.proofs.Common.{◌≡◌, ◌≤◌, ◌+◌, [], ◌∷◌, ◌++◌, length, map, take, IfErr, rules, subst, sym}
+use Rattle.std.proofs.Common.{◌≡◌, ◌≤◌, ◌+◌, ◌∙◌, [], ◌∷◌, ◌++◌, length, map, take, IfErr, rules, subst, sym}
 use Rattle.sct_streams.specs.Files.{AreGiven}
 use Rattle.sct_workers.specs.Files.{bytes_of}
 use Rattle.sct_engine.specs.Stream.{AreWithin, EndsFiles}
@@ -17,6 +17,7 @@ loop-path-preserved g c =
           c.loop-path-test.true c.loop-path.invariant.0 c.in_ok-read_file.ensures.given),
       subst (λ inputs. AreWithin (bytes_of inputs)) (sym pushed)
           (items_within (λ bytes. bytes.items) c.loop-path.inputs.items input c.loop-path.invariant.1 short),
+      c.in_ok-read_file.ensures.quiet ∙ c.loop-path.invariant.2,
     )
 
 pub returns-in_err-read_file-clause-faults : goal.returns-in_err-read_file-clause-faults

@@ -10,6 +10,9 @@ returns c = record {
   archive = λ program. record { no_error = refl; found = refl };
   totals = λ program. record { no_error = refl; found = refl };
   replay = λ program. record { no_error = refl; found = refl };
+  keep = λ program day. record { no_error = refl; found = refl };
+  keep_written = λ program. record { no_error = refl; found = refl };
+  closed = λ program day. record { no_error = refl; found = refl };
   list = λ program bank day path. record { no_error = refl; found = refl };
   one_file = λ program file. record { no_error = refl; found = refl };
   site = λ program number group journal. record { no_error = refl; found = refl };

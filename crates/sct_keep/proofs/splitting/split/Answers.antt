@@ -4,6 +4,7 @@ use Rattle.sct_message.specs.Sets.{MessageSet, messages_in}
 use Rattle.sct_set.specs.Contents.{contents_of}
 use Rattle.sct_keep.specs.Keep.{IsKept, closed_of}
 use Rattle.sct_keep.specs.Marks.{AreLabelled, AreMarks, is_marked}
+use Rattle.sct_keep.proofs.KeepLemmas.{is_kept_of}
 use Rattle.sct_keep.proofs.SplitLemmas.{is_closed, is_kept}
 use Rattle.sct_keep.proofs.splitting.split.Goals as goal
 
@@ -19,8 +20,9 @@ returns-clause-kept c =
     (subst (λ (bs : List Bool). AreLabelled ms c.deref.result.now (is_marked bs) kept) c.deref-2.ensures.value c.in_ok-split_by.ensures.kept) in
     let open_ones : AreMarks day (contents_of ms) ms ls (is_marked marks) =
     subst (λ (h : MessageSet). AreMarks day h ms ls (is_marked marks)) (sym c.requires) c.in_ok-marks.ensures in
-    subst (λ (h : MessageSet). IsKept day h (contents_of kept)) c.requires
-    (is_kept day ms ls (is_marked marks) kept c.in_ok-groups.ensures.groups open_ones are)
+    is_kept_of day c.args.view.now (contents_of kept)
+    (subst (λ (h : MessageSet). IsKept day h (contents_of kept)) c.requires
+    (is_kept day ms ls (is_marked marks) kept c.in_ok-groups.ensures.groups open_ones are))
 
 pub returns-clause-closed : goal.returns-clause-closed
 returns-clause-closed c =
@@ -38,5 +40,9 @@ returns-clause-closed c =
     (subst (λ (bs : List Bool). AreLabelled ms c.deref.result.now (λ l. not (is_marked bs l)) closed) c.deref-2.ensures.value c.in_ok-split_by.ensures.closed) in
     let open_ones : AreMarks day (contents_of ms) ms ls (is_marked marks) =
     subst (λ (h : MessageSet). AreMarks day h ms ls (is_marked marks)) (sym c.requires) c.in_ok-marks.ensures in
+    let is : IsKept day c.args.view.now (contents_of kept) =
+    subst (λ (h : MessageSet). IsKept day h (contents_of kept)) c.requires
+    (is_kept day ms ls (is_marked marks) kept c.in_ok-groups.ensures.groups open_ones are) in
     is_closed day ms ls (is_marked marks) kept c.in_ok-groups.ensures.groups open_ones are closed rest
     ∙ ap (λ (h : MessageSet). closed_of h (contents_of kept)) c.requires
+    ∙ ap (closed_of c.args.view.now) (is_kept_of day c.args.view.now (contents_of kept) is)

@@ -2,7 +2,7 @@
 use Rattle.std.proofs.Common.{◌≡◌, ◌∙◌, ◌∷◌, [], ap, sym, subst, List, ℕ, IsTrue, true}
 use Rattle.std.specs.Prelude.{IfSome, option_map}
 use Rattle.sct_journal.specs.Kept.{recorded}
-use Rattle.sct_keeper.specs.Keepers.{keeper_disk, standing_of}
+use Rattle.sct_keeper.specs.Keepers.{keeper_disk, watched_site_of}
 use Rattle.sct_requests.specs.Questions.{answer_asked}
 use Rattle.sct_requests.specs.Steps.{is_question_line}
 use Rattle.sct_serve.specs.Replies.{question_reply}
@@ -14,12 +14,12 @@ use Rattle.sct_serve.proofs.answering.answer_if_asked.Goals as goal
 
 pub returns-in_default-clause-crash : goal.returns-in_default-clause-crash
 returns-in_default-clause-crash g c clean f left =
-    leaves_none (standing_of c.args.keeper.now) (recorded (g.D.Disk.seen (keeper_disk c.args.keeper.now))) _ (g.K.Sink.state c.args.sink.now).held f
+    leaves_none (watched_site_of c.args.keeper.now) (recorded (g.D.Disk.seen (keeper_disk c.args.keeper.now))) _ (g.K.Sink.state c.args.sink.now).held f
     (ap recorded (c.requires.keeper.settled.durable f left))
 
 pub returns-in_err-answer_question-clause-crash : goal.returns-in_err-answer_question-clause-crash
 returns-in_err-answer_question-clause-crash g c clean f left =
-    let s = standing_of c.args.keeper.now in
+    let s = watched_site_of c.args.keeper.now in
     let held = (g.K.Sink.state c.args.sink.now).held in
     let now = (g.K.Sink.state c.answer_question.new.sink).held in
     let line = c.in-Some.line.now in
@@ -32,7 +32,7 @@ returns-in_err-answer_question-clause-crash g c clean f left =
 
 pub returns-clause-crash : goal.returns-clause-crash
 returns-clause-crash g c clean f left =
-    let s = standing_of c.args.keeper.now in
+    let s = watched_site_of c.args.keeper.now in
     let held = (g.K.Sink.state c.args.sink.now).held in
     let now = (g.K.Sink.state c.answer_question.new.sink).held in
     let line = c.in-Some.line.now in
@@ -45,8 +45,8 @@ returns-clause-crash g c clean f left =
 
 pub returns-clause-replied : goal.returns-clause-replied
 returns-clause-replied g c =
-    let s = standing_of c.args.keeper.now in
-    let m = standing_of c.answer_question.new.keeper in
+    let s = watched_site_of c.args.keeper.now in
+    let m = watched_site_of c.answer_question.new.keeper in
     let held = (g.K.Sink.state c.args.sink.now).held in
     let now = (g.K.Sink.state c.answer_question.new.sink).held in
     let line = c.in-Some.line.now in

@@ -3,26 +3,26 @@ use Rattle.std.proofs.Common.{◌≡◌, ◌∙◌, ap, sym, subst, List, ℕ}
 use Rattle.std.specs.Prelude.{Option, flat_map}
 use Rattle.sct_streams.specs.Stream.{AppendsIfTold, AppendsPrefixIfTold}
 use Rattle.sct_journal.specs.Kept.{ended_lines, recorded}
-use Rattle.sct_keeper.specs.Keepers.{keeper_disk, standing_of}
-use Rattle.sct_requests.specs.Standings.{Standing}
+use Rattle.sct_keeper.specs.Keepers.{keeper_disk, watched_site_of}
+use Rattle.sct_requests.specs.WatchedSites.{WatchedSite}
 use Rattle.sct_requests.specs.declared.answers.Answer.{Answer}
 use Rattle.sct_site.specs.Cores.{Core}
 use Rattle.sct_serve.specs.Replies.{replies_to, reply_line}
 use Rattle.sct_serve.proofs.LeaveLemmas.{leaves_all, leaves_told, leaves_untold}
-use Rattle.sct_serve.proofs.ReplyLemmas.{quiet_replies, quiet_standing}
+use Rattle.sct_serve.proofs.ReplyLemmas.{quiet_replies, quiet_site}
 use Rattle.sct_serve.proofs.answering.answer_lines.Goals as goal
 
 pub returns-in_err-answers-clause-crash : goal.returns-in_err-answers-clause-crash
 returns-in_err-answers-clause-crash g c clean f left =
-    leaves_untold (standing_of c.args.keeper.now) (recorded (g.D.Disk.seen (keeper_disk c.args.keeper.now))) (ended_lines c.args.lines.now) (g.K.Sink.state c.args.sink.now).held f (c.round.ensures.crash clean f left)
+    leaves_untold (watched_site_of c.args.keeper.now) (recorded (g.D.Disk.seen (keeper_disk c.args.keeper.now))) (ended_lines c.args.lines.now) (g.K.Sink.state c.args.sink.now).held f (c.round.ensures.crash clean f left)
 
 pub returns-in_err-text-clause-crash : goal.returns-in_err-text-clause-crash
 returns-in_err-text-clause-crash g c clean f left =
-    leaves_untold (standing_of c.args.keeper.now) (recorded (g.D.Disk.seen (keeper_disk c.args.keeper.now))) (ended_lines c.args.lines.now) (g.K.Sink.state c.args.sink.now).held f (c.round.ensures.crash clean f left)
+    leaves_untold (watched_site_of c.args.keeper.now) (recorded (g.D.Disk.seen (keeper_disk c.args.keeper.now))) (ended_lines c.args.lines.now) (g.K.Sink.state c.args.sink.now).held f (c.round.ensures.crash clean f left)
 
 pub returns-in_err-write-clause-crash : goal.returns-in_err-write-clause-crash
 returns-in_err-write-clause-crash g c clean f left =
-    let s = standing_of c.args.keeper.now in
+    let s = watched_site_of c.args.keeper.now in
     let lines = ended_lines c.args.lines.now in
     let held = (g.K.Sink.state c.args.sink.now).held in
     let now = (g.K.Sink.state c.write.new.sink).held in
@@ -34,7 +34,7 @@ returns-in_err-write-clause-crash g c clean f left =
 
 pub returns-clause-crash : goal.returns-clause-crash
 returns-clause-crash g c clean f left =
-    let s = standing_of c.args.keeper.now in
+    let s = watched_site_of c.args.keeper.now in
     let lines = ended_lines c.args.lines.now in
     let held = (g.K.Sink.state c.args.sink.now).held in
     let now = (g.K.Sink.state c.write.new.sink).held in
@@ -46,17 +46,17 @@ returns-clause-crash g c clean f left =
 
 pub returns-clause-replied : goal.returns-clause-replied
 returns-clause-replied g c =
-    let s = standing_of c.args.keeper.now in
+    let s = watched_site_of c.args.keeper.now in
     let lines = ended_lines c.args.lines.now in
     let held = (g.K.Sink.state c.args.sink.now).held in
     let now = (g.K.Sink.state c.write.new.sink).held in
     let text : c.as_bytes.result.now ≡ replies_to s lines =
     c.as_bytes.ensures.value ∙ c.in_ok-text.ensures ∙ ap (λ (l : List Answer). flat_map reply_line l) (c.deref.ensures.value ∙ c.in_ok-answers.ensures.answers) ∙ sym (quiet_replies lines s c.requires.none) in
     record {
-      ends = (λ i. standing_by (c.in_ok-answers.ensures.site i) (c.round.ensures.watched i)) ∙ sym (quiet_standing lines s c.requires.none);
+      ends = (λ i. watched_site_by (c.in_ok-answers.ensures.site i) (c.round.ensures.watched i)) ∙ sym (quiet_site lines s c.requires.none);
       replied = subst (λ (l : List ℕ). AppendsIfTold held now l) text c.in_ok-write.ensures.written;
       keeps = λ clean. c.in_ok-answers.ensures.acknowledged clean;
     }
   where
-    standing_by : Core → Option ℕ → Standing
-    standing_by core watched = record { core = core; watched = watched }
+    watched_site_by : Core → Option ℕ → WatchedSite
+    watched_site_by core watched = record { core = core; watched = watched }

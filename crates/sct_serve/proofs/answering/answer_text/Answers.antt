@@ -2,7 +2,7 @@
 use Rattle.std.proofs.Common.{◌∙◌, ◌++◌, sym, subst, IsTrue, arith, append_assoc}
 use Rattle.std.specs.Prelude.{option_map}
 use Rattle.sct_journal.specs.Kept.{ended_lines, recorded}
-use Rattle.sct_keeper.specs.Keepers.{keeper_disk, standing_of}
+use Rattle.sct_keeper.specs.Keepers.{keeper_disk, watched_site_of}
 use Rattle.sct_serve.specs.Serving.{asked}
 use Rattle.sct_serve.proofs.LeaveLemmas.{in_part_more, leaves_after, leaves_in_part, replied_under}
 use Rattle.sct_serve.proofs.answering.answer_text.Goals as goal
@@ -14,7 +14,7 @@ returns-in_err-answer_lines-clause-crash g c clean f left =
     let lines = ended_lines c.first_round-round.result.lines.now in
     let question = asked (option_map (λ line. line.now) c.first_round-round.result.question) in
     let rest = ended_lines c.first_round-round.result.rest.now in
-    leaves_in_part (standing_of c.args.keeper.now) (standing_of c.loop-rest.keeper) (IsTrue (g.D.Disk.is_clean (keeper_disk c.args.keeper.now)))
+    leaves_in_part (watched_site_of c.args.keeper.now) (watched_site_of c.loop-rest.keeper) (IsTrue (g.D.Disk.is_clean (keeper_disk c.args.keeper.now)))
     (recorded (g.D.Disk.seen (keeper_disk c.args.keeper.now))) (recorded (g.D.Disk.seen (keeper_disk c.loop-rest.keeper)))
     (g.K.Sink.state c.args.sink.now).held (g.K.Sink.state c.loop-rest.sink).held (g.K.Sink.state c.answer_lines.new.sink).held
     c.args.text.now c.loop-rest.rest.now lines (question ++ rest) f inv.part clean
@@ -28,11 +28,11 @@ returns-in_err-answer_if_asked-clause-crash g c clean f left =
     let lines = ended_lines c.first_round-round.result.lines.now in
     let question = asked (option_map (λ line. line.now) c.first_round-round.result.question) in
     let rest = ended_lines c.first_round-round.result.rest.now in
-    leaves_in_part (standing_of c.args.keeper.now) (standing_of c.loop-rest.keeper) (IsTrue (g.D.Disk.is_clean (keeper_disk c.args.keeper.now)))
+    leaves_in_part (watched_site_of c.args.keeper.now) (watched_site_of c.loop-rest.keeper) (IsTrue (g.D.Disk.is_clean (keeper_disk c.args.keeper.now)))
     (recorded (g.D.Disk.seen (keeper_disk c.args.keeper.now))) (recorded (g.D.Disk.seen (keeper_disk c.loop-rest.keeper)))
     (g.K.Sink.state c.args.sink.now).held (g.K.Sink.state c.loop-rest.sink).held (g.K.Sink.state c.answer_if_asked.new.sink).held
     c.args.text.now c.loop-rest.rest.now (lines ++ question) rest f inv.part clean c.first_round-round.ensures.parts
-    (leaves_after (standing_of c.loop-rest.keeper) (standing_of c.answer_lines.new.keeper) (IsTrue (g.D.Disk.is_clean (keeper_disk c.loop-rest.keeper)))
+    (leaves_after (watched_site_of c.loop-rest.keeper) (watched_site_of c.answer_lines.new.keeper) (IsTrue (g.D.Disk.is_clean (keeper_disk c.loop-rest.keeper)))
     (recorded (g.D.Disk.seen (keeper_disk c.loop-rest.keeper))) (recorded (g.D.Disk.seen (keeper_disk c.answer_lines.new.keeper)))
     (g.K.Sink.state c.loop-rest.sink).held (g.K.Sink.state c.answer_lines.new.sink).held (g.K.Sink.state c.answer_if_asked.new.sink).held
     lines question f c.in_ok-answer_lines.ensures.replied here (c.answer_if_asked.ensures.crash next f left))
@@ -47,7 +47,7 @@ loop-rest-preserved g c =
       keeper = c.in_ok-answer_if_asked.ensures.keeper;
       clean = c.answer_if_asked.ensures.clean ∙ c.answer_lines.ensures.clean ∙ inv.clean;
       part =
-          in_part_more (standing_of c.args.keeper.now) (standing_of c.loop-rest.keeper) (standing_of c.answer_lines.new.keeper) (standing_of c.answer_if_asked.new.keeper) first
+          in_part_more (watched_site_of c.args.keeper.now) (watched_site_of c.loop-rest.keeper) (watched_site_of c.answer_lines.new.keeper) (watched_site_of c.answer_if_asked.new.keeper) first
           (recorded (g.D.Disk.seen (keeper_disk c.args.keeper.now))) (recorded (g.D.Disk.seen (keeper_disk c.loop-rest.keeper)))
           (recorded (g.D.Disk.seen (keeper_disk c.answer_lines.new.keeper))) (recorded (g.D.Disk.seen (keeper_disk c.answer_if_asked.new.keeper)))
           (g.K.Sink.state c.args.sink.now).held (g.K.Sink.state c.loop-rest.sink).held (g.K.Sink.state c.answer_lines.new.sink).held (g.K.Sink.state c.answer_if_asked.new.sink).held

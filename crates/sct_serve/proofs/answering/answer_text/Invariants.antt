@@ -1,7 +1,7 @@
 -- The rounds so far are answered.
 use Rattle.std.proofs.Common.{◌≡◌, ◌≤◌, IsTrue, length}
 use Rattle.sct_journal.specs.Kept.{recorded}
-use Rattle.sct_keeper.specs.Keepers.{IsKeeper, keeper_disk, standing_of}
+use Rattle.sct_keeper.specs.Keepers.{IsKeeper, keeper_disk, watched_site_of}
 use Rattle.sct_serve.proofs.LeaveLemmas.{InPart}
 use Rattle.sct_serve.proofs.answering.answer_text.Given as goal
 
@@ -9,7 +9,7 @@ abbrev pub invariant-loop-rest : goal.invariant-loop-rest
 invariant-loop-rest g l = record {
   keeper : IsKeeper g.D.Disk.seen g.D.Disk.may_leave g.D.Disk.is_usable g.D.Disk.is_clean l.keeper;
   clean : g.D.Disk.is_clean (keeper_disk l.keeper) ≡ g.D.Disk.is_clean (keeper_disk l.fn.keeper);
-  part : InPart (standing_of l.fn.keeper) (standing_of l.keeper) (IsTrue (g.D.Disk.is_clean (keeper_disk l.fn.keeper)))
+  part : InPart (watched_site_of l.fn.keeper) (watched_site_of l.keeper) (IsTrue (g.D.Disk.is_clean (keeper_disk l.fn.keeper)))
       (recorded (g.D.Disk.seen (keeper_disk l.fn.keeper))) (recorded (g.D.Disk.seen (keeper_disk l.keeper)))
       (g.K.Sink.state l.fn.sink).held (g.K.Sink.state l.sink).held l.text l.rest;
   quiet : (g.K.Sink.state l.sink).failures ≡ (g.K.Sink.state l.fn.sink).failures;

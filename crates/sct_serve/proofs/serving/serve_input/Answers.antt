@@ -2,7 +2,7 @@
 use Rattle.std.proofs.Common.{◌∙◌, sym, subst, IsTrue, List, ℕ, arith}
 use Rattle.sct_streams.specs.Stream.{HasReadIfTold}
 use Rattle.sct_journal.specs.Kept.{recorded}
-use Rattle.sct_keeper.specs.Keepers.{keeper_disk, standing_of}
+use Rattle.sct_keeper.specs.Keepers.{keeper_disk, watched_site_of}
 use Rattle.sct_serve.proofs.LeaveLemmas.{replied_under}
 use Rattle.sct_serve.proofs.PieceLemmas.{leaves_on, no_read, served_all, served_end, served_more, too_long_on}
 use Rattle.sct_serve.proofs.StreamLemmas.{end_on, read_zero}
@@ -47,7 +47,7 @@ loop-preserved g c =
       clean = c.take_piece.ensures.clean ∙ c.loop.invariant.clean;
       room = c.read_piece.ensures.room;
       served =
-          served_more (standing_of c.args.keeper.now) (standing_of c.loop.keeper) (standing_of c.take_piece.new.keeper) first
+          served_more (watched_site_of c.args.keeper.now) (watched_site_of c.loop.keeper) (watched_site_of c.take_piece.new.keeper) first
           (recorded (g.D.Disk.seen (keeper_disk c.args.keeper.now))) (recorded (g.D.Disk.seen (keeper_disk c.loop.keeper))) (recorded (g.D.Disk.seen (keeper_disk c.take_piece.new.keeper)))
           _ _ after _ _ (g.K.Sink.state c.take_piece.new.sink).held _ c.split_at.result.0.now c.take_piece.new.pending.items
           c.loop.invariant.served given (replied_under _ _ _ first _ _ _ _ _ here c.in_default.ensures.replied) c.in_default.ensures.waits c.in_default.ensures.within;

@@ -6,7 +6,7 @@ use Rattle.std.proofs.lemmas.List.{take_all}
 use Rattle.std.proofs.lemmas.List.Elements.{All-push}
 use Rattle.sct_world.specs.Faults.{IsNoForkOutcome}
 use Rattle.sct_world.specs.Histories.{world_after, world_after_all, outcome_of, outcomes_of}
-use Rattle.sct_world.specs.States.{State, opened}
+use Rattle.sct_world.specs.States.{State, empty_world}
 use Rattle.sct_world.specs.declared.event.Event.{Event}
 use Rattle.sct_world.specs.declared.event.Outcome.{Outcome}
 use Rattle.sct_world.proofs.ExactlyLemmas.{exactly_of, world-push, outcomes-push}
@@ -20,7 +20,7 @@ more c =
 
 pub loop-event-preserved : goal.loop-event-preserved
 loop-event-preserved c =
-    let w : State = opened c.args.sites in
+    let w : State = empty_world c.args.sites in
     let done : List Event = take c.loop-event.event-index c.args.events.now in (
       c.in_ok-outcome.ensures.world
           ∙ ap (λ (v : State). world_after v c.event-item.result) c.loop-event.invariant.0
@@ -38,5 +38,5 @@ pub returns-clause-exactly : goal.returns-clause-exactly
 returns-clause-exactly c =
     let whole = take_all c.loop-event.event-index c.args.events.now c.loop-event-test.false in
     exactly_of c.args.sites c.args.events.now c.loop-event.world c.loop-event.outcomes.items
-    (c.loop-event.invariant.0 ∙ ap (world_after_all (opened c.args.sites)) whole)
-    (c.loop-event.invariant.1 ∙ ap (outcomes_of (opened c.args.sites)) whole)
+    (c.loop-event.invariant.0 ∙ ap (world_after_all (empty_world c.args.sites)) whole)
+    (c.loop-event.invariant.1 ∙ ap (outcomes_of (empty_world c.args.sites)) whole)

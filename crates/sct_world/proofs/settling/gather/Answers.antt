@@ -1,6 +1,6 @@
 -- One site more has its part.
 use Rattle.std.proofs.Common.{◌<◌, ap, arith, get_or, length}
-use Rattle.sct_world.specs.Settling.{core_in, IsWhole, IsWhy}
+use Rattle.sct_world.specs.Settling.{core_in, IsWholeSite, IsWhy}
 use Rattle.sct_world.proofs.HandLemmas.{on_err, whole_there}
 use Rattle.sct_world.proofs.KeptLemmas.{why_before, gathered_more, group_kept}
 use Rattle.sct_world.proofs.settling.gather.Goals as goal
@@ -25,7 +25,7 @@ returns-in_err-hand-clause-why c =
 pub loop-place-preserved : goal.loop-place-preserved
 loop-place-preserved c =
     let there : c.loop-place.place < length c.loop-place.cores = omega (arith, c.loop-place-test.true, c.loop-place.invariant.kept.size) in
-    let whole : IsWhole c.in_ok-whole.whole (core_in c.loop-place.cores c.loop-place.place) =
+    let whole : IsWholeSite c.in_ok-whole.whole (core_in c.loop-place.cores c.loop-place.place) =
     whole_there c.loop-place.cores c.loop-place.place (get_or c.loop-place.cores c.loop-place.place c.index-cores-place.result)
     there (ap (get_or c.loop-place.cores c.loop-place.place) c.index-cores-place.is) c.in_ok-whole.whole c.in_ok-whole.ensures.whole in
     gathered_more c.args.cores.now c.loop-place.cores c.hand.new.cores c.loop-place.place c.loop-place.invariant c.in_ok-hand.ensures.kept

@@ -1,7 +1,7 @@
 -- One site more has its part.
 use Rattle.std.proofs.Common.{◌≢◌, arith, rules, subst, sym}
 use Rattle.sct_site.specs.Cores.{Core}
-use Rattle.sct_world.specs.Settling.{IsWhole, IsWhy}
+use Rattle.sct_world.specs.Settling.{IsWholeSite, IsWhy}
 use Rattle.sct_world.proofs.HandLemmas.{on_err}
 use Rattle.sct_world.proofs.KeptLemmas.{why_before, group_kept, reached_first, reached_more}
 use Rattle.sct_world.proofs.settling.hand_on.Goals as goal
@@ -33,6 +33,6 @@ loop-place-preserved c =
     let other : 0 ≢ c.loop-place.place = search rules in record {
       reached = reached_more c.args.cores.now c.loop-place.cores c.hand.new.cores c.loop-place.place c.loop-place.invariant.reached c.in_ok-hand.ensures.kept
           (λ e held. c.in_ok-hand.ensures.handed e (c.loop-place.invariant.whole.has e held));
-      whole = subst (λ (core : Core). IsWhole c.args.whole.now core) (sym (c.in_ok-hand.ensures.others 0 other)) c.loop-place.invariant.whole;
+      whole = subst (λ (core : Core). IsWholeSite c.args.whole.now core) (sym (c.in_ok-hand.ensures.others 0 other)) c.loop-place.invariant.whole;
       first = omega (arith, c.loop-place.invariant.first);
     }

@@ -1,4 +1,4 @@
--- Each stream has a ledger of its own for its failures.
+-- Each stream has a ledger of its own for its failures, and the files have one.
 use Rattle.sct_run_tests.proofs.program.runs.run_program.Given as goal
 
 abbrev pub ghosts-run_over_std-A-Ledger : goal.ghosts-run_over_std-A-Ledger
@@ -9,3 +9,6 @@ ghosts-run_over_std-B-Ledger g a = record { name = a.stdout.1.name; parts = a.st
 
 abbrev pub ghosts-run_over_std-C-Ledger : goal.ghosts-run_over_std-C-Ledger
 ghosts-run_over_std-C-Ledger g a = record { name = a.stderr.1.name; parts = a.stderr.1.parts }
+
+abbrev pub ghosts-run_over_std-D-Ledger : goal.ghosts-run_over_std-D-Ledger
+ghosts-run_over_std-D-Ledger g a = record { name = a.files.name; parts = a.files.parts }

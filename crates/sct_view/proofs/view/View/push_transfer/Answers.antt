@@ -1,30 +1,9 @@
--- The lines of a transfer, one after another, by its case.
-use Rattle.std.proofs.Common.{◌≡◌, ◌∙◌, ◌++◌, ap, map, sym, subst, List, ℕ}
-use Rattle.std.specs.Prelude.{string_bytes, flat_map}
-use Rattle.sct_message.specs.Sets.{messages_in}
-use Rattle.sct_case.specs.Statuses.{recall_status_of, transfer_status_of}
-use Rattle.sct_case.specs.declared.status.RecallStatus.{RecallStatus}
-use Rattle.sct_view.specs.Kept.{kept_in}
-use Rattle.sct_view.specs.StatusText.{recall_line}
-use Rattle.sct_view.proofs.RebuildLemmas.{lines_told}
-use Rattle.sct_view.proofs.ToldLemmas.{case_told, nothing_told}
+-- The lines of a transfer by its case. A transfer without a case has one line, which says that it is unknown.
+use Rattle.std.proofs.Common.{◌≡◌, ◌++◌, subst}
+use Rattle.std.specs.Prelude.{string_bytes}
+use Rattle.sct_view.proofs.ToldLemmas.{nothing_told}
 use Rattle.sct_view.proofs.view.View.push_transfer.Goals as goal
 
-pub returns : goal.returns
-returns c =
-    let t = c.args.transfer.now in
-    let kept = kept_in c.in-Some.case.now in
-    case_told c.args.self.now t kept _ _ _ _ _ _ c.in-Some.ensures
-    c.findings_in.ensures (c.deref-2.ensures.value ∙ c.in_ok-cxls.ensures)
-    c.in_ok-push_status_line-2.ensures c.in_ok-push_findings.ensures
-    (c.in_ok-push_recall_lines.ensures
-    ∙ ap (λ (l : List (List ℕ × RecallStatus)). string_bytes c.push_findings.new.text ++ flat_map (λ recall. recall_line t recall.0 recall.1) l) c.deref-3.ensures.value
-    ∙ ap (λ (l : List ℕ). string_bytes c.push_findings.new.text ++ l)
-    (lines_told c.args.self.now t kept c.in-Some.ensures _ c.in-Ok.recalls.items (λ asides stands.
-    c.in-Ok.ensures asides (stands ∙ ap (λ ms. transfer_status_of t (messages_in ms) asides) (sym c.deref.ensures.value))
-    ∙ ap (λ ms. map (λ cxl. (cxl, recall_status_of t (messages_in ms) asides cxl)) c.deref-2.result.now) c.deref.ensures.value)))
-
--- a transfer without a case has one line, which says that it is unknown
 pub returns-in_default : goal.returns-in_default
 returns-in_default c =
     subst (λ lines. string_bytes c.push_status_line.new.text ≡ string_bytes c.args.text.now ++ lines)
