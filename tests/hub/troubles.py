@@ -166,16 +166,16 @@ def survives_clients(trial):
     def post(length):
         return head("POST", "/messages", length=length)
 
-    with trial.site(trial.fresh("clients"), "--seconds=3") as hub:
+    with trial.site(trial.fresh("clients"), "--seconds=20") as hub:
         lines = lines_of(1, 3)
         cut_off = raw(hub.port, post(len(lines)) + lines[:-10])
         slow = [raw(hub.port, post(len(lines)) + lines[:20]) for _ in range(50)]
         cut_off.close()
-        yield "clients that are slow or cut off hold nobody up", asked(hub.port, "/messages", lines_of(10, 2), timeout=2).status == 200
+        yield "clients that are slow or cut off hold nobody up", asked(hub.port, "/messages", lines_of(10, 2), timeout=15).status == 200
         yield "of a post that is cut off nothing is taken", asked(hub.port, "/vector").body == b"1:2\n"
         slow[0].sendall(lines[20:])
         yield "a slow client is answered in the end", slow[0].recv(100).startswith(b"HTTP/1.1 200")
-        slow[1].settimeout(10)
+        slow[1].settimeout(60)
         yield "one that is too slow is answered 408", slow[1].recv(100).startswith(b"HTTP/1.1 408")
         for one in slow:
             one.close()

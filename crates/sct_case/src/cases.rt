@@ -18,6 +18,7 @@ use std::sync::Arc;
 /// `clean` are the uncontradicted messages on the transfer. `asides` are the contradicted identities that a message on
 /// it has, ascending. Error: `Memory` (39).
 /// O(t + n log n) for t transactions in the messages and n statements about the transfer.
+/// The program does not call it; users of the library can.
 pub fn findings(
     alloc: Global,
     transfer: &TransferKey,
@@ -56,6 +57,7 @@ pub fn transfer_status(
 /// The status of the recall `cxl` of a transfer, from the transfer's clean messages and its asides, as [`findings`] takes
 /// them. Error: `Memory` (39). It costs what [`findings`] costs. If the status of the transfer is known, use
 /// [`recall_status_by`], and for many recalls [`recall_statuses`](crate::recall_statuses).
+/// The program does not call it; users of the library can.
 pub fn recall_status(
     alloc: Global,
     transfer: &TransferKey,

@@ -98,6 +98,7 @@ impl Logs {
     /// A delta that does not fit is refused as by `fits`, and dropped: the logs are then as they were. Further error:
     /// `Memory` (40). The entries held are then unchanged. After a join, and after that error, the logs keep nothing for an
     /// origin that holds no message. O(entries of the delta and origins).
+    /// The program does not call it; users of the library can.
     pub fn join(&mut self, own: u16, delta: Delta) -> Result<u64, DeltaFault>
         ensures group { self.new.group ≡ self.old.group }
         ensures answer { IfOk result (λ fresh. fresh ≡ length (fresh_in (log_in self.old) delta)) }

@@ -92,7 +92,7 @@ impl<J: Site, R: Wait + Drop> Desk<J, R> {
 
     /// Cuts the entries numbered above `vector`, of every origin, as a delta. The call waits for the lock.
     /// Errors if out of memory, with nothing changed: `Memory` (50), or `Unpublished`
-    /// (51) only if arrivals are pending.
+    /// (51) only if arrivals are pending. The program does not call it; users of the library can.
     pub fn cut<W: Wait>(
         &self,
         rt: &W,

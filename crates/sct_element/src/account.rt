@@ -48,6 +48,7 @@ impl Rule<34> for IbanRule {
 }
 
 /// Reads an international bank account number, as `Iban::read` does. Error: `BadIban` (2).
+/// The program does not call it; users of the library can.
 pub fn read_iban(text: &str) -> Result<Iban, ElementFault>
     ensures { result ≡ ok_or (written_iban text.now) ElementFault.BadIban }
 {

@@ -92,6 +92,7 @@ pub fn read_identification(text: &str) -> Result<Id35, ElementFault>
 }
 
 /// Reads a time stamp, as `Stamp::read` does. Error: `BadStamp` (7).
+/// The program does not call it; users of the library can.
 pub fn read_stamp(text: &str) -> Result<Stamp, ElementFault>
     ensures { result ≡ ok_or (written_stamp text.now) ElementFault.BadStamp }
 {

@@ -60,6 +60,7 @@ impl<const MOST: usize> FreeText<MOST> {
 }
 
 /// Reads a name of 1 to 70 characters, as `Name::read` does. Errors: `BadText` (6), `Memory` (8).
+/// The program does not call it; users of the library can.
 pub fn read_name(alloc: Global, text: &str) -> Result<Name, ElementFault>
     ensures { ReadsFree 70 text.now result }
 {
@@ -67,7 +68,7 @@ pub fn read_name(alloc: Global, text: &str) -> Result<Name, ElementFault>
 }
 
 /// Reads remittance information of 1 to 140 characters, as `Remittance::read` does. Errors: `BadText` (6), `Memory`
-/// (8).
+/// (8). The program does not call it; users of the library can.
 pub fn read_remittance(alloc: Global, text: &str) -> Result<Remittance, ElementFault>
     ensures { ReadsFree 140 text.now result }
 {

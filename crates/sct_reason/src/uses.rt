@@ -64,6 +64,7 @@ impl Reason {
     }
 
     /// Who asked for a recall that gives this reason (by the rulebook, EPC004-16).
+    /// The program does not call it; users of the library can.
     #[tactic(auto, unfolding(crate::specs::Uses::class_of, crate::specs::Uses::is_among), using(crate::proofs::Rows::other_has_no_class))]
     pub fn recall_class(&self) -> RecallClass
         ensures { result ≡ class_of self.now }

@@ -141,7 +141,7 @@ impl View {
     }
 
     /// The recalls of a transfer that messages held name, contradicted messages included,
-    /// ascending. Error: `Memory` (39).
+    /// ascending. Error: `Memory` (39). The program does not call it; users of the library can.
     pub fn recalls_of(&self, transfer: &TransferKey) -> Result<Vec<Id35>, CaseFault>
         ensures { IfOk result (λ recalls. recalls.items ≡ recalls_on self.now transfer.now) }
     {
@@ -201,7 +201,7 @@ impl View {
     }
 
     /// All findings, each with its transfer, sorted by transfer and then in the order in which findings are reported.
-    /// Error: `Memory` (39). It looks at every transfer held.
+    /// Error: `Memory` (39). It looks at every transfer held. The program does not call it; users of the library can.
     #[tactic(auto, unfolding(crate::specs::Answers::all_findings_of))]
     pub fn all_findings(&self) -> Result<Vec<(TransferKey, Finding)>, CaseFault>
         ensures { IfOk result (λ found. found.items ≡ all_findings_of self.now) }

@@ -168,6 +168,7 @@ impl World {
 
     /// The report on a bank's list for a settlement day, over the messages that a site holds. Errors: `BadSite` (44) if
     /// the world does not have this site; out of memory (40). Its view is built anew at each call.
+    /// The program does not call it; users of the library can.
     pub fn report<R: Threads + Sync>(
         &self,
         rt: &R,

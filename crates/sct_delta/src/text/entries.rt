@@ -8,7 +8,7 @@ use crate::delta::may_be_next;
 use crate::entry::Entry;
 use crate::fault::DeltaFault;
 use crate::text::fields::fields_of;
-use crate::text::lines::first_line;
+use crate::text::lines::first_ended_line;
 use crate::text::parts::{ended, message_of};
 use std::alloc::{AllocError, Global};
 use std::sync::Arc;
@@ -42,7 +42,7 @@ pub fn read_entries(alloc: Global, text: &[u8]) -> Result<Vec<Entry>, DeltaFault
     let mut place = 2;
     let mut origin = 0;
     let mut n = 0;
-    while let Some((line, after)) = first_line(rest) {
+    while let Some((line, after)) = first_ended_line(rest) {
         let Some(entry) = read_entry(alloc, line)? else {
             return ended(entries, place, line, after);
         };

@@ -8,7 +8,7 @@ use crate::entry::Entry;
 use crate::fault::DeltaFault;
 use crate::sites::is_site;
 use crate::text::fields::{after_prefix, number_before_space};
-use crate::text::lines::first_line;
+use crate::text::lines::first_ended_line;
 use crate::text::numbers::number_of;
 use crate::text::parts::{ended, message_of};
 use std::alloc::Global;
@@ -57,7 +57,7 @@ pub fn read_groups(alloc: Global, text: &[u8]) -> Result<Vec<Entry>, DeltaFault>
     let mut origin = 0;
     let mut before = 0;
     let mut due = 0;
-    while let Some((line, after)) = first_line(rest) {
+    while let Some((line, after)) = first_ended_line(rest) {
         if due == 0 {
             let Some((number, first, count)) = origin_of(line) else {
                 return ended(entries, place, line, after);

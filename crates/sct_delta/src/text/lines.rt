@@ -12,7 +12,7 @@ fn line_feed(bytes: &[u8]) -> Option<usize>
 }
 
 /// The bytes before the first line feed, and the bytes after it. None if there is no line feed.
-pub fn first_line(bytes: &[u8]) -> Option<(&[u8], &[u8])>
+pub fn first_ended_line(bytes: &[u8]) -> Option<(&[u8], &[u8])>
     ensures lines { MatchOption result (ended_first (lines_by_end bytes.now) ≡ None)
         (λ parts. lines_by_end bytes.now ≡ Some parts.0.now ∷ lines_by_end parts.1.now) }
     ensures whole { IfSome result (λ parts. length parts.0.now + (1 + length parts.1.now) ≡ length bytes.now) }

@@ -13,7 +13,7 @@ use crate::entry::Entry;
 use crate::fault::DeltaFault;
 use crate::text::entries::read_entries;
 use crate::text::groups::read_groups;
-use crate::text::lines::first_line;
+use crate::text::lines::first_ended_line;
 use std::alloc::Global;
 
 // Whether the line is the head line of form 1.
@@ -61,7 +61,7 @@ pub fn read_delta(alloc: Global, bytes: &[u8]) -> Result<Delta, DeltaFault>
     ensures refused { IfErr result (λ refusal. refusal ≢ fault.Memory
         → (entries : List Placed) → ¬ (IsDeltaText bytes.now entries)) }
 {
-    let Some((line, rest)) = first_line(bytes) else {
+    let Some((line, rest)) = first_ended_line(bytes) else {
         return Err(DeltaFault::BadDelta(1));
     };
     match read_behind(alloc, line, rest) {

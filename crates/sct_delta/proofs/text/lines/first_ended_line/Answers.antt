@@ -1,7 +1,7 @@
 -- The line up to the first line feed.
 use Rattle.std.proofs.Common.{sym}
 use Rattle.sct_delta.proofs.TextLemmas.{line_to_feed, no_line_ended}
-use Rattle.sct_delta.proofs.text.lines.first_line.Goals as goal
+use Rattle.sct_delta.proofs.text.lines.first_ended_line.Goals as goal
 
 pub returns-in-Some-clause-lines : goal.returns-in-Some-clause-lines
 returns-in-Some-clause-lines c =
