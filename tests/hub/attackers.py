@@ -295,7 +295,7 @@ def floods(trial):
         for one in held:
             one.close()
         began, connection = time.monotonic(), it.open(hub, "monitor", 8 << 20)
-        yield "the body of who may not post is not waited for", answer_of(connection) == 403 and time.monotonic() - began < 5
+        yield "the body of who may not post is not waited for", answer_of(connection) == 403 and time.monotonic() - began < 20
         connection.close()
 
 

@@ -283,7 +283,7 @@ def goes_elsewhere(_):
         began = time.monotonic()
         faults = [failed(client.Client(urls).posted, LINES, soon()) for urls in ([one.url], [one.url, other.url])]
         yield "if all are halted there is no use to wait", (
-            [it.status for it in faults] == [409, 409] and "halted" in str(faults[1]) and time.monotonic() - began < 5)
+            [it.status for it in faults] == [409, 409] and "halted" in str(faults[1]) and time.monotonic() - began < 15)
     away = f"http://127.0.0.1:{sites.free_ports(1)}"
     with odd(taken) as site:
         its = client.Client([away, site.url])
