@@ -136,13 +136,11 @@ def answers_to(program, added, held):
     yield held, [f"{len(before)} messages"]
 
 
-def in_parts(command):
-    """The text of a command on each of two parts, and on both together."""
-    def compared(program, one, other, of_one, of_other, of_both):
-        first, second = (lines_of(" ".join(words)) for words in (one, other))
-        for text, given in ((of_one, first), (of_other, second), (of_both, first + second)):
-            yield ("".join(row + "\n" for row in text), 0), written(program, command, given)
-    return compared
+def in_parts(program, one, other, of_one, of_other, of_both):
+    """The status text of each of two parts, and of both together."""
+    first, second = (lines_of(" ".join(words)) for words in (one, other))
+    for text, given in ((of_one, first), (of_other, second), (of_both, first + second)):
+        yield ("".join(row + "\n" for row in text), 0), written(program, "status", given)
 
 
 def split(program, held, kept, closed):
@@ -198,8 +196,7 @@ def settling(_, words, gives):
 #   message of the same identity before, the answer is Against, else Fresh.
 # - `settled` and `gives`: sites with their entries, and how settling ends by the definitions (groups.py), since no command settles
 #   sites that are named so.
-# - `part 1`, `part 2`, `gives 1`, `gives 2` and `both`: the status text of each part, and of both together. With `totals 1` and
-#   `totals 2` it is the totals text.
+# - `part 1`, `part 2`, `gives 1`, `gives 2` and `both`: the status text of each part, and of both together.
 # - `held`, `kept` and `closed`: the identifications of the messages that are kept and of those that are closed, on a day after all of them.
 # - `events` and perhaps `site N`: a script with the outcome of each line, and the status text of a site at the end (replayed).
 FORMS = {
@@ -208,8 +205,7 @@ FORMS = {
     ("held", "kept", "closed"): split,
     ("added", "held"): answers_to,
     ("settled", "gives"): settling,
-    ("part 1", "part 2", "gives 1", "gives 2", "both"): in_parts("status"),
-    ("part 1", "part 2", "totals 1", "totals 2", "both"): in_parts("totals"),
+    ("part 1", "part 2", "gives 1", "gives 2", "both"): in_parts,
 }
 
 
