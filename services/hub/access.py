@@ -172,13 +172,13 @@ class Roles:
         token = token_in(header) if header else None
         if token is not None:
             return self.tokens.get(sum_of(token))
-        found = {self.certificates[name] for name in names_in(certificate) if name in self.certificates}
-        return found.pop() if len(found) == 1 else NOBODY if not found else None
+        holders = {self.certificates[name] for name in names_in(certificate) if name in self.certificates}
+        return holders.pop() if len(holders) == 1 else NOBODY if not holders else None
 
     def is_peer(self, number: int, certificate: dict[str, Any] | None) -> bool:
         """Whether a certificate is that of a site, and of nobody else."""
-        found = {self.certificates[name] for name in names_in(certificate) if name in self.certificates}
-        return len(found) == 1 and number in found.pop().peers
+        holders = {self.certificates[name] for name in names_in(certificate) if name in self.certificates}
+        return len(holders) == 1 and number in holders.pop().peers
 
     def may_send(self, name: str, bank: str) -> bool:
         """Whether somebody of a name sends in the name of a bank."""

@@ -88,8 +88,8 @@ def failure(address: str, what: str, answer: Answer, kind: type = Failed) -> Exc
 def said_in(body: bytes) -> str:
     """What an error says: why, and what to do. A server before a site, and an older site, answer with a text."""
     try:
-        found = json.loads(body)
-        return one_line(f"{found['why']}; {found['remedy']}")
+        error = json.loads(body)
+        return one_line(f"{error['why']}; {error['remedy']}")
     except (ValueError, TypeError, KeyError):
         return one_line(body[:4 * MOST_SAID].decode(errors="replace"))
 
@@ -236,10 +236,10 @@ def posts(file: BinaryIO) -> Iterator[tuple[int, list[bytes]]]:
 def outcomes_in(body: bytes) -> list[dict[str, int | str]] | None:
     """The outcomes in an answer, each as the site has it. None if the answer has something else."""
     try:
-        found = [json.loads(line) for line in body.split(b"\n") if line]
+        outcomes = [json.loads(line) for line in body.split(b"\n") if line]
     except ValueError:
         return None
-    return found if all(isinstance(one, dict) and isinstance(one.get("outcome"), str) for one in found) else None
+    return outcomes if all(isinstance(outcome, dict) and isinstance(outcome.get("outcome"), str) for outcome in outcomes) else None
 
 
 class Client:
@@ -297,16 +297,16 @@ class Client:
         if not numbers:
             return []
 
-        def is_right(found: list[dict[str, int | str]]) -> bool:
-            return [one.get("line") for one in found] == numbers
+        def is_right(outcomes: list[dict[str, int | str]]) -> bool:
+            return [outcome.get("line") for outcome in outcomes] == numbers
 
         return self._acknowledged("/messages", b"\n".join(lines), "application/x-ndjson", is_right, until)
 
     def posted_xml(self, document: bytes, until: float) -> list[dict[str, int | str]]:
         """The outcomes of the messages of an XML document of ISO 20022, by the rule of `posted`."""
 
-        def is_right(found: list[dict[str, int | str]]) -> bool:
-            return all("message" in one for one in found)
+        def is_right(outcomes: list[dict[str, int | str]]) -> bool:
+            return all("message" in outcome for outcome in outcomes)
 
         return self._acknowledged("/iso20022", document, "application/xml", is_right, until)
 
@@ -366,10 +366,10 @@ class Client:
             raise failure_by(site.address, fault) from None
         if answer.status != 200:
             raise failure_of(site.address, answer)
-        found = outcomes_in(answer.body)
-        if found is None or not is_right(found):
+        outcomes = outcomes_in(answer.body)
+        if outcomes is None or not is_right(outcomes):
             raise failure(site.address, "the answer lacks the outcome of some line", answer, Later)
-        return found
+        return outcomes
 
     def _go_on(self, left: list[Site], pause: float, until: float, failure: Exception | Elsewhere) -> None:
         """Waits, and goes on to the next site that may be asked. The failure stays if there is none in time."""
@@ -392,32 +392,32 @@ def add_options(parser: argparse.ArgumentParser) -> None:
     parser.add_argument("--ca", metavar="FILE", help="who signs the certificates of sites (without it the authorities of the system)")
 
 
-def client_of(asked: argparse.Namespace, addresses: list[str]) -> Client:
+def client_of(args: argparse.Namespace, addresses: list[str]) -> Client:
     """The client for the words of a command line. ValueError and OSError say why there is none."""
     token = os.environ.get("NILUPPANG_TOKEN")
-    if asked.token_file:
-        token = pathlib.Path(asked.token_file).read_text(encoding="utf-8", errors="replace").strip()
+    if args.token_file:
+        token = pathlib.Path(args.token_file).read_text(encoding="utf-8", errors="replace").strip()
         if not token:
-            raise ValueError(f"{asked.token_file} has no token")
-    return Client(addresses, token, context_of(asked, addresses))
+            raise ValueError(f"{args.token_file} has no token")
+    return Client(addresses, token, context_of(args, addresses))
 
 
-def context_of(asked: argparse.Namespace, addresses: list[str]) -> ssl.SSLContext | None:
+def context_of(args: argparse.Namespace, addresses: list[str]) -> ssl.SSLContext | None:
     """The certificates of both sides. None if no address is one of https."""
-    if asked.key and not asked.cert:
+    if args.key and not args.cert:
         raise ValueError("--key is the key of --cert, which lacks")
     if not any(address.lower().startswith("https:") for address in addresses):
-        if asked.cert or asked.ca:
+        if args.cert or args.ca:
             raise ValueError("--cert, --key and --ca need an address of https")
         return None
-    for path in (asked.ca, asked.cert, asked.key):
+    for path in (args.ca, args.cert, args.key):
         if path:
             open(path, "rb").close()
     try:
-        context = ssl.create_default_context(cafile=asked.ca)
+        context = ssl.create_default_context(cafile=args.ca)
         context.minimum_version = ssl.TLSVersion.TLSv1_2
-        if asked.cert:
-            context.load_cert_chain(asked.cert, asked.key)
+        if args.cert:
+            context.load_cert_chain(args.cert, args.key)
     except ssl.SSLError as fault:
         raise ValueError(f"the certificates cannot be used: {one_line(str(fault))}") from None
     return context

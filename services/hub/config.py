@@ -69,37 +69,37 @@ PATHS = {"folder", "roles", "peer_token", "mirror", "certificate", "key", "autho
 LISTS, TABLES = {"names", "sites"}, {"tls", "peers", "through", "access"}
 
 
-def typed(found: dict[str, Any], keys: dict[str, tuple[type, ...]], what: str) -> dict[str, Any]:
+def typed(table: dict[str, Any], keys: dict[str, tuple[type, ...]], what: str) -> dict[str, Any]:
     """The values of a table, each of the type that its key has."""
-    for key, value in found.items():
+    for key, value in table.items():
         if key not in keys:
             raise Wrong(f"{what} has no key {key}")
         if not isinstance(value, keys[key]) or isinstance(value, bool):
             raise Wrong(f"{key} in {what} is not a {'text' if keys[key] is TEXT else 'number'}")
-    return found
+    return table
 
 
-def by_number(found: object, kind: type, what: str) -> dict[int, Any]:
+def by_number(table: object, kind: type, what: str) -> dict[int, Any]:
     """A table whose keys are numbers of sites."""
 
     def is_one(key: str, value: int | str) -> bool:
         return key.isascii() and key.isdecimal() and isinstance(value, kind) and not isinstance(value, bool)
 
-    if not isinstance(found, dict) or not all(is_one(*pair) for pair in found.items()):
+    if not isinstance(table, dict) or not all(is_one(*pair) for pair in table.items()):
         raise Wrong(f"{what} is not a table from numbers of sites to {'addresses' if kind is str else 'numbers of sites'}")
-    return {int(key): value for key, value in found.items()}
+    return {int(key): value for key, value in table.items()}
 
 
-def listed_in(found: dict[str, Any], key: str, kind: type) -> list[Any]:
-    values = found.get(key, [])
+def listed_in(table: dict[str, Any], key: str, kind: type) -> list[Any]:
+    values = table.get(key, [])
     if not isinstance(values, list) or not all(isinstance(value, kind) and not isinstance(value, bool) for value in values):
         raise Wrong(f"{key} is not a list of {'texts' if kind is str else 'numbers'}")
     return values
 
 
-def access_in(found: dict[str, Any]) -> dict[str, tuple[str, ...]]:
+def access_in(document: dict[str, Any]) -> dict[str, tuple[str, ...]]:
     """The addresses whose roles are others than usual."""
-    table = found.get("access", {})
+    table = document.get("access", {})
     if not isinstance(table, dict):
         raise Wrong("access is not a table")
     return {name: tuple(listed_in(table, name, str)) for name in table}
@@ -119,12 +119,12 @@ def parsed(path: str) -> dict[str, Any]:
         raise Wrong(f"{path} is not TOML: {fault}") from None
 
 
-def tls_in(found: dict[str, Any], folder: pathlib.Path, site: int) -> Tls | None:
-    if "tls" not in found:
+def tls_in(document: dict[str, Any], folder: pathlib.Path, site: int) -> Tls | None:
+    if "tls" not in document:
         return None
-    if not isinstance(found["tls"], dict):
+    if not isinstance(document["tls"], dict):
         raise Wrong("tls is not a table")
-    table = placed(typed(found["tls"], TLS_KEYS, "[tls]"), folder, site)
+    table = placed(typed(document["tls"], TLS_KEYS, "[tls]"), folder, site)
     lacking = [key for key in ("certificate", "key", "authority") if key not in table]
     if lacking:
         raise Wrong(f"[tls] lacks {' and '.join(lacking)}")
@@ -141,53 +141,54 @@ def addresses(numbers: list[int], site: int, host: str, port: int, scheme: str) 
 
 def of_file(path: str) -> dict[int, Settings]:
     """The settings of each site that a file names, by number."""
-    found, folder = parsed(path), pathlib.Path(path).resolve().parent
-    plain = {key: value for key, value in found.items() if key not in LISTS | TABLES}
+    document, folder = parsed(path), pathlib.Path(path).resolve().parent
+    plain = {key: value for key, value in document.items() if key not in LISTS | TABLES}
     typed(plain, KEYS, path)
-    if "folder" not in plain or ("site" in plain) == ("sites" in found):
+    if "folder" not in plain or ("site" in plain) == ("sites" in document):
         raise Wrong(f"{path} has a folder, and either a site or sites")
-    numbers = listed_in(found, "sites", int) if "sites" in found else [plain["site"]]
+    numbers = listed_in(document, "sites", int) if "sites" in document else [plain["site"]]
     plain.pop("site", None)
-    peers, through = by_number(found.get("peers", {}), str, "[peers]"), by_number(found.get("through", {}), int, "[through]")
-    several = "sites" in found
+    peers, through = by_number(document.get("peers", {}), str, "[peers]"), by_number(document.get("through", {}), int, "[through]")
+    several = "sites" in document
     if several and peers:
         raise Wrong("[peers] is for one site: several sites of a machine know each other")
     made = {}
     for number in numbers:
-        tls = tls_in(found, folder, number)
+        tls = tls_in(document, folder, number)
         port = plain.get("port", FIRST_PORT)
         its = addresses(numbers, number, plain.get("host", "127.0.0.1"), port, "https" if tls else "http") if several else peers
         more = {"port": port + number - 1} if several else {}
         handed_on = {origin: other for origin, other in through.items() if not several or other != number}
         made[number] = checked(Settings(**{**placed(plain, folder, number), **more}, site=number, tls=tls, peers=its, through=handed_on,
-                                        names=tuple(listed_in(found, "names", str)), access=access_in(found)))
+                                        names=tuple(listed_in(document, "names", str)), access=access_in(document)))
     if len(made) < len(numbers) or not made:
         raise Wrong("sites has a number twice, or none")
     return made
 
 
-def checked(it: Settings) -> Settings:
+def checked(settings: Settings) -> Settings:
     """The settings of a site, if they go together."""
-    if not 1 <= it.site <= it.group <= MOST_GROUP:
+    if not 1 <= settings.site <= settings.group <= MOST_GROUP:
         raise Wrong(f"a site has a number from 1 to the group, which is at most {MOST_GROUP}")
-    if it.site in it.peers or not all(1 <= number <= it.group for number in it.peers):
+    if settings.site in settings.peers or not all(1 <= number <= settings.group for number in settings.peers):
         raise Wrong("a peer has a number from 1 to the group, which is not that of the site")
-    if not all(address.startswith(("http://", "https://")) for address in it.peers.values()):
+    if not all(address.startswith(("http://", "https://")) for address in settings.peers.values()):
         raise Wrong("the address of a peer begins with http:// or https://")
-    if it.tls and not all(address.startswith("https://") for address in it.peers.values()):
+    if settings.tls and not all(address.startswith("https://") for address in settings.peers.values()):
         raise Wrong("with [tls] the address of a peer begins with https://: else its certificate is not seen, and a token goes in clear")
-    if it.before is not None and not it.before.startswith(("http://", "https://")):
+    if settings.before is not None and not settings.before.startswith(("http://", "https://")):
         raise Wrong("before is the address of a site of the group before, and begins with http:// or https://")
-    if it.hear is not None and not 0 <= it.hear <= len(it.peers):
+    if settings.hear is not None and not 0 <= settings.hear <= len(settings.peers):
         raise Wrong("hear is a number of peers")
-    if not all(1 <= number <= it.group and number != it.site and other in it.peers for number, other in it.through.items()):
+    if not all(1 <= number <= settings.group and number != settings.site and other in settings.peers for number, other in settings.through.items()):
         raise Wrong("[through] names another site, and a peer that hands its entries on")
-    if set(it.through) & set(it.peers):
+    if set(settings.through) & set(settings.peers):
         raise Wrong("[through] is for sites that are no peers: a peer hands on its own entries")
-    if not is_local(it.host) and not (it.tls and it.roles):
+    if not is_local(settings.host) and not (settings.tls and settings.roles):
         raise Wrong("without [tls] and roles only this machine is served: host is one of its own addresses, such as 127.0.0.1")
-    if it.tls and not it.roles:
+    if settings.tls and not settings.roles:
         raise Wrong("[tls] needs roles: they say who a certificate is")
-    if not 1 <= it.port < 1 << 16 or not 1 <= it.connections <= 1 << 20 or it.seconds <= 0 or it.silence <= 0 or it.waiting < 0:
+    is_reachable = 1 <= settings.port < 1 << 16 and 1 <= settings.connections <= 1 << 20
+    if not is_reachable or settings.seconds <= 0 or settings.silence <= 0 or settings.waiting < 0:
         raise Wrong("port, connections, seconds, silence or waiting is out of range")
-    return it
+    return settings

@@ -36,14 +36,14 @@ OTHER = ("Failed", "send it again; if it fails again, the log of the site has mo
 
 def parts_of(text: str) -> tuple[list[int], str | None]:
     """The numbers in what the program prints of a refusal, and the key that it names or None."""
-    found = REFUSAL.fullmatch(text)
-    if not found:
+    match = REFUSAL.fullmatch(text)
+    if not match:
         return [], None
-    number, rest = int(found["number"]), found["rest"] or ""
+    number, rest = int(match["number"]), match["rest"] or ""
     key, _, last = rest.rpartition(" ") if number == ELEMENT else ("", "", rest)
     inner = [int(last)] if number in (ELEMENT, RULE) and last.isdecimal() else []
     named = key if number == ELEMENT else rest if number in OF_KEYS else ""
-    return [*([int(found["at"])] if found["at"] else []), number, *inner], plain(named) if number == EXTRA else named or None
+    return [*([int(match["at"])] if match["at"] else []), number, *inner], plain(named) if number == EXTRA else named or None
 
 
 def plain(text: str) -> str:

@@ -29,9 +29,9 @@ class Events:
     def add(self, changes: list[tuple[str, str, str | None]] | None) -> None:
         """Publishes changed transfers, or with None that a page has to load again."""
         self.number += 1
-        found: list[dict[str, Any]] = [{"bank": bank, "tx": tx, **({} if lines is None else {"lines": lines.splitlines()})}
-                                       for bank, tx, lines in changes or []]
-        event = self.text("transfers", found) if changes is not None and len(found) <= MOST_NAMES else self.text("reset", [])
+        transfers: list[dict[str, Any]] = [{"bank": bank, "tx": tx, **({} if lines is None else {"lines": lines.splitlines()})}
+                                           for bank, tx, lines in changes or []]
+        event = self.text("transfers", transfers) if changes is not None and len(transfers) <= MOST_NAMES else self.text("reset", [])
         if len(event) > MOST_EVENT:
             event = self.text("reset", [])
         self.last.append((self.number, event))
@@ -52,8 +52,8 @@ class Events:
             queue.put_nowait(None)
         self.queues.clear()
 
-    def text(self, word: str, found: list[dict[str, Any]]) -> bytes:
-        return f"id: {self.began}-{self.number}\nevent: {word}\ndata: {json.dumps(found)}\n\n".encode()
+    def text(self, word: str, data: list[dict[str, Any]]) -> bytes:
+        return f"id: {self.began}-{self.number}\nevent: {word}\ndata: {json.dumps(data)}\n\n".encode()
 
     def since(self, last: str) -> list[bytes]:
         """The events after the one that a page had last. If they are not all here, it must load again."""

@@ -121,13 +121,13 @@ class Peer:
         fresh = 0
         if time.monotonic() - self.asked_others_at > WAIT:
             for origin in self.others:
-                fresh += await self._asked(origin)
+                fresh += await self._fetched(origin)
             self.asked_others_at = time.monotonic()
-        fresh += await self._asked(self.number, wait=str(0 if fresh else WAIT))
+        fresh += await self._fetched(self.number, wait=str(0 if fresh else WAIT))
         self.is_well()
         return fresh
 
-    async def _asked(self, origin: int, **words: str) -> int:
+    async def _fetched(self, origin: int, **words: str) -> int:
         """Asks for the entries of a site, and accepts the answer."""
         async with self.request("/delta", have=self.keeper.vector, of=str(origin), **words) as answer:
             self.heard(answer)
@@ -140,10 +140,10 @@ class Peer:
             line = await answer.content.readline()
             if not line.endswith(b"\n"):
                 raise BadAnswer("its answer is cut off")
-            found = pieces.add(line[:-1])
+            complete = pieces.add(line[:-1])
             if pieces.is_ended and await answer.content.readany():
                 raise BadAnswer("its answer goes on after its end")
-            for piece in found:
+            for piece in complete:
                 fresh += await self._accepts(piece)
         return fresh
 

@@ -103,8 +103,8 @@ class Files:
 
     def free(self) -> int:
         """Bytes that the disk of the folder has left."""
-        found = os.statvfs(self.folder)
-        return found.f_bavail * found.f_frsize
+        disk = os.statvfs(self.folder)
+        return disk.f_bavail * disk.f_frsize
 
     def try_room(self, size: int) -> None:
         """Fails as long as the disk has no room for a batch of some bytes behind the journal. It leaves nothing."""

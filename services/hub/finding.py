@@ -32,14 +32,14 @@ class Finder:
     def __init__(self, path: str | None = None) -> None:
         self.path, self.room = path, asyncio.Semaphore(MOST_AT_ONCE)
 
-    async def found(self, what: str, number: int, group: int) -> tuple[str, bool, str]:
+    async def find(self, what: str, number: int, group: int) -> tuple[str, bool, str]:
         """The lines of an answer, whether there are more, and the vector of which the tables have everything."""
         if self.path is None:
             raise NoMirror("this site has no mirror, which finds transfers")
         async with self.room:
-            return await asyncio.to_thread(self._asked, self.path, what, number, group)
+            return await asyncio.to_thread(self._lines_on, self.path, what, number, group)
 
-    def _asked(self, path: str, what: str, number: int, group: int) -> tuple[str, bool, str]:
+    def _lines_on(self, path: str, what: str, number: int, group: int) -> tuple[str, bool, str]:
         try:
             _, select = desk_module("ask_sqlite").questions()["find"]
             with contextlib.closing(sqlite3.connect(f"{pathlib.Path(path).resolve().as_uri()}?mode=ro", uri=True)) as connection:

@@ -56,10 +56,10 @@ class Guard:
     def who(self, request: web.Request) -> Who:
         """Who asks. Forbidden if it shows a token that nobody has."""
         certificate = request.transport.get_extra_info("peercert") if request.transport else None
-        found = self.roles.who(certificate, request.headers.get("Authorization", ""))
-        if found is None:
+        who = self.roles.who(certificate, request.headers.get("Authorization", ""))
+        if who is None:
             raise Forbidden("nobody has this token, or several have this certificate", 401)
-        return found
+        return who
 
     def must(self, who: Who, roles: tuple[str, ...]) -> None:
         """Forbidden unless somebody has one of some roles."""

@@ -59,19 +59,19 @@ def good(its: client.Client, answer: client.Answer) -> client.Answer:
 
 # ---- posts
 
-def remarks(one: dict[str, Any]) -> Iterator[str]:
+def remarks(outcome: dict[str, Any]) -> Iterator[str]:
     """What is said of an outcome: why it is none of those that are well, and what the site notes."""
-    if one["outcome"] not in WELL:
-        word = "" if one["outcome"] == "REFUSED" else f"{one['outcome'].lower()}: "
-        yield f"{word}{one.get('why', '')}"
-    if "note" in one:
-        yield f"note: {one['note']}"
+    if outcome["outcome"] not in WELL:
+        word = "" if outcome["outcome"] == "REFUSED" else f"{outcome['outcome'].lower()}: "
+        yield f"{word}{outcome.get('why', '')}"
+    if "note" in outcome:
+        yield f"note: {outcome['note']}"
 
 
-def noted(counts: collections.Counter[str], found: list[dict[str, Any]], place_of: Callable[[dict[str, Any]], str]) -> None:
+def noted(counts: collections.Counter[str], outcomes: list[dict[str, Any]], place_of: Callable[[dict[str, Any]], str]) -> None:
     """Counts outcomes. Standard error lists what is said of them, each with its place."""
-    counts.update(one["outcome"] for one in found)
-    for line in (f"{place_of(one)}: {remark}" for one in found for remark in remarks(one)):
+    counts.update(outcome["outcome"] for outcome in outcomes)
+    for line in (f"{place_of(outcome)}: {remark}" for outcome in outcomes for remark in remarks(outcome)):
         print(client.one_line(line), file=sys.stderr)
 
 
@@ -92,23 +92,23 @@ def summed(counts: dict[str, int]) -> int:
     return 1 if set(counts) - set(WELL) else 0
 
 
-def post(its: client.Client, asked: argparse.Namespace) -> int:
-    until = time.monotonic() + asked.seconds
+def post(its: client.Client, args: argparse.Namespace) -> int:
+    until = time.monotonic() + args.seconds
     counts: collections.Counter[str] = collections.Counter()
-    with opened(asked.file) as file:
+    with opened(args.file) as file:
         for first, lines in client.posts(file):
-            found = acknowledged(f"line {first} and those after it", its.posted, lines, until)
-            noted(counts, found, lambda one: f"line {first + one['line'] - 1}")
+            outcomes = acknowledged(f"line {first} and those after it", its.posted, lines, until)
+            noted(counts, outcomes, lambda outcome: f"line {first + outcome['line'] - 1}")
     return summed(counts)
 
 
-def xml(its: client.Client, asked: argparse.Namespace) -> int:
-    until = time.monotonic() + asked.seconds
+def xml(its: client.Client, args: argparse.Namespace) -> int:
+    until = time.monotonic() + args.seconds
     counts: collections.Counter[str] = collections.Counter()
-    for path in asked.files:
+    for path in args.files:
         with opened(path) as file:
-            found = acknowledged(f"{path} and the files after it", its.posted_xml, file.read(), until)
-        noted(counts, found or [NOTHING], lambda one: f"{path}: {one['message']}")
+            outcomes = acknowledged(f"{path} and the files after it", its.posted_xml, file.read(), until)
+        noted(counts, outcomes or [NOTHING], lambda outcome: f"{path}: {outcome['message']}")
     return summed(counts)
 
 
@@ -116,8 +116,8 @@ def xml(its: client.Client, asked: argparse.Namespace) -> int:
 
 def text(path_of: Callable[[argparse.Namespace], str]) -> Command:
     """The command that prints a text, which has the path that some words come to."""
-    def command(its: client.Client, asked: argparse.Namespace) -> int:
-        with its.stream(path_of(asked)) as lines:
+    def command(its: client.Client, args: argparse.Namespace) -> int:
+        with its.stream(path_of(args)) as lines:
             for line in lines:
                 sys.stdout.buffer.write(line)
             sys.stdout.buffer.flush()
@@ -127,9 +127,9 @@ def text(path_of: Callable[[argparse.Namespace], str]) -> Command:
     return command
 
 
-def find(its: client.Client, asked: argparse.Namespace) -> int:
+def find(its: client.Client, args: argparse.Namespace) -> int:
     """Prints what is found, each transfer as a line of JSON. The exit status is 1 if there is none."""
-    answer = good(its, its.get(f"/find?{urllib.parse.urlencode({'what': os.fsencode(asked.what)})}"))
+    answer = good(its, its.get(f"/find?{urllib.parse.urlencode({'what': os.fsencode(args.what)})}"))
     printed(answer.body)
     if "Niluppang-Partial" in answer.headers:
         print("hubctl: there are more: name the bank and the TxId", file=sys.stderr)
@@ -138,10 +138,10 @@ def find(its: client.Client, asked: argparse.Namespace) -> int:
     return 0 if answer.body else 1
 
 
-def report(its: client.Client, asked: argparse.Namespace) -> int:
-    with opened(asked.list) as file:
+def report(its: client.Client, args: argparse.Namespace) -> int:
+    with opened(args.list) as file:
         rows = file.read()
-    answer = good(its, its.post(quoted("report", asked.bank, asked.day), rows, **LIST))
+    answer = good(its, its.post(quoted("report", args.bank, args.day), rows, **LIST))
     with contextlib.suppress(ValueError):
         for note in json.loads(answer.headers.get("Niluppang-Notes", "[]")):
             print(f"hubctl: {client.one_line(str(note))}", file=sys.stderr)
@@ -164,10 +164,10 @@ def events_of(lines: client.Lines) -> Iterator[dict[str, str]]:
     """The events of a stream, each as its fields. One without fields shows that the stream is alive."""
     fields = {}
     for line in lines:
-        name, found, value = line.decode(errors="replace").rstrip("\r\n").partition(":")
+        name, colon, value = line.decode(errors="replace").rstrip("\r\n").partition(":")
         if name:
             fields[name] = value[1:] if value.startswith(" ") else value
-        elif not found:
+        elif not colon:
             yield fields
             fields = {}
 
@@ -204,11 +204,11 @@ class Following:
                 pause = min(2 * pause, client.MOST_PAUSE)
 
 
-def changes(its: client.Client, asked: argparse.Namespace) -> int:
+def changes(its: client.Client, args: argparse.Namespace) -> int:
     """Prints each event as a line of JSON."""
-    for number, event in enumerate(Following(its).all(asked.seconds), 1):
+    for number, event in enumerate(Following(its).all(args.seconds), 1):
         printed(json.dumps({**event, "data": json.loads(event.get("data", "null"))}).encode() + b"\n")
-        if number == asked.events:
+        if number == args.events:
             break
     return 0
 
@@ -249,21 +249,21 @@ COMMANDS = {
 
 
 def options(words: list[str]) -> argparse.Namespace:
-    it = argparse.ArgumentParser(prog="hubctl", description=__doc__, formatter_class=argparse.RawDescriptionHelpFormatter)
-    it.add_argument("--url", action="append", metavar="URL",
-                    help="the address of a site; several may be given (without it the variable NILUPPANG_URL has them, between blanks)")
-    client.add_options(it)
-    commands = it.add_subparsers(dest="command", metavar="COMMAND", required=True)
+    parser = argparse.ArgumentParser(prog="hubctl", description=__doc__, formatter_class=argparse.RawDescriptionHelpFormatter)
+    parser.add_argument("--url", action="append", metavar="URL",
+                        help="the address of a site; several may be given (without it the variable NILUPPANG_URL has them, between blanks)")
+    client.add_options(parser)
+    commands = parser.add_subparsers(dest="command", metavar="COMMAND", required=True)
     for name, (run, does, places) in COMMANDS.items():
-        one = commands.add_parser(name, help=does, description=does[0].upper() + does[1:] + ".")
-        one.set_defaults(run=run)
+        command = commands.add_parser(name, help=does, description=does[0].upper() + does[1:] + ".")
+        command.set_defaults(run=run)
         for place in places.split():
-            one.add_argument(place, **WORDS[place])
+            command.add_argument(place, **WORDS[place])
         if name in ("post", "xml", "changes"):
-            one.add_argument("--seconds", metavar="N", type=float, default=SECONDS, help=f"give up after N seconds ({SECONDS})")
+            command.add_argument("--seconds", metavar="N", type=float, default=SECONDS, help=f"give up after N seconds ({SECONDS})")
         if name == "changes":
-            one.add_argument("-n", "--events", metavar="N", type=int, default=0, help="end after N events")
-    return it.parse_args(words)
+            command.add_argument("-n", "--events", metavar="N", type=int, default=0, help="end after N events")
+    return parser.parse_args(words)
 
 
 def end_by(number: signal.Signals) -> None:
@@ -278,12 +278,12 @@ def complain(why: Exception | client.Elsewhere | str) -> int:
 
 
 def main() -> None:
-    asked = options(sys.argv[1:])
+    args = options(sys.argv[1:])
     try:
-        addresses = asked.url or os.environ.get("NILUPPANG_URL", "").split()
+        addresses = args.url or os.environ.get("NILUPPANG_URL", "").split()
         if not addresses:
             raise ValueError("name a site by --url, or by the variable NILUPPANG_URL")
-        status = asked.run(client.client_of(asked, addresses), asked)
+        status = args.run(client.client_of(args, addresses), args)
         sys.stdout.flush()
     except BrokenPipeError:
         end_by(signal.SIGPIPE)

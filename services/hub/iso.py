@@ -63,15 +63,15 @@ async def lines_of(body: bytes, messages: Messages) -> list[Item]:
     return await asyncio.to_thread(finished, drafts, recalls, answers)
 
 
-def outcome_line(one: Item, outcome: keeper.Outcome | None) -> str:
+def outcome_line(item: Item, outcome: keeper.Outcome | None) -> str:
     """The line that answers an item: what became of its line, or why it has none."""
-    if one.line is None or outcome is None:
-        found = {"outcome": "UNREAD", "why": one.why}
+    if item.line is None or outcome is None:
+        answer = {"outcome": "UNREAD", "why": item.why}
     else:
-        found = json.loads(keeper.outcome_line(0, outcome))
-        del found["line"]
-        found.update({"note": one.why} if one.why else {})
-    return json.dumps({"message": one.place, **found}, separators=(",", ":")) + "\n"
+        answer = json.loads(keeper.outcome_line(0, outcome))
+        del answer["line"]
+        answer.update({"note": item.why} if item.why else {})
+    return json.dumps({"message": item.place, **answer}, separators=(",", ":")) + "\n"
 
 
 # ---- XML
@@ -162,12 +162,12 @@ def messages_of(desk: types.ModuleType, root: ElementTree.Element) -> list[Any]:
     except desk.Wrong as why:
         raise BadText(str(why)) from None
     must_be_few(len(ones), "messages")
-    found = [unless_wrong(desk, desk.Message, one) for one in ones]
-    read = [message for message in found if isinstance(message, desk.Message)]
+    messages = [unless_wrong(desk, desk.Message, element) for element in ones]
+    read = [message for message in messages if isinstance(message, desk.Message)]
     must_be_few(sum(len(message.transactions) for message in read), "transactions")
     if sum(map(looks, read)) > MOST_BESIDE:
         raise BadText("its messages have too many elements beside their transactions")
-    return found
+    return messages
 
 
 def must_be_few(many: int, what: str) -> None:

@@ -195,29 +195,29 @@ class Keeper:
 
     async def answer(self, question: bytes, most: int = MOST_TEXT) -> Answer:
         """The text that answers a question, whether it is cut, and the vector of what was held then."""
-        one = await self._ask("ask", [question], most)
-        reply, = one.replies
-        return answer_of(reply, one)
+        work = await self._ask("ask", [question], most)
+        reply, = work.replies
+        return answer_of(reply, work)
 
     async def ask_all(self, questions: list[bytes], most: int = MOST_TEXT) -> list[Answer]:
         """The texts that answer some questions, each with whether it is cut, all of what is held at one moment."""
-        one = await self._ask("ask", questions, most)
-        return [answer_of(reply, one) for reply in one.replies]
+        work = await self._ask("ask", questions, most)
+        return [answer_of(reply, work) for reply in work.replies]
 
     async def _ask(self, kind: str, requests: list[bytes], most: int) -> Work:
         if self.failure or self.ends or self.away:
             raise Unable(self.failure or self.away or "the service ends")
         if any(b"\n" in request for request in requests):
             raise Refused(b"64")  # it would be several requests
-        one = Work(kind, requests, most, asyncio.get_running_loop().create_future())
+        work = Work(kind, requests, most, asyncio.get_running_loop().create_future())
         limit = MOST_WAITING.get(kind)
-        if limit and self.waiting[kind] and self.waiting[kind] + one.size > limit or not limit and self.waiting["ask"] >= MOST_QUESTIONS:
+        if limit and self.waiting[kind] and self.waiting[kind] + work.size > limit or not limit and self.waiting["ask"] >= MOST_QUESTIONS:
             raise Busy()
-        self.waiting[kind] += one.size if limit else 1
-        self.work.append(one)
+        self.waiting[kind] += work.size if limit else 1
+        self.work.append(work)
         self.some.set()
-        await one.done
-        return one
+        await work.done
+        return work
 
     def halt(self, why: str) -> None:
         """Takes no message from now on, and never again before somebody removes the mark."""
@@ -294,8 +294,8 @@ class Keeper:
             except Ended as end:
                 self.away = f"the process does not start: {end}"
                 log.error("%s", self.away)
-                for one in self._left():
-                    one.settle(fault=Unable(self.away, self.is_full))
+                for work in self._left():
+                    work.settle(fault=Unable(self.away, self.is_full))
                 await asyncio.sleep(pause)
                 pause = min(2 * pause, MOST_PAUSE)
 
@@ -318,8 +318,8 @@ class Keeper:
             log.exception("the site ends")
             self.failure, self.is_wrong = f"the site ended: {fault}", isinstance(fault, (Wrong, Held))
             self.on_failure()
-        for one in [*(self.under_way or []), *self._left()]:
-            one.settle(fault=Unable(self.failure or "the service ends"))
+        for work in [*(self.under_way or []), *self._left()]:
+            work.settle(fault=Unable(self.failure or "the service ends"))
 
     def _left(self) -> list[Work]:
         left, self.work, self.waiting = list(self.work), collections.deque(), collections.Counter()
@@ -332,22 +332,22 @@ class Keeper:
             await self.some.wait()
         if not self.work:
             return None
-        found, size = [], 0
+        works, size = [], 0
         while self.work and (not size or size + self.work[0].size <= MOST_ROUND):
-            one = self.work.popleft()
-            found.append(one)
-            size += one.size if one.kind in MOST_WAITING else 0
-            self.waiting[one.kind] -= one.size if one.kind in MOST_WAITING else 1
-        return found
+            work = self.work.popleft()
+            works.append(work)
+            size += work.size if work.kind in MOST_WAITING else 0
+            self.waiting[work.kind] -= work.size if work.kind in MOST_WAITING else 1
+        return works
 
     async def _next_round(self) -> bool:
         """Does some of what waits. False at the end."""
-        found = self.under_way = await self._next()
-        if found is None:
+        works = self.under_way = await self._next()
+        if works is None:
             return False
         await self._start_again()
-        writes = self._able([one for one in found if one.kind in MOST_WAITING])
-        questions = [one for one in found if one.kind == "ask"]
+        writes = self._able([work for work in works if work.kind in MOST_WAITING])
+        questions = [work for work in works if work.kind == "ask"]
         try:
             self._there()
             await self._written(writes)
@@ -362,18 +362,18 @@ class Keeper:
 
     def _able(self, writes: list[Work]) -> list[Work]:
         """Those of some lines and deltas that the process is given. The others get an error."""
-        for one in writes:
-            why = self.refusal() if one.kind == "take" else None
+        for work in writes:
+            why = self.refusal() if work.kind == "take" else None
             if why:
-                one.settle(fault=Halted(why))
-        writes = [one for one in writes if not one.done.done()]
+                work.settle(fault=Halted(why))
+        writes = [work for work in writes if not work.done.done()]
         if not self.is_full or not writes:
             return writes
         try:
-            self.files.try_room(max(self.failed_size, sum(one.size for one in writes)))
+            self.files.try_room(max(self.failed_size, sum(work.size for work in writes)))
         except OSError as fault:
-            for one in writes:
-                one.settle(fault=Unable(f"the disk fails: {fault.strerror}", True))
+            for work in writes:
+                work.settle(fault=Unable(f"the disk fails: {fault.strerror}", True))
             return []
         self.is_full = False
         log.warning("the disk has room again")
@@ -385,7 +385,7 @@ class Keeper:
             return
         began = time.monotonic()
         await self._do(writes)
-        if any(one.kind == "accept" for one in writes):
+        if any(work.kind == "accept" for work in writes):
             reply, = await self._exchange([(b"? vector", MOST_TEXT)])
             self.counts = listed((reply.text or b"").decode(), self.group)
         self.rounds += 1
@@ -397,16 +397,16 @@ class Keeper:
 
     async def _do(self, works: list[Work]) -> None:
         """Gives the process what has no reply yet. Each is settled when its last reply came."""
-        waiting = [(one, request) for one in works for request in one.requests[len(one.replies):]]
+        waiting = [(work, request) for work in works for request in work.requests[len(work.replies):]]
 
         def settle(place: int, reply: Reply) -> None:
-            one, _ = waiting[place]
-            one.replies.append(reply)
-            self._note(one, reply)
-            if len(one.replies) == len(one.requests):
-                one.settle(self.vector)
+            work, _ = waiting[place]
+            work.replies.append(reply)
+            self._note(work, reply)
+            if len(work.replies) == len(work.requests):
+                work.settle(self.vector)
         if waiting:
-            await self._there().ask([(request, one.most) for one, request in waiting], settle)
+            await self._there().ask([(request, work.most) for work, request in waiting], settle)
 
     async def _exchange(self, requests: list[tuple[bytes, int]]) -> list[Reply]:
         """The replies to some requests of the queue itself."""
@@ -414,42 +414,42 @@ class Keeper:
         await self._there().ask(requests, lambda _, reply: replies.append(reply))
         return replies
 
-    def _note(self, one: Work, reply: Reply) -> None:
+    def _note(self, work: Work, reply: Reply) -> None:
         """Keeps the counts, and halts the site after what it must not go on after."""
         number = int(reply.rest.split()[0]) if reply.word == b"REFUSED" else None
-        if one.kind == "take":
+        if work.kind == "take":
             self.numbers[reply.word.decode()] += 1
             if reply.word == b"TAKEN":
                 if int(reply.rest) != self.counts[self.number - 1] + 1:
                     raise Wrong(f"the process gave the number {int(reply.rest)} after {self.counts[self.number - 1]}")
                 self.counts[self.number - 1] += 1
                 self.unseen += 1
-        elif one.kind == "accept" and reply.word == b"ACCEPTED":
+        elif work.kind == "accept" and reply.word == b"ACCEPTED":
             self.unseen += int(reply.rest)
-        elif one.kind == "accept" and number in (FORK, OWN_AHEAD):
+        elif work.kind == "accept" and number in (FORK, OWN_AHEAD):
             self.halt(f"a delta was refused: {reply.rest.decode()} {'Fork' if number == FORK else 'OwnAhead'}")
-        if number and one.kind != "ask":
+        if number and work.kind != "ask":
             self.numbers[number] += 1
 
     async def _process_ended(self, end: Ended, works: list[Work]) -> None:
         """The process ended: what has no reply is sent again, unless the disk fails or the process ended with it several times."""
-        left = [one for one in works if not one.done.done()]
+        left = [work for work in works if not work.done.done()]
         log.error("the process ended with %d requests under way: %s", len(left), end)
         self.process = None
         if end.fault == process.DISK:
-            self.is_full, self.failed_size = True, sum(one.size for one in left if one.kind != "ask")
+            self.is_full, self.failed_size = True, sum(work.size for work in left if work.kind != "ask")
         again = []
-        for one in left:
-            one.ends += 1
-            if self.is_full and one.kind != "ask":
-                one.settle(fault=Unable(f"the disk fails: {end}", True))
-            elif one.ends >= MOST_ENDS:
-                one.settle(fault=Unable(f"the process ended {one.ends} times with it: {end}"))
+        for work in left:
+            work.ends += 1
+            if self.is_full and work.kind != "ask":
+                work.settle(fault=Unable(f"the disk fails: {end}", True))
+            elif work.ends >= MOST_ENDS:
+                work.settle(fault=Unable(f"the process ended {work.ends} times with it: {end}"))
             else:
-                again.append(one)
-        for one in reversed(again):
-            self.work.appendleft(one)
-            self.waiting[one.kind] += one.size if one.kind in MOST_WAITING else 1
+                again.append(work)
+        for work in reversed(again):
+            self.work.appendleft(work)
+            self.waiting[work.kind] += work.size if work.kind in MOST_WAITING else 1
         await self._start_again()
 
     # ---- what changed
@@ -468,9 +468,9 @@ class Keeper:
         names = [line.split(b"|") for line in bytes(text.text or b"").splitlines()]
         if not self.watchers or not was_watched:
             return None if names or not was_watched else []
-        asked = [(b"? transfer " + b" ".join(name), MOST_TEXT) for name in names[:MOST_PUBLISHED]]
-        lines: list[str | None] = [(reply.text or b"").decode() for reply in await self._exchange(asked)]
-        lines += [None] * (len(names) - len(asked))
+        requests = [(b"? transfer " + b" ".join(name), MOST_TEXT) for name in names[:MOST_PUBLISHED]]
+        lines: list[str | None] = [(reply.text or b"").decode() for reply in await self._exchange(requests)]
+        lines += [None] * (len(names) - len(requests))
         return [(bank.decode(), tx.decode(), its) for (bank, tx), its in zip(names, lines)]
 
     def watch(self, more: int) -> None:
@@ -494,5 +494,5 @@ def outcome_line(number: int, outcome: Outcome) -> str:
         return f'{{"line":{number},"outcome":"WAITING","until":"{outcome.why}"}}\n'
     if outcome.word == "FORBIDDEN":
         return f'{{"line":{number},"outcome":"FORBIDDEN","why":{json.dumps(outcome.why)}}}\n'
-    found = {"line": number, "outcome": "REFUSED", "code": outcome.number, **errors.refusal(outcome.why)}
-    return json.dumps(found, separators=(",", ":")) + "\n"
+    fields = {"line": number, "outcome": "REFUSED", "code": outcome.number, **errors.refusal(outcome.why)}
+    return json.dumps(fields, separators=(",", ":")) + "\n"

@@ -20,10 +20,10 @@ class Lines(logging.Formatter):
         self.site = site
 
     def format(self, record: logging.LogRecord) -> str:
-        found = {"at": now(), "level": record.levelname, "site": self.site, "text": record.getMessage(), **getattr(record, "fields", {})}
+        line = {"at": now(), "level": record.levelname, "site": self.site, "text": record.getMessage(), **getattr(record, "fields", {})}
         if record.exc_info:
-            found["trace"] = self.formatException(record.exc_info)
-        return json.dumps(found, ensure_ascii=False)
+            line["trace"] = self.formatException(record.exc_info)
+        return json.dumps(line, ensure_ascii=False)
 
 
 def begin(site: int) -> None:
@@ -33,6 +33,6 @@ def begin(site: int) -> None:
     logging.basicConfig(handlers=[handler], level=logging.INFO)
 
 
-def fields(**found: object) -> dict[str, Any]:
+def fields(**values: object) -> dict[str, Any]:
     """More fields of a line of the log."""
-    return {"fields": found}
+    return {"fields": values}

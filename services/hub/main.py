@@ -45,8 +45,8 @@ ACTS = ("print", "check", "read_over", "clear_halt", "backup", "verify", "restor
 
 def peer(text: str) -> tuple[int, str]:
     """The number and the address of a peer, such as 2=http://127.0.0.1:8702."""
-    number, found, address = text.partition("=")
-    if not found or not number.isdecimal():
+    number, equals, address = text.partition("=")
+    if not equals or not number.isdecimal():
         raise argparse.ArgumentTypeError(f"{text} is not NUMBER=ADDRESS")
     return int(number), address
 
@@ -56,47 +56,47 @@ def numbers(text: str) -> list[int]:
     parts = text.split(",")
     if not all(part.isascii() and part.isdecimal() and len(part) <= 4 for part in parts):
         raise argparse.ArgumentTypeError(f"{text} is not a number of sites, and not a list such as 1,2,4")
-    found = list(map(int, parts))
-    return list(range(1, found[0] + 1)) if len(found) == 1 else found
+    sites = list(map(int, parts))
+    return list(range(1, sites[0] + 1)) if len(sites) == 1 else sites
 
 
 def options(arguments: list[str]) -> argparse.Namespace:
-    it = argparse.ArgumentParser(prog="main.py", description=__doc__, formatter_class=argparse.RawDescriptionHelpFormatter)
-    it.add_argument("folder", metavar="FOLDER", nargs="?", help="where the journals are, as siteN.journal")
-    it.add_argument("--config", metavar="FILE", help="a file in TOML with all that is said of the site or the sites")
-    it.add_argument("--sites", metavar="N", type=numbers, default=[1, 2, 3], help="start sites 1 to N on this machine (3), or those of a list 1,2,4")
-    it.add_argument("--site", metavar="N", type=int, help="be site N alone")
-    it.add_argument("--only", metavar="N", type=int, help="of the sites that would be started, be site N: the hub starts its sites so")
-    it.add_argument("--group", metavar="N", type=int, default=64, help="the greatest number that a site may ever have (64)")
-    it.add_argument("--program", metavar="PATH", help="the program sct_sites")
-    it.add_argument("--host", metavar="ADDRESS", default="127.0.0.1", help="the address to serve at: one of this machine alone (127.0.0.1)")
-    it.add_argument("--port", metavar="PORT", type=int, default=config.FIRST_PORT, help=f"the port of site 1, or of the one site ({config.FIRST_PORT})")
-    it.add_argument("--name", metavar="HOST", action="append", default=[], help="a name of this site in requests; as often as needed")
-    it.add_argument("--peer", metavar="N=URL", type=peer, action="append", default=[], help="a peer, for --site; as often as needed")
-    it.add_argument("--through", metavar="N=PEER", type=peer, action="append", default=[], help="take entries of site N from this peer")
-    it.add_argument("--hear", metavar="N", type=int, help="take no message before N peers were heard (1 if there are peers)")
-    it.add_argument("--silence", metavar="SECONDS", type=float, default=10, help="give up a peer after so long without a byte (10)")
-    it.add_argument("--mirror", metavar="FILE", help="the database of mirror.py, by which transfers are found; {site} is the number of the site")
-    it.add_argument("--connections", metavar="N", type=int, default=config.MOST_CONNECTIONS, help="connections at most (2,000)")
-    it.add_argument("--seconds", metavar="N", type=float, default=config.SECONDS, help="seconds for a request to come and an answer to go (30)")
-    add_acts(it)
-    return it.parse_args(arguments)
+    parser = argparse.ArgumentParser(prog="main.py", description=__doc__, formatter_class=argparse.RawDescriptionHelpFormatter)
+    parser.add_argument("folder", metavar="FOLDER", nargs="?", help="where the journals are, as siteN.journal")
+    parser.add_argument("--config", metavar="FILE", help="a file in TOML with all that is said of the site or the sites")
+    parser.add_argument("--sites", metavar="N", type=numbers, default=[1, 2, 3], help="start sites 1 to N on this machine (3), or those of a list 1,2,4")
+    parser.add_argument("--site", metavar="N", type=int, help="be site N alone")
+    parser.add_argument("--only", metavar="N", type=int, help="of the sites that would be started, be site N: the hub starts its sites so")
+    parser.add_argument("--group", metavar="N", type=int, default=64, help="the greatest number that a site may ever have (64)")
+    parser.add_argument("--program", metavar="PATH", help="the program sct_sites")
+    parser.add_argument("--host", metavar="ADDRESS", default="127.0.0.1", help="the address to serve at: one of this machine alone (127.0.0.1)")
+    parser.add_argument("--port", metavar="PORT", type=int, default=config.FIRST_PORT, help=f"the port of site 1, or of the one site ({config.FIRST_PORT})")
+    parser.add_argument("--name", metavar="HOST", action="append", default=[], help="a name of this site in requests; as often as needed")
+    parser.add_argument("--peer", metavar="N=URL", type=peer, action="append", default=[], help="a peer, for --site; as often as needed")
+    parser.add_argument("--through", metavar="N=PEER", type=peer, action="append", default=[], help="take entries of site N from this peer")
+    parser.add_argument("--hear", metavar="N", type=int, help="take no message before N peers were heard (1 if there are peers)")
+    parser.add_argument("--silence", metavar="SECONDS", type=float, default=10, help="give up a peer after so long without a byte (10)")
+    parser.add_argument("--mirror", metavar="FILE", help="the database of mirror.py, by which transfers are found; {site} is the number of the site")
+    parser.add_argument("--connections", metavar="N", type=int, default=config.MOST_CONNECTIONS, help="connections at most (2,000)")
+    parser.add_argument("--seconds", metavar="N", type=float, default=config.SECONDS, help="seconds for a request to come and an answer to go (30)")
+    add_acts(parser)
+    return parser.parse_args(arguments)
 
 
-def add_acts(it: argparse.ArgumentParser) -> None:
+def add_acts(parser: argparse.ArgumentParser) -> None:
     """The words after which it ends."""
-    it.add_argument("--print", action="store_true", help="print the messages of the journal; the site may run meanwhile")
-    it.add_argument("--check", action="store_true", help="print what the program refuses of the journal, such as before an upgrade")
-    it.add_argument("--backup", metavar="FILE", help="copy the journal, while the site runs or not, and try the copy")
-    it.add_argument("--verify", metavar="FILE", help="try a copy of the journal without serving it")
-    it.add_argument("--restore", metavar="FILE", help="put a copy in the place of a journal that is not there any more")
-    it.add_argument("--adopt", metavar="JOURNAL", help="take all messages of the journal of a retired number, after the peers were heard")
-    it.add_argument("--roll", metavar=("DAY", "JOURNAL"), nargs=2, help="close the site, and have a new site begin with what is kept")
-    it.add_argument("--clear-halt", action="store_true", help="let the site take messages again after a halt")
-    it.add_argument("--audit", action="store_true", help="check the record of the site, alone and with its journal")
-    it.add_argument("--since", metavar="NUMBER:SUM", help="for --audit: a row of the record that was seen before")
-    it.add_argument("--read-over", metavar="OLD.db", help="make the journal of an SQLite journal of an older version")
-    it.add_argument("--new-token", action="store_true", help="print a new token, and its sum for the file of roles")
+    parser.add_argument("--print", action="store_true", help="print the messages of the journal; the site may run meanwhile")
+    parser.add_argument("--check", action="store_true", help="print what the program refuses of the journal, such as before an upgrade")
+    parser.add_argument("--backup", metavar="FILE", help="copy the journal, while the site runs or not, and try the copy")
+    parser.add_argument("--verify", metavar="FILE", help="try a copy of the journal without serving it")
+    parser.add_argument("--restore", metavar="FILE", help="put a copy in the place of a journal that is not there any more")
+    parser.add_argument("--adopt", metavar="JOURNAL", help="take all messages of the journal of a retired number, after the peers were heard")
+    parser.add_argument("--roll", metavar=("DAY", "JOURNAL"), nargs=2, help="close the site, and have a new site begin with what is kept")
+    parser.add_argument("--clear-halt", action="store_true", help="let the site take messages again after a halt")
+    parser.add_argument("--audit", action="store_true", help="check the record of the site, alone and with its journal")
+    parser.add_argument("--since", metavar="NUMBER:SUM", help="for --audit: a row of the record that was seen before")
+    parser.add_argument("--read-over", metavar="OLD.db", help="make the journal of an SQLite journal of an older version")
+    parser.add_argument("--new-token", action="store_true", help="print a new token, and its sum for the file of roles")
 
 
 def stop(why: str, status: int = WRONG) -> NoReturn:
@@ -129,31 +129,31 @@ def version_of(program: str) -> str:
         said = subprocess.run([program, "--version"], stdin=subprocess.DEVNULL, stdout=subprocess.PIPE, stderr=subprocess.DEVNULL, timeout=20)
     except (OSError, subprocess.TimeoutExpired) as fault:
         stop(f"{program} does not say its version: {fault}")
-    found = re.search(rb"\d+\.\d+\.\d+", said.stdout)
-    if not found:
+    match = re.search(rb"\d+\.\d+\.\d+", said.stdout)
+    if not match:
         stop(f"{program} does not say its version")
-    return found.group().decode()
+    return match.group().decode()
 
 
 # ---- what is asked for
 
-def of_words(asked: argparse.Namespace) -> dict[int, config.Settings]:
+def of_words(args: argparse.Namespace) -> dict[int, config.Settings]:
     """The settings of each site that the words of the command line come to."""
-    if asked.site is None and (asked.peer or asked.through):
+    if args.site is None and (args.peer or args.through):
         raise Wrong("--peer and --through are for one site: name it by --site")
-    chosen = asked.sites if asked.site is None else [asked.site]
+    chosen = args.sites if args.site is None else [args.site]
     if len(set(chosen)) < len(chosen) or not chosen:
         raise Wrong("--sites has a number twice, or none")
     made = {}
     for number in chosen:
-        peers = dict(asked.peer) if asked.site else config.addresses(chosen, number, asked.host, asked.port, "http")
-        if asked.site and len(peers) < len(asked.peer):
+        peers = dict(args.peer) if args.site else config.addresses(chosen, number, args.host, args.port, "http")
+        if args.site and len(peers) < len(args.peer):
             raise Wrong("a peer has a number that is that of no other peer")
         made[number] = config.checked(config.Settings(
-            folder=asked.folder, site=number, group=asked.group, host=asked.host, names=tuple(asked.name), hear=asked.hear, silence=asked.silence,
-            port=asked.port if asked.site else asked.port + number - 1, connections=asked.connections, seconds=asked.seconds,
-            program=asked.program, mirror=asked.mirror and asked.mirror.replace("{site}", str(number)), peers=peers,
-            through={origin: through_of(text) for origin, text in asked.through}))
+            folder=args.folder, site=number, group=args.group, host=args.host, names=tuple(args.name), hear=args.hear, silence=args.silence,
+            port=args.port if args.site else args.port + number - 1, connections=args.connections, seconds=args.seconds,
+            program=args.program, mirror=args.mirror and args.mirror.replace("{site}", str(number)), peers=peers,
+            through={origin: through_of(text) for origin, text in args.through}))
     return made
 
 
@@ -163,20 +163,20 @@ def through_of(text: str) -> int:
     return int(text)
 
 
-def settings_of(asked: argparse.Namespace) -> dict[int, config.Settings]:
+def settings_of(args: argparse.Namespace) -> dict[int, config.Settings]:
     """The settings of each site, by number."""
-    if bool(asked.folder) == bool(asked.config):
+    if bool(args.folder) == bool(args.config):
         raise Wrong("name a FOLDER, or a file by --config")
-    found = config.of_file(asked.config) if asked.config else of_words(asked)
-    chosen = asked.only or (asked.site if asked.config else None)
+    sites = config.of_file(args.config) if args.config else of_words(args)
+    chosen = args.only or (args.site if args.config else None)
     if chosen is None:
-        return found
-    if chosen not in found:
+        return sites
+    if chosen not in sites:
         raise Wrong(f"there is no site {chosen} among them")
-    return {chosen: found[chosen]}
+    return {chosen: sites[chosen]}
 
 
-def one_site(asked: argparse.Namespace, settings: config.Settings) -> int:
+def one_site(args: argparse.Namespace, settings: config.Settings) -> int:
     """Runs a site. The exit status."""
     logs.begin(settings.site)
     _, most = resource.getrlimit(resource.RLIMIT_NOFILE)
@@ -188,7 +188,7 @@ def one_site(asked: argparse.Namespace, settings: config.Settings) -> int:
         stop(f"{fault.strerror}: {fault.filename}", AWAY)
     if files.old.exists() and not files.journal.exists():
         stop(f"site {settings.site} cannot start: {files.old} is a journal of an older version: --read-over reads it over")
-    return running.run(settings, program, version_of(program), lambda: settings_of(asked)[settings.site])
+    return running.run(settings, program, version_of(program), lambda: settings_of(args)[settings.site])
 
 
 def wanted(arguments: list[str]) -> dict[int, list[str]]:
@@ -198,36 +198,36 @@ def wanted(arguments: list[str]) -> dict[int, list[str]]:
 
 # ---- words after which it ends
 
-def act(asked: argparse.Namespace, settings: config.Settings) -> int:
+def act(args: argparse.Namespace, settings: config.Settings) -> int:
     """Does what a word asks for, and ends. The exit status."""
     files, program = Files(settings.folder, settings.site, settings.group), program_of(settings.program)
     files.make_folder()
     noted = Acts(files)
-    if asked.print:
+    if args.print:
         for line in files.own_lines():
             sys.stdout.buffer.write(line + b"\n")
         sys.stdout.buffer.flush()
         return 0
-    if asked.audit:
-        report, is_right = record.audited(files.record, files.site, files.group, files.own_lines, asked.since)
+    if args.audit:
+        report, is_right = record.audited(files.record, files.site, files.group, files.own_lines, args.since)
         text, status = "\n".join(report), 0 if is_right else 1
-    elif asked.adopt:
-        return running.adopt(settings, program, version_of(program), asked.adopt, noted)
-    elif asked.roll:
-        day, journal = asked.roll
+    elif args.adopt:
+        return running.adopt(settings, program, version_of(program), args.adopt, noted)
+    elif args.roll:
+        day, journal = args.roll
         text, status = roll.roll(files, program, day, journal, noted)
-    elif asked.clear_halt:
+    elif args.clear_halt:
         text, status = words.clear_halt(files, noted)
-    elif asked.read_over:
-        text, status = over.read_over(asked.read_over, files, program), 0
-    elif asked.check:
+    elif args.read_over:
+        text, status = over.read_over(args.read_over, files, program), 0
+    elif args.check:
         text, status = words.check(files, program)
-    elif asked.backup:
-        text, status = words.backup(files, program, asked.backup, noted)
-    elif asked.verify:
-        text, status = words.verify(files, program, asked.verify)
+    elif args.backup:
+        text, status = words.backup(files, program, args.backup, noted)
+    elif args.verify:
+        text, status = words.verify(files, program, args.verify)
     else:
-        text, status = words.restore(files, program, asked.restore, noted)
+        text, status = words.restore(files, program, args.restore, noted)
     print(text)
     return status
 
@@ -263,19 +263,19 @@ def new_token() -> None:
 def main() -> None:
     os.umask(0o077)  # journals are payments of customers: nobody else of this machine reads them
     arguments = sys.argv[1:]
-    asked = options(arguments)
-    if asked.new_token:
+    args = options(arguments)
+    if args.new_token:
         return new_token()
     try:
-        found = settings_of(asked)
-        does = [word for word in ACTS if getattr(asked, word)]
-        if len(does) > 1 or does and len(found) > 1:
+        sites = settings_of(args)
+        does = [word for word in ACTS if getattr(args, word)]
+        if len(does) > 1 or does and len(sites) > 1:
             stop("this is asked of one site, one word at a time: name it by --site")
-        number, settings = next(iter(found.items()))
+        number, settings = next(iter(sites.items()))
         if does:
-            sys.exit(act(asked, settings))
-        if len(found) == 1 and (asked.site or asked.only or asked.config):
-            sys.exit(one_site(asked, settings))
+            sys.exit(act(args, settings))
+        if len(sites) == 1 and (args.site or args.only or args.config):
+            sys.exit(one_site(args, settings))
         sys.exit(Several(lambda: wanted(arguments)).run())
     except (Wrong, Held) as fault:
         stop(str(fault))

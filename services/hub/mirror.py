@@ -72,7 +72,7 @@ class Text(NamedTuple):
 class Event(NamedTuple):
     id: str
     word: str
-    found: list[dict[str, Any]]
+    data: list[dict[str, Any]]
 
 
 class State(NamedTuple):
@@ -184,10 +184,10 @@ class Site:
         """A complete text that covers a vector. A site that is busy may give an older one for a time."""
         until = time.monotonic() + MOST_OLD
         while time.monotonic() < until:
-            with self.client.stream(f"/{name}") as found:
-                vector = found.headers.get("Niluppang-Vector", "")
+            with self.client.stream(f"/{name}") as stream:
+                vector = stream.headers.get("Niluppang-Vector", "")
                 if covers(vector, least):
-                    yield Text(vector, (line.decode(errors="replace").rstrip("\n") for line in found))
+                    yield Text(vector, (line.decode(errors="replace").rstrip("\n") for line in stream))
                     return
             time.sleep(FIRST_PAUSE)
         raise Later(f"{self.client.address()} gives a text that is too old")
@@ -196,22 +196,22 @@ class Site:
     def rows(self, least: str = "-") -> Iterator[tuple[dict[str, Iterable[Sequence[Any]]], set[str]]]:
         """The rows of all tables, by complete texts that cover a vector, and the vectors of these texts. Messages are read as they come."""
         with self.text("status", least) as status:
-            found = status_rows(list(status.lines))
+            rows = status_rows(list(status.lines))
         with self.text("totals", least) as totals:
-            found["totals"] = list(totals_rows(totals.lines))
+            rows["totals"] = list(totals_rows(totals.lines))
         with self.text("archive", least) as archive:
-            yield {**found, "message": load_sqlite.messages(archive.lines)}, {status.vector, totals.vector, archive.vector}
+            yield {**rows, "message": load_sqlite.messages(archive.lines)}, {status.vector, totals.vector, archive.vector}
 
     def rows_on(self, changes: dict[tuple[str, str], list[str] | None]) -> dict[str, list[Sequence[Any]]]:
         """The rows of some transfers. The lines of a transfer are asked for if its event does not have them."""
-        found: dict[str, list[Sequence[Any]]] = {table: [] for table in OF_TRANSFER}
+        tables: dict[str, list[Sequence[Any]]] = {table: [] for table in OF_TRANSFER}
         for (bank, tx), lines in changes.items():
             its = status_rows(self.lines(self.path(bank, tx)) if lines is None else lines)
             messages = load_sqlite.messages(self.lines(f"{self.path(bank, tx)}/messages"))
             its["message"] = (row for row in messages if row[IN_MESSAGE] == (bank, tx))  # a recall is on other transfers, too
             for table, rows in its.items():
-                found[table] += rows
-        return found
+                tables[table] += rows
+        return tables
 
     def last_event(self) -> str:
         """The event that the site published last: a new stream begins with it. All that the site answered before is in it."""
@@ -280,7 +280,7 @@ class Stream:
         raise Later("the stream of changes has ended")
 
     def _put(self, event: Event) -> None:
-        changes = {(one["bank"], one["tx"]): one.get("lines") for one in event.found}
+        changes = {(transfer["bank"], transfer["tx"]): transfer.get("lines") for transfer in event.data}
         with self.some:
             self.changes.update(changes)
             self.event, self.loads = event.id, self.loads or event.word != "transfers"
@@ -325,10 +325,10 @@ class Lock:
 def is_file(path: str, known: os.stat_result) -> bool:
     """Whether a path is still that of a file that is known."""
     try:
-        found = os.stat(path)
+        status = os.stat(path)
     except FileNotFoundError:
         return False
-    return (found.st_dev, found.st_ino) == (known.st_dev, known.st_ino)
+    return (status.st_dev, status.st_ino) == (known.st_dev, known.st_ino)
 
 
 def schema_of(connection: sqlite3.Connection) -> set[tuple[str, str]]:
@@ -386,13 +386,13 @@ class Database:
             self._open = sqlite3.connect(self.path, timeout=BUSY, isolation_level=None)
         except sqlite3.OperationalError as fault:
             raise Stop(f"{self.path}: {fault}") from None
-        (mark,), (many,) = map(self._one, ("PRAGMA application_id", "SELECT count(*) FROM sqlite_master"))
+        (mark,), (many,) = map(self._row, ("PRAGMA application_id", "SELECT count(*) FROM sqlite_master"))
         if mark != MARK and many:
             raise Stop(f"{self.path} is a database, and not one of a mirror: it is left as it is")
         if mark != MARK:
             self.connection.execute(f"PRAGMA application_id = {MARK}")
-        self._one("PRAGMA journal_mode = WAL")
-        self._one(f"PRAGMA journal_size_limit = {MOST_LOG}")
+        self._row("PRAGMA journal_mode = WAL")
+        self._row(f"PRAGMA journal_size_limit = {MOST_LOG}")
         self.connection.execute("PRAGMA synchronous = NORMAL")
         self.file = os.stat(self.path)
 
@@ -401,21 +401,21 @@ class Database:
             self._open.close()
             self._open = None
 
-    def _one(self, question: str) -> Any:
+    def _row(self, question: str) -> Any:
         return self.connection.execute(question).fetchone()
 
     def state(self) -> State | None:
         """What the tables have, or None if one of them lacks."""
         if not SCHEMA <= schema_of(self.connection):
             return None
-        found = self._one("SELECT * FROM mirror")
-        return found and State(*found)
+        row = self._row("SELECT * FROM mirror")
+        return row and State(*row)
 
     def is_removed(self) -> bool:
         return self.file is None or not is_file(self.path, self.file)
 
     def messages(self) -> int:
-        return self._one("SELECT count(*) FROM message")[0]
+        return self._row("SELECT count(*) FROM message")[0]
 
     @contextlib.contextmanager
     def transaction(self) -> Iterator[sqlite3.Connection]:
@@ -579,8 +579,8 @@ def is_reached(path: str, vector: str, until: float) -> bool:
     """Whether a mirror has all that a vector counts, in some time."""
     while time.monotonic() < until:
         with contextlib.suppress(sqlite3.OperationalError), contextlib.closing(sqlite3.connect(read_only(path), uri=True)) as connection:
-            found = connection.execute("SELECT vector FROM mirror").fetchone()
-            if found and covers(found[0], vector):
+            row = connection.execute("SELECT vector FROM mirror").fetchone()
+            if row and covers(row[0], vector):
                 return True
         time.sleep(FIRST_PAUSE)
     return False
@@ -592,11 +592,11 @@ def read_only(path: str) -> str:
 
 def differences(connection: sqlite3.Connection) -> Iterator[str]:
     """What the tables of a mirror lack, what they have beside it, and how many rows they have. Of each only the first."""
-    for table, (word, one, other) in itertools.product(TEXTS, (("lacks", "main", "made"), ("has", "made", "main"))):
-        question = f"SELECT * FROM {one}.{table} EXCEPT SELECT * FROM {other}.{table} LIMIT {MOST_SHOWN}"
+    for table, (word, database, other) in itertools.product(TEXTS, (("lacks", "main", "made"), ("has", "made", "main"))):
+        question = f"SELECT * FROM {database}.{table} EXCEPT SELECT * FROM {other}.{table} LIMIT {MOST_SHOWN}"
         yield from (f"{table} {word} {row}" for row in connection.execute(question))
     for table in TEXTS:
-        right, its = (connection.execute(f"SELECT count(*) FROM {one}.{table}").fetchone()[0] for one in ("main", "made"))
+        right, its = (connection.execute(f"SELECT count(*) FROM {database}.{table}").fetchone()[0] for database in ("main", "made"))
         if right != its:
             yield f"{table} has {its} rows in place of {right}"
 
@@ -616,44 +616,44 @@ def compared(site: Site, path: str) -> tuple[set[str], list[str]]:
 
 def compare(site: Site, path: str) -> int:
     """Prints how a database differs from the texts of a site, after a mirror had some seconds to have what they have. The exit status."""
-    until, is_over, found = time.monotonic() + COMPARING, False, [""]
-    while found and not is_over:
+    until, is_over, differing = time.monotonic() + COMPARING, False, [""]
+    while differing and not is_over:
         *_, vector = site.who()
         is_due = is_reached(path, vector, until)
-        vectors, found = compared(site, path)
+        vectors, differing = compared(site, path)
         is_over = not is_due or time.monotonic() > until or vectors == {vector, site.who()[2]}
-    print(*(found or [f"equal at {' and '.join(sorted(vectors))}"]), sep="\n")
-    return 1 if found else 0
+    print(*(differing or [f"equal at {' and '.join(sorted(vectors))}"]), sep="\n")
+    return 1 if differing else 0
 
 
 def options() -> argparse.Namespace:
-    it = argparse.ArgumentParser(prog="mirror.py", description=__doc__, formatter_class=argparse.RawDescriptionHelpFormatter)
-    what = it.add_mutually_exclusive_group()
+    parser = argparse.ArgumentParser(prog="mirror.py", description=__doc__, formatter_class=argparse.RawDescriptionHelpFormatter)
+    what = parser.add_mutually_exclusive_group()
     what.add_argument("--once", action="store_true", help="make the database equal, and end")
     what.add_argument("--compare", action="store_true", help="compare the database with the site, and end")
-    add_options(it)
-    it.add_argument("url", metavar="URL", help="the address of the site, such as https://site1.hub.example:8700")
-    it.add_argument("database", metavar="DATABASE", help="the file of the database")
-    return it.parse_args()
+    add_options(parser)
+    parser.add_argument("url", metavar="URL", help="the address of the site, such as https://site1.hub.example:8700")
+    parser.add_argument("database", metavar="DATABASE", help="the file of the database")
+    return parser.parse_args()
 
 
-def client_for(asked: argparse.Namespace) -> Client:
+def client_for(args: argparse.Namespace) -> Client:
     try:
-        return client_of(asked, [asked.url])
+        return client_of(args, [args.url])
     except (ValueError, OSError) as why:
         raise Stop(f"{why}") from None
 
 
 def main() -> None:
-    asked = options()
+    args = options()
     os.umask(0o077)  # the database has payments of customers: nobody else of this machine reads it
     for number in (signal.SIGINT, signal.SIGTERM):
         signal.signal(number, lambda *_: sys.exit(0))
-    path, client = os.path.realpath(asked.database), lambda: client_for(asked)
+    path, client = os.path.realpath(args.database), lambda: client_for(args)
     try:
-        if asked.compare:
+        if args.compare:
             sys.exit(compare(Site(client()), path))
-        Mirror(asked.url.rstrip("/"), path, client).run(asked.once)
+        Mirror(args.url.rstrip("/"), path, client).run(args.once)
         sys.exit()
     except (Stop, Failed, BadText) as why:
         say(why)

@@ -9,9 +9,9 @@ def notify(*lines: str) -> None:
     place = os.environ.get("NOTIFY_SOCKET")
     if not place:
         return
-    with socket.socket(socket.AF_UNIX, socket.SOCK_DGRAM | socket.SOCK_CLOEXEC) as it:
+    with socket.socket(socket.AF_UNIX, socket.SOCK_DGRAM | socket.SOCK_CLOEXEC) as channel:
         try:
-            it.sendto("\n".join(lines).encode(), "\0" + place[1:] if place.startswith("@") else place)
+            channel.sendto("\n".join(lines).encode(), "\0" + place[1:] if place.startswith("@") else place)
         except OSError:
             pass  # systemd has gone, and nobody waits for it
 

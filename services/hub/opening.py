@@ -35,8 +35,8 @@ def read_by(process: int | None) -> int:
     """Bytes that a process has read. None are known on a system that does not count them."""
     with contextlib.suppress(OSError):
         with open(f"/proc/{process}/io", encoding="ascii") as file:
-            found = re.search(r"^rchar: (\d+)$", file.read(), re.M)
-        return int(found[1]) if found else 0
+            match = re.search(r"^rchar: (\d+)$", file.read(), re.M)
+        return int(match[1]) if match else 0
     return 0
 
 

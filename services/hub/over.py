@@ -85,9 +85,9 @@ def read_over(old: str, files: Files, program: str) -> str:
     remove(new)
     try:
         with contextlib.closing(sqlite3.connect(f"file:{urllib.parse.quote(str(old))}?mode=ro", uri=True)) as connection:
-            found = connection.execute("SELECT number, sites FROM site").fetchall()
-            if found != [(files.site, files.group)]:
-                raise Wrong(f"{old} is the journal of {found}, and not of site {files.site} of {files.group}")
+            sites = connection.execute("SELECT number, sites FROM site").fetchall()
+            if sites != [(files.site, files.group)]:
+                raise Wrong(f"{old} is the journal of {sites}, and not of site {files.site} of {files.group}")
             serve = Serve(program, files, new)
             try:
                 for requests, rights in batches(pairs_in(connection)):

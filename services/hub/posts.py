@@ -105,15 +105,15 @@ class Posts:
 
     async def looked_up(self, transfers: Iterable[tuple[str, str]], seen: Callable[[bytes, str, str], Any]) -> dict[tuple[str, str], Any]:
         """What a function sees in the text of the messages on each of some transfers. Not more texts than a few are there at a time."""
-        transfers, found = sorted(transfers), {}
+        transfers, results = sorted(transfers), {}
         for place in range(0, len(transfers), AT_ONCE):
             some = transfers[place:place + AT_ONCE]
             answers = await self.keeper.ask_all([on_transfer(*transfer) for transfer in some], MOST_SHORT)
-            short = [(transfer, one.text) for transfer, one in zip(some, answers) if not one.is_cut]
-            found.update(await asyncio.to_thread(lambda: {transfer: seen(bytes(text), *transfer) for transfer, text in short}))
-            for transfer in (transfer for transfer, one in zip(some, answers) if one.is_cut):  # a long text is there alone
-                found[transfer] = await asyncio.to_thread(seen, bytes(await self.keeper.ask(on_transfer(*transfer))), *transfer)
-        return found
+            short = [(transfer, answer.text) for transfer, answer in zip(some, answers) if not answer.is_cut]
+            results.update(await asyncio.to_thread(lambda: {transfer: seen(bytes(text), *transfer) for transfer, text in short}))
+            for transfer in (transfer for transfer, answer in zip(some, answers) if answer.is_cut):  # a long text is there alone
+                results[transfer] = await asyncio.to_thread(seen, bytes(await self.keeper.ask(on_transfer(*transfer))), *transfer)
+        return results
 
     async def _held(self, transfers: Iterable[tuple[str, str]]) -> dict[tuple[str, str], set[str]]:
         """The beneficiary banks of the instructions that are held for some transfers."""
@@ -141,19 +141,19 @@ class Posts:
         self.record.note("unread", *self._from(asker), {"lines": len(lines), "first": record.digest_of(lines[0])})
         return [self.keeper.refused(text) for text in texts]
 
-    def _withheld(self, asker: Asker, found: list[tuple[bytes, str | None]]) -> None:
+    def _withheld(self, asker: Asker, withheld: list[tuple[bytes, str | None]]) -> None:
         """Has the record say which lines were in the name of another bank."""
-        if found:
-            first = [[record.digest_of(line), why] for line, why in found[:MOST_WITHHELD]]
-            self.record.note("withheld", *self._from(asker), {"lines": first, "more": len(found) - len(first)})
+        if withheld:
+            first = [[record.digest_of(line), why] for line, why in withheld[:MOST_WITHHELD]]
+            self.record.note("withheld", *self._from(asker), {"lines": first, "more": len(withheld) - len(first)})
 
-    async def _kept(self, asker: Asker, found: list[tuple[senders.Read | None, bytes]]) -> list[record.Waiting]:
+    async def _kept(self, asker: Asker, lines: list[tuple[senders.Read | None, bytes]]) -> list[record.Waiting]:
         """The rows of some lines that wait from now on."""
-        if not found:
+        if not lines:
             return []
         until = record.utc(time.time() + self.seconds)
         rows = [record.to_wait(until, asker.who.name, read.sender, read.kind, *read.transfers[0], asker.request, line)
-                for read, line in found if read]
+                for read, line in lines if read]
         return await self.record.put_waiting(rows, asker.address)
 
     # ---- what waits
@@ -161,9 +161,9 @@ class Posts:
     def round(self, changes: Changes) -> None:
         """After a round of the site: what waits for a transfer that changed is looked at. With None it is not known which ones changed."""
         if self.names:
-            found = self.names if changes is None else self.names & {change[:2] for change in changes}
-            if found:
-                self._look_at(found)
+            changed = self.names if changes is None else self.names & {change[:2] for change in changes}
+            if changed:
+                self._look_at(changed)
 
     def _look_at(self, transfers: set[tuple[str, str]]) -> None:
         self.names |= transfers

@@ -58,19 +58,19 @@ class Process:
     async def started(cls, words: list[str], began: Callable[[int], object] = lambda process: None) -> Process:
         """The process of a command line, which is ready. Ended if it does not become ready. `began` is called with its number before."""
         # signals stay as Python has them: a file that may not grow is then a write that fails, and does not end the process
-        it = cls(await asyncio.create_subprocess_exec(
+        process = cls(await asyncio.create_subprocess_exec(
             *words, stdin=subprocess.PIPE, stdout=subprocess.PIPE, stderr=subprocess.PIPE, limit=MOST_LINE, preexec_fn=ends_with_parent,
             restore_signals=False))
-        began(it.child.pid)
+        began(process.child.pid)
         try:
-            ready = await it._line()
+            ready = await process._line()
             if not ready.startswith(b"READY "):
-                raise await it.ended(f"it said {ready[:80]!r} in place of READY")
+                raise await process.ended(f"it said {ready[:80]!r} in place of READY")
         except BaseException:
-            await it.kill()
+            await process.kill()
             raise
-        it.vector = ready[len(b"READY "):]
-        return it
+        process.vector = ready[len(b"READY "):]
+        return process
 
     async def _listen(self) -> None:
         """Keeps the last that the process writes to standard error."""

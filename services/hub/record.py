@@ -209,9 +209,9 @@ def check_file(connection: sqlite3.Connection, site: int, group: int) -> None:
     version, = connection.execute("PRAGMA user_version").fetchone()
     if version != VERSION:
         raise Wrong(f"it has version {version} of a record, and not {VERSION}")
-    found = connection.execute("SELECT number, sites FROM site").fetchall()
-    if found != [(site, group)]:
-        raise Wrong(f"it is the record of (site, group) {found}, and not of site {site} of {group}")
+    sites = connection.execute("SELECT number, sites FROM site").fetchall()
+    if sites != [(site, group)]:
+        raise Wrong(f"it is the record of (site, group) {sites}, and not of site {site} of {group}")
 
 
 def changed_parts(connection: sqlite3.Connection) -> list[str]:
@@ -306,20 +306,20 @@ def act_once(path: Path, site: int, group: int, act: str, who: str, what: dict[s
 
 def put_lines(chain: Chain, rows: list[Waiting], address: str, post: int | None) -> list[Waiting]:
     """Puts lines that wait, and the row that says so. They as they wait now: what waits already is the row that is there."""
-    found: dict[tuple[str, str], Waiting] = {}
+    waiting: dict[tuple[str, str], Waiting] = {}
     for row in rows:
         there = chain.connection.execute(f"SELECT {WAITING_CELLS} FROM waiting WHERE bank = ? AND digest = ? AND state = 'WAITING'",
                                          (row.bank, row.digest)).fetchone()
-        found.setdefault((row.bank, row.digest), Waiting(*there) if there else row)
-    fresh = [row for row in found.values() if row.number is None]
+        waiting.setdefault((row.bank, row.digest), Waiting(*there) if there else row)
+    fresh = [row for row in waiting.values() if row.number is None]
     if fresh:
         check_room(chain.connection, fresh)
         insert = f"INSERT INTO waiting ({WAITING_CELLS}, size) VALUES ({', '.join('?' * len(Waiting._fields))}, ?)"
         fresh = [row._replace(number=chain.connection.execute(insert, (*row, len(row.line))).lastrowid) for row in fresh]
-        found.update(((row.bank, row.digest), row) for row in fresh)
+        waiting.update(((row.bank, row.digest), row) for row in fresh)
         what = {"of": post, "lines": [[row.number, row.bank, row.digest] for row in fresh]}
         chain.add(*row_of("wait", fresh[0].who, address, fresh[0].request, what))
-    return [found[row.bank, row.digest] for row in rows]
+    return [waiting[row.bank, row.digest] for row in rows]
 
 
 def waiting_in(path: Path) -> list[Waiting]:
@@ -356,10 +356,10 @@ def check_room(connection: sqlite3.Connection, fresh: list[Waiting]) -> None:
 def end_line(chain: Chain, number: int | None, state: str, outcome: int | str | None) -> bool:
     """Ends the waiting of a line, with the row that says so. False if it does not wait."""
     question = "SELECT who, bank, request, digest FROM waiting WHERE number = ? AND state = 'WAITING'"
-    found = chain.connection.execute(question, (number,)).fetchone()
-    if not found:
+    row = chain.connection.execute(question, (number,)).fetchone()
+    if not row:
         return False
-    who, bank, request, digest = found
+    who, bank, request, digest = row
     chain.connection.execute("UPDATE waiting SET state = ?, outcome = ?, ended = ? WHERE number = ?", (state, outcome, utc(), number))
     what = {"waiting": number, "bank": bank, "line": digest, "outcome": outcome}
     chain.add(*row_of(state.lower(), who, "", request, what))
@@ -382,21 +382,21 @@ def without_port(address: str) -> str:
 
 class Denials:
     """Who was denied something. Not each time is a row, so that nobody fills the disk by being denied."""
-    found: dict[tuple[str, ...], list[Any]]
+    kinds: dict[tuple[str, ...], list[Any]]  # the request of the first of each kind in this minute, and how many more came
     timer: asyncio.TimerHandle | None
     of: collections.Counter[str]  # how many rows of their own each has in this minute
 
     def __init__(self, record: Record) -> None:
-        self.record, self.found, self.others, self.timer = record, {}, 0, None
+        self.record, self.kinds, self.others, self.timer = record, {}, 0, None
         self.of = collections.Counter()  # how many rows of their own each has in this minute
 
-    def add(self, who: str, address: str, request: str, asked: str, why: str) -> None:
+    def add(self, who: str, address: str, request: str, what: str, why: str) -> None:
         """Notes a denial if it is the first of its kind in a minute, and else counts it. While the disk fails each is only counted."""
-        key = tuple(map(plain, (who, without_port(address), asked, why)))
-        if key in self.found:
-            self.found[key][1] += 1
-        elif len(self.found) < MOST_DENIED and self.of[key[0]] < MOST_DENIED_OF and not self.record.fault:
-            self.found[key] = [request, 0]
+        key = tuple(map(plain, (who, without_port(address), what, why)))
+        if key in self.kinds:
+            self.kinds[key][1] += 1
+        elif len(self.kinds) < MOST_DENIED and self.of[key[0]] < MOST_DENIED_OF and not self.record.fault:
+            self.kinds[key] = [request, 0]
             self.of[key[0]] += 1
             self.record.note("denied", who, address, request, {"asked": key[2], "why": key[3]})
         else:
@@ -409,12 +409,12 @@ class Denials:
         if self.timer:
             self.timer.cancel()
         self.timer = None
-        for (who, address, asked, why), (request, more) in self.found.items():
+        for (who, address, what, why), (request, more) in self.kinds.items():
             if more:
-                self.record.note("denied", who, address, request, {"asked": asked, "why": why, "more": more})
+                self.record.note("denied", who, address, request, {"asked": what, "why": why, "more": more})
         if self.others:
             self.record.note("denied", "", "", "", {"more": self.others})
-        self.found, self.others = {}, 0
+        self.kinds, self.others = {}, 0
         self.of.clear()
 
 
@@ -506,9 +506,9 @@ class Record:
         self.queue.append(Job(lambda chain: chain.add(*cells), size=size))
         self._look_in(NOTE_SECONDS)
 
-    def refused(self, who: str, address: str, request: str, asked: str, why: str) -> None:
+    def refused(self, who: str, address: str, request: str, what: str, why: str) -> None:
         """Notes or counts that somebody was denied what was asked, such as GET /archive."""
-        self.denials.add(who, address, request, asked, why)
+        self.denials.add(who, address, request, what, why)
 
     async def put_waiting(self, rows: list[Waiting], address: str = "", post: int | None = None) -> list[Waiting]:
         """Puts lines of to_wait that one request posted, all or none. They as they wait now, in their order: a line of the same bank that
@@ -528,12 +528,12 @@ class Record:
         values = (bank,) if bank else ()
         # the plus keeps SQLite at the index of what waits, since many more may have ended
         cells = WAITING_CELLS if lines else WAITING_CELLS.replace("line,", "x'' AS line,")
-        return await self._found(f"state = 'WAITING' {its} ORDER BY +number", *values, cells=cells) + (await self._found(
+        return await self._lines_where(f"state = 'WAITING' {its} ORDER BY +number", *values, cells=cells) + (await self._lines_where(
             f"ended IS NOT NULL {its} ORDER BY ended DESC, number DESC LIMIT ?", *values, ended, cells=cells) if ended else [])
 
     async def due(self, now: str) -> list[Waiting]:
         """The lines that wait, and may not wait any longer at a time."""
-        return await self._found("state = 'WAITING' AND until <= ? ORDER BY until, number", now)
+        return await self._lines_where("state = 'WAITING' AND until <= ? ORDER BY until, number", now)
 
     # ---- the queue
 
@@ -615,7 +615,7 @@ class Record:
             results = [chain.alone(job.work) for job in jobs]
         return results, (chain.number, chain.sum)
 
-    async def _found(self, condition: str, *values: int | str, cells: str = WAITING_CELLS) -> list[Waiting]:
+    async def _lines_where(self, condition: str, *values: int | str, cells: str = WAITING_CELLS) -> list[Waiting]:
         """The rows of lines that wait, or did."""
         if self.task is None:
             raise Unable("the record is not open")
@@ -631,22 +631,22 @@ class Record:
 
 def stretches(numbers: list[int], word: str) -> str:
     """Numbers in their order as a text, such as: rows 3, 5 to 7."""
-    found: list[list[int]] = []
+    ranges: list[list[int]] = []
     many = 0
     for number in numbers:
         many += 1
-        if found and found[-1][1] == number - 1:
-            found[-1][1] = number
+        if ranges and ranges[-1][1] == number - 1:
+            ranges[-1][1] = number
         else:
-            found.append([number, number])
-    parts = [f"{first} to {last}" if first < last else str(first) for first, last in found[:MOST_RANGES]]
-    return f"{word}{'s' if many > 1 else ''} {', '.join(parts)}{' and others' if len(found) > MOST_RANGES else ''}"
+            ranges.append([number, number])
+    parts = [f"{first} to {last}" if first < last else str(first) for first, last in ranges[:MOST_RANGES]]
+    return f"{word}{'s' if many > 1 else ''} {', '.join(parts)}{' and others' if len(ranges) > MOST_RANGES else ''}"
 
 
 def anchor_in(since: str | None) -> tuple[int, str] | None:
     """The number and the sum of a row that somebody kept."""
-    number, found, its = (since or "").partition(":")
-    if since and not (found and number.isascii() and number.isdigit()):
+    number, colon, its = (since or "").partition(":")
+    if since and not (colon and number.isascii() and number.isdigit()):
         raise Wrong(f"{since} is not NUMBER:SUM")
     return (int(number), its) if since else None
 
@@ -825,8 +825,8 @@ class Audit:
         for number, lines in itertools.islice(posts.items(), MOST_FAULTS):
             at, who, act = connection.execute("SELECT at, who, act FROM record WHERE number = ?", (number,)).fetchone()
             there = sorted({numbers[digest] for digest in lines if digest in numbers})
-            found = f"{len(there)} of its {len(lines)} lines are in the journal" + (f", as {stretches(there, 'line')}" if there else "")
-            self.facts.append(f"Row {number}, of the act {act}, by {who} at {at}, has no outcome: {found}")
+            held = f"{len(there)} of its {len(lines)} lines are in the journal" + (f", as {stretches(there, 'line')}" if there else "")
+            self.facts.append(f"Row {number}, of the act {act}, by {who} at {at}, has no outcome: {held}")
         if len(posts) > MOST_FAULTS:
             self.facts.append(f"And {len(posts) - MOST_FAULTS} more have no outcome")
 

@@ -146,16 +146,16 @@ def roll(old: Files, program: str, day: str, journal: str, noted: Noted) -> tupl
     kept = Summed(kept_of(program, day, messages_in(old)))
     done = begin(new, program, kept) if old.site == its_sites[0] else summed(kept)
     many = move_waiting(old, new)
-    found = {"day": day, "vector": vector, "kept": kept.many, "sha256": kept.sum.hexdigest(), "journal": str(new.journal), "waiting": many}
-    note(noted, "rolled", found)
-    return "\n".join([vector, f"kept {kept.many}, sha256 {found['sha256']}", done, f"lines that wait {many}"]), 0
+    summary = {"day": day, "vector": vector, "kept": kept.many, "sha256": kept.sum.hexdigest(), "journal": str(new.journal), "waiting": many}
+    note(noted, "rolled", summary)
+    return "\n".join([vector, f"kept {kept.many}, sha256 {summary['sha256']}", done, f"lines that wait {many}"]), 0
 
 
 def new_site(old: Files, journal: str) -> Files:
     """The files of the new site, whose journal has a path."""
     path = pathlib.Path(journal).absolute()
-    found = NAME.fullmatch(path.name)
-    number = int(found.group(1)) if found else 0
+    match = NAME.fullmatch(path.name)
+    number = int(match.group(1)) if match else 0
     if not 1 <= number <= old.group or number == old.site:
         raise Wrong(f"{journal} is not named siteN.journal, with a number N up to {old.group} that no site of the group has")
     if not path.parent.is_dir():
@@ -165,10 +165,10 @@ def new_site(old: Files, journal: str) -> Files:
 
 def closed(files: Files, day: str, noted: Noted) -> tuple[str, list[int]]:
     """Closes a site, and waits for the vector with which its group ends, and the numbers of its sites."""
-    found, vector, its_sites = files.closing()
-    if vector and found != day:
-        raise Wrong(f"the group was closed for {found}")
-    if found != day:
+    closed_for, vector, its_sites = files.closing()
+    if vector and closed_for != day:
+        raise Wrong(f"the group was closed for {closed_for}")
+    if closed_for != day:
         note(noted, "close", {"day": day})
         files.put_closing(day)
     if not vector:

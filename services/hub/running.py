@@ -199,8 +199,8 @@ class Site:
 
     async def _listens_no_more(self, server: asyncio.base_events.Server) -> None:
         """Ends what listened before. It accepts nothing first, and is closed later: a connection that it just accepted would hang else."""
-        for one in server.sockets:
-            asyncio.get_running_loop().remove_reader(one.fileno())
+        for listener in server.sockets:
+            asyncio.get_running_loop().remove_reader(listener.fileno())
         await asyncio.sleep(ACCEPTING)
         server.close()
 

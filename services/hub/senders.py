@@ -83,12 +83,12 @@ class Reader:
         for name in TOOLS:
             desk_module(name)  # if one is missing, that is seen at the start
         try:
-            found = self.package.library_version()
+            its_version = self.package.library_version()
         except OSError as fault:
             raise Wrong(f"{fault}. Debian's package python3-niluppang brings a library, and the variable NILUPPANG_LIBRARY names"
                         " one") from None
-        if found != version:
-            raise Wrong(f"the library has version {found}, and the program {version}: both must read a line alike. The variable"
+        if its_version != version:
+            raise Wrong(f"the library has version {its_version}, and the program {version}: both must read a line alike. The variable"
                         " NILUPPANG_LIBRARY names another library")
 
     def read(self, lines: list[bytes]) -> list[Read | None]:
@@ -116,12 +116,12 @@ class Reader:
             raise ValueError("a line has a line feed")
         try:
             with self.package.BytesSite(1, 1) as site:
-                found = lines_in(site.reading(b"\n".join(lines)))
+                texts = lines_in(site.reading(b"\n".join(lines)))
         except self.package.NiluppangError as refused:
             raise Unable(f"the library cannot read: {refused}") from None
         numbers = [number for number, line in enumerate(lines, 1) if line.strip(BLANK)]
-        must(len(found) == len(numbers))
-        readings = dict(zip(numbers, map(reading_of, numbers, found)))
+        must(len(texts) == len(numbers))
+        readings = dict(zip(numbers, map(reading_of, numbers, texts)))
         return [readings.get(number, (None, b"")) for number in range(1, len(lines) + 1)]
 
 
@@ -204,14 +204,14 @@ def may_read(banks: Iterable[str], originator: str, tx: str, text: bytearray | b
 def shown(banks: Collection[str], originator: str, tx: str, text: bytes | bytearray) -> bytes:
     """What a bank is shown of the text of the messages on a transfer of its own: of a recall that another bank sent, the transactions on this
     transfer alone. The others are about transfers of others."""
-    found = []
+    lines = []
     for line in lines_in(text):
         message = json.loads(line)
         if "TxInf" in message and message["InstgAgt"] not in banks:
             message["TxInf"] = [part for part in message["TxInf"] if (part["DbtrAgt"], part["OrgnlTxId"]) == (originator, tx)]
             line = json.dumps(message, ensure_ascii=False, separators=(",", ":")).encode()
-        found.append(line + b"\n")
-    return b"".join(found)
+        lines.append(line + b"\n")
+    return b"".join(lines)
 
 
 def must_be_words(bank: str, day: str) -> None:
@@ -266,7 +266,7 @@ def list_findings(bank: str, day: str, data: bytes, held: dict[tuple[str, str], 
     is before its colon is the row.
     """
     desk, rows = desk_module("check_list"), listed(data, is_bounded)
-    found = {transfer: held[transfer] for transfer in transfers_in(rows)}
-    instructions, banks = ({transfer: its[place] for transfer, its in found.items()} for place in (0, 1))
+    known = {transfer: held[transfer] for transfer in transfers_in(rows)}
+    instructions, banks = ({transfer: its[place] for transfer, its in known.items()} for place in (0, 1))
     findings = list(desk.faults(desk.bank(bank), day, rows, (instructions, banks)))
     return [text for forbids, text in findings if forbids], [text for forbids, text in findings if not forbids]

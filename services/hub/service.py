@@ -98,8 +98,8 @@ class Service:
             self.events.add(changes)
 
     def application(self) -> web.Application:
-        it = web.Application(middlewares=[self.guarded], client_max_size=MOST_MESSAGES)
-        it.on_response_prepare.append(self._headers)
+        app = web.Application(middlewares=[self.guarded], client_max_size=MOST_MESSAGES)
+        app.on_response_prepare.append(self._headers)
         handlers: dict[str, Handler] = {
             "/": self.page, "/messages": self.messages, "/iso20022": self.iso20022, "/waiting": self.waiting,
             "/transfers/{bank}/{tx}": self.transfer, "/transfers/{bank}/{tx}/messages": self.transfer, "/find": self.find,
@@ -113,11 +113,11 @@ class Service:
             path = TRANSFERS.replace("}", ":.+}") if address.path.startswith("/transfers/") else address.path
             if path not in paths:
                 if address.method == "GET":
-                    it.router.add_get(path, handlers[address.path], allow_head=False)
+                    app.router.add_get(path, handlers[address.path], allow_head=False)
                 else:
-                    it.router.add_post(path, handlers[address.path])
+                    app.router.add_post(path, handlers[address.path])
             paths.add(path)
-        return it
+        return app
 
     def allow(self, addresses: list[Address]) -> None:
         """From now on each address is for its roles."""
@@ -209,9 +209,9 @@ class Service:
             raise TooLong(f"a body has at most {MOST_MESSAGES} bytes")
         room = MOST_MESSAGES if stated is None else stated
         with contextlib.ExitStack() as held:
-            for one in (budget, self._share(request["who"])):
-                one.take(room)
-                held.callback(one.give, room)
+            for limit in (budget, self._share(request["who"])):
+                limit.take(room)
+                held.callback(limit.give, room)
             yield await asyncio.wait_for(self._read(request), self.seconds)
 
     def _share(self, who: Who) -> Budget:
@@ -236,9 +236,9 @@ class Service:
         if budget is None:
             return await self._sent(request, data, kind, headers or {})
         with contextlib.ExitStack() as held:
-            for one in (budget, self._part(budget, request["who"])):
-                one.take(len(data))
-                held.callback(one.give, len(data))
+            for limit in (budget, self._part(budget, request["who"])):
+                limit.take(len(data))
+                held.callback(limit.give, len(data))
             answer = await self._sent(request, data, kind, headers or {})
         return answer
 
@@ -260,7 +260,7 @@ class Service:
             await answer.write(view[place:place + PIECE])
         await answer.write_eof()
 
-    async def asked(self, request: web.Request, question: bytes, kind: str = TEXT) -> web.StreamResponse:
+    async def answer(self, request: web.Request, question: bytes, kind: str = TEXT) -> web.StreamResponse:
         """The answer to a question that is short."""
         return await self.sent(request, await self.keeper.ask(question), kind, self.answers)
 
@@ -304,11 +304,11 @@ class Service:
         async with self.body(request, self.bodies) as text:
             self.bounded(request["who"], len(text) // XML_LINE)
             async with self.converting.setdefault(request["who"].name, asyncio.Semaphore(1)):
-                found = await iso.lines_of(text, lambda bank, tx: self._looked_up(request, bank, tx))
-            lines = [one.line for one in found if one.line is not None]
+                items = await iso.lines_of(text, lambda bank, tx: self._looked_up(request, bank, tx))
+            lines = [item.line for item in items if item.line is not None]
             self.bounded(request["who"], len(lines))
             outcomes = iter(await self.posts.post(self.asker(request), lines) if lines else [])
-        answers = [iso.outcome_line(one, None if one.line is None else next(outcomes)) for one in found]
+        answers = [iso.outcome_line(item, None if item.line is None else next(outcomes)) for item in items]
         return await self.sent(request, "".join(answers).encode(), LINES)
 
     async def _looked_up(self, request: web.Request, bank: str, tx: str) -> bytes:
@@ -349,17 +349,17 @@ class Service:
             text = await self.keeper.ask(words_of(b"messages", bank, tx))
             shown = await asyncio.to_thread(senders.shown, request["who"].banks, whole_bank(bank.decode()), tx.decode(), text)
             return await self.sent(request, shown, LINES, self.answers)
-        return await self.asked(request, words_of(b"messages" if rest else b"transfer", bank, tx), LINES if rest else TEXT)
+        return await self.answer(request, words_of(b"messages" if rest else b"transfer", bank, tx), LINES if rest else TEXT)
 
     async def find(self, request: web.Request) -> web.StreamResponse:
         """The transfers that a caller knows something of, by the mirror of the site."""
-        lines, is_partial, vector = await self.finder.found(request.query.get("what", ""), self.keeper.number, self.keeper.group)
+        lines, is_partial, vector = await self.finder.find(request.query.get("what", ""), self.keeper.number, self.keeper.group)
         more = {"Niluppang-Partial": "1"} if is_partial else {}
         return await self.sent(request, lines.encode(), LINES, self.answers, {"Niluppang-Vector": vector, **more})
 
     async def bank_totals(self, request: web.Request) -> web.StreamResponse:
         self.must_be_own(request, request.match_info["bank"])
-        return await self.asked(request, words_of(b"bank", request.match_info["bank"].encode()))
+        return await self.answer(request, words_of(b"bank", request.match_info["bank"].encode()))
 
     def text(self, name: str) -> Handler:
         async def handler(request: web.Request) -> web.StreamResponse:
@@ -397,8 +397,8 @@ class Service:
                 if sum(sizes) > MOST_LOOKED_UP:
                     raise TooLong("the list names transfers with too many messages: cut it")
             return senders.held_on(text, originator, tx)
-        found = await self.posts.looked_up(names, held)
-        faults, notes = await asyncio.to_thread(senders.list_findings, bank, day, rows, found, is_bounded)
+        known = await self.posts.looked_up(names, held)
+        faults, notes = await asyncio.to_thread(senders.list_findings, bank, day, rows, known, is_bounded)
         if faults:
             self._no_report(request, faults)
         more = [f"and {len(notes) - MOST_NOTED} other rows of other days"] if len(notes) > MOST_NOTED else []
@@ -445,11 +445,11 @@ class Service:
         if self.deltas.locked() and self.guard.roles.is_open:
             raise Busy()
         async with self.deltas:
-            found = await self.keeper.answer(b"? cut " + vector_text(above).encode(), MOST_CUT)
-        if not found.is_cut:
-            return await self.sent(request, found.text, TEXT, self.sent_deltas, self.who(found.vector))
-        part = beginning(found.text) or b"delta 2\nend 0\n"
-        return await self.sent(request, part, TEXT, self.sent_deltas, {**self.who(found.vector), "Niluppang-Partial": "1"})
+            answer = await self.keeper.answer(b"? cut " + vector_text(above).encode(), MOST_CUT)
+        if not answer.is_cut:
+            return await self.sent(request, answer.text, TEXT, self.sent_deltas, self.who(answer.vector))
+        part = beginning(answer.text) or b"delta 2\nend 0\n"
+        return await self.sent(request, part, TEXT, self.sent_deltas, {**self.who(answer.vector), "Niluppang-Partial": "1"})
 
     async def _until_more(self, have: int, of: int, seconds: float) -> None:
         """Waits until the site holds more entries of an origin, or for some seconds."""
@@ -501,20 +501,20 @@ class Service:
     def faults(self) -> list[str]:
         """Why the site is not well, as texts."""
         keeper = self.keeper
-        found = [keeper.halted, keeper.failure, "the disk fails" if keeper.is_full else None, keeper.away, None if self.is_open else HEARS,
-                 f"the record cannot be written: {self.record.fault}" if self.record.fault else None]
-        return [it for it in found if it]
+        reasons = [keeper.halted, keeper.failure, "the disk fails" if keeper.is_full else None, keeper.away, None if self.is_open else HEARS,
+                   f"the record cannot be written: {self.record.fault}" if self.record.fault else None]
+        return [reason for reason in reasons if reason]
 
     async def health(self, request: web.Request) -> web.StreamResponse:
         faults = self.faults()
-        it, peers = self.keeper, {peer.number: peer.fault or "" for peer in self.peers.all}
-        found = {"site": it.number, "group": it.group, "version": self.version, "vector": it.vector, "well": not faults, "faults": faults,
+        keeper, peers = self.keeper, {peer.number: peer.fault or "" for peer in self.peers.all}
+        state = {"site": keeper.number, "group": keeper.group, "version": self.version, "vector": keeper.vector, "well": not faults, "faults": faults,
                  "peers": peers}
-        if it.closed:
-            found["closed"], found["awaits"] = it.closed, self.peers.others(it.closed, it.vector)
+        if keeper.closed:
+            state["closed"], state["awaits"] = keeper.closed, self.peers.others(keeper.closed, keeper.vector)
         if self.before:
-            found["before"] = self.before
-        return web.json_response(found, status=503 if faults else 200)
+            state["before"] = self.before
+        return web.json_response(state, status=503 if faults else 200)
 
     async def live(self, request: web.Request) -> web.StreamResponse:
         """Whether the process of the site answers."""

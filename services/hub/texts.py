@@ -40,7 +40,7 @@ class Texts:
         self.making = {}  # the text of a name that is being made
         self.there, self.next_at = weakref.WeakSet(), {}
 
-    def found(self, name: str) -> Text | None:
+    def last_text(self, name: str) -> Text | None:
         last = self.last.get(name)
         return last() if isinstance(last, weakref.ref) else last
 
@@ -51,7 +51,7 @@ class Texts:
     async def get(self, name: str) -> Text:
         """The text of a name, for the vector as it is now or was a moment ago."""
         while True:
-            text = self.found(name)
+            text = self.last_text(name)
             if text is not None and text.vector == self.keeper.vector:
                 return text
             if sum(len(one.data) > MOST_KEPT for one in self.there) >= MOST_THERE:

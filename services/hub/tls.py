@@ -10,11 +10,11 @@ from .files import Wrong
 def to_clients(tls: Tls) -> ssl.SSLContext:
     """The context of a site for its clients."""
     try:
-        it = ssl.create_default_context(ssl.Purpose.CLIENT_AUTH, cafile=tls.authority)
-        it.minimum_version = ssl.TLSVersion.TLSv1_2
-        it.verify_mode = ssl.CERT_REQUIRED if tls.clients == "required" else ssl.CERT_OPTIONAL
-        it.load_cert_chain(tls.certificate, tls.key)
-        return it
+        context = ssl.create_default_context(ssl.Purpose.CLIENT_AUTH, cafile=tls.authority)
+        context.minimum_version = ssl.TLSVersion.TLSv1_2
+        context.verify_mode = ssl.CERT_REQUIRED if tls.clients == "required" else ssl.CERT_OPTIONAL
+        context.load_cert_chain(tls.certificate, tls.key)
+        return context
     except (OSError, ssl.SSLError) as fault:
         raise Wrong(f"the certificates cannot be used: {fault}") from None
 
@@ -28,10 +28,10 @@ def to_peer(tls: Tls, number: int, roles: Callable[[], Roles]) -> ssl.SSLContext
             if not roles().is_peer(number, certificate):
                 raise ssl.CertificateError(f"the certificate of {', '.join(names_in(certificate)) or 'nobody'} is not that of site {number}")
     try:
-        it = ssl.create_default_context(cafile=tls.authority)
-        it.minimum_version = ssl.TLSVersion.TLSv1_2
-        it.load_cert_chain(tls.certificate, tls.key)
-        it.sslobject_class = OfPeer
-        return it
+        context = ssl.create_default_context(cafile=tls.authority)
+        context.minimum_version = ssl.TLSVersion.TLSv1_2
+        context.load_cert_chain(tls.certificate, tls.key)
+        context.sslobject_class = OfPeer
+        return context
     except (OSError, ssl.SSLError) as fault:
         raise Wrong(f"the certificates cannot be used: {fault}") from None

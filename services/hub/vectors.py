@@ -21,9 +21,9 @@ def vector_of(text: str, group: int = MOST_SITES) -> dict[int, int]:
     """The counts of a vector text, by origin."""
     counts: dict[int, int] = {}
     for pair in text.split(",") if text != "-" else []:
-        name, found, count = pair.partition(":")
+        name, colon, count = pair.partition(":")
         origin = number(name, group)
-        if not found or origin <= max(counts, default=0):
+        if not colon or origin <= max(counts, default=0):
             raise BadText("it is not a vector")
         counts[origin] = number(count, MOST_COUNT)
     return counts
@@ -64,10 +64,10 @@ def beginning(text: bytes) -> bytes | None:
     runs, place, many = [b"delta 2"], 1, 0
     while place < len(lines) and lines[place].startswith(b"origin "):
         origin, first, count = words_of(lines[place], b"origin", 3)
-        found = lines[place + 1:place + 1 + count]
-        if found:
-            runs += [b"origin %d %d %d" % (origin, first, len(found)), *found]
-            many += len(found)
+        entries = lines[place + 1:place + 1 + count]
+        if entries:
+            runs += [b"origin %d %d %d" % (origin, first, len(entries)), *entries]
+            many += len(entries)
         place += 1 + count
     return b"\n".join([*runs, b"end %d\n" % many]) if many else None
 

@@ -79,12 +79,12 @@ def journal_at(path: pathlib.Path | str) -> Files:
     path = pathlib.Path(path)
     try:
         with open(path, "rb") as file:
-            found = FIRST_LINE.fullmatch(file.readline(MOST_FIRST))
+            match = FIRST_LINE.fullmatch(file.readline(MOST_FIRST))
     except FileNotFoundError:
         raise Wrong(f"there is no file {path}") from None
-    if not found:
+    if not match:
         raise Wrong(f"{path} is no journal of a site: fault {WRONG_JOURNAL}")
-    files = Files(path.parent, *map(int, found.groups()))
+    files = Files(path.parent, *map(int, match.groups()))
     files.journal = path
     return files
 
@@ -206,19 +206,19 @@ def rest_texts(kept: Kept) -> list[str]:
     return [f"{kept.rest} bytes after line {kept.lines} do not count"] if kept.rest else []
 
 
-def report_of(it: Tried) -> list[str]:
+def report_of(trial: Tried) -> list[str]:
     """What is printed of a copy: the vector of the site that it restores, by what the file is known, and what is odd."""
-    return [it.vector, f"messages {it.kept.messages}, bytes {it.size}, sha256 {it.sum}", *rest_texts(it.kept), *it.faults]
+    return [trial.vector, f"messages {trial.kept.messages}, bytes {trial.size}, sha256 {trial.sum}", *rest_texts(trial.kept), *trial.faults]
 
 
-def row_of(path: pathlib.Path, it: Tried) -> dict[str, int | str]:
+def row_of(path: pathlib.Path, trial: Tried) -> dict[str, int | str]:
     """What the record has of a copy."""
-    return {"file": str(path), "vector": it.vector, "messages": it.kept.messages, "bytes": it.size, "sha256": it.sum}
+    return {"file": str(path), "vector": trial.vector, "messages": trial.kept.messages, "bytes": trial.size, "sha256": trial.sum}
 
 
-def must_be_right(path: pathlib.Path | str, it: Tried) -> None:
-    if it.faults:
-        raise Wrong("\n".join([f"{path} is not right, and nothing was done:", *it.faults]))
+def must_be_right(path: pathlib.Path | str, trial: Tried) -> None:
+    if trial.faults:
+        raise Wrong("\n".join([f"{path} is not right, and nothing was done:", *trial.faults]))
 
 
 # ---- files that come and go
@@ -279,14 +279,14 @@ def clear_halt(files: Files, noted: Noted) -> tuple[str, int]:
 
 def check(files: Files, program: str) -> tuple[str, int]:
     """What a program makes of the journal, such as before an upgrade. The site may run meanwhile."""
-    it = tried(files, program, files.journal)
-    return "\n".join([it.vector, *it.faults]), 1 if it.faults else 0
+    trial = tried(files, program, files.journal)
+    return "\n".join([trial.vector, *trial.faults]), 1 if trial.faults else 0
 
 
 def verify(files: Files, program: str, path: pathlib.Path | str) -> tuple[str, int]:
     """What a program makes of a copy of the journal."""
-    it = tried(files, program, path)
-    return "\n".join(report_of(it)), 1 if it.faults else 0
+    trial = tried(files, program, path)
+    return "\n".join(report_of(trial)), 1 if trial.faults else 0
 
 
 def backup(files: Files, program: str, target: pathlib.Path | str, noted: Noted) -> tuple[str, int]:
@@ -296,11 +296,11 @@ def backup(files: Files, program: str, target: pathlib.Path | str, noted: Noted)
         raise Wrong(f"{target} is there already, and stays as it is")
     with beside(target) as new:
         keep(its, new)
-        it = tried(files, program, new)
-        must_be_right(files.journal, it)
-        note(noted, "backup", row_of(target, it))
+        trial = tried(files, program, new)
+        must_be_right(files.journal, trial)
+        note(noted, "backup", row_of(target, trial))
         give(new, target)
-    return "\n".join(report_of(it)), 0
+    return "\n".join(report_of(trial)), 0
 
 
 def restore(files: Files, program: str, path: pathlib.Path | str, noted: Noted) -> tuple[str, int]:
@@ -308,17 +308,17 @@ def restore(files: Files, program: str, path: pathlib.Path | str, noted: Noted) 
     lines of the journal."""
     if os.path.lexists(files.journal):
         raise Wrong(f"{files.journal} is there, and may have messages that {path} lacks: move it away first, and keep it")
-    its, it = journal_of(files, path), tried(files, program, path)
-    must_be_right(path, it)
+    its, trial = journal_of(files, path), tried(files, program, path)
+    must_be_right(path, trial)
     with beside(files.journal) as new:
         keep(its, new)
         give(new, files.journal)
     try:
-        note(noted, "restore", row_of(pathlib.Path(path).absolute(), it))
+        note(noted, "restore", row_of(pathlib.Path(path).absolute(), trial))
     except (Wrong, OSError) as why:
         raise Wrong(f"{files.journal} is restored, and the record has no row of it: {why}") from None
-    more = f"the site halts as soon as a peer counts more than {it.kept.messages} messages of site {files.site}: its number is then retired"
-    return "\n".join([*report_of(it), more]), 0
+    more = f"the site halts as soon as a peer counts more than {trial.kept.messages} messages of site {files.site}: its number is then retired"
+    return "\n".join([*report_of(trial), more]), 0
 
 
 # ---- adopting the journal of another number
@@ -383,15 +383,15 @@ async def handed_on(keeper: Keeper, its: Files, counts: list[int]) -> tuple[int,
 
 def runs_of(delta: bytes) -> list[tuple[int, int, list[bytes]]]:
     """The runs of a delta: the site, the first number and the messages of each. BadText if it is none of today's form."""
-    fields, place, found = delta.split(b"\t"), 1, []
+    fields, place, runs = delta.split(b"\t"), 1, []
     while place < len(fields) and fields[place].startswith(ORIGIN):
         origin, first, many = words_of(fields[place], b"origin", 3)
-        found.append((origin, first, fields[place + 1:place + 1 + many]))
+        runs.append((origin, first, fields[place + 1:place + 1 + many]))
         place += 1 + many
-    is_complete = fields[place:] == [b"end %d" % sum(len(lines) for _, _, lines in found)]
-    if fields[0] != b"delta 2" or not is_complete or not all(origin and first and lines for origin, first, lines in found):
+    is_complete = fields[place:] == [b"end %d" % sum(len(lines) for _, _, lines in runs)]
+    if fields[0] != b"delta 2" or not is_complete or not all(origin and first and lines for origin, first, lines in runs):
         raise BadText("it is not a delta")
-    return found
+    return runs
 
 
 def runs_beyond(counts: list[int], delta: bytes) -> list[tuple[int | None, int, bytes]]:
@@ -401,13 +401,13 @@ def runs_beyond(counts: list[int], delta: bytes) -> list[tuple[int | None, int, 
         runs = runs_of(delta)
     except BadText:
         return [(None, 0, delta)]
-    found: list[tuple[int | None, int, bytes]] = []
+    beyond: list[tuple[int | None, int, bytes]] = []
     for origin, first, lines in runs:
         held = counts[origin - 1] if 1 <= origin <= len(counts) else 0
         lacking = lines[max(0, held + 1 - first):]
         if lacking:
-            found.append((origin, first + len(lines) - 1, run_text(origin, max(first, held + 1), lacking)))
-    return found
+            beyond.append((origin, first + len(lines) - 1, run_text(origin, max(first, held + 1), lacking)))
+    return beyond
 
 
 async def taken(keeper: Keeper, its: Files, noted: Noted) -> tuple[dict[str, int], list[str]]:
@@ -415,11 +415,12 @@ async def taken(keeper: Keeper, its: Files, noted: Noted) -> tuple[dict[str, int
     counts: collections.Counter[str] = collections.Counter()
     faults: list[str] = []
     for batch in batches(its):
-        blank, asked = [one for one in batch if not one.line.strip(BLANK)], [one for one in batch if one.line.strip(BLANK)]
-        outcomes = await recorded(keeper, its, [one.line for one in asked], noted)
+        blank = [message for message in batch if not message.line.strip(BLANK)]
+        messages = [message for message in batch if message.line.strip(BLANK)]
+        outcomes = await recorded(keeper, its, [message.line for message in messages], noted)
         counts.update(outcome.word for outcome in outcomes)
-        faults += [fault_text(one.place, "", one.number) for one in blank]
-        faults += [fault_text(one.place, it.why, one.number) for one, it in zip(asked, outcomes) if it.word == "REFUSED"]
+        faults += [fault_text(message.place, "", message.number) for message in blank]
+        faults += [fault_text(message.place, outcome.why, message.number) for message, outcome in zip(messages, outcomes) if outcome.word == "REFUSED"]
     return counts, faults
 
 
@@ -439,15 +440,15 @@ async def recorded(keeper: Keeper, its: Files, lines: list[bytes], noted: Noted)
 
 def batches(files: Files) -> Iterator[list[Message]]:
     """The messages of a journal, some at once."""
-    found, size, number = [], 0, 0
+    batch, size, number = [], 0, 0
     for place, line in enumerate(files.kept(), 2):
         if line.startswith(DELTA):
             continue
         number += 1
-        found.append(Message(place, number, line))
+        batch.append(Message(place, number, line))
         size += len(line)
-        if size >= MOST_BYTES or len(found) >= MOST_LINES:
-            yield found
-            found, size = [], 0
-    if found:
-        yield found
+        if size >= MOST_BYTES or len(batch) >= MOST_LINES:
+            yield batch
+            batch, size = [], 0
+    if batch:
+        yield batch

@@ -16,7 +16,7 @@ def answer_file(work: str, name: str, word: str) -> str:
     return f"{work}/answers/{name}.{word}"
 
 
-def asked(program: str, words: list[str], source: str, target: BinaryIO) -> bytes:
+def run_program(program: str, words: list[str], source: str, target: BinaryIO) -> bytes:
     """Runs the program on a file, and writes its answer to another one. What it writes to standard error is the result."""
     with open(source, "rb") as lines:
         done = subprocess.run([program, *words], stdin=lines, stdout=target, stderr=subprocess.PIPE)
@@ -47,11 +47,11 @@ def write_refused(path: str, errors: bytes, places: array.array[int]) -> int:
 def answer_part(work: str, name: str, program: str, commands: list[Any]) -> int:
     """Writes the answer to each command, a word for its file with the words of the command line, and the refused lines. The result
     is how many lines were refused."""
-    found = None
+    refused = None
     for word, words in commands:
         with whole(answer_file(work, name, word)) as target:
-            errors = asked(program, words, part_file(work, name, "lines"), target)
-        if found not in (None, errors):
+            errors = run_program(program, words, part_file(work, name, "lines"), target)
+        if refused not in (None, errors):
             raise Stop(f"{program} refuses other lines for {word} than before")
-        found = errors
-    return write_refused(answer_file(work, name, "refused"), found or b"", numbers(part_file(work, name, "places")))
+        refused = errors
+    return write_refused(answer_file(work, name, "refused"), refused or b"", numbers(part_file(work, name, "places")))

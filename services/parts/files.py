@@ -55,21 +55,21 @@ def read_json(path: pathlib.Path | str) -> Any:
 def kept(path: str, make: Callable[[], Any]) -> Any:
     """What was made before and is kept in a file, else what is made now, which is kept then, in a list of its own. It is made of lists,
     texts and numbers."""
-    found = read_json(path)
-    if found is None:
+    stored = read_json(path)
+    if stored is None:
         with whole(path) as file:
             file.write(json.dumps([make()]).encode())
-        found = read_json(path)
-    return found[0]
+        stored = read_json(path)
+    return stored[0]
 
 
 def numbers(path: str, begin: int = 0, end: int | None = None) -> array.array[int]:
     """The numbers in a file, of eight bytes each, from one byte to another."""
-    found = array.array("Q")
+    values = array.array("Q")
     with open(path, "rb") as file:
         file.seek(begin)
-        found.frombytes(file.read(-1 if end is None else end - begin))
-    return found
+        values.frombytes(file.read(-1 if end is None else end - begin))
+    return values
 
 
 def copied(source: BinaryIO, begin: int, end: int, target: BinaryIO) -> None:

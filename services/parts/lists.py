@@ -30,10 +30,10 @@ def held_in_part(work: str, name: str, path: str) -> list[Any]:
     return [[[*transfer, ones] for transfer, ones in instructions.items()], [[*transfer, sorted(its)] for transfer, its in banks.items()]]
 
 
-def findings(bank: str, day: str, path: str, found: list[Any]) -> tuple[list[str], list[str]]:
+def findings(bank: str, day: str, path: str, held: list[Any]) -> tuple[list[str], list[str]]:
     """Why there is no report on a list, as a sentence for each row that is a transfer of other banks, and what is said of other rows."""
     desk, instructions, banks = desk_module("check_list"), {}, {}
-    for ones, its in found:
+    for ones, its in held:
         instructions.update({(originator, tx): [desk.Instruction(*one) for one in some] for originator, tx, some in ones})
         banks.update({(originator, tx): set(some) for originator, tx, some in its})
     said = list(desk.faults(desk.bank(bank), day, rows_of(path), (instructions, banks)))

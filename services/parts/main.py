@@ -60,8 +60,8 @@ def number(text: str) -> int:
 
 def size(text: str, most: int = sys.maxsize) -> int:
     """A number of bytes from 1 on, which may have a unit."""
-    found = re.fullmatch(r"([0-9]{1,18}) ?([A-Za-z]*)", text)
-    bytes_of_all = int(found[1]) * UNITS.get(found[2], 0) if found else 0
+    match = re.fullmatch(r"([0-9]{1,18}) ?([A-Za-z]*)", text)
+    bytes_of_all = int(match[1]) * UNITS.get(match[2], 0) if match else 0
     if not bytes_of_all:
         raise argparse.ArgumentTypeError(f"{text} is not a size such as 134217728, 128MiB or 1GB")
     if bytes_of_all > most:
@@ -76,27 +76,27 @@ def part_size(text: str) -> int:
 
 def words() -> argparse.ArgumentParser:
     """The words of the command line."""
-    it = argparse.ArgumentParser(prog="main.py", description=__doc__, formatter_class=argparse.RawDescriptionHelpFormatter)
-    it.add_argument("folder", metavar="FOLDER", help="where the answers go")
-    it.add_argument("files", metavar="FILE", nargs="+", help="a file of messages, as docs/users/formats.md says")
-    it.add_argument("--ask", metavar="WORDS", default="status,totals,archive", help="which of these three, with commas (all)")
-    it.add_argument("--report", metavar=("BANK", "DAY", "LIST"), nargs=3, help="a report on a bank's list too")
-    it.add_argument("--keep", metavar="DAY", help="what is kept on a day, too")
-    it.add_argument("--closed", metavar="DAY", help="what is closed on a day, too")
-    it.add_argument("--scheduler", metavar="ADDRESS", help="the scheduler of a cluster (workers on this machine)")
-    it.add_argument("--tls-ca", metavar="FILE", help="who signs the certificates of a cluster at tls://")
-    it.add_argument("--tls-cert", metavar="FILE", help="the certificate that is shown to it")
-    it.add_argument("--tls-key", metavar="FILE", help="the key of that certificate")
-    it.add_argument("--plain", action="store_true", help="use a cluster on other machines without TLS: whoever reaches it runs programs there")
-    it.add_argument("--progress", action="store_true", help="say on standard error how far it is, and how long it takes (a terminal shows it always)")
-    it.add_argument("--workers", metavar="N", type=number, default=len(os.sched_getaffinity(0)), help="workers on this machine")
-    it.add_argument("--parts", metavar="N", type=number, default=1, help="cut into so many parts at least")
-    it.add_argument("--most", metavar="SIZE", type=part_size, default=128 << 20, help="a part has so much at most, such as 500MB (128MiB)")
-    it.add_argument("--block", metavar="SIZE", type=size, default=64 << 20, help="bytes of a file that are read at once (64MiB)")
-    it.add_argument("--program", metavar="PATH", help="sct_sites (the variable SCT_SITES, the search path, then that of the release)")
-    it.add_argument("--unchecked", action="store_true", help="do not check that the parts share nothing")
-    it.add_argument("--leave-parts", action="store_true", help="leave the parts and their answers in FOLDER/work")
-    return it
+    parser = argparse.ArgumentParser(prog="main.py", description=__doc__, formatter_class=argparse.RawDescriptionHelpFormatter)
+    parser.add_argument("folder", metavar="FOLDER", help="where the answers go")
+    parser.add_argument("files", metavar="FILE", nargs="+", help="a file of messages, as docs/users/formats.md says")
+    parser.add_argument("--ask", metavar="WORDS", default="status,totals,archive", help="which of these three, with commas (all)")
+    parser.add_argument("--report", metavar=("BANK", "DAY", "LIST"), nargs=3, help="a report on a bank's list too")
+    parser.add_argument("--keep", metavar="DAY", help="what is kept on a day, too")
+    parser.add_argument("--closed", metavar="DAY", help="what is closed on a day, too")
+    parser.add_argument("--scheduler", metavar="ADDRESS", help="the scheduler of a cluster (workers on this machine)")
+    parser.add_argument("--tls-ca", metavar="FILE", help="who signs the certificates of a cluster at tls://")
+    parser.add_argument("--tls-cert", metavar="FILE", help="the certificate that is shown to it")
+    parser.add_argument("--tls-key", metavar="FILE", help="the key of that certificate")
+    parser.add_argument("--plain", action="store_true", help="use a cluster on other machines without TLS: whoever reaches it runs programs there")
+    parser.add_argument("--progress", action="store_true", help="say on standard error how far it is, and how long it takes (a terminal shows it always)")
+    parser.add_argument("--workers", metavar="N", type=number, default=len(os.sched_getaffinity(0)), help="workers on this machine")
+    parser.add_argument("--parts", metavar="N", type=number, default=1, help="cut into so many parts at least")
+    parser.add_argument("--most", metavar="SIZE", type=part_size, default=128 << 20, help="a part has so much at most, such as 500MB (128MiB)")
+    parser.add_argument("--block", metavar="SIZE", type=size, default=64 << 20, help="bytes of a file that are read at once (64MiB)")
+    parser.add_argument("--program", metavar="PATH", help="sct_sites (the variable SCT_SITES, the search path, then that of the release)")
+    parser.add_argument("--unchecked", action="store_true", help="do not check that the parts share nothing")
+    parser.add_argument("--leave-parts", action="store_true", help="leave the parts and their answers in FOLDER/work")
+    return parser
 
 
 def program_of(given: str | None) -> str:
@@ -108,16 +108,16 @@ def program_of(given: str | None) -> str:
     return os.path.abspath(path)
 
 
-def commands_of(asked: argparse.Namespace) -> tuple[list[Any], list[Any]]:
+def commands_of(args: argparse.Namespace) -> tuple[list[Any], list[Any]]:
     """The words of the command line for each word that is asked for, and for what the checks read."""
-    plain = [word for word in asked.ask.split(",") if word]
+    plain = [word for word in args.ask.split(",") if word]
     if not set(plain) <= {"status", "totals", "archive"}:
-        raise Stop(f"--ask takes status, totals and archive, and not {asked.ask}")
-    report = asked.report and ["report", *asked.report[:2], os.path.abspath(asked.report[2])]
-    days = [[word, [command, "--", day]] for word, command, day in (("kept", "keep", asked.keep), ("closed", "closed", asked.closed))
+        raise Stop(f"--ask takes status, totals and archive, and not {args.ask}")
+    report = args.report and ["report", *args.report[:2], os.path.abspath(args.report[2])]
+    days = [[word, [command, "--", day]] for word, command, day in (("kept", "keep", args.keep), ("closed", "closed", args.closed))
             if day is not None]
     wanted = [[word, [word]] for word in plain] + [["report", report]] * bool(report) + days
-    more = [[word, [word]] for word in CHECKED if word not in plain and (not asked.unchecked or report and word == OF_LIST)]
+    more = [[word, [word]] for word in CHECKED if word not in plain and (not args.unchecked or report and word == OF_LIST)]
     if not wanted:
         raise Stop("nothing is asked for")
     return wanted, more
@@ -130,14 +130,14 @@ def mark(path: str | pathlib.Path) -> list[Any]:
     return [path, there.st_size, there.st_mtime_ns]
 
 
-def plan_of(asked: argparse.Namespace) -> dict[str, Any]:
+def plan_of(args: argparse.Namespace) -> dict[str, Any]:
     """What a run does: if it is the same as that of a run that was cut off, the work goes on where it stopped."""
-    wanted, more = commands_of(asked)
-    program = program_of(asked.program)
-    list_of_bank = [mark(asked.report[2])] if asked.report else []
-    code = code_sum(lists.tools() if asked.report else [])
-    return {"made by": OURS, "code": code, "files": [mark(path) for path in asked.files], "program": mark(program), "wanted": wanted, "more": more,
-            "list": list_of_bank, "parts": asked.parts, "most": asked.most, "block": asked.block}
+    wanted, more = commands_of(args)
+    program = program_of(args.program)
+    list_of_bank = [mark(args.report[2])] if args.report else []
+    code = code_sum(lists.tools() if args.report else [])
+    return {"made by": OURS, "code": code, "files": [mark(path) for path in args.files], "program": mark(program), "wanted": wanted, "more": more,
+            "list": list_of_bank, "parts": args.parts, "most": args.most, "block": args.block}
 
 
 def code_sum(more: list[str]) -> str:
@@ -183,13 +183,13 @@ def remove_work(work: pathlib.Path) -> None:
 
 def made_before(folder: pathlib.Path) -> dict[str, Any]:
     """The texts that runs have put into a folder, each with its size and the time of its last change. They are in the file of the lock."""
-    found = read_json(folder / "lock")
-    return found if isinstance(found, dict) else {}
+    made = read_json(folder / "lock")
+    return made if isinstance(made, dict) else {}
 
 
-def note_made(folder: pathlib.Path, found: dict[str, pathlib.Path]) -> None:
+def note_made(folder: pathlib.Path, texts: dict[str, pathlib.Path]) -> None:
     """Notes texts by their names and files as made by this program, so that a later run may remove them."""
-    (folder / "lock").write_text(json.dumps({name: mark(path)[1:] for name, path in found.items()}))
+    (folder / "lock").write_text(json.dumps({name: mark(path)[1:] for name, path in texts.items()}))
 
 
 def remove_texts(folder: pathlib.Path) -> None:
@@ -228,8 +228,8 @@ class Steps:
 
     def each(self, name: str, function: str, calls: list[list[Any]]) -> list[Any]:
         """The results of a function of a module on the folder of the work, for each list of its other arguments."""
-        asked = [[str(PACKAGE.parent), self.work, name, number, function, its] for number, its in enumerate(calls)]
-        calls = self.client.map(kept_call, asked, pure=False)
+        jobs = [[str(PACKAGE.parent), self.work, name, number, function, its] for number, its in enumerate(calls)]
+        calls = self.client.map(kept_call, jobs, pure=False)
         if self.progress.is_shown:
             self.progress.say(name, 0, len(calls))
             for done, _ in enumerate(as_completed(calls), 1):
@@ -255,8 +255,8 @@ def kept_call(call: list[Any]) -> Any:
 def tied(steps: Steps, blocks: list[parts.Block], read: list[dict[str, Any]], buckets: int) -> int:
     """Writes the root of each tied transfer. The result is how many are tied."""
     slices = [[[block.number, *its["ends"][bucket:bucket + 2]] for block, its in zip(blocks, read)] for bucket in range(buckets)]
-    found = steps.each("ties", "parts.ties.pairs_in", [[its] for its in slices])
-    pairs = [pair for its in read for pair in its["pairs"]] + [pair for its in found for pair in its]
+    of_buckets = steps.each("ties", "parts.ties.pairs_in", [[its] for its in slices])
+    pairs = [pair for its in read for pair in its["pairs"]] + [pair for its in of_buckets for pair in its]
     roots = ties.Ties(pairs).roots()
     with whole(f"{steps.work}/roots") as file:
         for pair in sorted(roots.items()):
@@ -286,17 +286,17 @@ def cut(steps: Steps, blocks: list[parts.Block], plan: dict[str, Any]) -> tuple[
     steps.drop("keys")
     gathered = steps.each("gather", "parts.parts.gather_part", [[part, pieces, plan["most"]] for part in range(number)])
     steps.drop("cuts")
-    found = [one for its in gathered for one in its]
-    if sum(lines for _, _, lines in found) != sum(its["lines"] - its["blank"] for its in read):
+    made = [one for its in gathered for one in its]
+    if sum(lines for _, _, lines in made) != sum(its["lines"] - its["blank"] for its in read):
         raise Stop("the parts have other lines than the files")
-    return found, many
+    return made, many
 
 
 def check_list(steps: Steps, names: list[str], words: list[str]) -> None:
     """Stops if a list has a row that is a transfer of other banks. What is said of other rows is printed."""
     *_, bank, day, path = words
-    found = steps.each("check", "parts.lists.held_in_part", [[name, path] for name in names])
-    faults, notes = lists.findings(bank, day, path, found)
+    held = steps.each("check", "parts.lists.held_in_part", [[name, path] for name in names])
+    faults, notes = lists.findings(bank, day, path, held)
     steps.progress.end()
     for text in faults + notes:
         print(f"parts: {text}", file=sys.stderr)
@@ -308,8 +308,8 @@ def answered(steps: Steps, plan: dict[str, Any]) -> tuple[list[str], str, int]:
     """Asks the program on each part, and merges its answers. The result is a line that says what was done, and how many lines were
     refused."""
     blocks = parts.blocks_of([path for path, _, _ in plan["files"]], plan["block"])
-    found, many = cut(steps, blocks, plan)
-    names, commands = [name for name, _, _ in found], plan["wanted"] + plan["more"]
+    made, many = cut(steps, blocks, plan)
+    names, commands = [name for name, _, _ in made], plan["wanted"] + plan["more"]
     refused = sum(steps.each("answer", "parts.answers.answer_part", [[name, plan["program"][0], commands] for name in names]))
     steps.drop("parts")
     for words in [words for word, words in plan["wanted"] if word == "report"]:
@@ -317,17 +317,17 @@ def answered(steps: Steps, plan: dict[str, Any]) -> tuple[list[str], str, int]:
     wanted = [word for word, _ in plan["wanted"]] + ["refused"]
     calls = [[names, word, len(plan["files"]), word in wanted] for word in [word for word, _ in commands] + ["refused"]]
     steps.each("merge", "parts.merge.merge", calls)
-    lines = sum(lines for _, _, lines in found)
+    lines = sum(lines for _, _, lines in made)
     return wanted, f"lines {lines}, refused {refused}, tied transfers {many}, parts {len(names)}", refused
 
 
 # ---- the workers
 
 @contextlib.contextmanager
-def workers(asked: argparse.Namespace, work: pathlib.Path) -> Iterator[Client]:
+def workers(args: argparse.Namespace, work: pathlib.Path) -> Iterator[Client]:
     """The workers: those of a cluster, or some on this machine, which nobody else reaches."""
-    if asked.scheduler:
-        with Client(asked.scheduler, security=security_of(asked)) as client:
+    if args.scheduler:
+        with Client(args.scheduler, security=security_of(args)) as client:
             yield client
         return
     logging.getLogger("asyncio").setLevel(logging.CRITICAL)  # what Dask leaves undone when it ends is no part of the answer
@@ -338,20 +338,20 @@ def workers(asked: argparse.Namespace, work: pathlib.Path) -> Iterator[Client]:
         raise Stop("there is no python3-cryptography: without it every user of this machine could run programs in the workers") from None
     how = {"threads_per_worker": 1, "local_directory": f"{work}/dask", "silence_logs": logging.CRITICAL, "security": security, "host": HERE,
            "dashboard_address": f"{HERE}:0", "worker_dashboard_address": f"{HERE}:0"}
-    with LocalCluster(n_workers=asked.workers, **how) as cluster, Client(cluster) as client:
+    with LocalCluster(n_workers=args.workers, **how) as cluster, Client(cluster) as client:
         yield client
 
 
-def security_of(asked: argparse.Namespace) -> Security | None:
+def security_of(args: argparse.Namespace) -> Security | None:
     """How the scheduler of a cluster is spoken to."""
-    address = urllib.parse.urlsplit(asked.scheduler)
-    files = [asked.tls_ca, asked.tls_cert, asked.tls_key]
+    address = urllib.parse.urlsplit(args.scheduler)
+    files = [args.tls_ca, args.tls_cert, args.tls_key]
     if address.scheme == "tls" or any(files):
         if address.scheme != "tls" or not all(files):
             raise Stop("a cluster at tls:// needs --tls-ca, --tls-cert and --tls-key")
         return Security(tls_ca_file=files[0], tls_client_cert=files[1], tls_client_key=files[2], require_encryption=True)
-    if not asked.plain and not is_here(address.hostname or ""):
-        raise Stop(f"{asked.scheduler} is spoken to without TLS: whoever reaches that network runs programs on all workers. Use tls://, or say"
+    if not args.plain and not is_here(address.hostname or ""):
+        raise Stop(f"{args.scheduler} is spoken to without TLS: whoever reaches that network runs programs on all workers. Use tls://, or say"
                    " by --plain that nobody else reaches it")
     return None
 
@@ -365,9 +365,9 @@ def is_here(host: str) -> bool:
 
 
 @contextlib.contextmanager
-def shown(asked: argparse.Namespace) -> Iterator[Progress]:
+def shown(args: argparse.Namespace) -> Iterator[Progress]:
     """What says how far the run is. Its line is gone in the end."""
-    progress = Progress([step for step in STEPS if step != "check" or asked.report], asked.progress)
+    progress = Progress([step for step in STEPS if step != "check" or args.report], args.progress)
     try:
         yield progress
     finally:
@@ -387,21 +387,21 @@ def is_taken(plan: dict[str, Any]) -> None:
                 raise Stop(done.stderr.decode(errors="replace").strip(), done.returncode)
 
 
-def run(asked: argparse.Namespace) -> int:
+def run(args: argparse.Namespace) -> int:
     """The exit status of the run, which is 1 if a line was refused."""
-    plan, folder = plan_of(asked), pathlib.Path(asked.folder).resolve()
+    plan, folder = plan_of(args), pathlib.Path(args.folder).resolve()
     is_taken(plan)
     with alone_in(folder):
         work = prepared(folder, plan)
-        with workers(asked, work) as client, shown(asked) as progress:
-            wanted, done, refused = answered(Steps(client, work, asked.leave_parts, progress), plan)
-        if plan_of(asked) != plan:
+        with workers(args, work) as client, shown(args) as progress:
+            wanted, done, refused = answered(Steps(client, work, args.leave_parts, progress), plan)
+        if plan_of(args) != plan:
             raise Stop("a file changed while it was read")
         remove_texts(folder)
         note_made(folder, {f"whole.{word}": work / "merged" / word for word in wanted})  # a file that is moved keeps its time
         for word in wanted:
             os.replace(work / "merged" / word, folder / f"whole.{word}")
-        if not asked.leave_parts:
+        if not args.leave_parts:
             remove_work(work)
     print(done)
     return 1 if refused else 0

@@ -40,10 +40,10 @@ def messages_in(path: str, part: str) -> Iterator[tuple[Any, str, bytes]]:
     """Each message of an archive text or of a part of it: its identity and its line."""
     with open(path, "rb") as file:
         for line in file:
-            found = IDENTITY.search(line)
-            if found is None:
+            match = IDENTITY.search(line)
+            if match is None:
                 raise Stop(f"{path} has a line without an identity")
-            sender, msg_id, kind = found.groups()
+            sender, msg_id, kind = match.groups()
             yield (sender, kind, msg_id, line), part, line
 
 
@@ -95,11 +95,11 @@ def with_parts(path: str, read: Callable[[str, Any], Iterator[tuple[Any, str, by
             yield key, part.rstrip("\n"), its
 
 
-def apart(found: Iterator[tuple[Any, str, bytes]], width: int, what: str) -> Iterator[tuple[Any, str, bytes]]:
+def apart(texts: Iterator[tuple[Any, str, bytes]], width: int, what: str) -> Iterator[tuple[Any, str, bytes]]:
     """The same, of which no two from different parts may begin with the same parts of a key."""
     last: tuple[Any, ...] = ()
     its = None
-    for key, part, text in found:
+    for key, part, text in texts:
         if key[:width] == last and part != its:
             raise Stop(f"the parts {its} and {part} share the {what} " + b"|".join(last).decode())
         last, its = key[:width], part

@@ -42,18 +42,18 @@ def file_and_line(place: int) -> tuple[int, int]:
 def cuts(path: str, size: int) -> list[int]:
     """Where the blocks of a file begin, and where the last one ends: after a line feed, about every `size` bytes."""
     end = os.path.getsize(path)
-    found = [0]
+    places = [0]
     with open(path, "rb") as file:
-        while found[-1] + size < end:
-            file.seek(found[-1] + size - 1)
+        while places[-1] + size < end:
+            file.seek(places[-1] + size - 1)
             file.readline()
-            found.append(file.tell())
-    return found + [end] * (found[-1] < end)
+            places.append(file.tell())
+    return places + [end] * (places[-1] < end)
 
 
 def blocks_of(paths: list[str], size: int) -> list[Block]:
     """The blocks of all files, each of about so many bytes."""
-    ends = [(file, path, *two) for file, path in enumerate(paths, 1) for found in [cuts(path, size)] for two in zip(found, found[1:])]
+    ends = [(file, path, *two) for file, path in enumerate(paths, 1) for places in [cuts(path, size)] for two in zip(places, places[1:])]
     return [Block(number, *end) for number, end in enumerate(ends)]
 
 
@@ -105,8 +105,8 @@ def part_of(transfer: int, line: int, roots: dict[int, int], parts: int) -> int:
 
 def read_roots(work: str) -> dict[int, int]:
     """The root of each tied transfer, from the file that has them in turn."""
-    found = numbers(f"{work}/roots")
-    return dict(zip(found[::2], found[1::2]))
+    pairs = numbers(f"{work}/roots")
+    return dict(zip(pairs[::2], pairs[1::2]))
 
 
 def cut_block(work: str, block: list[Any], before: int, parts: int) -> dict[str, list[int]]:
@@ -178,15 +178,15 @@ def split_part(work: str, part: int, most: int) -> list[list[int | str]]:
     path, roots = part_file(work, f"{part}", "lines"), read_roots(work)
     sizes: collections.Counter[int] = collections.Counter()
     with open(path, "rb") as file:
-        found = [root_of(line, number, roots) for number, line in enumerate(file)]
+        line_roots = [root_of(line, number, roots) for number, line in enumerate(file)]
     with open(path, "rb") as file:
-        for root, line in zip(found, file):
+        for root, line in zip(line_roots, file):
             sizes[root] += len(line)
     [(root, size)] = sizes.most_common(1)
     if size > most:
-        raise Stop(too_large(path, [its == root for its in found], size, most))
+        raise Stop(too_large(path, [its == root for its in line_roots], size, most))
     piece_of, many = pieces_of(sizes, most)
-    return [write_piece(work, part, piece, [piece_of[root] for root in found]) for piece in range(many)]
+    return [write_piece(work, part, piece, [piece_of[root] for root in line_roots]) for piece in range(many)]
 
 
 def write_piece(work: str, part: int, piece: int, pieces: list[int]) -> list[int | str]:

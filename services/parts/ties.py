@@ -14,8 +14,8 @@ class Ties:
 
     def __init__(self, pairs: Iterable[tuple[int, int]] = ()) -> None:
         self.above = {}
-        for one, other in pairs:
-            self.tie(one, other)
+        for transfer, other in pairs:
+            self.tie(transfer, other)
 
     def root(self, transfer: int) -> int:
         """The transfer that stands for all that are tied to this one."""
@@ -26,10 +26,10 @@ class Ties:
             self.above[transfer], transfer = root, self.above[transfer]
         return root
 
-    def tie(self, one: int, other: int) -> None:
-        one, other = self.root(one), self.root(other)
-        self.above.setdefault(one, one)
-        self.above[other] = one
+    def tie(self, transfer: int, other: int) -> None:
+        transfer, other = self.root(transfer), self.root(other)
+        self.above.setdefault(transfer, transfer)
+        self.above[other] = transfer
 
     def roots(self) -> dict[int, int]:
         """The root of each tied transfer."""
@@ -47,8 +47,8 @@ def pairs_in(work: str, slices: list[list[int]]) -> list[tuple[int, int]]:
     first: dict[int, int] = {}
     pairs: set[tuple[int, int]] = set()
     for block, begin, end in slices:
-        found = numbers(f"{work}/keys/{block}.identities", begin, end)
-        for identity, transfer in zip(found[::2], found[1::2]):
+        values = numbers(f"{work}/keys/{block}.identities", begin, end)
+        for identity, transfer in zip(values[::2], values[1::2]):
             other = first.setdefault(identity, transfer)
             if other != transfer:
                 pairs.add((other, transfer))

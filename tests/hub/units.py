@@ -186,7 +186,7 @@ async def shares():
     held.clear()
     await asyncio.sleep(0.01)
     large.vector = "1:99"
-    yield "when nobody reads them they are gone", its.found("archive") is None and (await its.get("archive")).vector == "1:99"
+    yield "when nobody reads them they are gone", its.last_text("archive") is None and (await its.get("archive")).vector == "1:99"
 
 
 def shares_texts():
