@@ -1,6 +1,6 @@
 //! The logs of one site: one log for each origin, with the vector that counts their entries.
 
-ghost use Rattle.std.specs.Prelude.{◌≡◌, ◌≢◌, ◌≤◌, ◌<◌, ◌^◌, ◌+◌, ℕ, [], None, true, false, length, nat_eq, if◌then◌else◌, OnOk, OnErr, IfOk, IfErr, IsOk, MatchOption, option_map};
+ghost use Rattle.std.specs.Prelude.{◌≡◌, ◌≢◌, ◌≤◌, ◌<◌, ◌^◌, ◌+◌, ℕ, [], None, true, false, length, nat_eq, nat_lt, if◌then◌else◌, OnOk, OnErr, IfOk, IfErr, IsOk, MatchOption, option_map};
 ghost use Rattle.std.specs.Arc.{arc_value};
 ghost use Rattle.std.specs.Option.{option_copied};
 ghost use Rattle.sct_delta.specs.Entries.{entries_from, log_of, numbered, IsDelta};
@@ -157,6 +157,14 @@ impl Logs {
     {
         self.shelf.drop_empty();
         self.vector.drop_zeros();
+    }
+
+    /// Whether there is room for one more message of the origin: a `push` at that origin then does not allocate.
+    /// O(log origins).
+    pub fn has_room(&self, origin: u16) -> bool
+        ensures { result ≡ nat_lt 0 (room_at self.now origin) }
+    {
+        self.vector.names(origin) && self.shelf.places(origin) > 0
     }
 
     /// Makes room for one more message of the origin, so that a `push` at that origin does not

@@ -74,6 +74,16 @@ impl Shelf {
         }
     }
 
+    /// How many more messages of the origin can be held before the shelf allocates.
+    pub fn places(&self, origin: u16) -> usize
+        ensures { result ≡ places_at self.now origin }
+    {
+        match self.logs.get(&origin) {
+            Some(log) => log.capacity() - log.len(),
+            None => 0,
+        }
+    }
+
     /// The message with this number, from 1, or none.
     pub fn get(&self, origin: u16, n: u64) -> Option<&Arc<Message>>
         ensures { option_map arc_value (option_copied result) ≡ message_at (log_on self.now origin) n }

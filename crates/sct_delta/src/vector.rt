@@ -1,9 +1,10 @@
 //! A version vector: how many entries of each origin are held.
 
-ghost use Rattle.std.specs.BTreeMap.{keys};
+ghost use Rattle.std.specs.BTreeMap.{get, keys};
 ghost use Rattle.std.specs.Cmp.{partial_equiv_from_equiv};
 ghost use Rattle.std.specs.List.{list_all};
-ghost use Rattle.std.specs.Prelude.{◌≡◌, ◌≢◌, ◌≤◌, ◌↔◌, ℕ, Some, None, true, false, nat_eq, if◌then◌else◌, IfOk, IfErr, IsOk, IsTrue, OnOk, OnErr};
+ghost use Rattle.std.specs.Ordering.{nat_cmp};
+ghost use Rattle.std.specs.Prelude.{◌≡◌, ◌≢◌, ◌≤◌, ◌↔◌, ℕ, Some, None, true, false, nat_eq, is_some, if◌then◌else◌, IfOk, IfErr, IsOk, IsTrue, OnOk, OnErr};
 ghost use Rattle.sct_delta.specs.declared.fault.DeltaFault.TheVariants as fault;
 ghost use Rattle.sct_delta.specs.Shapes.{are_origins_sites, first_fall, count_among, vector_refusal};
 ghost use Rattle.sct_delta.specs.Vectors.{CountAlike, HasNoZero, HasZeroIfDue, Names, count_in, counted_alike, same_counts};
@@ -107,6 +108,20 @@ impl Vector {
         }
     }
 
+    /// The counts of the origins that the vector names, ascending by origin. A count may be 0. O(1).
+    pub fn counts(&self) -> &BTreeMap<u16, u64>
+        ensures { result.now ≡ self.now.counts }
+    {
+        &self.counts
+    }
+
+    // Whether there is a place for the count of the origin.
+    pub(crate) fn names(&self, origin: u16) -> bool
+        ensures { result ≡ is_some (get nat_cmp self.now.counts origin) }
+    {
+        self.counts.get(&origin).is_some()
+    }
+
     // A vector of zero counts.
     pub(crate) fn empty(alloc: Global) -> Vector
         ensures counts { (origin : ℕ) → count_in result origin ≡ 0 }
@@ -126,7 +141,7 @@ impl Vector {
         ensures due { OnOk result ((due : ℕ → ℕ) → 1 ≤ due origin → HasZeroIfDue due self.old
             → HasZeroIfDue due self.new) }
     {
-        if self.counts.get(&origin).is_some() {
+        if self.names(origin) {
             return Ok(());
         }
         self.counts.insert(origin, 0)?;

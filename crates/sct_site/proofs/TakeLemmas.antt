@@ -1,14 +1,20 @@
 -- What a take is answered and leaves, told from what the body finds. Proof plumbing.
-use Rattle.std.proofs.Common.{◌≡◌, ◌∙◌, refl, ap, sym, ℕ, ◌+◌, Bool, true, false, cond, List, [], ◌∷◌, ◌++◌, map, length, nat_eq}
+use Rattle.std.proofs.Common.{◌≡◌, ◌∙◌, refl, ap, sym, ℕ, ◌+◌, Bool, true, false, cond, List, [], ◌∷◌, ◌++◌, map, length, arith, nat_eq}
 use Rattle.std.specs.FinSet as set
+use Rattle.std.proofs.lemmas.Bool.Decides.{nat_tests}
 use Rattle.std.proofs.lemmas.List.{append-nil, map-append}
 use Rattle.sct_message.specs.declared.draft.Draft.{Draft}
+use Rattle.sct_message.specs.Keys.{identity_of}
+use Rattle.sct_set.specs.Archive.{added_of, added_where, has_identity}
 use Rattle.sct_set.specs.Contents.{Contents}
-use Rattle.sct_set.proofs.ContentsLemmas.{contents-push}
+use Rattle.sct_set.specs.declared.added.Added.{Added}
+use Rattle.sct_set.specs.declared.added.Added.TheVariants as added
+use Rattle.sct_set.proofs.ContentsLemmas.{contents-push, insert-held}
 use Rattle.sct_delta.specs.Entries.{Placed, log_of, held_from, messages_of}
-use Rattle.sct_delta.specs.Logs.{HeldLogs, log_in, KeepsNoEmpty}
+use Rattle.sct_delta.specs.Logs.{HeldLogs, log_in, HoldSame, KeepsNoEmpty}
+use Rattle.sct_delta.specs.Refusals.{has_site}
 use Rattle.sct_delta.proofs.EntryLemmas.{log-append}
-use Rattle.sct_site.specs.Cores.{Core, is_repeat, next_own, own_entry, took_by, arrivals_taken}
+use Rattle.sct_site.specs.Cores.{Core, is_open, is_repeat, next_own, own_entry, took_by, arrivals_taken}
 use Rattle.sct_site.specs.Inside.{IsCore}
 use Rattle.sct_site.specs.declared.answers.Took.TheVariants as took
 use Rattle.sct_site.proofs.ArrivalLemmas.{arrivals-push, length-log}
@@ -39,6 +45,24 @@ module _ (core : Core) (m : Draft) where
   pub arrivals-new : is_repeat core m ≡ false → core.arrivals ++ own_entry core m ∷ [] ≡ arrivals_taken core m
   unfolding arrivals_taken
   arrivals-new new = ap (λ (b : Bool). cond b core.arrivals (core.arrivals ++ own_entry core m ∷ [])) (sym new)
+
+-- ---- what the archive answers
+
+-- the archive answers that it holds the message
+abbrev pub says_repeat : Added → Bool
+says_repeat added.Repeat = true
+says_repeat added.Fresh = false
+says_repeat added.Against = false
+
+-- and says so where it holds it
+pub says_held : (s : Contents) (m : Draft) (answer : Added) → answer ≡ added_of s m → says_repeat answer ≡ set.contains s m
+unfolding added_of
+says_held s m answer is =
+    ap says_repeat is
+    ∙ elim (set.contains s m) as (λ b. says_repeat (cond b added.Repeat (added_where (has_identity s (identity_of m)))) ≡ b) [
+      | true ↦ refl
+      | false ↦ elim (has_identity s (identity_of m)) as (λ b. says_repeat (added_where b) ≡ false) [ true ↦ refl | false ↦ refl ]
+    ]
 
 -- ---- one entry more
 
@@ -79,3 +103,28 @@ IsCore-taken number group old new es fs s t m was same logged filled held came =
       filled = filled;
       messages = held ∙ ap (λ (c : Contents). set.insert c m) was.messages ∙ messages-push es entry;
     })
+
+-- a message that is held leaves them as they are
+pub IsCore-held : (number group : ℕ) (old new : HeldLogs) (es fs : List Placed) (s t : Contents) (m : Draft)
+    → IsCore number group old es s
+    → new.group ≡ old.group
+    → HoldSame new old
+    → KeepsNoEmpty new
+    → set.contains s m ≡ true
+    → t ≡ set.insert s m
+    → fs ≡ es
+    → IsCore number group new fs t
+IsCore-held number group old new es fs s t m was same logged filled held kept came =
+    rw came
+    (record {
+      opened = was.opened;
+      one_group = same ∙ was.one_group;
+      order = was.order;
+      by_origin = λ o. logged o ∙ was.by_origin o;
+      filled = filled;
+      messages = kept ∙ insert-held s m held ∙ was.messages;
+    })
+
+-- a site is one of its group
+pub own_site : (number group held : ℕ) → is_open number group ≡ true → held ≡ group → has_site held number ≡ true
+own_site number group held opened same = grind (arith, nat_tests, same)

@@ -1,8 +1,11 @@
 //! The core of one site.
 
-ghost use Rattle.std.specs.Prelude.{◌≡◌, ◌∷◌, ◌++◌, ◌<◌, ◌^◌, ℕ, [], true, false, None, filter, length, nat_eq, nat_lt, OnOk, OnErr, IfOk, IfErr, MatchOption};
+ghost use Rattle.std.specs.Prelude.{◌≡◌, ◌∷◌, ◌++◌, ◌<◌, ◌≤◌, ◌^◌, ℕ, [], true, false, None, vec_len, vec_capacity, filter, length, nat_eq, nat_lt, OnOk, OnErr, IfOk, IfErr, MatchOption};
 ghost use Rattle.std.specs.Arc.{arc_value};
+ghost use Rattle.std.specs.FinSet as set;
 ghost use Rattle.sct_delta.specs.Entries.{IsArrivals, IsDelta, held_from, messages_of};
+ghost use Rattle.sct_delta.specs.Logs.{HasRoom, HoldSame, KeepsEmptyIfDue, KeepsNoEmpty};
+ghost use Rattle.sct_delta.specs.Refusals.{has_site};
 ghost use Rattle.sct_delta.specs.Vectors.{count_in};
 ghost use Rattle.sct_delta.specs.declared.fault.DeltaFault.TheVariants as fault;
 ghost use Rattle.sct_site.specs.Cores.{Core, IsSite, is_open, took_by, arrivals_taken, refusal_by, fresh_entries, arrivals_joined, entries_above, is_above, logs_of};
@@ -12,10 +15,44 @@ use crate::answers::{Accepted, Took};
 use crate::ranges::{LogRange, push_range};
 use sct_delta::{Delta, DeltaFault, Entry, Logs, Vector, messages_in};
 use sct_message::Message;
-use sct_set::Archive;
+use sct_set::{Added, Archive};
 use std::alloc::{AllocError, Global};
 use std::marker::Model;
 use std::sync::Arc;
+
+// Makes room for one more entry of an origin, in its log and among the arrivals. Returns whether the archive was found
+// to hold the message instead. It is asked only if there is no room, since a message that is held needs none.
+fn is_held_without_room(
+    archive: &Archive,
+    logs: &mut Logs,
+    arrivals: &mut Vec<Entry>,
+    origin: u16,
+    message: &Message,
+) -> Result<bool, DeltaFault>
+    requires { has_site logs.old.group origin ≡ true }
+    ensures group { logs.new.group ≡ logs.old.group }
+    ensures same { HoldSame logs.new logs.old }
+    ensures entries { arrivals.new.items ≡ arrivals.old.items }
+    ensures held { IfOk result (λ held. held ≡ true → set.contains archive.now message.now ≡ true) }
+    ensures room { IfOk result (λ held. held ≡ false → HasRoom logs.new origin) }
+    ensures place { IfOk result (λ held. held ≡ false → vec_len arrivals.new < vec_capacity arrivals.new) }
+    ensures kept { OnOk result (set.contains archive.now message.now ≡ true
+        → KeepsNoEmpty logs.old → KeepsNoEmpty logs.new) }
+    ensures due { OnOk result ((due : ℕ → ℕ) → 1 ≤ due origin → KeepsEmptyIfDue due logs.old
+        → KeepsEmptyIfDue due logs.new) }
+    ensures filled { OnErr result (KeepsNoEmpty logs.old → KeepsNoEmpty logs.new) }
+    ensures err { IfErr result (λ refusal. refusal ≡ fault.Memory) }
+{
+    if arrivals.len() < arrivals.capacity() && logs.has_room(origin) {
+        return Ok(false);
+    }
+    if archive.holds(message) {
+        return Ok(true);
+    }
+    arrivals.reserve(1)?;
+    logs.room(origin)?;
+    Ok(false)
+}
 
 /// The core of one site of a group: the messages that it took under its own numbers, and the entries of others that it
 /// accepted. Its number belongs to this site for the site's lifetime; a new site takes a new number.
@@ -99,8 +136,8 @@ impl SiteCore {
     }
 
     /// Takes a message. It becomes the next own entry, unless the site holds it from any origin.
-    /// Error: `Memory` (40), with the site unchanged. The cost is one look-up and one addition in the archive and in
-    /// the logs.
+    /// Error: `Memory` (40), with the site unchanged. The cost is one look-up in the archive and one addition in the logs.
+    /// If there is no room for one more entry, it is two look-ups.
     pub fn take(&mut self, message: Arc<Message>) -> Result<Took, DeltaFault>
         ensures answer { IfOk result (λ took. took ≡ took_by self.old (arc_value message)) }
         ensures number { self.new.number ≡ self.old.number }
@@ -109,16 +146,24 @@ impl SiteCore {
         ensures err { IfErr result (λ refusal. refusal ≡ fault.Memory) }
         ensures unchanged { OnErr result (self.new ≡ self.old) }
     {
-        if self.archive.holds(&message) {
-            return Ok(Took::Repeat);
-        }
         let held = message.clone()?;
         let logged = message.clone()?;
-        self.arrivals.reserve(1)?;
-        self.logs.room(self.number)?;
-        if let Err(_) = self.archive.add(held) {
+        let repeat = is_held_without_room(
+            &self.archive,
+            &mut self.logs,
+            &mut self.arrivals,
+            self.number,
+            &message,
+        )?;
+        if repeat {
+            return Ok(Took::Repeat);
+        }
+        let Ok(added) = self.archive.add(held) else {
             self.logs.drop_empty();
             return Err(DeltaFault::Memory);
+        };
+        if added == Added::Repeat {
+            return Ok(Took::Repeat);
         }
         let n = self.logs.push_reserved(self.number, logged);
         self.arrivals.push_reserved(Entry {
@@ -185,7 +230,7 @@ impl SiteCore {
     }
 
     /// The entries that `cut` has, as ranges of the site's logs, each with an entry. Logs only grow, so the ranges keep
-    /// these entries. Error: `Memory` (40). The cost is two look-ups for each site of the group.
+    /// these entries. Error: `Memory` (40). The cost is one look-up for each origin that the site holds entries of.
     pub fn cut_ranges(&self, vector: &Vector) -> Result<Vec<LogRange>, DeltaFault>
         requires { IsSite self.now }
         ensures cut { IfOk result (λ ranges. in_ranges (logs_of self.now.arrivals) ranges.items
@@ -198,11 +243,10 @@ impl SiteCore {
     {
         // Read only so that its range is known.
         let _entries = self.arrivals.len();
-        let held = self.logs.vector();
+        let held = self.logs.vector().counts();
         let mut ranges = Vec::new(self.alloc);
-        for place in 0..self.group {
-            let origin = place + 1;
-            push_range(&mut ranges, origin, vector.get(origin), held.get(origin))?;
+        for (origin, count) in held {
+            push_range(&mut ranges, *origin, vector.get(*origin), *count)?;
         }
         Ok(ranges)
     }
