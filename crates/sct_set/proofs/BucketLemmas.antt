@@ -13,6 +13,10 @@ module _ {K V S : Type 0} {E : K → K → Bool} (laws : IsEquivalence E) (m n :
   same_list : (k : K) → E key k ≡ true → bucket E m key ≡ bucket E m k
   same_list k e = ap (λ (test : K → Bool). items_in (get_by test m)) (λ i z. laws.congr key k z e i)
 
+  -- the same of a map that is the second
+  pub HasAt-of : (made : IndexMap K (List V) S) → made ≡ n → HasAt E m made key w → HasAt E m n key w
+  HasAt-of made is became = subst (λ (o : IndexMap K (List V) S). HasAt E m o key w) is became
+
   -- the list at the key became what f makes of it
   pub HasAt-lists : (f : List V → List V) → HasAt E m n key w → items_in w ≡ f (bucket E m key)
       → (k : K) → bucket E n k ≡ cond (E key k) (f (bucket E m k)) (bucket E m k)
@@ -22,6 +26,12 @@ module _ {K V S : Type 0} {E : K → K → Bool} (laws : IsEquivalence E) (m n :
         | true ↦ λ e. is ∙ ap f (same_list k e)
         | false ↦ λ _. refl
       ] refl
+
+  -- the list at the key stayed
+  pub HasAt-stays : HasAt E m n key w → items_in w ≡ bucket E m key → (k : K) → bucket E n k ≡ bucket E m k
+  HasAt-stays became is k =
+      HasAt-lists (λ xs. xs) became is k
+      ∙ elim (E key k) as (λ b. cond b (bucket E m k) (bucket E m k) ≡ bucket E m k) [ true ↦ refl | false ↦ refl ]
 
   -- no key is left with an empty list
   pub HasAt-no_empty : HasAt E m n key w → is_some w ≡ nat_lt 0 (length (items_in w)) → HasNoEmptyList E m → HasNoEmptyList E n

@@ -2,6 +2,7 @@
 pub mod AgainstLemmas
 pub mod ArchiveLemmas
 pub mod BucketLemmas
+pub mod CalmLemmas
 pub mod ContentsLemmas
 pub mod GroupLemmas
 pub mod IndexLemmas

@@ -3,6 +3,7 @@
 ghost use Rattle.std.specs.Prelude.{◌≡◌, ◌+◌, option_map, OnOk, OnErr, IfOk};
 ghost use Rattle.std.specs.Arc.{arc_value};
 ghost use Rattle.std.specs.FinSet as set;
+ghost use Rattle.std.specs.List.{list_any};
 ghost use Rattle.std.specs.Option.{option_copied, option_to_list};
 ghost use Rattle.sct_message.specs.Order.{message_order};
 ghost use Rattle.sct_set.specs.Contents.{contents_of, HasNoRepeat};
@@ -124,6 +125,13 @@ impl Archive {
         ensures err { OnErr result (self.new ≡ self.old) }
     {
         Ok(self.arrivals.add_all(other.messages())?)
+    }
+
+    /// Whether an identity is contradicted: whether two different messages held have it. O(1).
+    pub fn has_contradictions(&self) -> bool
+        ensures { result ≡ list_any (is_disputed self.now) (set.items self.now) }
+    {
+        self.arrivals.has_contradictions()
     }
 
     /// The contradicted identities, ascending, each once: those that two different messages held have.

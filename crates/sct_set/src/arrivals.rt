@@ -299,6 +299,14 @@ impl Arrivals {
         is_another_among(message, self.of(&message.identity()))
     }
 
+    /// Whether two different messages have one identity. O(1).
+    pub(crate) fn has_contradictions(&self) -> bool
+        requires { HasNoRepeat self.now }
+        ensures { result ≡ list_any (is_disputed (contents_of self.now)) (set.items (contents_of self.now)) }
+    {
+        !self.by_digest.is_empty()
+    }
+
     // Appends a message of an identity that has messages. If out of memory, nothing changes.
     fn push_against(&mut self, message: &Arc<Message>) -> Result<(), AllocError>
         requires { finds (identity_of (arc_value message.now)) self.old ≡ true }

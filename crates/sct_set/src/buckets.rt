@@ -5,6 +5,7 @@ ghost use Rattle.sct_set.specs.Buckets.{bucket, HasNoEmptyList};
 
 pub use crate::bucket::Bucket;
 use indexmap::IndexMap;
+use indexmap::map::Entry;
 use std::alloc::{AllocError, Global};
 use std::hash::Hash;
 
@@ -46,12 +47,16 @@ pub fn file<K: Eq + Hash + Drop, V: Drop>(
     ensures err { OnErr result ((k : K) → bucket K.eq index.new k ≡ bucket K.eq index.old k) }
     ensures no_empty { HasNoEmptyList K.eq index.old → HasNoEmptyList K.eq index.new }
 {
-    if let Some(bucket) = index.get_mut(&key) {
-        bucket.push(alloc, item)?;
-        return Ok(());
+    match index.entry(key)? {
+        Entry::Occupied(entry) => {
+            entry.into_mut().push(alloc, item)?;
+            Ok(())
+        }
+        Entry::Vacant(entry) => {
+            entry.insert(Bucket::of(item));
+            Ok(())
+        }
     }
-    file_first(index, key, item)?;
-    Ok(())
 }
 
 /// Removes the last item of a key's list, if the key has one. A list that becomes empty is removed. Expected O(1).

@@ -14,6 +14,7 @@ use Rattle.sct_message.specs.Transfers.{is_on, messages_on, asides_of}
 use Rattle.sct_message.specs.declared.draft.Draft.{Draft}
 use Rattle.sct_message.specs.declared.keys.Identity.{Identity}
 use Rattle.sct_message.specs.declared.keys.TransferKey.{TransferKey}
+use Rattle.sct_message.proofs.AscendingLemmas.{any_ascending}
 use Rattle.sct_message.proofs.Members.{same_any, tie_is}
 use Rattle.sct_case.specs.Statuses.{Standing, transfer_status_of}
 use Rattle.sct_view.specs.Answers.{status_of}
@@ -45,6 +46,18 @@ pub among_picked : (p : Draft → Bool) (q : Draft) (ms : List Draft) → list_a
 among_picked p q = any-filter_same (same_message q) p (p q) (λ m e. ap p (sym (tie_is message_total message_same q m e)))
 
 -- ---- the messages on a transfer
+
+-- those that pass a test are fewer
+none_among : (p r : Draft → Bool) (ms : List Draft) → list_any p ms ≡ false → list_any p (filter r ms) ≡ false
+none_among p r [] e = refl
+none_among p r (m ∷ ms) e = grind (arith, none_among p r ms)
+
+-- where no message of the set is contradicted, none on a transfer is
+pub calm_on : (s : MessageSet) (t : TransferKey) (ms : List Draft) → ms ≡ filter (is_on t) (in_order s)
+    → list_any (is_contradicted s) (set.items s) ≡ false → list_any (is_contradicted s) ms ≡ false
+calm_on s t ms all none =
+    ap (list_any (is_contradicted s)) all
+    ∙ none_among (is_contradicted s) (is_on t) (in_order s) (any_ascending message_total message_same (is_contradicted s) (set.items s) ∙ none)
 
 -- a case that was evaluated from all messages on a transfer is what is to be kept of it
 pub evaluated : (s : MessageSet) (t : TransferKey) (ms clean contradicted : List Draft) (asides : List Identity) (stands : Standing)

@@ -1,5 +1,5 @@
 -- Totals that are summed part by part. Proof plumbing.
-use Rattle.std.proofs.Common.{◌≡◌, ◌∙◌, refl, sym, ap, subst, ℕ, zero, suc, ◌+◌, ◌<◌, ◌≤◌, ◌^◌, Bool, true, false, cond, not, ◌&&◌, ◌||◌, List, [], ◌∷◌, ◌++◌, length, take, get_or, filter, Some, arith, length-append}
+use Rattle.std.proofs.Common.{◌≡◌, ◌∙◌, refl, sym, ap, subst, ℕ, zero, suc, ◌+◌, ◌<◌, ◌≤◌, ◌^◌, Bool, true, false, cond, not, ◌&&◌, ◌||◌, List, [], ◌∷◌, ◌++◌, length, take, get_or, filter, Option, Some, arith, length-append}
 use Rattle.std.specs.Global.{Global}
 use Rattle.std.specs.List.{list_any, sum_by, IsDistinct}
 use Rattle.std.specs.List.Sorted.{IsStrictlySortedBy}
@@ -28,7 +28,9 @@ use Rattle.sct_message.proofs.SameValues.{text_is, transfer_is}
 use Rattle.sct_view.specs.Filed.{IsFiled}
 use Rattle.sct_view.specs.Kept.{Kept, case_of, same_key, share_in, totals_or_none, IsInRange, IsSmall, IsUpTo}
 use Rattle.sct_view.specs.Sums.{most_of, AreSharesOf}
-use Rattle.sct_view.specs.Totals.{nothing, plus, totals_of, totals_over}
+use Rattle.sct_view.specs.Answers.{is_beneficiary}
+use Rattle.sct_view.specs.Totals.{beneficiary_in, cents_in, nothing, plus, share, share_of_beneficiary, share_of_originator, totals_of, totals_over}
+use Rattle.sct_case.specs.Statuses.{Standing}
 use Rattle.sct_view.specs.declared.totals.Totals.{Totals}
 use Rattle.sct_view.proofs.ChangeLemmas.{nothing_kept}
 use Rattle.sct_view.proofs.CommitLemmas.{no_share, totals_picked}
@@ -44,6 +46,35 @@ use Rattle.sct_view.proofs.TotalsLemmas.{by_numbers, share_small}
 -- nothing added to a share
 pub plus_nothing : (t : Totals) → plus t nothing ≡ t
 plus_nothing t = by_numbers (plus t nothing) t (λ n is. omega (arith, is.both t nothing, is.none))
+
+-- three sums of totals
+plus_assoc : (a b c : Totals) → plus (plus a b) c ≡ plus a (plus b c)
+plus_assoc a b c = by_numbers _ _ (λ n is. omega (arith, is.both (plus a b) c, is.both a b, is.both a (plus b c), is.both b c))
+
+-- a share that is added to those of one bank alone
+added_where : (b : Bool) (t share : Totals) → cond b (plus t share) t ≡ plus t (cond b share nothing)
+added_where true t share = refl
+added_where false t share = sym (plus_nothing t)
+
+-- the bank of an instruction
+paid_bank : (instruction : Option Draft) (bank : List ℕ) → bank ∷ [] ≡ beneficiary_in instruction
+    → (p : List ℕ) → is_text bank p ≡ is_beneficiary p instruction
+paid_bank instruction bank is p = grind (arith, is)
+
+-- the shares of both banks of a transfer, one after the other
+pub both_added : (t : TransferKey) (stands : Standing) (instruction : Option Draft) (bank : List ℕ) → bank ∷ [] ≡ beneficiary_in instruction
+    → (old mid new : List ℕ → Totals) (sent received : Totals)
+    → sent ≡ share_of_originator stands (cents_in instruction) → received ≡ share_of_beneficiary stands (cents_in instruction)
+    → ((p : List ℕ) → mid p ≡ cond (is_text t.debtor_agent p) (plus (old p) sent) (old p))
+    → ((p : List ℕ) → new p ≡ cond (is_text bank p) (plus (mid p) received) (mid p))
+    → (p : List ℕ) → new p ≡ plus (old p) (share p t stands instruction)
+unfolding share
+both_added t stands instruction bank is old mid new sent received first second one two p =
+    two p
+    ∙ added_where (is_text bank p) (mid p) received
+    ∙ (λ i. plus ((one p ∙ added_where (is_text t.debtor_agent p) (old p) sent) i) (cond (paid_bank instruction bank is p i) (second i) nothing))
+    ∙ plus_assoc (old p) (cond (is_text t.debtor_agent p) sent nothing) (cond (is_beneficiary p instruction) (share_of_beneficiary stands (cents_in instruction)) nothing)
+    ∙ (λ i. plus (old p) (plus (cond (is_text t.debtor_agent p) (first i) nothing) (cond (is_beneficiary p instruction) (share_of_beneficiary stands (cents_in instruction)) nothing)))
 
 -- ---- the totals of each bank added to others
 

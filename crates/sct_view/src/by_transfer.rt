@@ -89,14 +89,15 @@ fn file_each(
     Ok(())
 }
 
-/// The messages filed by transfer: each is under every transfer that it is on.
+/// The messages filed by transfer: each is under every transfer that it is on. Room for one transfer for each two
+/// messages is reserved at once. More room comes by doubling.
 pub(crate) fn by_transfer(
     alloc: Global,
     messages: &[Arc<Message>],
 ) -> Result<ByTransfer, AllocError>
     ensures { IfOk result (λ index. IsFiledBy index (messages_in messages.now)) }
 {
-    let mut index = IndexMap::new(alloc);
+    let mut index = IndexMap::with_capacity(alloc, messages.len() / 2)?;
     for message in messages {
         file_each(alloc, &mut index, message)?;
     }

@@ -1,7 +1,8 @@
 //! The case of a transfer, evaluated from all its messages.
 
-ghost use Rattle.std.specs.Prelude.{◌≡◌, filter, not, IfOk};
+ghost use Rattle.std.specs.Prelude.{◌≡◌, false, filter, not, IfOk};
 ghost use Rattle.std.specs.Arc.{arc_value};
+ghost use Rattle.std.specs.FinSet as set;
 ghost use Rattle.std.specs.List.{list_any};
 ghost use Rattle.std.specs.Option.{option_copied};
 ghost use Rattle.sct_message.specs.Ascending.{ascending};
@@ -36,13 +37,29 @@ fn is_disputed(held: &Archive, fresh: Option<&Archive>, message: &Message) -> bo
     }
 }
 
-/// Whether an archive, with the fresh messages, contradicts the identity of one of the messages.
+/// Whether an archive, with the fresh messages if there are any, may contradict an identity. O(1).
+fn may_contradict(held: &Archive, fresh: Option<&Archive>) -> bool
+    ensures { result ≡ false → list_any (is_contradicted (with_fresh held.now (option_copied fresh.entry)))
+        (set.items (with_fresh held.now (option_copied fresh.entry))) ≡ false }
+{
+    match fresh {
+        Some(_) => true,
+        None => held.has_contradictions(),
+    }
+}
+
+/// Whether an archive, with the fresh messages, contradicts the identity of one of the messages, which it holds.
+/// If it cannot contradict an identity, no message is looked up.
 fn is_some_disputed(held: &Archive, fresh: Option<&Archive>, messages: &[Arc<Message>]) -> bool
+    requires { list_any (is_contradicted (with_fresh held.now (option_copied fresh)))
+        (set.items (with_fresh held.now (option_copied fresh))) ≡ false
+        → list_any (λ m. is_contradicted (with_fresh held.now (option_copied fresh)) (arc_value m)) messages.now ≡ false }
     ensures { result ≡ list_any (λ m. is_contradicted (with_fresh held.now (option_copied fresh.entry)) (arc_value m)) messages.now }
 {
-    messages
-        .iter()
-        .any(|message| is_disputed(held, fresh, message))
+    may_contradict(held, fresh)
+        && messages
+            .iter()
+            .any(|message| is_disputed(held, fresh, message))
 }
 
 /// The messages, separated by whether an archive, with the fresh messages, contradicts their identity.
@@ -73,13 +90,16 @@ fn separate(
     })
 }
 
-/// The same as [`separate`]. If no identity is contradicted, the list itself has the clean messages.
+/// The same as [`separate`], for messages that are held. If no identity is contradicted, the list itself has the clean messages.
 fn part(
     alloc: Global,
     held: &Archive,
     fresh: Option<&Archive>,
     messages: Vec<Arc<Message>>,
 ) -> Result<Parted, AllocError>
+    requires { list_any (is_contradicted (with_fresh held.now (option_copied fresh)))
+        (set.items (with_fresh held.now (option_copied fresh))) ≡ false
+        → list_any (is_contradicted (with_fresh held.now (option_copied fresh))) (messages_in messages.items) ≡ false }
     ensures clean { IfOk result (λ parted. messages_in parted.clean.items
         ≡ filter (λ m. not (is_contradicted (with_fresh held.now (option_copied fresh.entry)) m)) (messages_in messages.items)) }
     ensures contradicted { IfOk result (λ parted. messages_in parted.contradicted.items

@@ -12,6 +12,7 @@ use crate::case::{Case, Planned};
 use crate::tables::Tables;
 use crate::totals::Totals;
 use indexmap::IndexMap;
+use indexmap::map::Entry;
 use sct_case::Status;
 use sct_element::Bic;
 use sct_message::TransferKey;
@@ -42,15 +43,17 @@ fn open_case(
         → take n cases.new.entries ≡ take n cases.old.entries }
     ensures grows { length cases.old.entries ≤ length cases.new.entries }
 {
-    if cases.contains_key(transfer) {
-        return Ok(());
+    match cases.entry(transfer.copy())? {
+        Entry::Occupied(_) => Ok(()),
+        Entry::Vacant(entry) => {
+            entry.insert(no_case(alloc));
+            Ok(())
+        }
     }
-    cases.insert(transfer.copy(), no_case(alloc))?;
-    Ok(())
 }
 
 /// Opens a place for the totals of a bank, if it has none.
-pub(super) fn open_total(totals: &mut IndexMap<Bic, Totals>, bank: &Bic) -> Result<(), AllocError>
+fn open_total(totals: &mut IndexMap<Bic, Totals>, bank: &Bic) -> Result<(), AllocError>
     ensures there { OnOk result (has_totals totals.new bank.now ≡ true) }
     ensures same { (p : List ℕ) → totals_at totals.new p ≡ totals_at totals.old p }
     ensures stays { (p : List ℕ) → has_totals totals.old p ≡ true → has_totals totals.new p ≡ true }
@@ -58,18 +61,17 @@ pub(super) fn open_total(totals: &mut IndexMap<Bic, Totals>, bank: &Bic) -> Resu
         → take n totals.new.entries ≡ take n totals.old.entries }
     ensures grows { length totals.old.entries ≤ length totals.new.entries }
 {
-    if totals.contains_key(bank) {
-        return Ok(());
+    match totals.entry(bank.copy())? {
+        Entry::Occupied(_) => Ok(()),
+        Entry::Vacant(entry) => {
+            entry.insert(Totals::nothing());
+            Ok(())
+        }
     }
-    totals.insert(bank.copy(), Totals::nothing())?;
-    Ok(())
 }
 
 /// Opens a place for the totals of the beneficiary bank of a case, if the case has an instruction.
-pub(super) fn open_beneficiary(
-    totals: &mut IndexMap<Bic, Totals>,
-    case: &Case,
-) -> Result<(), AllocError>
+fn open_beneficiary(totals: &mut IndexMap<Bic, Totals>, case: &Case) -> Result<(), AllocError>
     ensures there { OnOk result (list_all (has_totals totals.new)
         (beneficiary_in (instruction_in (kept_in case.now))) ≡ true) }
     ensures same { (p : List ℕ) → totals_at totals.new p ≡ totals_at totals.old p }

@@ -8,7 +8,6 @@ ghost use Rattle.sct_view.specs.Kept.{cents_back, has_totals, kept_in, instructi
 ghost use Rattle.sct_view.specs.Totals.{beneficiary_in, plus, share_of_beneficiary, share_of_originator};
 
 use crate::case::Case;
-use crate::tables::places::{open_beneficiary, open_total};
 use crate::totals::Totals;
 use indexmap::IndexMap;
 use sct_case::Status;
@@ -150,6 +149,7 @@ pub(super) fn put_shares(totals: &mut IndexMap<Bic, Totals>, transfer: &Transfer
 }
 
 /// Adds the shares of a transfer to the totals of its banks, which need not have an entry.
+#[tactic(auto, unfolding(crate::specs::Totals::share))]
 pub(crate) fn add_shares(
     totals: &mut IndexMap<Bic, Totals>,
     transfer: &TransferKey,
@@ -161,9 +161,13 @@ pub(crate) fn add_shares(
     ensures totals { OnOk result ((p : List ℕ) → totals_at totals.new p
         ≡ plus (totals_at totals.old p) (share_in p transfer.now (kept_in case.now))) }
 {
-    open_total(totals, &transfer.debtor_agent)?;
-    open_beneficiary(totals, case)?;
-    put_shares(totals, transfer, case);
+    let cents = case.cents();
+    let share = share_of_originator(&case.status, cents);
+    add(totals, &transfer.debtor_agent, &share)?;
+    if let Some(bank) = case.beneficiary() {
+        let share = share_of_beneficiary(&case.status, cents);
+        add(totals, bank, &share)?;
+    }
     Ok(())
 }
 

@@ -29,3 +29,9 @@ returns-clause-contradicted c =
     ∙ sym c.is_some_disputed.ensures
     ∙ c.if-is_some_disputed.false in
     ap messages_in c.new.ensures.items ∙ sym (none_kept (is_contradicted all) (messages_in c.args.messages.items) none)
+
+pub is_some_disputed-requires : goal.is_some_disputed-requires
+is_some_disputed-requires c = λ none.
+    ap (list_any (λ m. is_contradicted (with_fresh c.args.held.now (option_copied c.args.fresh)) (arc_value m))) c.deref.ensures.value
+    ∙ sym (list_any-map (is_contradicted (with_fresh c.args.held.now (option_copied c.args.fresh))) arc_value c.args.messages.items)
+    ∙ c.requires none
