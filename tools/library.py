@@ -1,6 +1,6 @@
 """library.py: makes libniluppang.a and libniluppang.so of the static library of crates/sct_c.
 
-Usage: tools/library.py FOLDER
+Usage: python3 tools/library.py FOLDER
 
 The archive has one object: the library, and the code of the toolchain that calls malloc, realloc and free. So a program needs nothing
 but the C library. The shared library is made of it. Both give away `sct_version` and the names that begin with `sct_raw_`, and no

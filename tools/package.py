@@ -1,6 +1,6 @@
 """package.py: makes the release that a machine without the toolchain installs, of what the gate has proved and built.
 
-Usage: tools/package.py [FOLDER]   (out)
+Usage: python3 tools/package.py [FOLDER]   (out)
 
 It makes FOLDER/niluppang-VERSION-x86_64-linux.tar.gz; FOLDER/niluppang.html, the page; the packages for Debian 12; a wheel for pip, with
 the Python package and the library (bindings.py); and FOLDER/SHA256SUMS, the sums of all of them, which is the list of the release. The

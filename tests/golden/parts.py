@@ -10,7 +10,7 @@
 - A folder with what the program did not make, errors that nobody foresaw, who listens while it works, a cluster over TLS, and texts of more
   parts than a process may have files.
 - A program that names one transfer or one identity in each part, and one that takes what is not a message: the check finds that.
-- The commands of docs/users/parts.md.
+- The commands of docs/users/parts.md, and the words with which it starts Dask.
 
 On the stand-in of the program the large input is smaller. It needs the Debian packages python3-dask and python3-distributed. Without them
 nothing passes and nothing fails, and a line says so.
@@ -47,6 +47,9 @@ PACKAGES = "python3-dask python3-distributed python3-cryptography"
 MANY, MOST = 20000, 500000  # messages of the large input, and bytes of a part that is cut again
 FEW, LESS, FEWER_MADE_UP = 4000, 200000, 4  # on the stand-in
 MADE_UP, SEED = 12, 20261127
+# the words with which docs/users/parts.md starts the commands of Dask
+DASK = {"dask_scheduler": ["--tls-ca-file", "--tls-cert", "--tls-key"],
+        "dask_worker": ["--nthreads", "--tls-ca-file", "--tls-cert", "--tls-key"]}
 COMMANDS = ["status", "totals", "archive"]
 KEEP = {"kept": ["keep", inputs.DAY], "closed": ["closed", inputs.DAY]}
 NOT_MESSAGES = ["foo", "{}", "[]", "\x0c", '{"MsgNmId":"pacs.008"}', '{"MsgNmId":"camt.056","TxInf":[]}', "\ufeff{}", " \t\r", ""]
@@ -622,6 +625,15 @@ def over_tls(r, python, program, folder):
         yield reported("its address says so", address.startswith("tls://127.0.0.1:"), address)
 
 
+def dask_words(python):
+    """The words with which docs/users/parts.md starts the commands of Dask are on the page, and are those of Dask."""
+    text = (TOP / "docs" / "users" / "parts.md").read_text(encoding="utf-8")
+    for command, words in DASK.items():
+        known = harness.run([python, "-m", f"distributed.cli.{command}", "--help"]).text.decode().split()
+        wrong = [word for word in words if word not in known or not re.search(rf"{word}\b(?!-)", text)]
+        yield reported(f"the words of {command} on the page", not wrong, f"{wrong}")
+
+
 def page(python, program, folder):
     """The commands of docs/users/parts.md, in a copy of examples/ with services/ beside it."""
     commands, copy = place(folder, program), shutil.copytree(EXAMPLES, f"{folder}/examples")
@@ -646,7 +658,7 @@ def main():
                   lambda folder: beginning_anew(r, python, program, folder),
                   lambda folder: private(r, python, program, folder), lambda folder: levels(python, folder),
                   lambda folder: over_tls(r, python, program, folder), lambda folder: all_made_up(many, python, program, folder),
-                  lambda folder: page(python, program, folder)):
+                  lambda folder: dask_words(python), lambda folder: page(python, program, folder)):
         with tempfile.TemporaryDirectory() as folder:
             right += tried(folder)
     harness.end_of(right)
