@@ -79,7 +79,7 @@ if [ "${1-}" = --report ]; then
     [ $# -eq 5 ] || stop "usage: desk.sh --report BANK DAY LIST FOLDER"
     report "$2" "$3" "$4" "$5"
 fi
-[ $# -ge 2 ] || stop "usage: desk.sh FOLDER FILE.."
+[ $# -ge 2 ] || stop "usage: desk.sh FOLDER FILE.., or --report BANK DAY LIST FOLDER, or --keep DAY FOLDER"
 folder=$1
 shift
 [ ! -e "$folder" ] || stop "$folder is there already"
