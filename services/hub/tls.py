@@ -7,9 +7,16 @@ from .config import Tls
 from .files import Wrong
 
 
+def expect_files(tls: Tls) -> None:
+    """Opens each file, since a fault of `ssl` does not name the one that is missing."""
+    for path in (tls.authority, tls.certificate, tls.key):
+        open(path, "rb").close()
+
+
 def to_clients(tls: Tls) -> ssl.SSLContext:
     """The context of a site for its clients."""
     try:
+        expect_files(tls)
         context = ssl.create_default_context(ssl.Purpose.CLIENT_AUTH, cafile=tls.authority)
         context.minimum_version = ssl.TLSVersion.TLSv1_2
         context.verify_mode = ssl.CERT_REQUIRED if tls.clients == "required" else ssl.CERT_OPTIONAL
@@ -28,6 +35,7 @@ def to_peer(tls: Tls, number: int, roles: Callable[[], Roles]) -> ssl.SSLContext
             if not roles().is_peer(number, certificate):
                 raise ssl.CertificateError(f"the certificate of {', '.join(names_in(certificate)) or 'nobody'} is not that of site {number}")
     try:
+        expect_files(tls)
         context = ssl.create_default_context(cafile=tls.authority)
         context.minimum_version = ssl.TLSVersion.TLSv1_2
         context.load_cert_chain(tls.certificate, tls.key)

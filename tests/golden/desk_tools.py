@@ -242,7 +242,7 @@ def finds(folder, commands):
 
 def breaks_off(folder, commands):
     """Whether a tool whose reader goes away ends without a word. A pipe has less room than it writes."""
-    many = [samples.instruction(MsgId=f"M{number}", TxId=f"T{number}") for number in range(1500)]
+    many = [samples.instruction(MsgId=f"M{number}", TxId=f"T{number}") for number in range(3000)]
     (folder / "lines").write_text("".join(map(samples.line, many)))
     (folder / "many.csv").write_text("DbtrAgt,TxId,Amt,Sts\n" + "".join(f"BANKDEFF,TX-{number},20.50,PENDING\n" for number in range(5000)))
     shell("sh ../tools/desk/desk.sh many lines; python3 ../tools/desk/load_sqlite.py many many.db", folder, commands)
