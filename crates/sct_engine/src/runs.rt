@@ -14,7 +14,7 @@ ghost use Rattle.sct_world.specs.Settling.{core_in, AreSettled};
 use crate::fault::ProgramFault;
 use sct_set::Archive;
 use sct_site::SiteCore;
-use sct_view::View;
+use sct_view::FiledArchive;
 use sct_workers::{Gate, Sites, WorkFault, fill_sites};
 use sct_world::settle;
 use std::alloc::Global;
@@ -70,7 +70,7 @@ fn settle_all(alloc: Global, cores: &mut [SiteCore]) -> Result<(), ProgramFault>
     }
 }
 
-// The status text of an archive. Its view is built in as many threads as there are processors. Error: `Memory` (65).
+// The status text of an archive, evaluated and written in as many threads as there are processors. Error: `Memory` (65).
 fn status_text<R: Threads + Sync>(
     rt: &R,
     alloc: Global,
@@ -79,8 +79,9 @@ fn status_text<R: Threads + Sync>(
     ensures text { IfOk result (λ text. text.items ≡ status_text_of archive.now) }
     ensures memory { IfErr result (λ e. e ≡ fault.Memory) }
 {
-    let view = View::of_messages(rt, alloc, archive.messages())?;
-    Ok(view.status_text()?)
+    let filed = FiledArchive::of(rt, alloc, archive.messages())?;
+    let pieces = filed.status_text_in_pieces(rt)?;
+    Ok(pieces.concat(alloc)?)
 }
 
 // Settles the sites. Returns the status text of the first of them.
