@@ -1,14 +1,16 @@
 -- What is listed out of the tables of a view is what is listed of the set. Proof plumbing.
 use Rattle.std.specs.FinSet as set
-use Rattle.std.proofs.Common.{◌≡◌, ◌∙◌, refl, sym, ap, subst, ℕ, ◌==◌, ◌&&◌, Bool, true, false, not, Option, Some, None, is_some, List, [], ◌∷◌, filter, length, arith}
+use Rattle.std.proofs.Common.{◌≡◌, ◌∙◌, refl, sym, ap, subst, ℕ, ◌==◌, ◌&&◌, Bool, true, false, cond, not, Option, Some, None, is_some, List, [], ◌∷◌, filter, length, arith}
 use Rattle.std.specs.Option.{option_map_or}
-use Rattle.std.specs.List.{list_any, IsDistinct}
+use Rattle.std.specs.List.{dedup, dedup_from, list_any, IsDistinct}
+use Rattle.std.proofs.lemmas.Bool.{false≢true, false_from_ne_true, or_left}
+use Rattle.std.proofs.lemmas.Map.Keys.{IsDistinct-IsPermutation}
 use Rattle.std.proofs.lemmas.Bool.Decides.{nat_tests}
 use Rattle.std.specs.Global.{Global}
 use Rattle.std.specs.declared.sync.Arc.{Arc}
 use Rattle.std.specs.Cmp.{IsEquivalence}
 use Rattle.std.specs.Cmp.Lexicographic.{nat_list_cmp_total, nat_list_eq_equiv, texts_ties}
-use Rattle.std.specs.List.Sorted.{IsStrictlySortedBy}
+use Rattle.std.specs.List.Sorted.{IsPermutation, IsSorted, IsStrictlySortedBy}
 use Rattle.std.specs.Map.{keys_of, lookup}
 use Rattle.std.proofs.lemmas.Cmp.{eq_by_cmp_equiv}
 use Rattle.std.proofs.lemmas.List.{length-map}
@@ -20,23 +22,24 @@ use Rattle.indexmap.specs.IndexMap.{IndexMap, get, IsUnique}
 use Rattle.sct_element.specs.Text.{is_text}
 use Rattle.sct_message.specs.Ascending.{ascending}
 use Rattle.sct_message.specs.Order.{message_order, transfer_order, text_order}
-use Rattle.sct_message.specs.OrderLaws.{message_total, message_same, transfer_total, transfers_same}
+use Rattle.sct_message.specs.OrderLaws.{message_total, message_same, transfer_total, transfers_same, transfer_ties}
 use Rattle.sct_message.specs.Sets.{MessageSet, clean_messages, contradicted_messages, in_order, is_contradicted, messages_in}
 use Rattle.sct_message.specs.Transfers.{is_on, keys_of as keys_held}
 use Rattle.sct_message.specs.declared.draft.Draft.{Draft}
 use Rattle.sct_message.specs.declared.keys.TransferKey.{TransferKey}
 use Rattle.sct_set.specs.Buckets.{bucket, items_in}
 use Rattle.sct_view.specs.Filed.{IsFiled, has_items}
-use Rattle.sct_message.proofs.AscendingLemmas.{ascending-same, ascending-sorted, ascending_rises, any_ascending, members_ascending}
+use Rattle.sct_message.proofs.AscendingLemmas.{ascending-same, ascending-sort_dedup_plain, ascending-sorted, ascending_rises, any_ascending, members_ascending}
 use Rattle.sct_view.specs.Kept.{Kept, kept_or_none, same_key, case_at, case_of, totals_or_none, totals_at}
 use Rattle.sct_view.specs.Listed.{has_messages, is_something, keys_with}
 use Rattle.sct_view.specs.Totals.{is_nothing, totals_of, banks_of}
 use Rattle.sct_view.specs.declared.case.Case.{Case}
 use Rattle.sct_view.specs.declared.totals.Totals.{Totals}
 use Rattle.sct_view.proofs.BankLemmas.{told_where}
-use Rattle.sct_view.proofs.KeyLemmas.{same_key_is}
+use Rattle.sct_view.proofs.KeyLemmas.{key_swap, same_key_is}
 use Rattle.sct_message.specs.CellsBack.{texts_same}
-use Rattle.sct_view.proofs.SetKeys.{key-is_on}
+use Rattle.sct_view.proofs.SetKeys.{apart_from_distinct, key-is_on}
+use Rattle.sct_view.proofs.SumLemmas.{AreApart}
 use Rattle.sct_view.proofs.RebuildLemmas.{filed-contents}
 use Rattle.sct_view.proofs.StandingLemmas.{some_left, split}
 
@@ -80,6 +83,24 @@ keys_listed s cases unique are =
     ∙ any_ascending message_total message_same (is_on q) (set.items s)
     ∙ sym (key-is_on s q)
     ∙ members_ascending transfer_total transfers_same _ q)
+
+-- to drop repeats drops nothing of keys that are apart
+apart_from : {K : Type 0} (E : K → K → Bool) → ((x y : K) → E x y ≡ E y x) → (k : K) (xs : List K) → AreApart E (k ∷ xs) → dedup_from E k xs ≡ k ∷ xs
+apart_from E flips k [] apart = refl
+apart_from E flips k (x ∷ xs) apart =
+    let other : E x k ≡ false = flips x k ∙ false_from_ne_true (E k x) (λ e. false≢true (sym apart.0 ∙ or_left (E k x) (list_any (E k) xs) e)) in
+    ap (λ b. cond b (dedup_from E k xs) (k ∷ dedup_from E x xs)) other ∙ ap (λ ys. k ∷ ys) (apart_from E flips x xs apart.1)
+
+all_apart : {K : Type 0} (E : K → K → Bool) → ((x y : K) → E x y ≡ E y x) → (xs : List K) → AreApart E xs → dedup E xs ≡ xs
+all_apart E flips [] apart = refl
+all_apart E flips (x ∷ xs) apart = apart_from E flips x xs apart
+
+-- transfers that are apart, once sorted, are the ascending ones
+pub sorted_apart : (ts sorted : List TransferKey) → IsDistinct same_key ts → IsPermutation ts sorted → IsSorted transfer_order sorted
+    → sorted ≡ ascending transfer_order ts
+sorted_apart ts sorted apart moved rises =
+    sym (all_apart same_key key_swap sorted (apart_from_distinct same_key sorted (IsDistinct-IsPermutation same_key key_swap ts sorted moved apart)))
+    ∙ ascending-sort_dedup_plain transfer_total transfers_same same_key transfer_ties ts sorted moved rises
 
 -- ---- banks
 

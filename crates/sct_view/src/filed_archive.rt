@@ -55,7 +55,6 @@ fn filed_in_order<R: Threads + Sync>(
     keys_are_ordered();
     let mut keys = filed_keys(alloc, index)?;
     par_sort(rt, alloc, &mut keys)?;
-    keys.dedup();
     Ok(keys)
 }
 

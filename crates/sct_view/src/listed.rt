@@ -136,7 +136,6 @@ impl View {
         keys_are_ordered();
         let mut keys = self.tables.keys(self.alloc)?;
         keys.sort()?;
-        keys.dedup();
         Ok(keys)
     }
 

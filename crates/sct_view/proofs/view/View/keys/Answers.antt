@@ -1,18 +1,23 @@
--- Transfers that are sorted and told apart are the ascending ones.
-use Rattle.std.proofs.Common.{◌∙◌, ap}
-use Rattle.std.proofs.lemmas.List.Filters.{dedup_is}
+-- Transfers of which each is a key of the table, sorted, are the ascending ones.
+use Rattle.std.proofs.Common.{◌∙◌, List, ap, subst, sym}
+use Rattle.std.proofs.lemmas.Map.Made.{IsDistinct-keys_filter}
+use Rattle.std.specs.List.{IsDistinct}
 use Rattle.sct_message.specs.Ascending.{ascending}
 use Rattle.sct_message.specs.Order.{transfer_order}
-use Rattle.sct_message.specs.OrderLaws.{transfer_total, transfers_same, transfer_ties}
 use Rattle.sct_message.specs.Transfers.{keys_of}
-use Rattle.sct_message.proofs.AscendingLemmas.{ascending-sort_dedup_plain}
-use Rattle.sct_view.proofs.ListedLemmas.{keys_listed}
+use Rattle.sct_message.specs.declared.keys.TransferKey.{TransferKey}
+use Rattle.sct_view.specs.Kept.{same_key}
+use Rattle.sct_view.specs.Listed.{has_messages}
+use Rattle.sct_view.proofs.ListedLemmas.{keys_listed, sorted_apart}
 use Rattle.sct_view.proofs.view.View.keys.Goals as goal
 
 pub returns : goal.returns
 returns c =
-    dedup_is _ _ _ c.dedup.ensures.filtered
-    ∙ ascending-sort_dedup_plain transfer_total transfers_same _ transfer_ties _ _ c.in_ok-sort.ensures.permutation c.in_ok-sort.ensures.sorted
+    let cases = c.self.inside.tables.cases in
+    sorted_apart c.in_ok-keys.keys.items c.sort.new.self.items
+    (subst (λ (ts : List TransferKey). IsDistinct same_key ts) (sym c.in_ok-keys.ensures.keys)
+    (IsDistinct-keys_filter same_key (λ e. has_messages e.1) cases.entries c.in_ok-keys.ensures.unique))
+    c.in_ok-sort.ensures.permutation c.in_ok-sort.ensures.sorted
     ∙ ap (ascending transfer_order) c.in_ok-keys.ensures.keys
-    ∙ keys_listed c.self.inside.archive c.self.inside.tables.cases c.in_ok-keys.ensures.unique c.self.invariant.0
+    ∙ keys_listed c.self.inside.archive cases c.in_ok-keys.ensures.unique c.self.invariant.0
     ∙ ap keys_of c.self.view_is
