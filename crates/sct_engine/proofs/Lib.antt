@@ -4,6 +4,8 @@ mod AnswerLemmas
 mod CommandLineLemmas
 mod FileLemmas
 mod GatherLemmas
+mod JobLemmas
+mod PerformLemmas
 mod PieceLemmas
 mod Prefixes
 mod RunFaults

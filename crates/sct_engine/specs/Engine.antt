@@ -1,5 +1,5 @@
 -- The texts that the engine writes for an input, and how a run of it ends. Read by an auditor.
-use Rattle.std.specs.Prelude.{ℕ, ◌≡◌, ◌+◌, ◌<◌, ◌≤◌, ◌⊎◌, List, [], length, Option, Some, None, IfSome, IsSome, Result, Ok, Err}
+use Rattle.std.specs.Prelude.{ℕ, ◌≡◌, ◌+◌, ◌<◌, ◌≤◌, ◌⊎◌, List, [], length, Option, Some, None, IfSome, IsSome, Result, Ok, Err, string_bytes}
 use Rattle.std.specs.Option.{option_map}
 use Rattle.sct_engine.specs.declared.jobs.Job.{Job}
 use Rattle.sct_engine.specs.declared.fault.ProgramFault.{ProgramFault}
@@ -10,14 +10,14 @@ use Rattle.sct_reconcile.specs.declared.fault.ReconcileFault.{ReconcileFault}
 use Rattle.sct_reconcile.specs.declared.fault.ReconcileFault.TheVariants.{BadList}
 use Rattle.sct_reconcile.specs.declared.rows.ListedRow.{ListedRow}
 use Rattle.sct_engine.specs.declared.jobs.Job.TheVariants as job
-use Rattle.sct_engine.specs.declared.answers.Question.{Question}
-use Rattle.sct_engine.specs.declared.answers.Question.TheVariants as question
+use Rattle.sct_engine.specs.declared.answers.Answer.{Answer}
 use Rattle.sct_lines.specs.Lines.{refusals_told, set_read, told_text_of}
 use Rattle.sct_view.specs.StatusText.{status_text_of}
 use Rattle.sct_view.specs.TotalsText.{totals_text_of}
 use Rattle.sct_set.specs.Archive.{archive_text_of}
 use Rattle.sct_keep.specs.Keep.{closed_of, kept_of}
 use Rattle.sct_set.specs.Contents.{Contents}
+use Rattle.sct_set.specs.Pieces.{joined}
 use Rattle.sct_script.specs.Replays.{replay_of}
 use Rattle.sct_script.specs.Scripts as script
 use Rattle.sct_script.specs.Scripts.{sites_told}
@@ -26,26 +26,17 @@ use Rattle.sct_engine.specs.Stream.{Streams}
 
 -- ---- the text of a job
 
--- the text that answers a question about a set of messages: the status text, the archive text,
--- the totals text, the report on a list, or the archive text of what is kept or of what is closed on a day
-abbrev pub asked_text_of : Question → Contents → List ℕ
-asked_text_of question.Status contents = status_text_of contents
-asked_text_of question.Archive contents = archive_text_of contents
-asked_text_of question.Totals contents = totals_text_of contents
-asked_text_of (question.Report bank day list) contents = report_text_of (report_of contents bank.now day.now list)
-asked_text_of (question.Keep day) contents = archive_text_of (kept_of day.now contents)
-asked_text_of (question.Closed day) contents = archive_text_of (closed_of contents (kept_of day.now contents))
-
 -- the report on a list, if its text is a valid list
 abbrev pub reported : Contents → List ℕ → List ℕ → Result (List ListedRow) ReconcileFault → List ℕ
 reported contents bank day (Ok rows) = report_text_of (report_of contents bank day rows)
 reported contents bank day (Err fault) = []
 
--- the text of a job for an input: the answer about the set of the messages read, or the replay of a script
+-- the text of a job for an input: the status text, the archive text or the totals text of the set of the messages read, the report on
+-- a list, the archive text of what is kept or of what is closed on a day, or the replay of a script
 abbrev pub job_text_of : Job → List ℕ → List ℕ
-job_text_of job.Status input = asked_text_of question.Status (set_read input)
-job_text_of job.Archive input = asked_text_of question.Archive (set_read input)
-job_text_of job.Totals input = asked_text_of question.Totals (set_read input)
+job_text_of job.Status input = status_text_of (set_read input)
+job_text_of job.Archive input = archive_text_of (set_read input)
+job_text_of job.Totals input = totals_text_of (set_read input)
 job_text_of (job.Report bank day list) input = reported (set_read input) bank day (list_of list.items)
 job_text_of (job.Keep day) input = archive_text_of (kept_of day (set_read input))
 job_text_of (job.Closed day) input = archive_text_of (closed_of (set_read input) (kept_of day (set_read input)))
@@ -110,6 +101,20 @@ pub record IsRefusedInput (work : Job) (limit : ℕ) (before after : Input) : Ty
 abbrev pub IsBadLimit : ℕ → Type 0
 IsBadLimit limit = (limit ≡ 0) ⊎ (1073741824 < limit)
 
+-- ---- the answer of a job
+
+-- The answer of a job to the input that was left. The input was read whole, and is within the limit. If the bytes left before are
+-- known, they are the input. If they are not known, as those of the real standard input, the input is some text.
+pub record IsAnswerOf (work : Job) (limit : ℕ) (before after : Input) (answer : Answer) : Type 0 where
+  pub input : List ℕ
+  pub within : length input ≤ limit
+  pub whole : IfSome before.left (λ left. (left ≡ input) × (after.left ≡ Some []))
+  pub none_failed : after.failures ≡ before.failures
+  pub taken : IsInputOf work input
+  pub text : joined answer.pieces.items ≡ job_text_of work input
+  pub told : string_bytes answer.refusals ≡ told_of work input
+  pub count : answer.refused ≡ refused_of work input
+
 -- ---- how a run ends
 
 -- an input within the limit was read whole, if it is known
@@ -141,6 +146,11 @@ EndsWork fault.Write = Unit {0}
 EndsWork fault.Usage = Unit {0}
 EndsWork fault.Memory = Unit {0}
 EndsWork _ = ⊥
+
+-- the faults that may end a job before its answer is written
+abbrev pub EndsUnwritten : ProgramFault → Type 0
+EndsUnwritten fault.Write = ⊥
+EndsUnwritten other = EndsWork other
 
 -- One write failed. Either standard error got a prefix of its text, and standard output is as it was. Or standard error
 -- got its whole text, and standard output a prefix of its own.

@@ -13,9 +13,8 @@ use Rattle.sct_engine.specs.Exchanging.{is_possible, EndsExchange}
 use Rattle.sct_engine.specs.Fault.{failed_reads}
 use Rattle.sct_engine.specs.Serves.{IsServed}
 use Rattle.sct_engine.specs.Stream.{Streams}
-use Rattle.sct_engine.specs.Tasks.{bad_row_in, out_text_of, refusals_text_of, EndsSettling, IsEndingOf, IsPrepared, LeavesInput, ReadsInput, TakesInput}
-use Rattle.sct_engine.specs.declared.task.Task.{Task}
-use Rattle.sct_engine.specs.declared.task.Task.TheVariants as task
+use Rattle.sct_engine.specs.Tasks.{bad_row_in, out_text_of, refusals_text_of, EndsSettling, IsEndingOf, IsPrepared, LeavesInput, ReadsInput, TakesInput, Task}
+use Rattle.sct_engine.specs.Tasks as task
 use Rattle.sct_engine.specs.Runs.{are_sites}
 use Rattle.sct_streams.specs.Stream.{HasTakenIfTold, Input, IsWritten, IsWrittenOrCutOff}
 
@@ -32,18 +31,18 @@ pub record IsUnwritten (before after : Streams) : Type 0 where
 -- the task cannot be done: standard input was read whole and the job does not take it, the inputs cannot be run, or there is
 -- no such site
 abbrev pub CannotBeDone : Task → Input → Input → Type 0
-CannotBeDone (task.Work job) before after = IsRefusedInput job 1073741824 before after
-CannotBeDone (task.Settle inputs) before after = are_sites (length inputs.items) ≡ false
-CannotBeDone (task.Exchange gathered) before after = is_possible gathered ≡ false
+CannotBeDone (task.work job) before after = IsRefusedInput job 1073741824 before after
+CannotBeDone (task.settle inputs) before after = are_sites (length inputs.items) ≡ false
+CannotBeDone (task.exchange gathered) before after = is_possible gathered ≡ false
 CannotBeDone _ before after = ⊥
 
 -- the faults that may end a task that has its files: a help and a mistake only by a failed write
 abbrev pub EndsTask : Task → ProgramFault → Type 0
-EndsTask (task.Work job) fault = EndsWork fault
-EndsTask (task.Settle inputs) fault = EndsSettling fault
-EndsTask (task.Exchange gathered) fault = EndsExchange fault
-EndsTask (task.Help text) fault.Write = Unit {0}
-EndsTask (task.Mistake text) fault.Write = Unit {0}
+EndsTask (task.work job) fault = EndsWork fault
+EndsTask (task.settle inputs) fault = EndsSettling fault
+EndsTask (task.exchange gathered) fault = EndsExchange fault
+EndsTask (task.help text) fault.Write = Unit {0}
+EndsTask (task.mistake text) fault.Write = Unit {0}
 EndsTask _ fault = ⊥
 
 -- how a task is answered, from the streams before to the streams after: the text on standard output, the refused lines
@@ -78,13 +77,20 @@ IsPreparedIfAsked gives failed failed_now (Err fault) prepared = (prepared ≡ E
 -- what a crash may leave of it, whether no read of it was wrong, how many of its calls failed, what the file at a path holds, and how
 -- the opening of a path fails.
 abbrev pub IsPerformed : {D : Type 0} → (D → List ℕ) → (D → List ℕ → Type 0) → (D → Bool) → (D → ℕ) → (List ℕ → List ℕ) → (List ℕ → JournalError → Type 0) → Task → Streams → Streams → Result Ending ProgramFault → Type 0
-IsPerformed seen may_leave is_clean faults holds fails (task.Serve command) before after ended = IsServed seen may_leave is_clean faults holds fails command before after ended
+IsPerformed seen may_leave is_clean faults holds fails (task.serve command) before after ended = IsServed seen may_leave is_clean faults holds fails command before after ended
 IsPerformed seen may_leave is_clean faults holds fails task before after ended = IsAnswered task before after ended
 
 -- the answer to that task; files that could not be read end the run at once
 abbrev pub IsAnsweredIfPrepared : {D : Type 0} → (D → List ℕ) → (D → List ℕ → Type 0) → (D → Bool) → (D → ℕ) → (List ℕ → List ℕ) → (List ℕ → JournalError → Type 0) → Result Task ProgramFault → Streams → Streams → Result Ending ProgramFault → Type 0
 IsAnsweredIfPrepared seen may_leave is_clean faults holds fails (Ok task) before after ended = IsPerformed seen may_leave is_clean faults holds fails task before after ended
 IsAnsweredIfPrepared seen may_leave is_clean faults holds fails (Err fault) before after ended = (ended ≡ Err fault) × (after ≡ before)
+
+-- A request is performed: its files are read, and then the task that it is with their bytes is performed. The two numbers are of the
+-- opens and reads of files that failed, before and after.
+pub record IsDoneAsAsked {D : Type 0} (seen : D → List ℕ) (may_leave : D → List ℕ → Type 0) (is_clean : D → Bool) (faults : D → ℕ) (holds : List ℕ → List ℕ) (fails : List ℕ → JournalError → Type 0) (gives : List ℕ → Option (List ℕ)) (failed failed_now : ℕ) (request : Request) (before after : Streams) (ended : Result Ending ProgramFault) : Type 0 where
+  pub prepared : Result Task ProgramFault
+  pub is_prepared : IsPrepared gives failed failed_now request prepared
+  pub is_answered : IsAnsweredIfPrepared seen may_leave is_clean faults holds fails prepared before after ended
 
 -- the request of the words of a command line, if these could be read
 abbrev pub IsAskedBy : Result (List (List ℕ)) ProgramFault → Result Request ProgramFault → Type 0

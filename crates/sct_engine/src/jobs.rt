@@ -6,7 +6,9 @@ ghost use Rattle.sct_engine.specs.Engine.{
   job_text_if_told,
   told_text_if_told,
   AreCutOff,
+  EndsUnwritten,
   EndsWork,
+  IsAnswerOf,
   IsBadLimit,
   IsDone,
   IsPastLimit,
@@ -18,15 +20,20 @@ ghost use Rattle.sct_engine.specs.Fault.{failed_reads};
 ghost use Rattle.sct_engine.specs.Stream.{streams};
 ghost use Rattle.sct_streams.specs.Stream.{HasTakenIfTold, IsWritten};
 
-use crate::answers::{Answer, Question, answer_of_messages};
+use crate::answers::{
+    Answer, closed_pieces, kept_pieces, one_piece, report_text, status_pieces, totals_text,
+    write_answer,
+};
 use crate::fault::ProgramFault;
+use crate::holding::archive_pieces;
 use crate::release::Release;
 use crate::replays::answer_of_script;
-use crate::transfer::{MOST_BYTES, write_pieces};
+use crate::transfer::MOST_BYTES;
 use sct_element::{Bic, Day};
 use sct_input::read_messages;
+use sct_lines::Intake;
 use sct_reconcile::List;
-use sct_streams::{Sink, Source, read_all, write_all};
+use sct_streams::{Sink, Source, read_all};
 use std::alloc::Global;
 use std::thread::Threads;
 
@@ -54,6 +61,69 @@ pub enum Job {
 pub struct Done {
     /// How many lines were refused.
     pub refused: u64,
+}
+
+// The answer of a job. Its list is read first, if it has one, and then the whole input. `release` says what becomes of the messages,
+// the view, the list or the events afterwards.
+// Errors: `BadList` (48), `TooLong` (60), `Read` (62), `Usage` (64) if the input is not the script of a replay, and `Memory` (65).
+fn answer_of_job<T: Threads + Sync, R: Source>(
+    rt: &T,
+    alloc: Global,
+    release: Release,
+    job: &Job,
+    limit: u64,
+    reader: &mut R,
+) -> Result<Answer, ProgramFault>
+    ensures answered { IfOk result (IsAnswerOf job.now limit (R.state reader.old) (R.state reader.new)) }
+    ensures ends { IfErr result EndsUnwritten }
+    ensures usage { result ≡ Err fault.Usage → IsRefusedInput job.now limit (R.state reader.old) (R.state reader.new) }
+    ensures list { StandsOnList (bad_row_of job.now) result }
+    ensures unlisted { (row : ℕ) → result ≡ Err (fault.BadList row) → reader.new ≡ reader.old }
+    ensures too_long { result ≡ Err fault.TooLong
+        → IsPastLimit limit (R.state reader.old) (R.state reader.new) }
+    ensures cut_input { result ≡ Err fault.Read
+        → (n : ℕ) × ((n ≤ limit) × HasTakenIfTold (R.state reader.old).left (R.state reader.new).left n) }
+    ensures failed_read { IfErr result (λ e. (R.state reader.new).failures
+        ≡ (R.state reader.old).failures + failed_reads e) }
+{
+    match job {
+        Job::Status => {
+            let Intake { messages, refusals } = read_messages(rt, alloc, reader, limit)?;
+            let pieces = status_pieces(rt, alloc, release, messages)?;
+            Ok(Answer::of(pieces, refusals))
+        }
+        Job::Archive => {
+            let Intake { messages, refusals } = read_messages(rt, alloc, reader, limit)?;
+            let pieces = archive_pieces(rt, alloc, release, messages)?;
+            Ok(Answer::of(pieces, refusals))
+        }
+        Job::Totals => {
+            let Intake { messages, refusals } = read_messages(rt, alloc, reader, limit)?;
+            let text = totals_text(rt, alloc, release, messages)?;
+            Ok(Answer::of(one_piece(alloc, text)?, refusals))
+        }
+        Job::Keep(day) => {
+            let Intake { messages, refusals } = read_messages(rt, alloc, reader, limit)?;
+            let pieces = kept_pieces(rt, alloc, release, messages, day)?;
+            Ok(Answer::of(pieces, refusals))
+        }
+        Job::Closed(day) => {
+            let Intake { messages, refusals } = read_messages(rt, alloc, reader, limit)?;
+            let pieces = closed_pieces(rt, alloc, release, messages, day)?;
+            Ok(Answer::of(pieces, refusals))
+        }
+        Job::Report { bank, day, list } => {
+            let list = List::read(alloc, list)?;
+            let Intake { messages, refusals } = read_messages(rt, alloc, reader, limit)?;
+            let text = report_text(rt, alloc, release, messages, bank, day, &list)?;
+            release.let_go(list);
+            Ok(Answer::of(one_piece(alloc, text)?, refusals))
+        }
+        Job::Replay => {
+            let script = read_all(alloc, reader, limit)?;
+            answer_of_script(alloc, release, &script)
+        }
+    }
 }
 
 /// Runs a job: reads its list, if it has one, then the whole input. An input of messages is read in blocks. It then writes the refused lines to `err` and the
@@ -110,33 +180,6 @@ pub fn engine<T: Threads + Sync, R: Source, O: Sink, E: Sink>(
     if limit == 0 || limit > MOST_BYTES {
         return Err(ProgramFault::Usage);
     }
-    let question = match job {
-        Job::Status => Some(Question::Status),
-        Job::Archive => Some(Question::Archive),
-        Job::Totals => Some(Question::Totals),
-        Job::Report { bank, day, list } => {
-            let list = List::read(alloc, list)?;
-            Some(Question::Report { bank, day, list })
-        }
-        Job::Keep(day) => Some(Question::Keep { day }),
-        Job::Closed(day) => Some(Question::Closed { day }),
-        // a replay asks nothing about messages: its input is a script
-        Job::Replay => None,
-    };
-    let Answer { pieces, refusals } = match question {
-        Some(question) => {
-            let intake = read_messages(rt, alloc, reader, limit)?;
-            answer_of_messages(rt, alloc, release, question, intake)?
-        }
-        None => {
-            let script = read_all(alloc, reader, limit)?;
-            answer_of_script(alloc, release, &script)?
-        }
-    };
-    write_all(err, refusals.text().as_bytes())?;
-    write_pieces(out, &pieces)?;
-    release.let_go(pieces);
-    Ok(Done {
-        refused: refusals.count(),
-    })
+    let answer = answer_of_job(rt, alloc, release, job, limit, reader)?;
+    Ok(write_answer(release, answer, out, err)?)
 }

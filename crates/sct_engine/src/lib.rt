@@ -22,7 +22,6 @@ mod request;
 mod runs;
 mod serving;
 mod settling;
-mod task;
 mod transfer;
 
 pub use fault::ProgramFault;

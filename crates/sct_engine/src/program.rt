@@ -1,18 +1,19 @@
 //! The whole program over streams of any kind: from the words of the command line to the exit status.
 ghost use Rattle.std.specs.Prelude.{◌≡◌, ℕ, Err, Ok, IfErr, IfOk};
 ghost use Rattle.sct_engine.specs.declared.ending.Ending.TheVariants as ending;
-ghost use Rattle.sct_engine.specs.Run.{words_told, IsAnsweredTo, IsPerformed, IsRun};
+ghost use Rattle.sct_engine.specs.Run.{words_told, IsAnswered, IsAnsweredTo, IsDoneAsAsked, IsRun};
 ghost use Rattle.sct_engine.specs.Stream.{streams, Streams};
+ghost use Rattle.sct_engine.specs.Tasks.{work};
 
 use crate::ending::{Ending, conclude};
-use crate::exchanging::write_site;
+use crate::exchanging::{gather, write_site};
 use crate::fault::ProgramFault;
-use crate::jobs::{Done, engine};
+use crate::files::{read_file, read_files};
+use crate::jobs::{Done, Job, engine};
 use crate::release::Release;
-use crate::request::read_request;
+use crate::request::{Request, read_request};
 use crate::serving::serve_site;
 use crate::settling::settle_inputs;
-use crate::task::{Task, prepare};
 use crate::transfer::MOST_BYTES;
 use sct_journal::Disks;
 use sct_streams::{FileReading, Files, Reading, Sink, Source, Writing, write_all};
@@ -39,42 +40,83 @@ fn ended_with(done: Result<Done, ProgramFault>) -> Result<Ending, ProgramFault>
     Ok(Ending::Done(done?))
 }
 
-// Performs a task. A mistake in the command line is reported later, at the end of the run.
-fn perform<T: Threads + Wait + Sync, K: Disks + Drop, R: Source, O: Sink, E: Sink>(
+// Does a job on standard input.
+fn perform_job<T: Threads + Sync, R: Source, O: Sink, E: Sink>(
     rt: &T,
     alloc: Global,
     release: Release,
-    disks: K,
-    task: Task<'_>,
+    job: &Job,
     reader: &mut R,
     out: &mut O,
     err: &mut E,
 ) -> Result<Ending, ProgramFault>
-    ensures { IsPerformed K.File.Disk.seen K.File.Disk.may_leave K.File.Disk.is_clean K.File.Disk.faults
-        (K.holds disks) (K.fails disks) task.entry
+    ensures { IsAnswered (work job.now)
         (streams (R.state reader.old) (O.state out.old) (E.state err.old))
         (streams (R.state reader.new) (O.state out.new) (E.state err.new))
         result }
 {
-    match task {
-        Task::Work(job) => {
-            let done = engine(rt, alloc, &job, MOST_BYTES, release, reader, out, err)?;
-            Ok(Ending::Done(done))
+    let done = engine(rt, alloc, job, MOST_BYTES, release, reader, out, err)?;
+    Ok(Ending::Done(done))
+}
+
+// Reads the files that a request names, and does what it asks for. A file that cannot be read ends the run before standard input is
+// read. A mistake in the command line is reported later, at the end of the run.
+fn perform<
+    T: Threads + Wait + Sync,
+    F: Files,
+    K: Disks + Drop,
+    R: Source,
+    O: Sink,
+    E: Sink,
+    L: Ledger,
+>(
+    rt: &T,
+    alloc: Global,
+    release: Release,
+    storage: Storage<'_, F, K>,
+    reading: &mut FileReading<F::File, L>,
+    request: Request<'_>,
+    reader: &mut R,
+    out: &mut O,
+    err: &mut E,
+) -> Result<Ending, ProgramFault>
+    ensures { IsDoneAsAsked K.File.Disk.seen K.File.Disk.may_leave K.File.Disk.is_clean K.File.Disk.faults
+        (K.holds storage.entry.disks) (K.fails storage.entry.disks) (F.gives storage.entry.files.now)
+        reading.old.failures reading.new.failures request.entry
+        (streams (R.state reader.old) (O.state out.old) (E.state err.old))
+        (streams (R.state reader.new) (O.state out.new) (E.state err.new))
+        result }
+{
+    let Storage { files, disks } = storage;
+    match request {
+        Request::Run(job) => perform_job(rt, alloc, release, &job, reader, out, err),
+        Request::Reconcile(with) => {
+            let list = read_file(alloc, files, reading, with.list)?;
+            let job = Job::Report {
+                bank: with.bank,
+                day: with.day,
+                list,
+            };
+            perform_job(rt, alloc, release, &job, reader, out, err)
         }
-        Task::Settle(inputs) => ended_with(settle_inputs(rt, alloc, inputs, out, err)),
-        Task::Exchange(gathered) => {
+        Request::Settle(paths) => {
+            let inputs = read_files(alloc, files, reading, &paths)?;
+            ended_with(settle_inputs(rt, alloc, inputs, out, err))
+        }
+        Request::Exchange(command) => {
+            let gathered = gather(rt, alloc, files, reading, command)?;
             ended_with(write_site(rt, alloc, release, gathered, out, err))
         }
-        Task::Serve(command) => serve_site(alloc, disks, command, reader, out),
-        Task::Help(text) => {
+        Request::Serve(command) => serve_site(alloc, disks, command, reader, out),
+        Request::Help(text) => {
             write_all(out, text.as_bytes())?;
             Ok(Ending::Helped)
         }
-        Task::Mistake(text) => Ok(Ending::Mistaken(text)),
+        Request::Mistake(text) => Ok(Ending::Mistaken(text)),
     }
 }
 
-// Performs what the words ask for.
+// Does what the words ask for.
 fn answer_words<
     T: Threads + Wait + Sync,
     F: Files,
@@ -102,10 +144,10 @@ fn answer_words<
         result }
 {
     let words = words?;
-    let Storage { files, disks } = storage;
     let request = read_request(alloc, &words)?;
-    let task = prepare(rt, alloc, files, reading, request)?;
-    perform(rt, alloc, release, disks, task, reader, out, err)
+    perform(
+        rt, alloc, release, storage, reading, request, reader, out, err,
+    )
 }
 
 /// Runs the program: reads the words of the command line and the files that they name, and performs what they ask for.

@@ -1,5 +1,5 @@
 //! The answer to a script.
-ghost use Rattle.std.specs.Prelude.{◌≡◌, ◌≢◌, None, true, length, IfErr, IfOk, IsSome, OnOk};
+ghost use Rattle.std.specs.Prelude.{◌≡◌, ◌≢◌, None, true, length, IfErr, IfOk, IsSome, OnOk, string_bytes};
 ghost use Rattle.sct_script.specs.Replays.{replay_of, replay_text};
 ghost use Rattle.sct_script.specs.Scripts.{event_refusals_text, event_refusals_told, sites_told};
 ghost use Rattle.sct_set.specs.Pieces.{joined};
@@ -35,8 +35,8 @@ pub fn answer_of_script(
     input: &[u8],
 ) -> Result<Answer, ProgramFault>
     ensures text { IfOk result (λ answer. joined answer.pieces.items ≡ replay_of input.now) }
-    ensures told { IfOk result (λ answer. answer.refusals.text ≡ event_refusals_text (event_refusals_told input.now)) }
-    ensures refused { IfOk result (λ answer. answer.refusals.count ≡ length (event_refusals_told input.now)) }
+    ensures told { IfOk result (λ answer. string_bytes answer.refusals ≡ event_refusals_text (event_refusals_told input.now)) }
+    ensures refused { IfOk result (λ answer. answer.refused ≡ length (event_refusals_told input.now)) }
     ensures script { OnOk result (IsSome (sites_told input.now)) }
     ensures faults { IfErr result (λ e. e ≢ fault.Memory → (e ≡ fault.Usage) × (sites_told input.now ≡ None)) }
 {
@@ -49,5 +49,5 @@ pub fn answer_of_script(
         ..
     } = script;
     release.let_go(events);
-    Ok(Answer { pieces, refusals })
+    Ok(Answer::of(pieces, refusals))
 }
