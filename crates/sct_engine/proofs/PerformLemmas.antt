@@ -1,5 +1,5 @@
 -- A request that is done as the task of its files. Proof plumbing.
-use Rattle.std.proofs.Common.{◌≡◌, ◌≢◌, ℕ, ◌+◌, Bool, List, Option, Result, Ok, Err, IfErr, IfOk, refl, ap, subst, sym}
+use Rattle.std.proofs.Common.{◌≡◌, ℕ, ◌+◌, Bool, List, Option, Result, Ok, Err, refl, ap}
 use Rattle.std.specs.Result.{IsErrAnd}
 use Rattle.sct_journal.specs.declared.error.JournalError.{JournalError}
 use Rattle.sct_engine.specs.Fault.{failed_reads}
@@ -7,10 +7,7 @@ use Rattle.sct_engine.specs.Run.{IsDoneAsAsked, IsPerformed}
 use Rattle.sct_engine.specs.Stream.{Streams}
 use Rattle.sct_engine.specs.Tasks.{EndsFilesOf, IsTaskOf, Task}
 use Rattle.sct_engine.specs.declared.ending.Ending.{Ending}
-use Rattle.sct_engine.specs.declared.ending.Ending.TheVariants as ending
 use Rattle.sct_engine.specs.declared.fault.ProgramFault.{ProgramFault}
-use Rattle.sct_engine.specs.declared.fault.ProgramFault.TheVariants as fault
-use Rattle.sct_engine.specs.declared.jobs.Done.{Done}
 use Rattle.sct_engine.specs.declared.request.Request.{Request}
 
 -- its files were read, and the task is performed
@@ -29,10 +26,3 @@ pub unread : {D : Type 0} (seen : D → List ℕ) (may_leave : D → List ℕ �
 unread seen may_leave is_clean faults holds fails gives failed failed_now request f before (Ok ending) ends counted is = absurd is
 unread seen may_leave is_clean faults holds fails gives failed failed_now request f before (Err e) ends counted is =
     record { prepared = Err f; is_prepared = (ends, counted); is_answered = (ap Err is, refl) }
-
--- what is left as it was unless a write failed, is so at the end
-pub left_unless_written : (done : Result Done ProgramFault) (ended : Result Ending ProgramFault) (P Q : Type 0) → IfOk done (λ d. ended ≡ Ok (ending.Done d))
-    → IfErr done (λ e. ended ≡ Err e) → IfErr done (λ e. e ≢ fault.Write → P) → (P → Q) → IfErr ended (λ e. e ≢ fault.Write → Q)
-left_unless_written (Ok d) ended P Q ok err left then = subst (λ (r : Result Ending ProgramFault). IfErr r (λ e. e ≢ fault.Write → Q)) (sym ok) tt
-left_unless_written (Err e) ended P Q ok err left then =
-    subst (λ (r : Result Ending ProgramFault). IfErr r (λ e. e ≢ fault.Write → Q)) (sym err) (λ other. then (left other))

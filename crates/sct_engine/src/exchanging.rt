@@ -1,36 +1,29 @@
 //! A site of a group is made of its journal and of deltas, and what is wanted of it is written.
-ghost use Rattle.std.specs.Prelude.{◌≡◌, ◌≢◌, ◌⊎◌, ◌∷◌, ◌+◌, ◌++◌, Err, Some, false, length, map, IfErr, IfOk, OnOk};
+ghost use Rattle.std.specs.Prelude.{◌≡◌, ◌≢◌, ◌∷◌, ◌+◌, Err, false, map, string_bytes, IfErr, IfOk, OnOk};
 ghost use Rattle.sct_delta.specs.DeltaText.{delta_in};
 ghost use Rattle.sct_delta.specs.Entries.{messages_of};
 ghost use Rattle.sct_delta.specs.Vectors.{count_in};
-ghost use Rattle.sct_exchange.specs.RefusedFiles.{refused_text};
 ghost use Rattle.sct_exchange.specs.Sites.{cut_text};
-ghost use Rattle.sct_engine.specs.Engine.{AreCutOff};
-ghost use Rattle.sct_engine.specs.Exchanging.{count_by_exchange, is_possible, text_by_exchange, told_by_exchange, vector_line, wanted_text, AreReadAs, EndsExchange, IsGathered, IsReadAs};
+ghost use Rattle.sct_engine.specs.Exchanging.{count_by_exchange, is_possible, text_by_exchange, told_by_exchange, vector_line, wanted_text, AreReadAs, IsGathered, IsReadAs};
 ghost use Rattle.sct_engine.specs.Fault.{failed_reads};
 ghost use Rattle.sct_engine.specs.Places.{wanted_of};
 ghost use Rattle.sct_engine.specs.Stream.{EndsFile, EndsFiles};
 ghost use Rattle.sct_engine.specs.declared.fault.ProgramFault.TheVariants as fault;
 ghost use Rattle.sct_set.specs.Archive.{archive_text_of};
 ghost use Rattle.sct_set.specs.Pieces.{joined};
-ghost use Rattle.sct_streams.specs.Stream.{IsWritten};
 
-use crate::answers::one_piece;
+use crate::answers::{Answer, one_piece};
 use crate::fault::ProgramFault;
 use crate::files::read_file;
-use crate::jobs::Done;
 use crate::places::{SiteCommand, Wanting};
 use crate::release::Release;
-use crate::transfer::write_pieces;
 use sct_delta::{DeltaFault, Vector};
-use sct_exchange::{
-    DeltaFile, Exchanged, RefusedFile, exchange, write_cut, write_held, write_refused_files,
-};
+use sct_exchange::{DeltaFile, Exchanged, exchange, write_cut, write_held, write_refused_files};
 use sct_lines::{Intake, Refusals, read_file_lines};
 use sct_message::Message;
 use sct_set::SortedArchive;
 use sct_site::SiteCore;
-use sct_streams::{FileReading, Files, Sink, write_all};
+use sct_streams::{FileReading, Files};
 use std::alloc::Global;
 use std::sync::Arc;
 use std::sync::ledger::Ledger;
@@ -186,27 +179,18 @@ fn wanted_pieces<T: Threads + Sync>(
     one_piece(alloc, text)
 }
 
-// What a command on one site writes.
-#[derive(Drop)]
-struct SiteAnswer {
-    // What is wanted of the site, in pieces.
-    pieces: Vec<Vec<u8>>,
-    // The refused lines of the journal.
-    refusals: Refusals,
-    // The refused files.
-    refused: Vec<RefusedFile>,
-}
-
-// Makes the site, and the texts about it. Errors: `Usage` (64) if the group has no such site; `Memory` (65).
-fn answer_of_site<T: Threads + Sync>(
+/// Makes the site of its journal and deltas. The answer is what is wanted of it, and the refused lines of the journal with the refused
+/// files. `release` says what becomes of the site afterwards.
+/// Errors: `Usage` (64) if the group has no such site; `Memory` (65).
+pub fn answer_of_site<T: Threads + Sync>(
     rt: &T,
     alloc: Global,
     release: Release,
     gathered: Gathered,
-) -> Result<SiteAnswer, ProgramFault>
+) -> Result<Answer, ProgramFault>
     ensures text { IfOk result (λ answer. joined answer.pieces.items ≡ text_by_exchange gathered) }
-    ensures told { IfOk result (λ answer. answer.refusals.text ++ refused_text answer.refused.items ≡ told_by_exchange gathered) }
-    ensures count { IfOk result (λ answer. answer.refusals.count + length answer.refused.items ≡ count_by_exchange gathered) }
+    ensures told { IfOk result (λ answer. string_bytes answer.refusals ≡ told_by_exchange gathered) }
+    ensures refused { IfOk result (λ answer. answer.refused ≡ count_by_exchange gathered) }
     ensures usage { result ≡ Err fault.Usage → is_possible gathered ≡ false }
     ensures faults { IfErr result (λ e. e ≢ fault.Usage → e ≡ fault.Memory) }
 {
@@ -225,47 +209,11 @@ fn answer_of_site<T: Threads + Sync>(
     };
     let pieces = wanted_pieces(rt, alloc, release, &wanting, &core)?;
     release.let_go(core);
-    Ok(SiteAnswer {
-        pieces,
-        refusals,
-        refused,
-    })
-}
-
-/// Makes the site of its journal and deltas. It then writes the refused lines and files to `err`, and what is wanted of the
-/// site to `out`.
-/// Errors: `Usage` (64) if the group has no such site; `Memory` (65); `Write` (63), with a prefix of the texts written.
-/// After any other error nothing is written.
-pub fn write_site<T: Threads + Sync, O: Sink, E: Sink>(
-    rt: &T,
-    alloc: Global,
-    release: Release,
-    gathered: Gathered,
-    out: &mut O,
-    err: &mut E,
-) -> Result<Done, ProgramFault>
-    ensures told { OnOk result (IsWritten (E.state err.old) (E.state err.new) (Some (told_by_exchange gathered))) }
-    ensures text { OnOk result (IsWritten (O.state out.old) (O.state out.new) (Some (text_by_exchange gathered))) }
-    ensures refused { IfOk result (λ done. done.refused ≡ count_by_exchange gathered) }
-    ensures faults { IfErr result EndsExchange }
-    ensures usage { result ≡ Err fault.Usage → is_possible gathered ≡ false }
-    ensures cut_off { result ≡ Err fault.Write
-        → AreCutOff (E.state err.old) (E.state err.new) (O.state out.old) (O.state out.new)
-        (Some (told_by_exchange gathered)) (Some (text_by_exchange gathered)) }
-    ensures order { result ≡ Err fault.Write → (out.new ≡ out.old)
-        ⊎ IsWritten (E.state err.old) (E.state err.new) (Some (told_by_exchange gathered)) }
-    ensures unwritten { IfErr result (λ e. e ≢ fault.Write → (out.new ≡ out.old) × (err.new ≡ err.old)) }
-{
-    let SiteAnswer {
-        pieces,
-        refusals,
-        refused,
-    } = answer_of_site(rt, alloc, release, gathered)?;
     let (mut told, lines) = refusals.into_parts();
     told.push_str(write_refused_files(alloc, &refused)?.as_str())?;
-    write_all(err, told.as_bytes())?;
-    write_pieces(out, &pieces)?;
-    Ok(Done {
+    Ok(Answer {
+        pieces,
+        refusals: told,
         refused: lines + refused.len() as u64,
     })
 }

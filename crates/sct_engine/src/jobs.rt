@@ -1,5 +1,5 @@
 //! One run of a job: an input is read whole, and then its refused lines are reported and its text is written.
-ghost use Rattle.std.specs.Prelude.{◌≡◌, ◌≢◌, ◌+◌, ◌≤◌, ◌⊎◌, ℕ, Err, IfOk, IfErr, IfSome, OnOk};
+ghost use Rattle.std.specs.Prelude.{◌≡◌, ◌≢◌, ◌+◌, ◌≤◌, ◌⊎◌, ℕ, Err, IfOk, IfErr};
 ghost use Rattle.sct_engine.specs.declared.fault.ProgramFault.TheVariants as fault;
 ghost use Rattle.sct_engine.specs.Engine.{
   bad_row_of,

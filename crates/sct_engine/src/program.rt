@@ -1,19 +1,20 @@
 //! The whole program over streams of any kind: from the words of the command line to the exit status.
-ghost use Rattle.std.specs.Prelude.{◌≡◌, ℕ, Err, Ok, IfErr, IfOk};
-ghost use Rattle.sct_engine.specs.declared.ending.Ending.TheVariants as ending;
+ghost use Rattle.std.specs.Prelude.{◌≡◌, ℕ};
 ghost use Rattle.sct_engine.specs.Run.{words_told, IsAnswered, IsAnsweredTo, IsDoneAsAsked, IsRun};
 ghost use Rattle.sct_engine.specs.Stream.{streams, Streams};
-ghost use Rattle.sct_engine.specs.Tasks.{work};
+ghost use Rattle.sct_engine.specs.Tasks.{exchange, settle, work};
+ghost use Rattle.sct_streams.specs.Stream.{Input};
 
+use crate::answers::write_answer;
 use crate::ending::{Ending, conclude};
-use crate::exchanging::{gather, write_site};
+use crate::exchanging::{Gathered, answer_of_site, gather};
 use crate::fault::ProgramFault;
 use crate::files::{read_file, read_files};
-use crate::jobs::{Done, Job, engine};
+use crate::jobs::{Job, engine};
 use crate::release::Release;
 use crate::request::{Request, read_request};
 use crate::serving::serve_site;
-use crate::settling::settle_inputs;
+use crate::settling::answer_of_inputs;
 use crate::transfer::MOST_BYTES;
 use sct_journal::Disks;
 use sct_streams::{FileReading, Files, Reading, Sink, Source, Writing, write_all};
@@ -30,14 +31,6 @@ pub struct Storage<'a, F: Files, K: Disks + Drop> {
     pub files: &'a F,
     /// Where the file of a journal is found.
     pub disks: K,
-}
-
-// The end of a run whose job was done or ended with a fault.
-fn ended_with(done: Result<Done, ProgramFault>) -> Result<Ending, ProgramFault>
-    ensures done { IfOk done (λ done. result ≡ Ok (ending.Done done)) }
-    ensures fault { IfErr done (λ e. result ≡ Err e) }
-{
-    Ok(Ending::Done(done?))
 }
 
 // Does a job on standard input.
@@ -57,6 +50,42 @@ fn perform_job<T: Threads + Sync, R: Source, O: Sink, E: Sink>(
 {
     let done = engine(rt, alloc, job, MOST_BYTES, release, reader, out, err)?;
     Ok(Ending::Done(done))
+}
+
+// Settles the sites of inputs, and writes their answer. Standard input is left as it is.
+fn perform_settling<T: Threads + Wait + Sync, O: Sink, E: Sink>(
+    rt: &T,
+    alloc: Global,
+    release: Release,
+    inputs: Vec<Vec<u8>>,
+    out: &mut O,
+    err: &mut E,
+) -> Result<Ending, ProgramFault>
+    ensures { (input : Input) → IsAnswered (settle inputs)
+        (streams input (O.state out.old) (E.state err.old))
+        (streams input (O.state out.new) (E.state err.new))
+        result }
+{
+    let answer = answer_of_inputs(rt, alloc, inputs)?;
+    Ok(Ending::Done(write_answer(release, answer, out, err)?))
+}
+
+// Makes a site of its files, and writes its answer. Standard input is left as it is.
+fn perform_exchange<T: Threads + Sync, O: Sink, E: Sink>(
+    rt: &T,
+    alloc: Global,
+    release: Release,
+    gathered: Gathered,
+    out: &mut O,
+    err: &mut E,
+) -> Result<Ending, ProgramFault>
+    ensures { (input : Input) → IsAnswered (exchange gathered)
+        (streams input (O.state out.old) (E.state err.old))
+        (streams input (O.state out.new) (E.state err.new))
+        result }
+{
+    let answer = answer_of_site(rt, alloc, release, gathered)?;
+    Ok(Ending::Done(write_answer(release, answer, out, err)?))
 }
 
 // Reads the files that a request names, and does what it asks for. A file that cannot be read ends the run before standard input is
@@ -101,11 +130,11 @@ fn perform<
         }
         Request::Settle(paths) => {
             let inputs = read_files(alloc, files, reading, &paths)?;
-            ended_with(settle_inputs(rt, alloc, inputs, out, err))
+            perform_settling(rt, alloc, release, inputs, out, err)
         }
         Request::Exchange(command) => {
             let gathered = gather(rt, alloc, files, reading, command)?;
-            ended_with(write_site(rt, alloc, release, gathered, out, err))
+            perform_exchange(rt, alloc, release, gathered, out, err)
         }
         Request::Serve(command) => serve_site(alloc, disks, command, reader, out),
         Request::Help(text) => {

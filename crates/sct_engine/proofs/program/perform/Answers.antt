@@ -1,8 +1,8 @@
 -- Each request is done as the task that it is with the bytes of its files.
-use Rattle.std.proofs.Common.{ap, refl, rules}
+use Rattle.std.proofs.Common.{refl, rules}
 use Rattle.sct_engine.specs.Tasks.{exchange, help, mistake, serve, settle, work}
 use Rattle.sct_engine.specs.declared.jobs.Job.TheVariants.{Report}
-use Rattle.sct_engine.proofs.PerformLemmas.{as_task, left_unless_written, unread}
+use Rattle.sct_engine.proofs.PerformLemmas.{as_task, unread}
 use Rattle.sct_engine.proofs.program.perform.Goals as goal
 
 pub returns-in-Run : goal.returns-in-Run
@@ -26,25 +26,7 @@ returns-in_err-inputs-in-Settle g c =
 pub returns-in_ok-inputs-in-Settle : goal.returns-in_ok-inputs-in-Settle
 returns-in_ok-inputs-in-Settle g c =
     rw c.in-Settle.is (as_task _ _ _ _ _ _ _ _ _ _ (settle c.in_ok-inputs-in-Settle.inputs) _ _ _ (search rules) c.in_ok-inputs-in-Settle.ensures.quiet
-    (record {
-      ending = search rules;
-      printed = search rules;
-      told = search rules;
-      read = search rules;
-      taken = search rules;
-      usage = search rules;
-      list = search rules;
-      unlisted = search rules;
-      too_long = search rules;
-      cut_input = search rules;
-      reads = search rules;
-      failed_read = search rules;
-      left = search rules;
-      cut_off = search rules;
-      unwritten = left_unless_written c.settle_inputs.result c.ended_with.result _ _ c.ended_with.ensures.done c.ended_with.ensures.fault c.settle_inputs.ensures.unwritten
-          (λ both. record { out = ap g.O.Sink.state both.0; err = ap g.E.Sink.state both.1 });
-      ends = search rules;
-    }))
+    (c.perform_settling.ensures _))
 
 pub returns-in_err-gathered-in-Exchange : goal.returns-in_err-gathered-in-Exchange
 returns-in_err-gathered-in-Exchange g c =
@@ -54,26 +36,7 @@ returns-in_err-gathered-in-Exchange g c =
 pub returns-in_ok-gathered-in-Exchange : goal.returns-in_ok-gathered-in-Exchange
 returns-in_ok-gathered-in-Exchange g c =
     rw c.in-Exchange.is (as_task _ _ _ _ _ _ _ _ _ _ (exchange c.in_ok-gathered-in-Exchange.gathered) _ _ _ c.in_ok-gathered-in-Exchange.ensures.gathered
-    c.in_ok-gathered-in-Exchange.ensures.quiet
-    (record {
-      ending = search rules;
-      printed = search rules;
-      told = search rules;
-      read = search rules;
-      taken = search rules;
-      usage = search rules;
-      list = search rules;
-      unlisted = search rules;
-      too_long = search rules;
-      cut_input = search rules;
-      reads = search rules;
-      failed_read = search rules;
-      left = search rules;
-      cut_off = search rules;
-      unwritten = left_unless_written c.write_site.result c.ended_with-in-Exchange.result _ _ c.ended_with-in-Exchange.ensures.done c.ended_with-in-Exchange.ensures.fault c.write_site.ensures.unwritten
-          (λ both. record { out = ap g.O.Sink.state both.0; err = ap g.E.Sink.state both.1 });
-      ends = search rules;
-    }))
+    c.in_ok-gathered-in-Exchange.ensures.quiet (c.perform_exchange.ensures _))
 
 pub returns-in-Serve : goal.returns-in-Serve
 returns-in-Serve g c = rw c.in-Serve.is (as_task _ _ _ _ _ _ _ _ _ _ (serve c.in-Serve.command) _ _ _ refl refl (search rules))
