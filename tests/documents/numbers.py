@@ -23,7 +23,7 @@ TOPICS = [
     Topic(["time of `status`"], r"(?=.*\b(?:1,000,000|a million) messages)(?=.*\bseconds?\b)", r"[\d.,]+ seconds?"),
     Topic(["messages in an input"], r"million messages", r"[\d.,]+ million"),
     Topic(["time of `services/parts/`", "bytes that `services/parts/`", "time of the gate", "memory that the gate", "disk that the gate"],
-          r"(?:10,000,000|ten million) messages|minutes on four processors", r"[\d.,]+ (?:minutes|GB)"),
+          r"2,000,000 messages|minutes on four processors", r"[\d.,]+ (?:minutes|seconds|GB)"),
     Topic(["memory of a worker"], r"(?=.*\bworker\b)(?=.*\bMB\b)", r"[\d.,]+ MB"),
     Topic(["memory of the page", "time of the page"], r"\bpage takes\b(?=.*\bGB\b)", r"[\d.,]+ GB|[\d.,]+ s\b"),
     Topic(["time of `rt try`"], r"`rt try`.*\bminutes\b", r"[\d.,]+ minutes"),
