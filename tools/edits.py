@@ -4,7 +4,7 @@
 Usage: tools/edits.py CRATE..
 
 The gate tries the files crates/NAME/must-fail/*.edit. The files *.md beside them have the same form. They are tried by this script when
-their crate changes, since to try all of them takes an hour of processor time. The prover must refuse each. The libraries below a crate are
+their crate changes, since to try all of them takes some three hours of processor time. The prover must refuse each. The libraries below a crate are
 proved first, if they are not kept (`rt must-fail`). The exit status is 0 if all are refused.
 """
 from __future__ import annotations

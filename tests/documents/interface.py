@@ -24,7 +24,7 @@ HEADER = (TOP / "include" / "niluppang.h").read_text(encoding="utf-8")
 EXPORT = re.compile(r'^pub extern "C" fn (\w+)\(([^)]*)\)(?: -> (\w+))?', re.M)
 C_TYPES = {"bool": "bool", "u8": "uint8_t", "u16": "uint16_t", "u32": "uint32_t", "u64": "uint64_t", "usize": "size_t"}
 SIZES = {"bool": 1, "uint8_t": 1, "uint64_t": 8, "size_t": 8, "void *": 8}
-RESULTS = {"Outcome": "sct_outcome", "TakeOutcome": "sct_taken", "LinesOutcome": "sct_lines", "AcceptOutcome": "sct_accepted"}
+RESULTS = {"CallOutcome": "sct_outcome", "TakeOutcome": "sct_taken", "LinesOutcome": "sct_lines", "AcceptOutcome": "sct_accepted"}
 PYTHON_RESULTS = {"sct_site": _library.Handle, "sct_outcome": _library.Outcome, "sct_taken": _library.TakenOutcome,
                   "sct_lines": _library.LinesOutcome, "sct_accepted": _library.AcceptedOutcome}
 VERSION, HANDLE = "sct_version", "sct_site *"

@@ -22,7 +22,7 @@ OF_FOLDERS = [TOP / folder / "README.md" for folder in ("services", "tools/desk"
 
 # names of std, of the language and of the kit, commands of the shell, and names that a page has because they are wrong here
 OUTSIDE = set("""
-    Brand Debug Display IfErr IfSome OnErr OnOk Vec Wait dac8208d650f15bf try_send
+    AllocError Brand Debug Display IfErr IfSome OnErr OnOk Vec Wait dac8208d650f15bf try_send
     comm diff grep
     Ctgy HANSDEHH370 PDCR txid
 """.split())

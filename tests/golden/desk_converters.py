@@ -24,6 +24,8 @@ def converted(folder, commands):
     yield reported("from_iso20022 ends well", (text, status) == ("", 0), text)
     made, right = [path.read_text(encoding="utf-8") for path in (folder / "made.jsonl", folder / "desk" / "iso20022.jsonl")]
     yield reported("from_iso20022 makes the lines", made == right, made)
+    text, status = shell(convert + "--help", folder, commands)
+    yield reported("from_iso20022 says how it is used", status == 0 and "Usage: from_iso20022.py [--archive ARCHIVE] FILE.." in text, text)
     right = "from_iso20022: desk/wrong-count.xml: NbOfTxs is 2, and it has 1 transactions\n"
     yield answers("from_iso20022 counts transactions", convert + "desk/wrong-count.xml", (right, 1), folder, commands)
     for name, file, why in left_out():

@@ -340,6 +340,8 @@ def explained(folder, commands):
                          ('LUTEFRPPXXX,"LU,10",LISTED_TWICE,,,1.00,ACCEPTED', "leave one row")]:
         (folder / "lines").write_text(line)
         yield answers(f"explain says {remedy}", explain + "lines", (f"{line}\n    {remedy}\n", 0), folder, commands)
+    text, status = shell(explain + "--help", folder, commands)
+    yield reported("explain says how it is used", status == 0 and "Usage: explain.py [FILE..]" in text, text)
     (tools_of(folder) / "codes.md").write_text(page.replace("remove spaces; ask", "REMOVE SPACES; ask"))
     text, _ = shell("echo 'line 1: 36 DbtrAcct 2' | " + explain, folder, commands)
     yield reported("explain reads the page beside it", "REMOVE SPACES" in text, text)

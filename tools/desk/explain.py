@@ -154,6 +154,9 @@ class Codes:
 
 def main() -> None:
     signal.signal(signal.SIGPIPE, signal.SIG_DFL)
+    if sys.argv[1:] in (["-h"], ["--help"]):
+        print(__doc__.strip())
+        return
     codes = Codes(page())
     for file in sys.argv[1:] or [""]:
         try:

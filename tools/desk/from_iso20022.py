@@ -406,6 +406,9 @@ def json_line(line: Line) -> bytes:
 def main() -> None:
     signal.signal(signal.SIGPIPE, signal.SIG_DFL)
     files, held = sys.argv[1:], []
+    if files in (["-h"], ["--help"]):
+        print(__doc__.strip())
+        return
     if files[:1] == ["--archive"] and len(files) > 1:
         held, files = held_in(files[1]), files[2:]
     if not files:
